@@ -1,19 +1,21 @@
 -- How a compaction of a replica begins.
-use Rattle.std.proofs.Common.{◌≡◌, inl, inr, ℕ, ◌+◌, ◌<◌, ◌≤◌, true, length, Option, Some, None, refl, sym, ap, ◌∙◌}
-use Rattle.std.specs.Prelude.{Result, Ok, Err, IfOk, IfErr, OnErr}
+use Rattle.std.proofs.Common.{◌≡◌, inl, inr, ℕ, ◌+◌, ◌<◌, ◌≤◌, true, length, Option, Some, None, refl, sym, ap, ◌∙◌, arith}
+use Rattle.std.specs.Prelude.{Result, Ok, Err, IfOk, IfErr, OnErr, OnOk}
 use Rattle.std.proofs.lemmas.Bool.{cases_lt}
 use Rattle.hay_disk.specs.Disk.{Files}
 use Rattle.hay_open.specs.Stored.{Stored}
 use Rattle.hay_physical.specs.declared.fault.ReplicaFault.{ReplicaFault}
 use Rattle.hay_physical.specs.declared.fault.ReplicaFault.TheVariants as fault
-use Rattle.hay_physical.specs.Copies.{Copy, IsFrozen, IsOpenCopy, IsUp, generation_of, goal_of, is_frozen, is_stuck, phase_goal}
+use Rattle.hay_physical.specs.Copies.{Copy, IsFrozen, IsOpenCopy, IsUp, generation_of, goal_of, is_frozen, is_stuck, next_of, phase_goal}
 use Rattle.hay_physical.specs.Faults as physical_faults
 use Rattle.hay_physical.specs.Replicas as physical
 use Rattle.hay_physical.specs.Runs.{HasRun, Run}
 use Rattle.hay_logical.specs.declared.runs.Unswapped.TheVariants.{Refused}
 use Rattle.hay_logical.specs.Steps.{BeginsAt, HoldsUnswapped, IsBeginFault, IsLeftBy, StaysInReach}
 use Rattle.hay_logical.specs.Steps.Start.{Fresh}
+use Rattle.hay_logical.specs.Seen.{BeginsTo, ChangesRun, replica_seen}
 use Rattle.hay_logical.proofs.Calls.{not_both, still_up}
+use Rattle.hay_logical.proofs.Seen.{run_begun}
 
 module _ {D : Type 0} (DiskTells : Type 0) (files : D → Files) (faults : D → ℕ) (r x : Copy D) (result : Result ℕ ReplicaFault) (up : IsUp r) where
   abbrev Busies : Type 0
@@ -36,7 +38,8 @@ module _ {D : Type 0} (DiskTells : Type 0) (files : D → Files) (faults : D →
       none None e = e
       none (Some goal) e = absurd (not_busy goal (busy goal up e).0)
 
-  cause_of : (f : ReplicaFault) → result ≡ Err f → Busies → Wears → (f ≡ fault.Frozen → IsFrozen r) → ((goal : ℕ) → f ≡ fault.Busy goal → goal_of r ≡ Some goal) → (f ≡ fault.Worn → (goal_of r ≡ None) × (65535 ≤ generation_of r))
+  cause_of : (f : ReplicaFault) → result ≡ Err f → Busies → Wears → (f ≡ fault.Frozen → IsFrozen r) → ((goal : ℕ) → f ≡ fault.Busy goal → goal_of r ≡ Some goal)
+      → (f ≡ fault.Worn → (goal_of r ≡ None) × (generation_of r ≡ 65535))
       → physical_faults.IsBeginFault (faults r.disk) (faults x.disk) f → IsBeginFault faults r x f
   cause_of (fault.Failed n) is busy worn thawed idle most cause =
       let rest = rests busy worn (λ goal e. let wrong : Err (fault.Failed n) ≡ Err (fault.Busy goal) = sym is ∙ e in cc) (λ e. let wrong : Err (fault.Failed n) ≡ Err fault.Worn = sym is ∙ e in cc) in
@@ -45,7 +48,7 @@ module _ {D : Type 0} (DiskTells : Type 0) (files : D → Files) (faults : D →
   cause_of (fault.Full end need capacity) is busy worn thawed idle most cause = absurd cause
   cause_of (fault.Busy goal) is busy worn thawed idle most cause = (idle goal refl, (busy goal up (idle goal refl)).1)
   cause_of (fault.Ended n) is busy worn thawed idle most cause = absurd cause
-  cause_of fault.Worn is busy worn thawed idle most cause = let m = most refl in (m.0, m.1, (worn up m.0 m.1).1)
+  cause_of fault.Worn is busy worn thawed idle most cause = let m = most refl in let last = m.1 in (m.0, m.1, (worn up m.0 (omega (arith, last))).1)
   cause_of (fault.Damaged at) is busy worn thawed idle most cause = absurd cause
   cause_of fault.NoMemory is busy worn thawed idle most cause =
       rests busy worn (λ goal e. let wrong : Err fault.NoMemory ≡ Err (fault.Busy goal) = sym is ∙ e in cc) (λ e. let wrong : Err fault.NoMemory ≡ Err fault.Worn = sym is ∙ e in cc)
@@ -54,7 +57,7 @@ module _ {D : Type 0} (DiskTells : Type 0) (files : D → Files) (faults : D →
   pub begins : (result : Result ℕ ReplicaFault) (up : IsUp r) → IsOpenCopy x → is_frozen x ≡ is_frozen r → x.sup ≡ r.sup → is_stuck x ≡ is_stuck r
       → (DiskTells → (s : Stored) → physical.Stands files r s → physical.Stands files x s) → StaysInReach DiskTells files r x
       → ((goal : ℕ) → IsUp r → goal_of r ≡ Some goal → (result ≡ Err (fault.Busy goal)) × (x ≡ r)) → (IsUp r → goal_of r ≡ None → 65535 ≤ generation_of r → (result ≡ Err fault.Worn) × (x ≡ r))
-      → (result ≡ Err fault.Frozen → IsFrozen r) → ((goal : ℕ) → result ≡ Err (fault.Busy goal) → goal_of r ≡ Some goal) → (result ≡ Err fault.Worn → (goal_of r ≡ None) × (65535 ≤ generation_of r))
+      → (result ≡ Err fault.Frozen → IsFrozen r) → ((goal : ℕ) → result ≡ Err (fault.Busy goal) → goal_of r ≡ Some goal) → (result ≡ Err fault.Worn → (goal_of r ≡ None) × (generation_of r ≡ 65535))
       → (DiskTells → (s : Stored) → physical.Stands files r s → result ≡ Err fault.Worn → s.generation ≡ 65535)
       → (DiskTells → (s : Stored) → physical.Stands files r s → IfOk result (λ goal. (goal ≡ s.generation + 1) × HasRun files x s (Some (record { goal = goal; left = length s.cells; tight = true }))))
       → IfOk result (λ goal. (goal ≡ generation_of r + 1) × (goal_of r ≡ None) × (goal_of x ≡ Some goal)) → OnErr result (x.phase ≡ r.phase)
@@ -77,6 +80,12 @@ module _ {D : Type 0} (DiskTells : Type 0) (files : D → Files) (faults : D →
     kept = ap phase_goal kept;
     cause = cause_of DiskTells files faults r x (Err f) up f refl busy worn (λ e. thawed (ap Err e)) (λ goal e. idle goal (ap Err e)) (λ e. most (ap Err e)) causes;
   }
+
+  pub begin_seen : (result : Result ℕ ReplicaFault) → BeginsAt DiskTells files faults r x result
+      → IfOk result (λ goal. (goal ≡ generation_of r + 1) × (goal_of r ≡ None) × (goal_of x ≡ Some goal)) → OnOk result (next_of x ≡ 64)
+      → ChangesRun (replica_seen r) (replica_seen x) → IfOk result (λ goal. BeginsTo goal (replica_seen r) (replica_seen x))
+  begin_seen (Ok goal) begins goals first changes = (begins.rest, goals.0, run_begun r x goal 64 changes goals.2 first)
+  begin_seen (Err f) begins goals first changes = tt
 
   -- what a refusal leaves
   pub begin_left : (f : ReplicaFault) → IsUp x → goal_of x ≡ goal_of r → IsBeginFault faults r x f → IsLeftBy faults Fresh r x (Refused f)

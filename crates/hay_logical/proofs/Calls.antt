@@ -30,7 +30,7 @@ use Rattle.hay_physical.proofs.Laws.{stands_hold}
 use Rattle.hay_physical.specs.Faults as physical_faults
 use Rattle.hay_logical.specs.Fits.{At, PhotoAt}
 use Rattle.hay_logical.specs.Volumes.{CanReach, KeepsCounts, ReachesPlaces}
-use Rattle.hay_logical.specs.Steps.{DeletesAt, FollowsAt, IsFlushFault, IsOpenFault, IsPutFault, KeepsDisk, KeepsReach, LeftAt, LosesRun, OpensAt, PutsAt, RoomFor, StaysBeside}
+use Rattle.hay_logical.specs.Steps.{DeletesAt, FollowsAt, IsFlushFault, IsOpenFault, IsPutFault, KeepsDisk, KeepsReach, KeepsRun, LeftAt, LosesRun, OpensAt, PutsAt, RoomFor, StaysBeside}
 use Rattle.hay_logical.proofs.Lists.{Went, at_below, at_same, at_set_other, at_set_same, at_there, length-slice_set}
 
 -- PHASES
@@ -328,6 +328,13 @@ follows_where DiskTells files faults pair (place.Unseen at size) r never = refl
 pub follows_on : {D P : Type 0} (DiskTells : Type 0) (files : D → Files) (faults : D → ℕ) (pair : Pair) (r r' : Copy D) (p q : Place P) → q ≡ p → FollowsAt DiskTells files faults pair p r r' → FollowsAt DiskTells files faults pair q r r'
 follows_on DiskTells files faults pair r r' p q e h = subst (λ x. FollowsAt DiskTells files faults pair x r r') (sym e) h
 
+pub follows_keeps : {D P : Type 0} (DiskTells : Type 0) (files : D → Files) (faults : D → ℕ) (pair : Pair) (p : Place P) (r r' : Copy D)
+    → FollowsAt DiskTells files faults pair p r r' → KeepsRun faults r r'
+follows_keeps DiskTells files faults pair (place.Live needle) r r' follows = follows.goal
+follows_keeps DiskTells files faults pair place.Gone r r' follows = inl (ap goal_of follows)
+follows_keeps DiskTells files faults pair place.None r r' follows = inl (ap goal_of follows)
+follows_keeps DiskTells files faults pair (place.Unseen at size) r r' follows = inl (ap goal_of follows)
+
 pub left_same : {D : Type 0} (DiskTells : Type 0) (files : D → Files) (r : Copy D) → LeftAt DiskTells files r r
 left_same DiskTells files r = record { sup = refl; holds = λ tells stuck s t h. h }
 
@@ -343,8 +350,11 @@ opens_on DiskTells files Tells rows rows' j r r' same h = record {
   sup = h.sup;
   loose = h.loose;
   alone = h.alone;
+  most = h.most;
+  from = h.from;
   undamaged = h.undamaged;
   undamaged_now = h.undamaged_now;
+  formatted = h.formatted;
   opened = λ tells s opens.
       let p = h.opened tells s opens in
       (p.0, λ pair. subst (PhotoAt Tells (last_cell s.cells pair)) (sym (same pair)) (p.1 pair));

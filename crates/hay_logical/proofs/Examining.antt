@@ -10,9 +10,15 @@ use Rattle.hay_open.specs.Stored.{Stored, last_cell}
 use Rattle.hay_compact.specs.Copying.{IsLatest}
 use Rattle.hay_physical.specs.declared.fault.ReplicaFault.{ReplicaFault}
 use Rattle.hay_physical.specs.declared.fault.ReplicaFault.TheVariants as fault
-use Rattle.hay_physical.specs.Copies.{Copy, IsFrozen, IsUp, goal_of}
+use Rattle.hay_physical.specs.Copies.{Copy, IsFrozen, IsUp, copier_goal, copier_next, end_of, goal_of, next_of, phase_end, phase_goal, phase_next}
+use Rattle.hay_physical.specs.declared.state.Copier.{Copier}
+use Rattle.hay_physical.specs.declared.state.Copier.TheVariants.{Ended, Standing}
+use Rattle.hay_physical.specs.declared.state.Phase.{Phase}
+use Rattle.hay_physical.specs.declared.state.Phase.TheVariants.{Closed, Open}
+use Rattle.hay_needle.specs.Sizes.{needle_total}
+use Rattle.hay_needle.specs.declared.needle.CellHead.{CellHead}
 use Rattle.hay_physical.specs.Faults as physical_faults
-use Rattle.hay_physical.specs.Runs.{EndsRun, HasRun, Run}
+use Rattle.hay_physical.specs.Runs.{CopierPeeked, EndsRun, HasRun, IsPeeked, PhasePeeked, Run}
 use Rattle.hay_logical.specs.Fits.{PhotoAt}
 use Rattle.hay_logical.specs.Steps.{GoesOn, IsStepFault, StepLeaves, latest_of, stepped_by}
 use Rattle.hay_logical.proofs.Calls.{not_both, reach_still, reach_through}
@@ -45,29 +51,17 @@ module _ {D : Type 0} (DiskTells : Type 0) (files : D → Files) where
   }
 
 module _ {D : Type 0} (faults : D → ℕ) where
-  -- a cell was not read
-  pub peek_cause : (r r' : Copy D) (f : ReplicaFault) → IsUp r → (goal_of r ≡ None → ⊥) → (f ≡ fault.Frozen → IsFrozen r) → ((n : ℕ) → f ≡ fault.Ended n → goal_of r ≡ None)
+  -- a cell was not examined
+  pub examine_cause : (r r' : Copy D) (f : ReplicaFault) → IsUp r → (goal_of r ≡ None → ⊥) → (f ≡ fault.Frozen → IsFrozen r) → ((n : ℕ) → f ≡ fault.Ended n → goal_of r ≡ None)
       → physical_faults.IsPeekFault (faults r.disk) (faults r'.disk) f → EndsRun (faults r'.disk) r r' f → IsStepFault faults r r' f
-  peek_cause r r' (fault.Failed n) up standing thawed none cause ends = (cause.0, cause.1, ends.0)
-  peek_cause r r' fault.Frozen up standing thawed none cause ends = absurd (not_both r up (thawed refl))
-  peek_cause r r' (fault.Full end need capacity) up standing thawed none cause ends = absurd cause
-  peek_cause r r' (fault.Busy generation) up standing thawed none cause ends = absurd cause
-  peek_cause r r' (fault.Ended n) up standing thawed none cause ends = absurd (standing (none n refl))
-  peek_cause r r' fault.Worn up standing thawed none cause ends = absurd cause
-  peek_cause r r' (fault.Damaged at) up standing thawed none cause ends = ends.0
-  peek_cause r r' fault.NoMemory up standing thawed none cause ends = ends
-
-  -- or not copied
-  pub copy_cause : (r r' : Copy D) (f : ReplicaFault) → IsUp r → (goal_of r ≡ None → ⊥) → (f ≡ fault.Frozen → IsFrozen r) → ((n : ℕ) → f ≡ fault.Ended n → goal_of r ≡ None)
-      → physical_faults.IsRunFault (faults r.disk) (faults r'.disk) f → EndsRun (faults r'.disk) r r' f → IsStepFault faults r r' f
-  copy_cause r r' (fault.Failed n) up standing thawed none cause ends = (cause.0, cause.1, ends.0)
-  copy_cause r r' fault.Frozen up standing thawed none cause ends = absurd (not_both r up (thawed refl))
-  copy_cause r r' (fault.Full end need capacity) up standing thawed none cause ends = absurd cause
-  copy_cause r r' (fault.Busy generation) up standing thawed none cause ends = absurd cause
-  copy_cause r r' (fault.Ended n) up standing thawed none cause ends = absurd (standing (none n refl))
-  copy_cause r r' fault.Worn up standing thawed none cause ends = absurd cause
-  copy_cause r r' (fault.Damaged at) up standing thawed none cause ends = absurd cause
-  copy_cause r r' fault.NoMemory up standing thawed none cause ends = ends
+  examine_cause r r' (fault.Failed n) up standing thawed none cause ends = (cause.0, cause.1, ends.0)
+  examine_cause r r' fault.Frozen up standing thawed none cause ends = absurd (not_both r up (thawed refl))
+  examine_cause r r' (fault.Full end need capacity) up standing thawed none cause ends = absurd cause
+  examine_cause r r' (fault.Busy generation) up standing thawed none cause ends = absurd cause
+  examine_cause r r' (fault.Ended n) up standing thawed none cause ends = absurd (standing (none n refl))
+  examine_cause r r' fault.Worn up standing thawed none cause ends = absurd cause
+  examine_cause r r' (fault.Damaged at) up standing thawed none cause ends = ends.0
+  examine_cause r r' fault.NoMemory up standing thawed none cause ends = ends
 
   -- behind what went before
   pub step_later : (r x y : Copy D) (f : ReplicaFault) → faults r.disk ≤ faults x.disk → goal_of x ≡ goal_of r → IsStepFault faults x y f → IsStepFault faults r y f
@@ -110,8 +104,19 @@ module _ {D : Type 0} (files : D → Files) where
         has = subst (λ (x : Run). HasRun files r' s (Some x)) (ap (λ k. stepped_by k (stepped_by n run)) none ∙ step_none (stepped_by n run)) leaves.has;
       }
 
-pub run_whole : (before after : ℕ) (f : ReplicaFault) (at : ℕ) → f ≡ fault.Damaged at → physical_faults.IsRunFault before after f → ⊥
-run_whole before after f at e cause = subst (λ (x : ReplicaFault). physical_faults.IsRunFault before after x) e cause
+-- A CELL THAT WAS PEEKED AT
+
+fits_copier : (end : ℕ) (copier : Copier) (head : CellHead) → CopierPeeked end copier head → (copier_goal copier ≡ None → ⊥) → copier_next copier + needle_total head.size ≤ end
+fits_copier end (Ended printed) head peeked some = absurd (some refl)
+fits_copier end (Standing stage) head peeked some = peeked.within
+
+fits_phase : (p : Phase) (head : CellHead) → PhasePeeked p head → (phase_goal p ≡ None → ⊥) → phase_next p + needle_total head.size ≤ phase_end p
+fits_phase Closed head peeked some = absurd peeked
+fits_phase (Open opened) head peeked some = fits_copier opened.volume.end opened.copier head peeked some
+
+-- its needle ends where the cells end, or before
+pub peeked_fits : {D : Type 0} (r : Copy D) (head : CellHead) → IsPeeked r head → (goal_of r ≡ None → ⊥) → next_of r + needle_total head.size ≤ end_of r
+peeked_fits r head peeked some = fits_phase r.phase head peeked some
 
 -- THE LATEST PLACE
 

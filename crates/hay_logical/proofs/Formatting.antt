@@ -2,11 +2,10 @@
 use Rattle.std.proofs.Common.{◌≡◌, inl, ℕ, List, [], ◌∷◌, length, refl, sym, ap, ◌∙◌, arith}
 use Rattle.hay_needle.specs.declared.settings.Super.{Super}
 use Rattle.hay_disk.specs.Disk.{Files}
-use Rattle.hay_map.specs.MapRows.{MapRows}
 use Rattle.hay_open.specs.Stored.{OpensAs, Stored, fresh_stored}
 use Rattle.hay_physical.specs.Copies.{Copy, contents_of}
 use Rattle.hay_physical.specs.Replicas.{Stands}
-use Rattle.hay_logical.specs.Steps.{KeepsDisk, OpensAt}
+use Rattle.hay_logical.specs.Steps.{KeepsDisk}
 
 stands_formatted : {D : Type 0} (files : D → Files) (r : Copy D) (s : Stored) → Stands files r s → contents_of files r.disk 0 ≡ [] → ⊥
 unfolding Stands
@@ -16,11 +15,11 @@ void_opens : (sup : Super) (contents : ℕ → List ℕ) → contents 0 ≡ [] �
 unfolding OpensAs
 void_opens sup contents void = inl (void, refl)
 
-pub opened_formatted : {D P : Type 0} (DiskTells : Type 0) (files : D → Files) (Tells : Type 0) (rows : MapRows P) (j : ℕ) (r r' : Copy D) (old : List ℕ)
-    → contents_of files r.disk 0 ≡ old → OpensAt DiskTells files Tells rows j r r' → KeepsDisk files r r' → DiskTells → contents_of files r'.disk 0 ≡ [] → ⊥
-opened_formatted DiskTells files Tells rows j r r' [] is opens keeps tells void =
-    stands_formatted files r' fresh_stored (opens.opened tells fresh_stored (void_opens r.sup (contents_of files r.disk) is)).0 void
-opened_formatted DiskTells files Tells rows j r r' (x ∷ xs) is opens keeps tells void =
+pub opened_formatted : {D : Type 0} (files : D → Files) (r r' : Copy D) (old : List ℕ) → contents_of files r.disk 0 ≡ old
+    → ((s : Stored) → OpensAs r.sup (contents_of files r.disk) s → Stands files r' s)
+    → KeepsDisk files r r' → contents_of files r'.disk 0 ≡ [] → ⊥
+opened_formatted files r r' [] is opens keeps void = stands_formatted files r' fresh_stored (opens fresh_stored (void_opens r.sup (contents_of files r.disk) is)) void
+opened_formatted files r r' (x ∷ xs) is opens keeps void =
     let some : contents_of files r.disk 0 ≡ [] → ⊥ = λ none. (let wrong : x ∷ xs ≡ [] = sym is ∙ none in absurd cc) in
     let wrong : x ∷ xs ≡ [] = sym is ∙ sym (keeps.kept some 0).0 ∙ void in
     absurd cc

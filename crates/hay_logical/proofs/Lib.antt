@@ -41,3 +41,4 @@ pub mod Untouched
 pub mod Seen
 pub mod SeenSwaps
 pub mod SeenChanges
+pub mod SightChanges

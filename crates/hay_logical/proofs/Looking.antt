@@ -1,7 +1,7 @@
 -- What a look at a place makes of a replica and of the rows.
-use Rattle.std.proofs.Common.{◌≡◌, inl, inr, ℕ, ◌<◌, Bool, true, false, cond, length, Option, Some, None, Ok, Err, refl, sym, ap, subst, ◌∙◌}
+use Rattle.std.proofs.Common.{◌≡◌, ◌≢◌, inl, inr, ℕ, ◌<◌, Bool, true, false, cond, length, Option, Some, None, Ok, Err, refl, sym, ap, subst, ◌∙◌}
 use Rattle.std.specs.Prelude.{slice_set, Result, IfErr, OnOk}
-use Rattle.std.proofs.lemmas.List.{get_or-set_same, set-get_or}
+use Rattle.std.proofs.lemmas.List.{get_or-set_other, get_or-set_same, set-get_or}
 use Rattle.std.proofs.lemmas.Bool.{cases_Bool, cond-true, cond-false}
 use Rattle.hay_needle.specs.declared.needle.Cell.{Cell}
 use Rattle.hay_needle.specs.declared.needle.Outcome.{Outcome}
@@ -294,6 +294,13 @@ module _ {P : Type 0} (pair : Pair) (j : ℕ) (rows rows' : MapRows P) where
 
   pub set_here : (p : Place P) → SetsPlaceAt pair j p rows rows' → j < length (row_at rows pair) → place_in (row_at rows' pair) j ≡ p
   set_here p sets within = set_places p sets within pair ∙ cond-true (pair_eq pair pair) p (place_in (row_at rows pair) j) (pair_refl pair)
+
+  pub set_others : (p : Place P) → SetsPlaceAt pair j p rows rows' → (i : ℕ) → i ≢ j → (q : Pair) → place_in (row_at rows' q) i ≡ place_in (row_at rows q) i
+  set_others p sets i apart q = ap (λ l. place_in l i) (sets q) ∙ by_test (pair_eq pair q)
+    where
+      by_test : (b : Bool) → place_in (cond b (slice_set (row_at rows q) j p) (row_at rows q)) i ≡ place_in (row_at rows q) i
+      by_test true = get_or-set_other (row_at rows q) j i p place.None apart
+      by_test false = refl
 
   pub same_places : (p : Place P) → place_in (row_at rows pair) j ≡ p → ((q : Pair) → row_at rows' q ≡ row_at rows q) → (q : Pair) → place_in (row_at rows' q) j ≡ cond (pair_eq pair q) p (place_in (row_at rows q) j)
   same_places p was same q = ap (λ l. place_in l j) (same q) ∙ by_test (pair_eq pair q) refl

@@ -14,7 +14,7 @@ use Rattle.hay_compact.specs.Finishing.{IsSeen}
 use Rattle.hay_physical.specs.declared.fault.ReplicaFault.{ReplicaFault}
 use Rattle.hay_physical.specs.declared.fault.ReplicaFault.TheVariants as fault
 use Rattle.hay_physical.specs.declared.state.Phase.{Phase}
-use Rattle.hay_physical.specs.Copies.{Copy, HasFrozen, IsOpenCopy, IsOpenPhase, goal_of, is_frozen, is_stuck}
+use Rattle.hay_physical.specs.Copies.{Copy, HasFrozen, IsOpenCopy, IsOpenPhase, end_of, generation_of, goal_of, is_frozen, is_stuck}
 use Rattle.hay_physical.specs.Replicas as physical
 use Rattle.hay_open.specs.declared.fault.OpenFault.{OpenFault}
 use Rattle.hay_open.specs.declared.fault.OpenFault.TheVariants as open_fault
@@ -130,6 +130,10 @@ pub on_ok_then : {T E P Q : Type 0} (r : Result T E) → (P → Q) → OnOk r P 
 on_ok_then (Ok value) makes p = makes p
 on_ok_then (Err error) makes p = tt
 
+pub if_err_at : {T E : Type 0} (r : Result T E) (P Q : E → Type 0) → ((error : E) → r ≡ Err error → P error → Q error) → IfErr r P → IfErr r Q
+if_err_at (Ok value) P Q makes p = p
+if_err_at (Err error) P Q makes p = makes error refl p
+
 pub if_err_then : {T E : Type 0} {P Q : E → Type 0} (r : Result T E) → ((error : E) → P error → Q error) → IfErr r P → IfErr r Q
 if_err_then (Ok value) makes p = tt
 if_err_then (Err error) makes p = makes error p
@@ -147,8 +151,11 @@ module _ {D P : Type 0} (DiskTells : Type 0) (files : D → Files) (Tells : Type
     sup = ap (λ (z : Copy D). z.sup) looks.copy ∙ opens.sup;
     loose = ap (λ (z : Copy D). is_stuck z) looks.copy ∙ opens.loose;
     alone = ap (λ (z : Copy D). goal_of z) looks.copy ∙ opens.alone;
+    most = subst (λ n. n ≤ 65535) (sym (ap (λ (z : Copy D). generation_of z) looks.copy)) opens.most;
+    from = subst (λ n. 64 ≤ n) (sym (ap (λ (z : Copy D). end_of z) looks.copy)) opens.from;
     undamaged = opens.undamaged;
     undamaged_now = λ tells file at. subst (λ (contents : ℕ → List ℕ). IsOpeningDamage r.sup contents file at → ⊥) (sym (fun_ext (λ n. (looks.keeps tells).now n))) (opens.undamaged_now tells file at);
+    formatted = λ tells void. opens.formatted tells (sym ((looks.keeps tells).now 0) ∙ void);
     opened = λ tells s finds. let was = opens.opened tells s finds in looks.stands tells s was.0 was.1;
     reopened = λ tells stuck s t holds.
         let was = opens.reopened tells stuck s t holds in
@@ -215,7 +222,7 @@ module _ {D P : Type 0} (DiskTells : Type 0) (files : D → Files) (Tells : Type
             was = r.1;
             is = look.is;
             cause = by_fault r.0 look.before look.after refusal.fault (counts.rises refusal.replica r.0 look.before r.1 look.was) look.cause;
-            earlier = λ tells i a b less e f. let o = opened_all i a b e f in (o.undamaged tells, o.undamaged_now tells);
+            earlier = λ tells i a b less e f. let o = opened_all i a b e f in (o.undamaged tells, o.undamaged_now tells, o.formatted tells);
           }
         where
           by_fault : (r x y : Copy D) (f : OpenFault) → faults r.disk ≤ faults x.disk → IsLookFault (faults x.disk) (faults y.disk) f → IsOpenFault DiskTells files faults r y f

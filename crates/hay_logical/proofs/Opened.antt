@@ -45,7 +45,9 @@ use Rattle.hay_logical.specs.declared.unsure.Unsure.{Unsure}
 use Rattle.hay_logical.specs.Answers.{IsReopened}
 use Rattle.hay_logical.specs.Fits.{At, Fits, HoldsPart, HoldsSwap, IsReplica, Part, PhotoAt, found_as, part_of, super_of}
 use Rattle.hay_logical.specs.Fits.Part.{Kept, Unsure as Perhaps, Lost}
-use Rattle.hay_logical.specs.Notes.{NotesAre, NotesTell, SeesChange, SeesUnsure, keeps, may_be_live}
+use Rattle.hay_logical.specs.Notes.{NotesTell, SeesChange, SeesUnsure, keeps, may_be_live}
+use Rattle.hay_logical.specs.Seen.{ReplicaSeen, replica_seen}
+use Rattle.hay_logical.specs.Sights.{Sights, sight, sights_of}
 use Rattle.hay_logical.specs.Stands.{HoldsFor, HoldsPending, IsChange, IsFirst, IsPending, ReplicaStands, Stands, StandsFor}
 use Rattle.hay_logical.specs.Steps.{IsRefusedAt, OpensAt}
 use Rattle.hay_logical.specs.Volumes.{IsOfSettings}
@@ -113,7 +115,7 @@ end_is k old entries found settled r = elim (r.stands) [
   | inr w ↦ absurd (true≢false (sym w.poised ∙ settled))
 ]
 
-live_is : {P : Type 0} (Tells : Type 0) (pair : Pair) (p : Place P) (o : Outcome) → IsSeen p → PlaceMeans Tells pair p o → may_be_live p ≡ has_photo o
+live_is : {P : Type 0} (Tells : Type 0) (pair : Pair) (p : Place P) (o : Outcome) → IsSeen p → PlaceMeans Tells pair p o → may_be_live (sight p) ≡ has_photo o
 live_is Tells pair (place.Live needle) (outcome.Photo photo) seen is = refl
 live_is Tells pair (place.Live needle) outcome.Nothing seen is = absurd is
 live_is Tells pair place.None (outcome.Photo photo) seen is = absurd is
@@ -138,12 +140,12 @@ module _ {P : Type 0} (Tells : Type 0) (k : VolumeKnown) (at j : ℕ) (found : S
       let same : end ≡ before = omega (arith, stays, was, ends) in
       ap not (eq-eqb end before same)
 
-  live_by : (pair : Pair) → IsSeen (place_in (row_at rows pair) j) → may_be_live (place_in (row_at rows pair) j) ≡ has_photo (outcome_at (table_of (needles_of found.cells)) pair)
+  live_by : (pair : Pair) → IsSeen (place_in (row_at rows pair) j) → may_be_live (sights_of rows pair j) ≡ has_photo (outcome_at (table_of (needles_of found.cells)) pair)
   live_by pair seen =
       live_is Tells pair (place_in (row_at rows pair) j) (outcome_at (table_of (needles_of found.cells)) pair) seen (place_means Tells found.cells pair (place_in (row_at rows pair) j) seen (places pair))
 
   delete_keeps : (pair : Pair) (b : Bool) (pending : Pending) → IsSeen (place_in (row_at rows pair) j) → pending.entry ≡ Del pair → KeptRule k (Del pair) at j b
-      → ReopenedReplica k (replica_at k j) (kept_entry (Some pending) b) (known_of found) → not (may_be_live (place_in (row_at rows pair) j)) ≡ b
+      → ReopenedReplica k (replica_at k j) (kept_entry (Some pending) b) (known_of found) → not (may_be_live (sights_of rows pair j)) ≡ b
   delete_keeps pair true pending seen is rule r =
       let made : table_of (needles_of found.cells) ≡ without_pair (now k (replica_at k j)) pair =
       (subst (λ (e : Entry). ReopenedReplica k (replica_at k j) (e ∷ []) (known_of found)) is r).base in
@@ -159,12 +161,12 @@ module _ {P : Type 0} (Tells : Type 0) (k : VolumeKnown) (at j : ℕ) (found : S
       ]
 
   keeps_by : (asked : Change) (entry : Entry) (b : Bool) (pending : Pending) → SeesChange asked rows j → pending.entry ≡ entry → IsChange asked k entry → KeptRule k entry at j b
-      → ReopenedReplica k (replica_at k j) (kept_entry (Some pending) b) (known_of found) → keeps asked rows j end ≡ b
+      → ReopenedReplica k (replica_at k j) (kept_entry (Some pending) b) (known_of found) → keeps asked (sights_of rows) j end ≡ b
   keeps_by (change.Put ends) (Put pair cookie bytes) b pending seen is asked rule r = put_keeps (slice_index ends j) pair cookie bytes b pending is (asked j known) r
   keeps_by (change.Put ends) (Del pair) b pending seen is asked rule r = absurd asked
   keeps_by (change.Delete other) (Put pair cookie bytes) b pending seen is asked rule r = absurd asked
   keeps_by (change.Delete other) (Del pair) b pending seen is asked rule r =
-      ap (λ (q : Pair). not (may_be_live (place_in (row_at rows q) j))) asked ∙ delete_keeps pair b pending (subst (λ (q : Pair). IsSeen (place_in (row_at rows q) j)) asked seen) is rule r
+      ap (λ (q : Pair). not (may_be_live (sights_of rows q j))) asked ∙ delete_keeps pair b pending (subst (λ (q : Pair). IsSeen (place_in (row_at rows q) j)) asked seen) is rule r
 
 -- a replica is settled where a change is pending
 settled_by : {D : Type 0} (files : D → Files) (r : Copy D) (stuck poised : Bool) (s : Stored) (p : Option Pending) (at j : ℕ) (pending : Pending) → p ≡ Some pending → HoldsPending files r stuck poised s p at j → poised ≡ false
@@ -278,7 +280,8 @@ module _ {D P : Type 0} (DiskTells : Type 0) (files : D → Files) (Tells : Type
         let some = some_pending files old.0 (replica_at k j).stuck (replica_at k j).poised h.stored k.pending holds.broken_at j h.holds in
         seen j old.0 old.1 (replica_at k j).stuck some.0 some.1 some.2
 
-    pub reopened : (notes : List Note) → NotesAre settings number unsure rows news notes → IsReopened files Tells k notes (volume_with settings number news rows 0 None None)
+    pub reopened : (notes : List Note) → NotesTell settings number unsure (sights_of rows) (map replica_seen news) notes
+        → IsReopened files Tells k notes (volume_with settings number news rows 0 None None)
     unfolding Stands
     reopened notes are =
         let both = choose (ChosenIn files Tells news rows k holds.broken_at) settings.replicas chosen_at in
@@ -314,14 +317,15 @@ module _ {D P : Type 0} (DiskTells : Type 0) (files : D → Files) (Tells : Type
             }
 
         told_by : (both : Chosen (ChosenIn files Tells news rows k holds.broken_at) settings.replicas) (notes : List Note) (u : Option Unsure) (p : Option Pending) → ((j : ℕ) → j < length news → SeesUnsure u rows j) → IsPending u k p → k.pending ≡ p
-            → NotesAre settings number u rows news notes → notes ≡ pending_notes settings number p (kept_list p both.items)
+            → NotesTell settings number u (sights_of rows) (map replica_seen news) notes → notes ≡ pending_notes settings number p (kept_list p both.items)
         told_by both notes None None see is e are = are
         told_by both notes None (Some pending) see is e are = absurd is
         told_by both notes (Some u) None see is e are = absurd is
         told_by both notes (Some u) (Some pending) see is e are =
             are.2 ∙ ap (λ tag. replica_notes settings number tag.line 0 are.0) is.0
             ∙ ap (λ (l : List Bool). replica_notes settings number (pending.tag).line 0 l)
-            (lists_same are.0 (map (λ (x : Choice). x.kept) both.items) ((are.1).count ∙ count ∙ holds.all ∙ sym both.count ∙ sym (length-map both.items (λ (x : Choice). x.kept))) (λ j h.
+            (lists_same are.0 (map (λ (x : Choice). x.kept) both.items)
+            ((are.1).count ∙ length-map news replica_seen ∙ count ∙ holds.all ∙ sym both.count ∙ sym (length-map both.items (λ (x : Choice). x.kept))) (λ j h.
             let low : j < length news = (let l = length-map both.items (λ (x : Choice). x.kept) in let n = both.count in let a = holds.all in omega (arith, h, l, n, a, count)) in
             let c = choice_at both j low in
             let b = both.each j c.0 c.1 in
@@ -329,7 +333,7 @@ module _ {D P : Type 0} (DiskTells : Type 0) (files : D → Files) (Tells : Type
             let outcome : ReopenedReplica k (replica_at k j) (kept_entry (Some pending) (c.0).kept) (known_of (c.0).found) =
             subst (λ (q : Option Pending). ReopenedReplica k (replica_at k j) (kept_entry q (c.0).kept) (known_of (c.0).found)) e (b.outcome).reopened in
             let rule : KeptRule k pending.entry at_of j (c.0).kept = subst (λ (q : Option Pending). RuleBy k q at_of j (c.0).kept) e (b.outcome).rule in
-            (are.1).each j b.replica b.there
+            (are.1).each j (replica_seen b.replica) (at_map replica_seen news j b.replica b.there)
             ∙ ap Some (keeps_by Tells k at_of j (c.0).found (b.settled pending e) known rows (end_of b.replica) (stands_end files b.replica (c.0).found (b.found).stands) (b.found).places
             u.change pending.entry (c.0).kept pending (see j low) refl is.1 rule outcome)
             ∙ sym (at_map (λ (x : Choice). x.kept) both.items j c.0 c.1)))
@@ -360,9 +364,9 @@ pub err_same : {X Y : Type 0} (result : Result X Y) (x y : Y) → result ≡ Err
 err_same result x y e f = let both : Err x ≡ Err y = sym e ∙ f in cc
 
 -- the notes, where no change was broken off
-pub no_notes : {D P : Type 0} (settings : Settings) (v : ℕ) (unsure : Option Unsure) (rows : MapRows P) (replicas : List (Copy D)) (notes : List Note) → unsure ≡ None
-    → NotesAre settings v unsure rows replicas notes → notes ≡ []
-no_notes settings v unsure rows replicas notes e are = subst (λ (u : Option Unsure). NotesAre settings v u rows replicas notes) e are
+pub no_notes : (settings : Settings) (v : ℕ) (unsure : Option Unsure) (sights : Sights) (replicas : List ReplicaSeen) (notes : List Note) → unsure ≡ None
+    → NotesTell settings v unsure sights replicas notes → notes ≡ []
+no_notes settings v unsure sights replicas notes e tell = subst (λ (u : Option Unsure). NotesTell settings v u sights replicas notes) e tell
 
 pub no_damage : {X : Type 0} (result : Result X Unopened) (replica file at : ℕ) → result ≡ Err (record { replica = 0; fault = open_fault.NoMemory })
     → result ≡ Err (record { replica = replica; fault = open_fault.Damaged file at }) → ⊥
@@ -371,16 +375,11 @@ no_damage result replica file at e f =
     let wrong : open_fault.NoMemory ≡ open_fault.Damaged file at = ap (λ (u : Unopened). u.fault) same in
     cc
 
--- the notes and what they tell, of equal lists of replicas
-pub notes_on : {D P : Type 0} (settings : Settings) (v : ℕ) (unsure : Option Unsure) (rows : MapRows P) (a b : List (Copy D)) (notes : List Note) → a ≡ b
-    → NotesAre settings v unsure rows a notes → NotesAre settings v unsure rows b notes
-notes_on settings v unsure rows a b notes e are = subst (λ replicas. NotesAre settings v unsure rows replicas notes) e are
+-- the notes, of equal lists of replicas
+pub notes_on : {D : Type 0} (settings : Settings) (v : ℕ) (unsure : Option Unsure) (sights : Sights) (a b : List (Copy D)) (notes : List Note) → a ≡ b
+    → NotesTell settings v unsure sights (map replica_seen a) notes → NotesTell settings v unsure sights (map replica_seen b) notes
+notes_on {D} settings v unsure sights a b notes e tell = subst (λ (rs : List (Copy D)). NotesTell settings v unsure sights (map replica_seen rs) notes) e tell
 
 pub reopened_on : {D P : Type 0} (files : D → Files) (Tells : Type 0) (k : VolumeKnown) (settings : Settings) (v : ℕ) (rows : MapRows P) (a b : List (Copy D)) (notes : List Note) → b ≡ a
     → IsReopened files Tells k notes (volume_with settings v a rows 0 None None) → IsReopened files Tells k notes (volume_with settings v b rows 0 None None)
 reopened_on files Tells k settings v rows a b notes e is = subst (λ replicas. IsReopened files Tells k notes (volume_with settings v replicas rows 0 None None)) (sym e) is
-
-pub notes_tell : {D P : Type 0} (settings : Settings) (v : ℕ) (unsure : Option Unsure) (rows : MapRows P) (replicas : List (Copy D)) (notes : List Note) → length replicas ≡ settings.replicas
-    → NotesAre settings v unsure rows replicas notes → NotesTell settings v unsure notes
-notes_tell settings v None rows replicas notes all are = are
-notes_tell settings v (Some unsure) rows replicas notes all are = (are.0, are.1.count ∙ all, are.2)

@@ -1,19 +1,22 @@
 -- How what is seen of a volume changes with its replicas.
-use Rattle.std.proofs.Common.{◌≡◌, ◌⊎◌, inl, inr, ℕ, zero, suc, ◌+◌, Bool, true, false, List, [], ◌∷◌, Option, None, Some, refl, sym, ap, subst, ◌∙◌}
-use Rattle.std.specs.Prelude.{is_some, not, map, slice_set}
+use Rattle.std.proofs.Common.{◌≡◌, ◌⊎◌, inl, inr, ℕ, zero, suc, ◌+◌, ◌*◌, ◌≤◌, Bool, true, false, List, [], ◌∷◌, length, Option, None, Some, refl, sym, ap, subst, ◌∙◌, arith}
+use Rattle.std.specs.Prelude.{is_some, not, map, slice_set, Result, Ok, Err, IfOk, OnOk}
 use Rattle.std.proofs.lemmas.Bool.{true≢false}
+use Rattle.std.proofs.lemmas.List.{length-map}
 use Rattle.hay_needle.specs.declared.settings.Settings.{Settings}
+use Rattle.hay_needle.specs.Sizes.{needle_total}
 use Rattle.hay_map.specs.MapRows.{MapRows}
 use Rattle.hay_legal.specs.Known.{machine_of}
 use Rattle.hay_physical.specs.declared.fault.ReplicaFault.{ReplicaFault}
 use Rattle.hay_physical.specs.declared.fault.ReplicaFault.TheVariants as fault
 use Rattle.hay_physical.specs.declared.state.Phase.{Phase}
-use Rattle.hay_physical.specs.Copies.{Copy, KeepsEnd, end_of, generation_of, goal_of, is_stuck, phase_end, phase_generation, phase_goal, phase_stuck}
+use Rattle.hay_physical.specs.Copies.{Copy, KeepsEnd, bare_of, end_of, generation_of, goal_of, is_stuck, next_of, phase_bare, phase_end, phase_generation, phase_goal, phase_next, phase_stuck}
+use Rattle.hay_physical.proofs.Laws.{no_next}
 use Rattle.hay_logical.specs.declared.unsure.Unsure.{Unsure}
 use Rattle.hay_logical.specs.Fits.{At}
 use Rattle.hay_logical.specs.Refusals.{answer_at}
-use Rattle.hay_logical.specs.Seen.{BeginRefusedSeen, ChangesAt, DeleteSeen, EndsAlone, FlushRefusedSeen}
-use Rattle.hay_logical.specs.Seen.{ReplicaSeen, StepRefusedSeen, Sticks, SwapSeen, VolumeSeen, replica_seen, volume_seen}
+use Rattle.hay_logical.specs.Seen.{BeginRefusedSeen, BreaksStep, ChangesAt, ChangesRun, DeleteSeen, EndsAlone, FlushRefusedSeen, FlushesTo, IsEnded}
+use Rattle.hay_logical.specs.Seen.{ReplicaSeen, StepRefusedSeen, StepsPartly, StepsTo, Sticks, SwapSeen, VolumeSeen, grown, replica_seen, volume_seen}
 use Rattle.hay_logical.specs.Steps.{CallsOne, IsBeginFault, IsFlushFault, IsStepFault}
 use Rattle.hay_logical.specs.Volumes.{Volume}
 use Rattle.hay_logical.proofs.Changing.{set_back}
@@ -22,44 +25,176 @@ use Rattle.hay_logical.proofs.Standing.{volume_with}
 
 -- ONE REPLICA
 
-abbrev pub seen_as : ℕ → Option ℕ → Bool → ℕ → ReplicaSeen
-seen_as generation goal stuck end = record { generation = generation; goal = goal; stuck = stuck; end = end }
+abbrev pub seen_as : ℕ → Option ℕ → Bool → ℕ → ℕ → ℕ → ReplicaSeen
+seen_as generation goal stuck end bare next = record { generation = generation; goal = goal; stuck = stuck; end = end; bare = bare; next = next }
 
-pub seen_by : (g g' : ℕ) (o o' : Option ℕ) (s s' : Bool) (e e' : ℕ) → g ≡ g' → o ≡ o' → s ≡ s' → e ≡ e' → seen_as g o s e ≡ seen_as g' o' s' e'
-seen_by g g' o o' s s' e e' a b c d =
-    ap (λ x. seen_as x o s e) a ∙ ap (λ x. seen_as g' x s e) b ∙ ap (λ x. seen_as g' o' x e) c ∙ ap (λ x. seen_as g' o' s' x) d
+pub seen_by : (g g' : ℕ) (o o' : Option ℕ) (s s' : Bool) (e e' b b' n n' : ℕ) → g ≡ g' → o ≡ o' → s ≡ s' → e ≡ e' → b ≡ b' → n ≡ n' → seen_as g o s e b n ≡ seen_as g' o' s' e' b' n'
+seen_by g g' o o' s s' e e' b b' n n' generation goal stuck end bare next =
+    ap (λ x. seen_as x o s e b n) generation ∙ ap (λ x. seen_as g' x s e b n) goal ∙ ap (λ x. seen_as g' o' x e b n) stuck ∙ ap (λ x. seen_as g' o' s' x b n) end
+    ∙ ap (λ x. seen_as g' o' s' e' x n) bare ∙ ap (λ x. seen_as g' o' s' e' b' x) next
+
+pub none_or : (o : Option ℕ) → (o ≡ None) ⊎ (o ≡ None → ⊥)
+none_or None = inl refl
+none_or (Some goal) = inr (λ e. let wrong : Some goal ≡ None = e in cc)
 
 module _ {D : Type 0} (r r' : Copy D) where
-  pub seen_same : KeepsEnd r r' → goal_of r' ≡ goal_of r → is_stuck r' ≡ is_stuck r → replica_seen r' ≡ replica_seen r
-  seen_same stays goal stuck = seen_by _ _ _ _ _ _ _ _ stays.0 goal stuck stays.1
-
-  pub seen_goal : (goal : Option ℕ) → KeepsEnd r r' → goal_of r' ≡ goal → is_stuck r' ≡ is_stuck r → replica_seen r' ≡ record (replica_seen r) { goal = goal }
-  seen_goal goal stays is stuck = seen_by _ _ _ _ _ _ _ _ stays.0 is stuck stays.1
-
-  pub seen_stuck : (stuck : Bool) → KeepsEnd r r' → goal_of r' ≡ goal_of r → is_stuck r' ≡ stuck → replica_seen r' ≡ record (replica_seen r) { stuck = stuck }
-  seen_stuck stuck stays goal is = seen_by _ _ _ _ _ _ _ _ stays.0 goal is stays.1
-
   pub seen_phase : r'.phase ≡ r.phase → replica_seen r' ≡ replica_seen r
-  seen_phase same = ap (λ (p : Phase). seen_as (phase_generation p) (phase_goal p) (phase_stuck p) (phase_end p)) same
+  seen_phase same = ap (λ (p : Phase). seen_as (phase_generation p) (phase_goal p) (phase_stuck p) (phase_end p) (phase_bare p) (phase_next p)) same
 
-module _ {D : Type 0} (r r' : Copy D) where
-  pub seen_end : (end : ℕ) → generation_of r' ≡ generation_of r → goal_of r' ≡ goal_of r → is_stuck r' ≡ is_stuck r → end_of r' ≡ end → replica_seen r' ≡ record (replica_seen r) { end = end }
-  seen_end end generation goal stuck is = seen_by _ _ _ _ _ _ _ _ generation goal stuck is
+  pub run_changed : KeepsEnd r r' → is_stuck r' ≡ is_stuck r → bare_of r' ≡ bare_of r → ChangesRun (replica_seen r) (replica_seen r')
+  run_changed stays stuck bare = seen_by _ _ _ _ _ _ _ _ _ _ _ _ stays.0 refl stuck stays.1 bare refl
+
+  pub run_same : ChangesRun (replica_seen r) (replica_seen r') → goal_of r' ≡ goal_of r → next_of r' ≡ next_of r → replica_seen r' ≡ replica_seen r
+  run_same changes goal next = changes ∙ seen_by _ _ _ _ _ _ _ _ _ _ _ _ refl goal refl refl refl next
+
+  pub run_begun : (goal next : ℕ) → ChangesRun (replica_seen r) (replica_seen r') → goal_of r' ≡ Some goal → next_of r' ≡ next
+      → replica_seen r' ≡ record (replica_seen r) { goal = Some goal; next = next }
+  run_begun goal next changes is first = changes ∙ seen_by _ _ _ _ _ _ _ _ _ _ _ _ refl is refl refl refl first
+
+  pub run_ended : ChangesRun (replica_seen r) (replica_seen r') → goal_of r' ≡ None → IsEnded (replica_seen r) (replica_seen r')
+  run_ended changes none = changes ∙ seen_by _ _ _ _ _ _ _ _ _ _ _ _ refl none refl refl refl (no_next r' none)
+
+  pub none_same : ChangesRun (replica_seen r) (replica_seen r') → goal_of r' ≡ None → goal_of r ≡ None → replica_seen r' ≡ replica_seen r
+  none_same changes now before = run_same changes (now ∙ sym before) (no_next r' now ∙ sym (no_next r before))
+
+  pub seen_stuck : KeepsEnd r r' → goal_of r' ≡ goal_of r → next_of r' ≡ next_of r → bare_of r' ≡ bare_of r → replica_seen r' ≡ record (replica_seen r) { stuck = is_stuck r' }
+  seen_stuck stays goal next bare = seen_by _ _ _ _ _ _ _ _ _ _ _ _ stays.0 goal refl stays.1 bare next
+
+  pub seen_flushed : KeepsEnd r r' → goal_of r' ≡ goal_of r → next_of r' ≡ next_of r → is_stuck r' ≡ is_stuck r → bare_of r' ≡ 0 → replica_seen r' ≡ record (replica_seen r) { bare = 0 }
+  seen_flushed stays goal next stuck bare = seen_by _ _ _ _ _ _ _ _ _ _ _ _ stays.0 goal stuck stays.1 bare next
+
+  pub seen_grown : (size : ℕ) → generation_of r' ≡ generation_of r → goal_of r' ≡ goal_of r → is_stuck r' ≡ is_stuck r → end_of r' ≡ end_of r + needle_total size
+      → bare_of r' ≡ bare_of r + 1 → next_of r' ≡ next_of r
+      → replica_seen r' ≡ grown size (replica_seen r)
+  seen_grown size generation goal stuck end bare next = seen_by _ _ _ _ _ _ _ _ _ _ _ _ generation goal stuck end bare next
 
   -- a compaction went on behind a delete, or it ended
-  pub delete_seen : {Rises : Type 0} → KeepsEnd r r' → is_stuck r' ≡ is_stuck r → (goal_of r' ≡ goal_of r) ⊎ ((goal_of r' ≡ None) × Rises) → DeleteSeen (replica_seen r) (replica_seen r')
-  delete_seen stays stuck ends = elim ends [ inl same ↦ inl (seen_same r r' stays same stuck) | inr ended ↦ inr (seen_goal r r' None stays ended.0 stuck) ]
+  pub delete_seen : {Rises : Type 0} → KeepsEnd r r' → is_stuck r' ≡ is_stuck r → bare_of r' ≡ bare_of r → (goal_of r' ≡ goal_of r → next_of r' ≡ next_of r)
+      → (goal_of r' ≡ goal_of r) ⊎ ((goal_of r' ≡ None) × Rises) → DeleteSeen (replica_seen r) (replica_seen r')
+  delete_seen stays stuck bare next (inl same) = inl (run_same (run_changed stays stuck bare) same (next same))
+  delete_seen stays stuck bare next (inr ended) = elim (none_or (goal_of r)) [
+    | inl none ↦ inl (none_same (run_changed stays stuck bare) ended.0 none)
+    | inr some ↦ inr (some, run_ended (run_changed stays stuck bare) ended.0)
+  ]
 
-  pub swap_seen : (generation end : ℕ) → generation ≡ generation_of r' → end ≡ end_of r' → generation_of r' ≡ generation_of r + 1 → goal_of r' ≡ None → is_stuck r' ≡ false
-      → SwapSeen generation end (replica_seen r) (replica_seen r')
-  swap_seen generation end is ends next goal stuck = (is ∙ next, seen_by _ _ _ _ _ _ _ _ (sym is) goal stuck (sym ends))
+  pub swap_seen : (generation end : ℕ) → generation ≡ generation_of r' → end ≡ end_of r' → generation_of r' ≡ generation_of r + 1 → generation_of r' ≤ 65535
+      → 64 ≤ end_of r' → end_of r' ≤ end_of r → goal_of r' ≡ None
+      → is_stuck r' ≡ false → bare_of r' ≡ 0 → SwapSeen generation end (replica_seen r) (replica_seen r')
+  swap_seen generation end is ends next most from shorter goal stuck bare = record {
+    next = is ∙ next;
+    most = subst (λ n. n ≤ 65535) (sym is) most;
+    from = subst (λ n. 64 ≤ n) (sym ends) from;
+    shorter = subst (λ n. n ≤ end_of r) (sym ends) shorter;
+    is = seen_by _ _ _ _ _ _ _ _ _ _ _ _ (sym is) goal stuck (sym ends) bare (no_next r' goal);
+  }
 
-  -- nothing else of it was seen than the generation
-  pub swap_later : (x : Copy D) (generation end : ℕ) → KeepsEnd x r → SwapSeen generation end (replica_seen r) (replica_seen r') → SwapSeen generation end (replica_seen x) (replica_seen r')
-  swap_later x generation end stays seen = (seen.0 ∙ ap (λ n. n + 1) stays.0, seen.1)
+pub flush_seen : {D : Type 0} (r r' : Copy D) (result : Result ℕ ReplicaFault) → OnOk result ((is_stuck r ≡ false) × (is_stuck r' ≡ false))
+    → IfOk result (λ n. n ≡ bare_of r) → OnOk result (bare_of r' ≡ 0) → KeepsEnd r r'
+    → goal_of r' ≡ goal_of r → next_of r' ≡ next_of r → IfOk result (λ number. FlushesTo number (replica_seen r) (replica_seen r'))
+flush_seen r r' (Ok number) loose is bare stays goal next = (loose.0, is, seen_flushed r r' stays goal next (loose.1 ∙ sym loose.0) bare)
+flush_seen r r' (Err f) loose is bare stays goal next = tt
 
-pub keeps_on : {D : Type 0} (a b c : Copy D) → KeepsEnd a b → KeepsEnd b c → KeepsEnd a c
-keeps_on a b c first second = (second.0 ∙ first.0, second.1 ∙ first.1)
+-- nothing else was seen before than a compaction
+pub swap_later : (r x y : ReplicaSeen) (generation end : ℕ) → x.generation ≡ r.generation → x.end ≡ r.end → SwapSeen generation end x y → SwapSeen generation end r y
+swap_later r x y generation end same ends seen = record {
+  next = seen.next ∙ ap (λ n. n + 1) same;
+  most = seen.most;
+  from = seen.from;
+  shorter = subst (λ n. end ≤ n) ends seen.shorter;
+  is = seen.is;
+}
+
+pub changes_through : (a b c : ReplicaSeen) → ChangesRun a b → ChangesRun b c → ChangesRun a c
+changes_through a b c first second = second ∙ ap (λ (s : ReplicaSeen). record s { goal = c.goal; next = c.next }) first
+
+-- STEPS
+
+pub steps_change : (cells number : ℕ) (r r' : ReplicaSeen) → StepsTo cells number r r' → ChangesRun r r'
+steps_change cells number r r' steps =
+    let goal : r'.goal ≡ r.goal = ap (λ (s : ReplicaSeen). s.goal) steps.only in
+    steps.only ∙ ap (λ (o : Option ℕ). record r { goal = o; next = r'.next }) (sym goal)
+
+pub steps_none : {D : Type 0} (r : Copy D) → (goal_of r ≡ None → ⊥) → StepsTo 0 0 (replica_seen r) (replica_seen r)
+steps_none r stands = record {
+  stands = stands;
+  only = refl;
+  few = omega arith;
+  all = inl refl;
+  behind = omega arith;
+  within = inl refl;
+  none = λ e. refl;
+}
+
+pub steps_more : (n : ℕ) (r x y : ReplicaSeen) → StepsTo n n r x → StepsTo 1 1 x y → StepsTo (n + 1) (n + 1) r y
+steps_more n r x y first second = record {
+  stands = first.stands;
+  only = second.only ∙ ap (λ (s : ReplicaSeen). record s { next = y.next }) first.only;
+  few = omega arith;
+  all = inl refl;
+  behind = (let a : r.next + n * 48 ≤ x.next = first.behind in let b : x.next + 1 * 48 ≤ y.next = second.behind in let c : r.next + (n + 1) * 48 ≤ y.next = omega (arith, a, b) in c);
+  within = elim second.within [
+    | inl none ↦ let wrong : 1 ≡ 0 = none in absurd (omega (arith, wrong))
+    | inr low ↦ inr (subst (λ e. y.next ≤ e) (ap (λ (s : ReplicaSeen). s.end) first.only) low)
+  ];
+  none = λ e. absurd (omega (arith, e));
+}
+
+-- no cell was left
+pub steps_stop : (cells n : ℕ) (r x y : ReplicaSeen) → n ≤ cells → StepsTo n n r x → StepsTo 1 0 x y → StepsTo cells n r y
+steps_stop cells n r x y few first second =
+    let same : y.next ≡ x.next = second.none refl in
+    let ends : x.end ≡ r.end = ap (λ (s : ReplicaSeen). s.end) first.only in
+    record {
+      stands = first.stands;
+      only = second.only ∙ ap (λ (s : ReplicaSeen). record s { next = y.next }) first.only;
+      few = few;
+      all = elim second.all [
+        | inl one ↦ let wrong : 0 ≡ 1 = one in absurd (omega (arith, wrong))
+        | inr all ↦ inr (subst (λ e. e ≤ y.next) ends all)
+      ];
+      behind = subst (λ k. r.next + n * needle_total 0 ≤ k) (sym same) first.behind;
+      within = elim first.within [ inl none ↦ inl none | inr low ↦ inr (subst (λ k. k ≤ r.end) (sym same) low) ];
+      none = λ e. same ∙ first.none e;
+    }
+
+pub steps_break : (n : ℕ) (r x y : ReplicaSeen) → StepsTo n n r x → BreaksStep x y → BreaksStep r y
+steps_break n r x y first broken =
+    let goal : x.goal ≡ r.goal = ap (λ (s : ReplicaSeen). s.goal) first.only in (
+      changes_through r x y (steps_change n n r x first) broken.0,
+      λ same. let a : r.next + n * 48 ≤ x.next = first.behind in let b = broken.1 (same ∙ sym goal) in omega (arith, a, b),
+    )
+
+-- one cell was examined
+pub steps_one : {D : Type 0} (r x y : Copy D) (size : ℕ) → (goal_of r ≡ None → ⊥) → ChangesRun (replica_seen r) (replica_seen x)
+    → ChangesRun (replica_seen x) (replica_seen y) → goal_of x ≡ goal_of r → goal_of y ≡ goal_of x
+    → next_of x ≡ next_of r → next_of y ≡ next_of x + needle_total size → next_of x + needle_total size ≤ end_of x → StepsTo 1 1 (replica_seen r) (replica_seen y)
+steps_one r x y size stands first second goal goal' next next' fits =
+    let changes : ChangesRun (replica_seen r) (replica_seen y) = changes_through (replica_seen r) (replica_seen x) (replica_seen y) first second in
+    let ends : end_of x ≡ end_of r = ap (λ (s : ReplicaSeen). s.end) first in
+    record {
+      stands = stands;
+      only = changes ∙ seen_by _ _ _ _ _ _ _ _ _ _ _ _ refl (goal' ∙ goal) refl refl refl refl;
+      few = omega arith;
+      all = inl refl;
+      behind = (let low : next_of r + 1 * 48 ≤ next_of y = omega (arith, next, next') in low);
+      within = inr (omega (arith, next', fits, ends));
+      none = λ e. absurd (omega (arith, e));
+    }
+
+-- none was left
+pub steps_end : {D : Type 0} (r x : Copy D) → (goal_of r ≡ None → ⊥) → ChangesRun (replica_seen r) (replica_seen x) → goal_of x ≡ goal_of r → next_of x ≡ next_of r → end_of x ≤ next_of x
+    → StepsTo 1 0 (replica_seen r) (replica_seen x)
+steps_end r x stands changes goal next ends =
+    let same : end_of x ≡ end_of r = ap (λ (s : ReplicaSeen). s.end) changes in
+    record {
+      stands = stands;
+      only = changes ∙ seen_by _ _ _ _ _ _ _ _ _ _ _ _ refl goal refl refl refl refl;
+      few = omega arith;
+      all = inr (subst (λ e. e ≤ next_of x) same ends);
+      behind = omega (arith, next);
+      within = inl refl;
+      none = λ e. next;
+    }
 
 -- LISTS
 
@@ -72,6 +207,9 @@ pub map_at : {X Y : Type 0} (f : X → Y) (xs : List X) (j : ℕ) (y : Y) → At
 map_at f [] j y e = absurd cc
 map_at f (x ∷ xs) zero y e = let same : f x ≡ y = cc in (x, refl, sym same)
 map_at f (x ∷ xs) (suc j) y e = map_at f xs j y e
+
+pub many_seen : {D : Type 0} (old new : List (Copy D)) → length new ≡ length old → length (map replica_seen new) ≡ length (map replica_seen old)
+many_seen old new count = length-map new replica_seen ∙ count ∙ sym (length-map old replica_seen)
 
 -- ONE REPLICA OF A VOLUME
 
@@ -107,37 +245,37 @@ module _ (at : ℕ) {D P : Type 0} (settings : Settings) (number : ℕ) (old new
 -- REFUSALS
 
 module _ (settings : Settings) (v at : ℕ) {D : Type 0} (faults : D → ℕ) (r r' : Copy D) (old new : VolumeSeen) (there : At old.replicas at (replica_seen r)) where
-  pub begin_refused_seen : new ≡ old → (f : ReplicaFault) → IsBeginFault faults r r' f → BeginRefusedSeen settings v at old new (answer_at (machine_of settings v at) f)
-  begin_refused_seen same (fault.Failed printed) cause = (same, refl)
-  begin_refused_seen same fault.Frozen cause = absurd cause
-  begin_refused_seen same (fault.Full end need capacity) cause = absurd cause
-  begin_refused_seen same (fault.Busy goal) cause = ((same, refl), (replica_seen r, there, cause.0))
-  begin_refused_seen same (fault.Ended printed) cause = absurd cause
-  begin_refused_seen same fault.Worn cause = ((same, refl), (replica_seen r, there, (cause.0, cause.1)))
-  begin_refused_seen same (fault.Damaged place) cause = absurd cause
-  begin_refused_seen same fault.NoMemory cause = same
+  pub begin_refused_seen : old.frozen ≡ None → new ≡ old → (f : ReplicaFault) → IsBeginFault faults r r' f → BeginRefusedSeen settings v at old new (answer_at (machine_of settings v at) f)
+  begin_refused_seen thawed same (fault.Failed printed) cause = (((thawed, same), refl), (replica_seen r, there, (cause.2, cause.3)))
+  begin_refused_seen thawed same fault.Frozen cause = absurd cause
+  begin_refused_seen thawed same (fault.Full end need capacity) cause = absurd cause
+  begin_refused_seen thawed same (fault.Busy goal) cause = (((thawed, same), refl), (replica_seen r, there, cause.0))
+  begin_refused_seen thawed same (fault.Ended printed) cause = absurd cause
+  begin_refused_seen thawed same fault.Worn cause = (((thawed, same), refl), (replica_seen r, there, (cause.0, cause.1)))
+  begin_refused_seen thawed same (fault.Damaged place) cause = absurd cause
+  begin_refused_seen thawed same fault.NoMemory cause = ((thawed, same), (replica_seen r, there, cause))
 
-  pub step_refused_seen : (f : ReplicaFault) → IsStepFault faults r r' f → (replica_seen r' ≡ replica_seen r → new ≡ old) → (goal_of r' ≡ goal_of r → replica_seen r' ≡ replica_seen r)
+  pub step_refused_seen : old.frozen ≡ None → (f : ReplicaFault) → IsStepFault faults r r' f → (goal_of r' ≡ goal_of r → ChangesAt at StepsPartly old new)
       → (goal_of r' ≡ None → ChangesAt at EndsAlone old new) → StepRefusedSeen settings v at old new (answer_at (machine_of settings v at) f)
-  step_refused_seen (fault.Failed printed) cause stays same ends = (refl, ends cause.2)
-  step_refused_seen fault.Frozen cause stays same ends = absurd cause
-  step_refused_seen (fault.Full end need capacity) cause stays same ends = absurd cause
-  step_refused_seen (fault.Busy goal) cause stays same ends = absurd cause
-  step_refused_seen (fault.Ended printed) cause stays same ends = absurd cause
-  step_refused_seen fault.Worn cause stays same ends = absurd cause
-  step_refused_seen (fault.Damaged place) cause stays same ends = (refl, ends cause)
-  step_refused_seen fault.NoMemory cause stays same ends = stays (same cause)
+  step_refused_seen thawed (fault.Failed printed) cause steps ends = (thawed, refl, ends cause.2)
+  step_refused_seen thawed fault.Frozen cause steps ends = absurd cause
+  step_refused_seen thawed (fault.Full end need capacity) cause steps ends = absurd cause
+  step_refused_seen thawed (fault.Busy goal) cause steps ends = absurd cause
+  step_refused_seen thawed (fault.Ended printed) cause steps ends = absurd cause
+  step_refused_seen thawed fault.Worn cause steps ends = absurd cause
+  step_refused_seen thawed (fault.Damaged place) cause steps ends = (thawed, refl, ends cause)
+  step_refused_seen thawed fault.NoMemory cause steps ends = (thawed, steps cause)
 
   pub flush_refused_seen : (f : ReplicaFault) → old.frozen ≡ None → IsFlushFault faults r r' f → (is_stuck r' ≡ is_stuck r → new ≡ old)
       → ((f ≡ fault.Frozen → ⊥) → is_stuck r' ≡ true → ChangesAt at Sticks old new) → FlushRefusedSeen settings v at old new (answer_at (machine_of settings v at) f)
-  flush_refused_seen (fault.Failed printed) thawed cause stays sticks = (refl, sticks (λ e. let wrong : fault.Failed printed ≡ fault.Frozen = e in cc) cause.2)
-  flush_refused_seen fault.Frozen thawed cause stays sticks = inr (thawed, (stays (ap is_stuck cause.1), refl), (replica_seen r, there, cause.0))
+  flush_refused_seen (fault.Failed printed) thawed cause stays sticks = (thawed, refl, sticks (λ e. let wrong : fault.Failed printed ≡ fault.Frozen = e in cc) cause.2)
+  flush_refused_seen fault.Frozen thawed cause stays sticks = inr (((thawed, stays (ap is_stuck cause.1)), refl), (replica_seen r, there, cause.0))
   flush_refused_seen (fault.Full end need capacity) thawed cause stays sticks = absurd cause
   flush_refused_seen (fault.Busy goal) thawed cause stays sticks = absurd cause
   flush_refused_seen (fault.Ended printed) thawed cause stays sticks = absurd cause
   flush_refused_seen fault.Worn thawed cause stays sticks = absurd cause
   flush_refused_seen (fault.Damaged place) thawed cause stays sticks = absurd cause
-  flush_refused_seen fault.NoMemory thawed cause stays sticks = stays cause
+  flush_refused_seen fault.NoMemory thawed cause stays sticks = (thawed, stays cause)
 
 pub no_goal : (o : Option ℕ) (b : Bool) → is_some o ≡ not b → b ≡ true → o ≡ None
 no_goal None b is e = refl

@@ -13,7 +13,7 @@ use Rattle.hay_logical.specs.declared.refusals.Refusal.{Refusal}
 use Rattle.hay_logical.specs.Answers.{IsSightFault}
 use Rattle.hay_logical.specs.Fits.{At}
 use Rattle.hay_logical.specs.Refusals.{RefusalBy}
-use Rattle.hay_logical.specs.Seen.{BreaksPutSeen, DeleteRefusedSeen, EraseSeen, PutRefusedSeen, RoomRefusedSeen, VolumeSeen}
+use Rattle.hay_logical.specs.Seen.{BreaksPutSeen, DeleteRefusedSeen, EraseSeen, PutRefusedSeen, RoomRefusedSeen, StaysThawed, VolumeSeen}
 
 -- lists whose items are alike, one by one
 pub maps_by : {X Y : Type 0} (f g : X → Y) (xs ys : List X) → length ys ≡ length xs → ((j : ℕ) (x y : X) → At xs j x → At ys j y → f y ≡ g x) → map f ys ≡ map g xs
@@ -53,7 +53,7 @@ module _ (settings : Settings) (v : ℕ) (tag : CoreTag) (size : ℕ) (old : Vol
 pub erase_later : (old middle new : VolumeSeen) → middle ≡ old → EraseSeen middle new → EraseSeen old new
 erase_later old middle new same seen = subst (λ (s : VolumeSeen). EraseSeen s new) same seen
 
-pub look_refused_seen : {D : Type 0} (faults : D → ℕ) (settings : Settings) (v : ℕ) (before after : List (Copy D)) (tag : CoreTag) (pair : Pair) (old new : VolumeSeen) → new ≡ old
+pub look_refused_seen : {D : Type 0} (faults : D → ℕ) (settings : Settings) (v : ℕ) (before after : List (Copy D)) (tag : CoreTag) (pair : Pair) (old new : VolumeSeen) → StaysThawed old new
     → (f : LogicalFault) → IsSightFault faults settings v before after f → DeleteRefusedSeen tag pair old new f
 look_refused_seen faults settings v before after tag pair old new same (logical.Failed m printed) is = inl same
 look_refused_seen faults settings v before after tag pair old new same (logical.Damaged m place) is = same

@@ -13,11 +13,11 @@ use Rattle.hay_logical.specs.declared.runs.Unswapped.{Unswapped}
 use Rattle.hay_logical.specs.declared.runs.Unswapped.TheVariants.{Refused, Unsure as Perhaps}
 use Rattle.hay_logical.specs.Fits.{At}
 use Rattle.hay_logical.specs.Refusals.{unfinished_by}
-use Rattle.hay_logical.specs.Seen.{ChangesAt, CompactRefusedSeen, EndsAlone, FinishRefusedSeen, FreezesSeen, ReplicaSeen, VolumeSeen, replica_seen}
+use Rattle.hay_logical.specs.Seen.{ChangesAt, ChangesRun, CompactRefusedSeen, EndsAlone, FinishRefusedSeen, FreezesSeen, ReplicaSeen, VolumeSeen, replica_seen}
 use Rattle.hay_logical.specs.Steps.{AllIdle, IsLeftBy, Start}
 use Rattle.hay_logical.specs.Steps.Start.{Fresh, Going}
 use Rattle.hay_logical.proofs.Lists.{at_below, at_same, at_set_other, at_set_same, length-slice_set}
-use Rattle.hay_logical.proofs.Seen.{map_at}
+use Rattle.hay_logical.proofs.Seen.{map_at, none_same}
 use Rattle.hay_logical.proofs.SwapShapes.{SwapCall}
 use Rattle.hay_logical.proofs.Untouched.{lists_same}
 
@@ -50,28 +50,32 @@ module _ (settings : Settings) (v at : ℕ) {D : Type 0} (faults : D → ℕ) (r
   abbrev Froze : Unswapped → Type 0
   Froze u = (m : ℕ) → IsFrozen r' → (unfinished_by settings v at u).frozen ≡ Some m → FreezesSeen m old.unsure old new
 
-  pub finish_refused_seen : (u : Unswapped) → IsLeftBy faults Going r r' u → ((unfinished_by settings v at u).frozen ≡ None → IsUp r' → goal_of r' ≡ None → ChangesAt at EndsAlone old new) → Froze u
+  pub finish_refused_seen : old.frozen ≡ None → (goal_of r ≡ None → ⊥) → (u : Unswapped) → IsLeftBy faults Going r r' u
+      → ((unfinished_by settings v at u).frozen ≡ None → IsUp r' → goal_of r' ≡ None → ChangesAt at EndsAlone old new) → Froze u
       → FinishRefusedSeen settings v at old new (unfinished_by settings v at u).fault
-  finish_refused_seen (Refused (fault.Failed printed)) left ends froze = (refl, inl (ends refl left.0 left.1))
-  finish_refused_seen (Refused (fault.Damaged place)) left ends froze = (refl, ends refl left.0 left.1)
-  finish_refused_seen (Refused fault.NoMemory) left ends froze = ends refl left.0 left.1
-  finish_refused_seen (Refused (fault.Busy goal)) left ends froze = let wrong : Going ≡ Fresh = left.0 in absurd cc
-  finish_refused_seen (Refused fault.Worn) left ends froze = let wrong : Going ≡ Fresh = left.0 in absurd cc
-  finish_refused_seen (Refused fault.Frozen) left ends froze = absurd left
-  finish_refused_seen (Refused (fault.Full end need capacity)) left ends froze = absurd left
-  finish_refused_seen (Refused (fault.Ended printed)) left ends froze = absurd left
-  finish_refused_seen (Perhaps printed) left ends froze = (refl, inr (froze (machine_of settings v at) left.0 refl))
+  finish_refused_seen thawed has (Refused (fault.Failed printed)) left ends froze = inl (thawed, refl, ends refl left.0 left.1)
+  finish_refused_seen thawed has (Refused (fault.Damaged place)) left ends froze = (thawed, refl, ends refl left.0 left.1)
+  finish_refused_seen thawed has (Refused fault.NoMemory) left ends froze = (thawed, ends refl left.0 left.1)
+  finish_refused_seen thawed has (Refused (fault.Busy goal)) left ends froze = let wrong : Going ≡ Fresh = left.0 in absurd cc
+  finish_refused_seen thawed has (Refused fault.Worn) left ends froze = let wrong : Going ≡ Fresh = left.0 in absurd cc
+  finish_refused_seen thawed has (Refused fault.Frozen) left ends froze = absurd left
+  finish_refused_seen thawed has (Refused (fault.Full end need capacity)) left ends froze = absurd left
+  finish_refused_seen thawed has (Refused (fault.Ended printed)) left ends froze = absurd left
+  finish_refused_seen thawed has (Perhaps printed) left ends froze = inr (refl, (replica_seen r, there, has), froze (machine_of settings v at) left.0 refl)
 
-  pub compact_refused_seen : (u : Unswapped) → IsUp r → IsLeftBy faults Fresh r r' u → ((unfinished_by settings v at u).frozen ≡ None → IsUp r' → goal_of r' ≡ goal_of r → new ≡ old) → Froze u
+  pub compact_refused_seen : old.frozen ≡ None → IsUp r → ChangesRun (replica_seen r) (replica_seen r') → (u : Unswapped) → IsLeftBy faults Fresh r r' u
+      → ((unfinished_by settings v at u).frozen ≡ None → IsUp r' → replica_seen r' ≡ replica_seen r → new ≡ old) → Froze u
       → CompactRefusedSeen settings v at old new (unfinished_by settings v at u).fault
-  compact_refused_seen (Refused (fault.Failed printed)) up left same froze = (refl, inl (same refl left.0 (left.1 ∙ sym left.2.0)))
-  compact_refused_seen (Refused (fault.Damaged place)) up left same froze = (same refl left.0 (left.1 ∙ sym left.2.0), refl)
-  compact_refused_seen (Refused fault.NoMemory) up left same froze = same refl left.0 (left.1 ∙ sym left.2.0)
-  compact_refused_seen (Refused (fault.Busy goal)) up left same froze =
-      ((same refl (subst (λ (x : Copy D). IsUp x) (sym left.2) up) (ap goal_of left.2), refl), (replica_seen r, there, left.1))
-  compact_refused_seen (Refused fault.Worn) up left same froze =
-      ((same refl (subst (λ (x : Copy D). IsUp x) (sym left.3) up) (ap goal_of left.3), refl), (replica_seen r, there, (left.1, left.2)))
-  compact_refused_seen (Refused fault.Frozen) up left same froze = absurd left
-  compact_refused_seen (Refused (fault.Full end need capacity)) up left same froze = absurd left
-  compact_refused_seen (Refused (fault.Ended printed)) up left same froze = absurd left
-  compact_refused_seen (Perhaps printed) up left same froze = (refl, inr (froze (machine_of settings v at) left.0 refl))
+  compact_refused_seen thawed up changes (Refused (fault.Failed printed)) left same froze =
+      (refl, (replica_seen r, there, left.2), inl (thawed, same refl left.0 (none_same r r' changes left.1 left.2.0)))
+  compact_refused_seen thawed up changes (Refused (fault.Damaged place)) left same froze =
+      (((thawed, same refl left.0 (none_same r r' changes left.1 left.2.0)), refl), (replica_seen r, there, left.2))
+  compact_refused_seen thawed up changes (Refused fault.NoMemory) left same froze = ((thawed, same refl left.0 (none_same r r' changes left.1 left.2.0)), (replica_seen r, there, left.2))
+  compact_refused_seen thawed up changes (Refused (fault.Busy goal)) left same froze =
+      (((thawed, same refl (subst (λ (x : Copy D). IsUp x) (sym left.2) up) (ap replica_seen left.2)), refl), (replica_seen r, there, left.1))
+  compact_refused_seen thawed up changes (Refused fault.Worn) left same froze =
+      (((thawed, same refl (subst (λ (x : Copy D). IsUp x) (sym left.3) up) (ap replica_seen left.3)), refl), (replica_seen r, there, (left.1, left.2)))
+  compact_refused_seen thawed up changes (Refused fault.Frozen) left same froze = absurd left
+  compact_refused_seen thawed up changes (Refused (fault.Full end need capacity)) left same froze = absurd left
+  compact_refused_seen thawed up changes (Refused (fault.Ended printed)) left same froze = absurd left
+  compact_refused_seen thawed up changes (Perhaps printed) left same froze = (refl, (replica_seen r, there, left.2), inr (froze (machine_of settings v at) left.0 refl))

@@ -1,11 +1,10 @@
 -- A volume behind a look at one of its places.
-use Rattle.std.proofs.Common.{◌≡◌, ◌≢◌, inl, inr, ℕ, ◌<◌, Bool, true, false, cond, List, length, Option, Some, None, Ok, Err, option_map, refl, sym, ap, subst, ◌∙◌, arith}
-use Rattle.std.specs.Prelude.{slice_set, Result, OnOk}
+use Rattle.std.proofs.Common.{◌≡◌, ◌≢◌, inl, inr, ℕ, ◌<◌, Bool, List, length, Option, Some, None, Ok, Err, option_map, refl, sym, ap, subst, ◌∙◌, arith}
+use Rattle.std.specs.Prelude.{Result, OnOk}
 use Rattle.std.proofs.lemmas.Bool.{cases_eq}
-use Rattle.std.proofs.lemmas.List.{get_or-set_other}
 use Rattle.hay_needle.specs.declared.needle.Pair.{Pair}
 use Rattle.hay_needle.specs.declared.settings.Settings.{Settings}
-use Rattle.hay_needle.specs.Tables.{outcome_at, pair_eq, table_of}
+use Rattle.hay_needle.specs.Tables.{outcome_at, table_of}
 use Rattle.hay_disk.specs.Disk.{Files}
 use Rattle.hay_volume.specs.Cells.{needles_of}
 use Rattle.hay_legal.specs.declared.known.VolumeKnown.{VolumeKnown}
@@ -13,7 +12,6 @@ use Rattle.hay_legal.specs.Known.{machine_of, now, replica_at}
 use Rattle.hay_map.specs.MapRows.{MapRows}
 use Rattle.hay_map.specs.Places.{PlaceMeans, place_in}
 use Rattle.hay_map.specs.Rows.{row_at}
-use Rattle.hay_map.specs.declared.place.Place.TheVariants as place
 use Rattle.hay_open.specs.Stored.{Stored, last_cell}
 use Rattle.hay_compact.specs.Finishing.{IsSeen}
 use Rattle.hay_physical.specs.declared.fault.ReplicaFault.{ReplicaFault}
@@ -32,18 +30,14 @@ use Rattle.hay_logical.specs.Volumes.{CanReach, ReachesPlaces}
 use Rattle.hay_logical.proofs.Calls.{reaches_same}
 use Rattle.hay_logical.proofs.Holding.{held_on}
 use Rattle.hay_logical.proofs.Lists.{at_below, at_same, at_there}
-use Rattle.hay_logical.proofs.Looking.{looks_still, stands_seen, stored_stands}
+use Rattle.hay_logical.proofs.Looking.{looks_still, set_others, stands_seen, stored_stands}
 use Rattle.hay_logical.proofs.Methods.{one_after, one_count, other_same, shown}
 use Rattle.hay_logical.proofs.Standing.{volume_with}
 
 -- the places of the other replicas stay
 pub other_places : {P : Type 0} (pair : Pair) (at : ℕ) (rows rows' : MapRows P) (result : Result Unit ReplicaFault) → SeesRow pair at rows rows' result → (j : ℕ) → j ≢ at → (q : Pair) → place_in (row_at rows' q) j ≡ place_in (row_at rows q) j
 other_places pair at rows rows' (Err f) sees j apart q = ap (λ l. place_in l j) (sees.kept q)
-other_places {P} pair at rows rows' (Ok value) sees j apart q = ap (λ l. place_in l j) (sees.set q) ∙ by_test (pair_eq pair q)
-  where
-    by_test : (b : Bool) → place_in (cond b (slice_set (row_at rows q) at (place_in (row_at rows' pair) at)) (row_at rows q)) j ≡ place_in (row_at rows q) j
-    by_test true = get_or-set_other (row_at rows q) at j (place_in (row_at rows' pair) at) place.None apart
-    by_test false = refl
+other_places pair at rows rows' (Ok value) sees j apart q = set_others pair at rows rows' (place_in (row_at rows' pair) at) sees.set j apart q
 
 -- what is answered is damage only where the replica's needle is damaged
 pub damaged_answer : (machine : ℕ) (f : ReplicaFault) (m at : ℕ) → answer_at machine f ≡ Damaged m at → f ≡ fault.Damaged at

@@ -1,17 +1,17 @@
 -- How a compaction of a replica ends.
 use Rattle.std.proofs.Common.{◌≡◌, ◌≢◌, inl, inr, ℕ, zero, suc, ◌≤◌, Bool, true, false, cond, List, [], ◌∷◌, length, Option, Some, None, refl, sym, ap, subst, ◌∙◌, arith}
 use Rattle.std.specs.Prelude.{slice_set, Result, Ok, Err, IfErr, OnErr}
-use Rattle.std.proofs.lemmas.Bool.{cases_lt}
+use Rattle.std.proofs.lemmas.Bool.{cases_lt, cond_both, true≢false}
 use Rattle.hay_needle.specs.declared.needle.Cell.{Cell}
 use Rattle.hay_needle.specs.declared.needle.Outcome.{Outcome}
 use Rattle.hay_needle.specs.declared.needle.Outcome.TheVariants as outcome
 use Rattle.hay_needle.specs.declared.needle.Pair.{Pair}
-use Rattle.hay_needle.specs.Tables.{Table, outcome_at, table_of}
+use Rattle.hay_needle.specs.Tables.{Table, outcome_at, pair_eq, table_of}
 use Rattle.hay_disk.specs.Counts.{Rose}
 use Rattle.hay_disk.specs.Disk.{Files}
 use Rattle.hay_volume.specs.Cells.{needles_of}
 use Rattle.hay_map.specs.MapRows.{MapRows}
-use Rattle.hay_map.specs.Places.{gone_place, place_in}
+use Rattle.hay_map.specs.Places.{gone_place, has_stood, place_in}
 use Rattle.hay_map.specs.Rows.{last_place, row_at, swapped_place}
 use Rattle.hay_map.specs.declared.place.Place.{Place}
 use Rattle.hay_map.specs.declared.place.Place.TheVariants as place
@@ -30,10 +30,12 @@ use Rattle.hay_logical.specs.declared.runs.NewFiles.{NewFiles}
 use Rattle.hay_logical.specs.declared.runs.Unswapped.{Unswapped}
 use Rattle.hay_logical.specs.declared.runs.Unswapped.TheVariants.{Refused, Unsure}
 use Rattle.hay_logical.specs.Fits.{PhotoAt}
+use Rattle.hay_logical.specs.Sights.{SwapsSights, sight, sights_of}
+use Rattle.hay_logical.specs.Sights.Sight.{Gone, Live, Never, Unseen}
 use Rattle.hay_logical.specs.Steps.{GoesOn, HoldsUnswapped, IsLeftBy, IsStepFault, KeepsPlaces, PlacesAre, Start, StartsRun, StaysInReach, StepLeaves, SwapsAt, SwapsTo, WasAtRest}
 use Rattle.hay_logical.specs.Steps.Start.{Examined, Fresh, Going}
 use Rattle.hay_logical.specs.Volumes.{ReachesPlaces}
-use Rattle.hay_logical.proofs.Calls.{loaded, not_both, reach_through, up_open}
+use Rattle.hay_logical.proofs.Calls.{loaded, loaded_other, not_both, reach_through, up_open}
 use Rattle.hay_logical.proofs.Compacting.{photo_at}
 use Rattle.hay_logical.proofs.Examining.{rose_later}
 use Rattle.hay_logical.proofs.Holding.{no_photo}
@@ -68,16 +70,31 @@ seen_apart place.Gone other seen = tt
 seen_apart place.None other seen = tt
 seen_apart (place.Unseen at size) other seen = absurd seen
 
+stood_sight : {P : Type 0} (p : Place P) → has_stood p ≡ true → sight p ≡ Never → ⊥
+stood_sight (place.Live needle) stood e = let wrong : Live ≡ Never = e in cc
+stood_sight place.Gone stood e = let wrong : Gone ≡ Never = e in cc
+stood_sight place.None stood e = true≢false (sym stood)
+stood_sight (place.Unseen at size) stood e = let wrong : Unseen ≡ Never = e in cc
+
+last_stood : {P : Type 0} (cells : List (OpenCell P)) (pair : Pair) (before : Place P) → has_stood before ≡ true → ArePhotos cells → has_stood (last_place cells pair before) ≡ true
+last_stood [] pair before stood photos = stood
+last_stood {P} (cell ∷ cells) pair before stood photos =
+    last_stood cells pair (cond (pair_eq cell.pair pair) cell.place before)
+    (cond_both (pair_eq cell.pair pair) cell.place before (λ (p : Place P). has_stood p ≡ true) (λ same. photos 0 cell (omega arith)) (λ apart. stood))
+    (λ k d h. photos (suc k) d (omega arith))
+
 module _ {P : Type 0} (Tells : Type 0) (rows rows' : MapRows P) (at : ℕ) (cells : List (OpenCell P)) (photos : ArePhotos cells)
     (changed : (pair : Pair) → row_at rows' pair ≡ slice_set (row_at rows pair) at (swapped_place cells pair (gone_place (place_in (row_at rows pair) at)))) where
   -- a pair that had a place has that of its last cell, and any other one has none
-  swapped_is : (pair : Pair) (Q : Place P → Type 0) (p : Place P) → Q (last_place cells pair place.Gone) → (p ≡ place.None → Q place.None) → Q (swapped_place cells pair (gone_place p))
-  swapped_is pair Q (place.Live needle) here none = subst Q (sym (swapped_last cells pair place.Gone refl photos)) here
-  swapped_is pair Q place.Gone here none = subst Q (sym (swapped_last cells pair place.Gone refl photos)) here
+  swapped_is : (pair : Pair) (Q : Place P → Type 0) (p : Place P) → ((sight p ≡ Never → ⊥) → Q (last_place cells pair place.Gone)) → (p ≡ place.None → Q place.None)
+      → Q (swapped_place cells pair (gone_place p))
+  swapped_is pair Q (place.Live needle) here none = subst Q (sym (swapped_last cells pair place.Gone refl photos)) (here (λ e. let wrong : Live ≡ Never = e in cc))
+  swapped_is pair Q place.Gone here none = subst Q (sym (swapped_last cells pair place.Gone refl photos)) (here (λ e. let wrong : Gone ≡ Never = e in cc))
   swapped_is pair Q place.None here none = subst Q (sym (swapped_none cells pair)) (none refl)
-  swapped_is pair Q (place.Unseen there size) here none = subst Q (sym (swapped_last cells pair place.Gone refl photos)) here
+  swapped_is pair Q (place.Unseen there size) here none = subst Q (sym (swapped_last cells pair place.Gone refl photos)) (here (λ e. let wrong : Unseen ≡ Never = e in cc))
 
-  new_place : (pair : Pair) (Q : Place P → Type 0) → Q (last_place cells pair place.Gone) → (place_in (row_at rows pair) at ≡ place.None → Q place.None) → Q (place_in (row_at rows' pair) at)
+  new_place : (pair : Pair) (Q : Place P → Type 0) → ((sights_of rows pair at ≡ Never → ⊥) → Q (last_place cells pair place.Gone))
+      → (place_in (row_at rows pair) at ≡ place.None → Q place.None) → Q (place_in (row_at rows' pair) at)
   new_place pair Q here none =
       let p : Place P = swapped_place cells pair (gone_place (place_in (row_at rows pair) at)) in
       elim (cases_lt at (length (row_at rows pair))) [
@@ -89,7 +106,7 @@ module _ {P : Type 0} (Tells : Type 0) (rows rows' : MapRows P) (at : ℕ) (cell
 
   pub places_swapped : (s t : Stored) → table_of (needles_of t.cells) ≡ table_of (needles_of s.cells) → PlacesAre Tells rows at s → AreThePlaces Tells t.cells cells → PlacesAre Tells rows' at t
   places_swapped s t table were are pair =
-      new_place pair (PhotoAt Tells (last_cell t.cells pair)) (photo_at Tells (last_cell t.cells pair) (last_place cells pair place.Gone) (are pair))
+      new_place pair (PhotoAt Tells (last_cell t.cells pair)) (λ some. photo_at Tells (last_cell t.cells pair) (last_place cells pair place.Gone) (are pair))
       (λ e.
       let nothing : outcome_at (table_of (needles_of s.cells)) pair ≡ outcome.Nothing =
       no_photo P Tells pair _ (inr (place_means Tells s.cells pair place.None tt (subst (λ (p : Place P). PhotoAt Tells (last_cell s.cells pair) p) e (were pair)))) in
@@ -99,12 +116,23 @@ module _ {P : Type 0} (Tells : Type 0) (rows rows' : MapRows P) (at : ℕ) (cell
   pub reach_swapped : {D : Type 0} (files : D → Files) (r : Copy D) → ((pair : Pair) → physical.MayDeletePlace files r (last_place cells pair place.Gone)) → ((pair : Pair) → IsSeen (last_place cells pair place.Gone))
       → ReachesPlaces files rows' at r
   reach_swapped files r may seen = record {
-    deletes = λ up pair. new_place pair (physical.MayDeletePlace files r) (may pair) (λ e. tt);
+    deletes = λ up pair. new_place pair (physical.MayDeletePlace files r) (λ some. may pair) (λ e. tt);
     sees = λ is. record {
-      may = λ pair. seen_may files r (place_in (row_at rows' pair) at) (new_place pair IsSeen (seen pair) (λ e. tt));
-      apart = λ pair other differ. seen_apart (place_in (row_at rows' pair) at) (place_in (row_at rows' other) at) (new_place pair IsSeen (seen pair) (λ e. tt));
+      may = λ pair. seen_may files r (place_in (row_at rows' pair) at) (new_place pair IsSeen (λ some. seen pair) (λ e. tt));
+      apart = λ pair other differ. seen_apart (place_in (row_at rows' pair) at) (place_in (row_at rows' other) at) (new_place pair IsSeen (λ some. seen pair) (λ e. tt));
     };
   }
+
+  pub swaps_sights : SwapsSights at (sights_of rows) (sights_of rows')
+  swaps_sights =
+      let each : (pair : Pair) → (sights_of rows pair at ≡ Never → sights_of rows' pair at ≡ Never) × (sights_of rows' pair at ≡ Never → sights_of rows pair at ≡ Never) =
+      λ pair. new_place pair (λ p. (sights_of rows pair at ≡ Never → sight p ≡ Never) × (sight p ≡ Never → sights_of rows pair at ≡ Never))
+      (λ some. (λ e. absurd (some e), λ e. absurd (stood_sight (last_place cells pair place.Gone) (last_stood cells pair place.Gone refl photos) e)))
+      (λ none. (λ e. refl, λ e. ap (λ (p : Place P). sight p) none)) in record {
+        never = λ pair. (each pair).0;
+        ever = λ pair. (each pair).1;
+        others = λ pair j apart. ap (λ (p : Place P). sight p) (loaded_other (row_at rows pair) (row_at rows' pair) j at _ (changed pair) apart);
+      }
 
 -- WHY NO SWAP WAS MADE
 
@@ -190,7 +218,7 @@ module _ {D : Type 0} (files : D → Files) (faults : D → ℕ) where
 
 -- the rows stay
 pub keeps_rows : {P : Type 0} (rows : MapRows P) (at : ℕ) (u : Unswapped) → KeepsPlaces rows rows at (Err u)
-keeps_rows rows at u = record { moved = tt; width = refl; others = λ pair i apart. refl; same = refl }
+keeps_rows rows at u = record { moved = tt; sights = tt; width = refl; others = λ pair i apart. refl; same = refl }
 
 pub rows_stay : {P : Type 0} {rows rows' : MapRows P} {at : ℕ} {u : Unswapped} → KeepsPlaces rows rows' at (Err u) → (pair : Pair) → row_at rows' pair ≡ row_at rows pair
 rows_stay places pair = ap (λ x. row_at x pair) places.same

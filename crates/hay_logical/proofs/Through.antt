@@ -27,7 +27,7 @@ use Rattle.hay_logical.specs.declared.written.Erased.{Erased}
 use Rattle.hay_logical.specs.Answers.{DeleteRefused, HasFailed, IsDeleteFault, IsSightFault, ended_runs}
 use Rattle.hay_logical.specs.Fits.{At}
 use Rattle.hay_logical.specs.Stands.{Stands}
-use Rattle.hay_logical.specs.Steps.{KeepsFiles, SetsPlaceAt}
+use Rattle.hay_logical.specs.Steps.{KeepsFiles, KeepsRuns, SetsPlaceAt}
 use Rattle.hay_logical.specs.Unshown.{IsErased, IsUnshown}
 use Rattle.hay_logical.specs.Volumes.{IsOpenVolume, IsSame, KeepsCounts, Volume}
 use Rattle.hay_logical.proofs.Bytes.{files_more, files_same}
@@ -175,6 +175,14 @@ module _ {D P : Type 0} (files : D → Files) (Tells : Type 0) (faults fuses : D
               rose_later (faults r.disk) (faults (x.0).disk) (faults r'.disk) (counts.rises j r x.0 was x.1) (is.cause j x.0 r' (ap (λ l. slice_get l j) ended ∙ gone) x.1 now);
           unshown = subst (λ l. IsUnshown files Tells k (Del pair) (op.Del pair) (ended_where l k.replicas) c) ended is.unshown;
         }
+
+    pub runs_later : ((j : ℕ) (r r' : Copy D) → At a.replicas j r → At b.replicas j r' → goal_of r' ≡ goal_of r) → KeepsRuns faults b.replicas c.replicas → KeepsRuns faults a.replicas c.replicas
+    runs_later runs keeps j r r' e f =
+        let x = mid j r e in
+        elim (keeps j x.0 r' x.1 f) [
+          | inl same ↦ inl (same ∙ runs j r x.0 e x.1)
+          | inr ended ↦ inr (ended.0, rose_later (faults r.disk) (faults (x.0).disk) (faults r'.disk) (counts.rises j r x.0 e x.1) ended.1)
+        ]
 
     failed_later : (m n : ℕ) → HasFailed faults b.settings b.number b.replicas c.replicas m n → HasFailed faults a.settings a.number a.replicas c.replicas m n
     failed_later m n cause =

@@ -8,3 +8,4 @@ pub mod Refusals
 pub mod Draws
 pub mod Unshown
 pub mod Seen
+pub mod Sights

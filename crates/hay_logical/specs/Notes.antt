@@ -10,13 +10,15 @@ use Rattle.hay_map.specs.Rows.{row_at}
 use Rattle.hay_map.specs.declared.place.Place.{Place}
 use Rattle.hay_map.specs.declared.place.Place.TheVariants as place
 use Rattle.hay_compact.specs.Finishing.{IsSeen}
-use Rattle.hay_physical.specs.Copies.{Copy, end_of}
 use Rattle.hay_logical.specs.declared.fault.LogicalFault.{LogicalFault}
 use Rattle.hay_logical.specs.declared.fault.LogicalFault.TheVariants as refusal
 use Rattle.hay_logical.specs.declared.unsure.Change.{Change}
 use Rattle.hay_logical.specs.declared.unsure.Change.TheVariants as change
 use Rattle.hay_logical.specs.declared.unsure.Unsure.{Unsure}
 use Rattle.hay_logical.specs.Fits.{At}
+use Rattle.hay_logical.specs.Seen.{ReplicaSeen}
+use Rattle.hay_logical.specs.Sights.{Sight, Sights}
+use Rattle.hay_logical.specs.Sights.Sight.{Gone, Live, Never, Unseen}
 
 -- whether a place was seen as that of a photo
 abbrev pub is_live : {P : Type 0} → Place P → Bool
@@ -25,17 +27,17 @@ is_live place.None = false
 is_live place.Gone = false
 is_live (place.Unseen at size) = false
 
--- whether a place is that of a photo, for all that was seen
-abbrev pub may_be_live : {P : Type 0} → Place P → Bool
-may_be_live (place.Live needle) = true
-may_be_live place.None = false
-may_be_live place.Gone = false
-may_be_live (place.Unseen at size) = true
+-- whether a photo stands, for all that was seen
+abbrev pub may_be_live : Sight → Bool
+may_be_live Live = true
+may_be_live Never = false
+may_be_live Gone = false
+may_be_live Unseen = true
 
 -- a replica has a put if its cells end elsewhere now, and a delete if no photo of the pair is there
-abbrev pub keeps : {P : Type 0} → Change → MapRows P → ℕ → ℕ → Bool
-keeps (change.Put ends) rows j end = not (end == slice_index ends j)
-keeps (change.Delete pair) rows j end = not (may_be_live (place_in (row_at rows pair) j))
+abbrev pub keeps : Change → Sights → ℕ → ℕ → Bool
+keeps (change.Put ends) sights j end = not (end == slice_index ends j)
+keeps (change.Delete pair) sights j end = not (may_be_live (sights pair j))
 
 -- the place that tells whether a replica has the change was seen
 abbrev pub SeesChange : {P : Type 0} → Change → MapRows P → ℕ → Type 0
@@ -46,21 +48,16 @@ abbrev pub SeesUnsure : {P : Type 0} → Option Unsure → MapRows P → ℕ →
 SeesUnsure None rows j = Unit {0}
 SeesUnsure (Some unsure) rows j = SeesChange unsure.change rows j
 
-pub record KeptIn {D P : Type 0} (change : Change) (rows : MapRows P) (replicas : List (Copy D)) (kept : List Bool) : Type 0 where
+pub record KeptIn (change : Change) (sights : Sights) (replicas : List ReplicaSeen) (kept : List Bool) : Type 0 where
   pub count : length kept ≡ length replicas
-  pub each : (j : ℕ) (r : Copy D) → At replicas j r → slice_get kept j ≡ Some (keeps change rows j (end_of r))
+  pub each : (j : ℕ) (r : ReplicaSeen) → At replicas j r → slice_get kept j ≡ Some (keeps change sights j r.end)
 
--- one note for each replica, where a change was broken off
-abbrev pub NotesAre : {D P : Type 0} → Settings → ℕ → Option Unsure → MapRows P → List (Copy D) → List Note → Type 0
-NotesAre settings v None rows replicas notes = notes ≡ []
-NotesAre settings v (Some unsure) rows replicas notes =
-    (kept : List Bool) × KeptIn unsure.change rows replicas kept × (notes ≡ replica_notes settings v (unsure.tag).line 0 kept)
-
--- whatever the disks have: no notes where no change was broken off, and else one for each replica in order, of the change's line
-abbrev pub NotesTell : Settings → ℕ → Option Unsure → List Note → Type 0
-NotesTell settings v None notes = notes ≡ []
-NotesTell settings v (Some unsure) notes =
-    (kept : List Bool) × (length kept ≡ settings.replicas) × (notes ≡ replica_notes settings v (unsure.tag).line 0 kept)
+-- Whatever the disks have: no notes where no change was broken off, and else one for each replica in order, of the change's line,
+-- which says whether the replica has it.
+abbrev pub NotesTell : Settings → ℕ → Option Unsure → Sights → List ReplicaSeen → List Note → Type 0
+NotesTell settings v None sights replicas notes = notes ≡ []
+NotesTell settings v (Some unsure) sights replicas notes =
+    (kept : List Bool) × KeptIn unsure.change sights replicas kept × (notes ≡ replica_notes settings v (unsure.tag).line 0 kept)
 
 -- WHAT IS BROKEN OFF
 

@@ -1,11 +1,11 @@
 -- What is seen of a volume in memory, whatever its disks tell, and how each call changes that.
-use Rattle.std.specs.Prelude.{◌≡◌, ◌⊎◌, ◌≤◌, ◌<◌, ◌+◌, ℕ, Bool, true, false, List, length, map, slice_index, slice_set, Option, Some, None}
+use Rattle.std.specs.Prelude.{◌≡◌, ◌⊎◌, ◌≤◌, ◌<◌, ◌+◌, ◌*◌, ℕ, Bool, true, false, List, length, map, slice_index, slice_set, Option, Some, None}
 use Rattle.hay_needle.specs.declared.settings.Settings.{Settings}
 use Rattle.hay_needle.specs.declared.needle.Pair.{Pair}
 use Rattle.hay_needle.specs.Sizes.{needle_total}
 use Rattle.hay_core.specs.declared.entry.CoreTag.{CoreTag}
 use Rattle.hay_legal.specs.Known.{machine_of}
-use Rattle.hay_physical.specs.Copies.{Copy, end_of, generation_of, goal_of, is_stuck}
+use Rattle.hay_physical.specs.Copies.{Copy, bare_of, end_of, generation_of, goal_of, is_stuck, next_of}
 use Rattle.hay_logical.specs.declared.fault.LogicalFault.{LogicalFault}
 use Rattle.hay_logical.specs.declared.fault.LogicalFault.TheVariants.{Busy, Damaged, Failed, Full, Gone, Idle, NoMemory, ReadOnly, Worn}
 use Rattle.hay_logical.specs.declared.unsure.Change.TheVariants.{Delete, Put}
@@ -13,15 +13,18 @@ use Rattle.hay_logical.specs.declared.unsure.Unsure.{Unsure}
 use Rattle.hay_logical.specs.Fits.{At}
 use Rattle.hay_logical.specs.Volumes.{Volume}
 
--- Of a replica: the generation of its files, the one that a compaction makes, whether a flush failed, and where its cells end.
+-- Of a replica: the generation of its files, the one that a compaction makes, whether a flush failed, where its cells end, how
+-- many of them have no record, and where the next one stands that the compaction examines, or 0.
 pub record ReplicaSeen : Type 0 where
   pub generation : ℕ
   pub goal : Option ℕ
   pub stuck : Bool
   pub end : ℕ
+  pub bare : ℕ
+  pub next : ℕ
 
 abbrev pub replica_seen : {D : Type 0} → Copy D → ReplicaSeen
-replica_seen r = record { generation = generation_of r; goal = goal_of r; stuck = is_stuck r; end = end_of r }
+replica_seen r = record { generation = generation_of r; goal = goal_of r; stuck = is_stuck r; end = end_of r; bare = bare_of r; next = next_of r }
 
 -- how many changes were made since the opening, the machine by which it is frozen, and the change that was broken off
 pub record VolumeSeen : Type 0 where
@@ -45,9 +48,13 @@ pub record ChangesAt (at : ℕ) (Becomes : ReplicaSeen → ReplicaSeen → Type 
   pub is : new ≡ record old { replicas = slice_set old.replicas at after }
   pub becomes : Becomes before after
 
--- nothing is seen otherwise, and it was this machine that refused
+-- nothing is seen otherwise, and it is not frozen
+abbrev pub StaysThawed : VolumeSeen → VolumeSeen → Type 0
+StaysThawed old new = (old.frozen ≡ None) × (new ≡ old)
+
+-- nor is it frozen then, and it was this machine that refused
 abbrev pub RefusedBy : ℕ → ℕ → VolumeSeen → VolumeSeen → Type 0
-RefusedBy machine m old new = (new ≡ old) × (m ≡ machine)
+RefusedBy machine m old new = StaysThawed old new × (m ≡ machine)
 
 -- nothing is seen otherwise, since it is frozen by this machine
 abbrev pub RefusedFrozen : ℕ → VolumeSeen → VolumeSeen → Type 0
@@ -55,12 +62,39 @@ RefusedFrozen m old new = (new ≡ old) × (old.frozen ≡ Some m)
 
 -- COMPACTIONS
 
-abbrev pub BeginsTo : ℕ → ReplicaSeen → ReplicaSeen → Type 0
-BeginsTo goal r r' = (r.goal ≡ None) × (goal ≡ r.generation + 1) × (r' ≡ record r { goal = Some goal })
+-- nothing of it is seen otherwise than its compaction
+abbrev pub ChangesRun : ReplicaSeen → ReplicaSeen → Type 0
+ChangesRun r r' = r' ≡ record r { goal = r'.goal; next = r'.next }
 
--- the compaction ended, and nothing but that
+-- a compaction stands
+abbrev pub HasGoal : ReplicaSeen → Type 0
+HasGoal r = r.goal ≡ None → ⊥
+
+-- none stands, and one can begin
+abbrev pub CanBegin : ReplicaSeen → Type 0
+CanBegin r = (r.goal ≡ None) × (r.generation < 65535)
+
+-- none stands, and none can begin any more
+abbrev pub IsWorn : ReplicaSeen → Type 0
+IsWorn r = (r.goal ≡ None) × (r.generation ≡ 65535)
+
+abbrev pub BeginsTo : ℕ → ReplicaSeen → ReplicaSeen → Type 0
+BeginsTo goal r r' = CanBegin r × (goal ≡ r.generation + 1) × (r' ≡ record r { goal = Some goal; next = 64 })
+
+-- behind the end of a compaction, if one stood
+abbrev pub ended : ReplicaSeen → ReplicaSeen
+ended r = record r { goal = None; next = 0 }
+
+abbrev pub IsEnded : ReplicaSeen → ReplicaSeen → Type 0
+IsEnded r r' = r' ≡ ended r
+
+-- a compaction that stood has ended, and nothing but that
 abbrev pub EndsAlone : ReplicaSeen → ReplicaSeen → Type 0
-EndsAlone r r' = r' ≡ record r { goal = None }
+EndsAlone r r' = HasGoal r × IsEnded r r'
+
+-- so it was where this machine refused
+abbrev pub EndedBy : ℕ → ℕ → ℕ → VolumeSeen → VolumeSeen → Type 0
+EndedBy machine at m old new = (old.frozen ≡ None) × (m ≡ machine) × ChangesAt at EndsAlone old new
 
 abbrev pub BeginSeen : ℕ → ℕ → VolumeSeen → VolumeSeen → Type 0
 BeginSeen at goal old new = (old.frozen ≡ None) × ChangesAt at (BeginsTo goal) old new
@@ -68,36 +102,53 @@ BeginSeen at goal old new = (old.frozen ≡ None) × ChangesAt at (BeginsTo goal
 abbrev pub BeginRefusedSeen : Settings → ℕ → ℕ → VolumeSeen → VolumeSeen → LogicalFault → Type 0
 BeginRefusedSeen settings v at old new (ReadOnly m) = RefusedFrozen m old new
 BeginRefusedSeen settings v at old new (Busy m goal) = RefusedBy (machine_of settings v at) m old new × SeesAt at (λ r. r.goal ≡ Some goal) old
-BeginRefusedSeen settings v at old new (Worn m) =
-    RefusedBy (machine_of settings v at) m old new × SeesAt at (λ r. (r.goal ≡ None) × (65535 ≤ r.generation)) old
-BeginRefusedSeen settings v at old new (Failed m faults) = RefusedBy (machine_of settings v at) m old new
-BeginRefusedSeen settings v at old new NoMemory = new ≡ old
+BeginRefusedSeen settings v at old new (Worn m) = RefusedBy (machine_of settings v at) m old new × SeesAt at IsWorn old
+BeginRefusedSeen settings v at old new (Failed m faults) = RefusedBy (machine_of settings v at) m old new × SeesAt at CanBegin old
+BeginRefusedSeen settings v at old new NoMemory = StaysThawed old new × SeesAt at CanBegin old
 BeginRefusedSeen settings v at old new (Full m end need capacity) = ⊥
 BeginRefusedSeen settings v at old new (Gone front) = ⊥
 BeginRefusedSeen settings v at old new Idle = ⊥
 BeginRefusedSeen settings v at old new (Damaged m place) = ⊥
 
--- So many cells were examined of those that were asked for.
-pub record StepSeen (at cells number : ℕ) (old new : VolumeSeen) : Type 0 where
+-- So many cells were examined of those that were asked for, or all that were left, and the next one stands behind them.
+pub record StepsTo (cells number : ℕ) (r r' : ReplicaSeen) : Type 0 where
+  pub stands : HasGoal r
+  pub only : r' ≡ record r { next = r'.next }
   pub few : number ≤ cells
-  pub thawed : old.frozen ≡ None
-  pub stands : SeesAt at (λ r. r.goal ≡ None → ⊥) old
-  pub same : new ≡ old
+  pub all : (number ≡ cells) ⊎ (r.end ≤ r'.next)
+  pub behind : r.next + number * needle_total 0 ≤ r'.next
+  pub within : (number ≡ 0) ⊎ (r'.next ≤ r.end)
+  pub none : number ≡ 0 → r'.next ≡ r.next
+
+abbrev pub StepSeen : ℕ → ℕ → ℕ → VolumeSeen → VolumeSeen → Type 0
+StepSeen at cells number old new = (old.frozen ≡ None) × ChangesAt at (StepsTo cells number) old new
+
+-- what a step that was refused has left: a compaction that stands on does not stand behind where it stood
+abbrev pub BreaksStep : ReplicaSeen → ReplicaSeen → Type 0
+BreaksStep r r' = ChangesRun r r' × (r'.goal ≡ r.goal → r.next ≤ r'.next)
+
+-- some cells of a compaction that stands were examined
+abbrev pub StepsPartly : ReplicaSeen → ReplicaSeen → Type 0
+StepsPartly r r' = HasGoal r × (r' ≡ record r { next = r'.next }) × (r.next ≤ r'.next)
 
 abbrev pub StepRefusedSeen : Settings → ℕ → ℕ → VolumeSeen → VolumeSeen → LogicalFault → Type 0
 StepRefusedSeen settings v at old new (ReadOnly m) = RefusedFrozen m old new
-StepRefusedSeen settings v at old new Idle = (new ≡ old) × SeesAt at (λ r. r.goal ≡ None) old
-StepRefusedSeen settings v at old new (Failed m faults) = (m ≡ machine_of settings v at) × ChangesAt at EndsAlone old new
-StepRefusedSeen settings v at old new (Damaged m place) = (m ≡ machine_of settings v at) × ChangesAt at EndsAlone old new
-StepRefusedSeen settings v at old new NoMemory = new ≡ old
+StepRefusedSeen settings v at old new Idle = StaysThawed old new × SeesAt at (λ r. r.goal ≡ None) old
+StepRefusedSeen settings v at old new (Failed m faults) = EndedBy (machine_of settings v at) at m old new
+StepRefusedSeen settings v at old new (Damaged m place) = EndedBy (machine_of settings v at) at m old new
+StepRefusedSeen settings v at old new NoMemory = (old.frozen ≡ None) × ChangesAt at StepsPartly old new
 StepRefusedSeen settings v at old new (Full m end need capacity) = ⊥
 StepRefusedSeen settings v at old new (Gone front) = ⊥
 StepRefusedSeen settings v at old new (Busy m goal) = ⊥
 StepRefusedSeen settings v at old new (Worn m) = ⊥
 
--- its files are those that the compaction made
-abbrev pub SwapSeen : ℕ → ℕ → ReplicaSeen → ReplicaSeen → Type 0
-SwapSeen generation end r r' = (generation ≡ r.generation + 1) × (r' ≡ record { generation = generation; goal = None; stuck = false; end = end })
+-- Its files are those that the compaction made.
+pub record SwapSeen (generation end : ℕ) (r r' : ReplicaSeen) : Type 0 where
+  pub next : generation ≡ r.generation + 1
+  pub most : generation ≤ 65535
+  pub from : 64 ≤ end
+  pub shorter : end ≤ r.end
+  pub is : r' ≡ record { generation = generation; goal = None; stuck = false; end = end; bare = 0; next = 0 }
 
 -- no compaction stands
 abbrev pub SeesIdle : VolumeSeen → Type 0
@@ -106,6 +157,7 @@ SeesIdle seen = (j : ℕ) (r : ReplicaSeen) → At seen.replicas j r → r.goal 
 -- It was frozen by this machine, which ended each compaction.
 pub record FreezesSeen (m : ℕ) (pending : Option Unsure) (old new : VolumeSeen) : Type 0 where
   pub thawed : old.frozen ≡ None
+  pub many : length new.replicas ≡ length old.replicas
   pub front : new.front ≡ old.front
   pub frozen : new.frozen ≡ Some m
   pub unsure : new.unsure ≡ pending
@@ -119,11 +171,11 @@ FinishSeen at generation end old new = (old.frozen ≡ None) × ChangesAt at (Fi
 
 abbrev pub FinishRefusedSeen : Settings → ℕ → ℕ → VolumeSeen → VolumeSeen → LogicalFault → Type 0
 FinishRefusedSeen settings v at old new (ReadOnly m) = RefusedFrozen m old new
-FinishRefusedSeen settings v at old new Idle = (new ≡ old) × SeesAt at (λ r. r.goal ≡ None) old
+FinishRefusedSeen settings v at old new Idle = StaysThawed old new × SeesAt at (λ r. r.goal ≡ None) old
 FinishRefusedSeen settings v at old new (Failed m faults) =
-    (m ≡ machine_of settings v at) × (ChangesAt at EndsAlone old new ⊎ FreezesSeen m old.unsure old new)
-FinishRefusedSeen settings v at old new (Damaged m place) = (m ≡ machine_of settings v at) × ChangesAt at EndsAlone old new
-FinishRefusedSeen settings v at old new NoMemory = ChangesAt at EndsAlone old new
+    EndedBy (machine_of settings v at) at m old new ⊎ ((m ≡ machine_of settings v at) × SeesAt at HasGoal old × FreezesSeen m old.unsure old new)
+FinishRefusedSeen settings v at old new (Damaged m place) = EndedBy (machine_of settings v at) at m old new
+FinishRefusedSeen settings v at old new NoMemory = (old.frozen ≡ None) × ChangesAt at EndsAlone old new
 FinishRefusedSeen settings v at old new (Full m end need capacity) = ⊥
 FinishRefusedSeen settings v at old new (Gone front) = ⊥
 FinishRefusedSeen settings v at old new (Busy m goal) = ⊥
@@ -139,28 +191,32 @@ CompactSeen at generation end old new = (old.frozen ≡ None) × ChangesAt at (C
 abbrev pub CompactRefusedSeen : Settings → ℕ → ℕ → VolumeSeen → VolumeSeen → LogicalFault → Type 0
 CompactRefusedSeen settings v at old new (ReadOnly m) = RefusedFrozen m old new
 CompactRefusedSeen settings v at old new (Busy m goal) = RefusedBy (machine_of settings v at) m old new × SeesAt at (λ r. r.goal ≡ Some goal) old
-CompactRefusedSeen settings v at old new (Worn m) =
-    RefusedBy (machine_of settings v at) m old new × SeesAt at (λ r. (r.goal ≡ None) × (65535 ≤ r.generation)) old
-CompactRefusedSeen settings v at old new (Failed m faults) = (m ≡ machine_of settings v at) × ((new ≡ old) ⊎ FreezesSeen m old.unsure old new)
-CompactRefusedSeen settings v at old new (Damaged m place) = RefusedBy (machine_of settings v at) m old new
-CompactRefusedSeen settings v at old new NoMemory = new ≡ old
+CompactRefusedSeen settings v at old new (Worn m) = RefusedBy (machine_of settings v at) m old new × SeesAt at IsWorn old
+CompactRefusedSeen settings v at old new (Failed m faults) =
+    (m ≡ machine_of settings v at) × SeesAt at CanBegin old × (StaysThawed old new ⊎ FreezesSeen m old.unsure old new)
+CompactRefusedSeen settings v at old new (Damaged m place) = RefusedBy (machine_of settings v at) m old new × SeesAt at CanBegin old
+CompactRefusedSeen settings v at old new NoMemory = StaysThawed old new × SeesAt at CanBegin old
 CompactRefusedSeen settings v at old new (Full m end need capacity) = ⊥
 CompactRefusedSeen settings v at old new (Gone front) = ⊥
 CompactRefusedSeen settings v at old new Idle = ⊥
 
 -- FLUSHES
 
-abbrev pub FlushSeen : ℕ → VolumeSeen → VolumeSeen → Type 0
-FlushSeen at old new = (new ≡ old) × (old.frozen ≡ None) × SeesAt at (λ r. r.stuck ≡ false) old
+-- each cell has its record, and so many had none
+abbrev pub FlushesTo : ℕ → ReplicaSeen → ReplicaSeen → Type 0
+FlushesTo number r r' = (r.stuck ≡ false) × (number ≡ r.bare) × (r' ≡ record r { bare = 0 })
+
+abbrev pub FlushSeen : ℕ → ℕ → VolumeSeen → VolumeSeen → Type 0
+FlushSeen at number old new = (old.frozen ≡ None) × ChangesAt at (FlushesTo number) old new
 
 abbrev pub Sticks : ReplicaSeen → ReplicaSeen → Type 0
 Sticks r r' = (r.stuck ≡ false) × (r' ≡ record r { stuck = true })
 
 abbrev pub FlushRefusedSeen : Settings → ℕ → ℕ → VolumeSeen → VolumeSeen → LogicalFault → Type 0
 FlushRefusedSeen settings v at old new (ReadOnly m) =
-    RefusedFrozen m old new ⊎ ((old.frozen ≡ None) × RefusedBy (machine_of settings v at) m old new × SeesAt at (λ r. r.stuck ≡ true) old)
-FlushRefusedSeen settings v at old new (Failed m faults) = (m ≡ machine_of settings v at) × ChangesAt at Sticks old new
-FlushRefusedSeen settings v at old new NoMemory = new ≡ old
+    RefusedFrozen m old new ⊎ (RefusedBy (machine_of settings v at) m old new × SeesAt at (λ r. r.stuck ≡ true) old)
+FlushRefusedSeen settings v at old new (Failed m faults) = (old.frozen ≡ None) × (m ≡ machine_of settings v at) × ChangesAt at Sticks old new
+FlushRefusedSeen settings v at old new NoMemory = StaysThawed old new
 FlushRefusedSeen settings v at old new (Full m end need capacity) = ⊥
 FlushRefusedSeen settings v at old new (Gone front) = ⊥
 FlushRefusedSeen settings v at old new (Busy m goal) = ⊥
@@ -202,23 +258,20 @@ RoomRefusedSeen settings v size seen NoMemory = ⊥
 
 -- CHANGES
 
-abbrev pub PutSeen : ℕ → ReplicaSeen → ReplicaSeen → Type 0
-PutSeen size r r' = r' ≡ record r { end = r.end + needle_total size }
-
 -- a compaction that could not follow ended
 abbrev pub DeleteSeen : ReplicaSeen → ReplicaSeen → Type 0
-DeleteSeen r r' = (r' ≡ r) ⊎ (r' ≡ record r { goal = None })
+DeleteSeen r r' = (r' ≡ r) ⊎ EndsAlone r r'
 
 -- a photo of this size stands behind the cells of each replica
 abbrev pub grown : ℕ → ReplicaSeen → ReplicaSeen
-grown size r = record r { end = r.end + needle_total size }
+grown size r = record r { end = r.end + needle_total size; bare = r.bare + 1 }
 
 -- written, and not shown yet
 abbrev pub WriteSeen : ℕ → VolumeSeen → VolumeSeen → Type 0
 WriteSeen size old new = (old.frozen ≡ None) × (new ≡ record old { replicas = map (grown size) old.replicas })
 
-abbrev pub StoreSeen : ℕ → ℕ → VolumeSeen → VolumeSeen → Type 0
-StoreSeen size position old new =
+abbrev pub PutSeen : ℕ → ℕ → VolumeSeen → VolumeSeen → Type 0
+PutSeen size position old new =
     (position ≡ old.front + 1) × (old.frozen ≡ None) × (new ≡ record old { front = position; replicas = map (grown size) old.replicas })
 
 -- The put of this line is pending, with where the cells of each replica ended before it.
@@ -231,7 +284,7 @@ abbrev pub PutRefusedSeen : Settings → ℕ → CoreTag → ℕ → VolumeSeen 
 PutRefusedSeen settings v tag size old new (ReadOnly m) = RefusedFrozen m old new
 PutRefusedSeen settings v tag size old new (Full m end need capacity) = (new ≡ old) × FullSeen settings v size old m end need capacity
 PutRefusedSeen settings v tag size old new (Failed m faults) = BreaksPutSeen tag m old new
-PutRefusedSeen settings v tag size old new NoMemory = (new ≡ old) ⊎ BreaksPutSeen tag (machine_of settings v 0) old new
+PutRefusedSeen settings v tag size old new NoMemory = StaysThawed old new ⊎ BreaksPutSeen tag (machine_of settings v 0) old new
 PutRefusedSeen settings v tag size old new (Gone front) = ⊥
 PutRefusedSeen settings v tag size old new (Busy m goal) = ⊥
 PutRefusedSeen settings v tag size old new (Worn m) = ⊥
@@ -256,10 +309,10 @@ HideSeen position old new = (position ≡ old.front + 1) × (new.front ≡ posit
 -- A failure came before any change, or the delete of this line is pending.
 abbrev pub DeleteRefusedSeen : CoreTag → Pair → VolumeSeen → VolumeSeen → LogicalFault → Type 0
 DeleteRefusedSeen tag pair old new (ReadOnly m) = RefusedFrozen m old new
-DeleteRefusedSeen tag pair old new (Gone front) = (new ≡ old) × (front ≡ old.front)
-DeleteRefusedSeen tag pair old new (Damaged m place) = new ≡ old
-DeleteRefusedSeen tag pair old new NoMemory = new ≡ old
-DeleteRefusedSeen tag pair old new (Failed m faults) = (new ≡ old) ⊎ FreezesSeen m (Some (record { tag = tag; change = Delete pair })) old new
+DeleteRefusedSeen tag pair old new (Gone front) = StaysThawed old new × (front ≡ old.front)
+DeleteRefusedSeen tag pair old new (Damaged m place) = StaysThawed old new
+DeleteRefusedSeen tag pair old new NoMemory = StaysThawed old new
+DeleteRefusedSeen tag pair old new (Failed m faults) = StaysThawed old new ⊎ FreezesSeen m (Some (record { tag = tag; change = Delete pair })) old new
 DeleteRefusedSeen tag pair old new (Full m end need capacity) = ⊥
 DeleteRefusedSeen tag pair old new (Busy m goal) = ⊥
 DeleteRefusedSeen tag pair old new (Worn m) = ⊥
@@ -267,8 +320,16 @@ DeleteRefusedSeen tag pair old new Idle = ⊥
 
 -- OPENINGS
 
+-- a replica whose files were opened
+pub record IsFresh (r : ReplicaSeen) : Type 0 where
+  pub goal : r.goal ≡ None
+  pub next : r.next ≡ 0
+  pub loose : r.stuck ≡ false
+  pub most : r.generation ≤ 65535
+  pub from : 64 ≤ r.end
+
 pub record OpenSeen (seen : VolumeSeen) : Type 0 where
   pub front : seen.front ≡ 0
   pub thawed : seen.frozen ≡ None
   pub settled : seen.unsure ≡ None
-  pub fresh : (j : ℕ) (r : ReplicaSeen) → At seen.replicas j r → (r.goal ≡ None) × (r.stuck ≡ false)
+  pub fresh : (j : ℕ) (r : ReplicaSeen) → At seen.replicas j r → IsFresh r

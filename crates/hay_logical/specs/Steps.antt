@@ -1,5 +1,5 @@
 -- What the calls of one replica do, as far as a volume goes by it.
-use Rattle.std.specs.Prelude.{◌≡◌, ◌⊎◌, ◌≤◌, ◌<◌, ◌+◌, ℕ, ◌-◌, min, Bool, true, false, List, length, slice_set, Option, Some, None, option_map, if◌then◌else◌, Result, Err, IfOk, IfErr, OnOk, OnErr}
+use Rattle.std.specs.Prelude.{◌≡◌, ◌⊎◌, ◌≤◌, ◌<◌, ◌+◌, ℕ, ◌-◌, min, Bool, true, false, List, [], length, slice_set, Option, Some, None, option_map, if◌then◌else◌, Result, Err, IfOk, IfErr, OnOk, OnErr}
 use Rattle.hay_needle.specs.declared.needle.Cell.{Cell}
 use Rattle.hay_needle.specs.declared.needle.Cookie.{Cookie}
 use Rattle.hay_needle.specs.declared.needle.Pair.{Pair}
@@ -42,6 +42,8 @@ use Rattle.hay_logical.specs.declared.runs.Unswapped.TheVariants.{Refused, Unsur
 use Rattle.hay_logical.specs.Answers.{HasSizes}
 use Rattle.hay_logical.specs.Fits.{At, PhotoAt, PlaceStands}
 use Rattle.hay_logical.specs.Refusals.{IsUntouched}
+use Rattle.hay_logical.specs.Sights.{SeesPair, SwapsSights, sight, sights_of}
+use Rattle.hay_logical.specs.Sights.Sight.{Live, Unseen}
 use Rattle.hay_logical.specs.Volumes.{ReachesPlaces}
 
 -- of each replica, whether a flush has failed, as before
@@ -111,7 +113,7 @@ pub record PutsAt {D P : Type 0} (DiskTells : Type 0) (files : D → Files) (Tel
       physical.Stands files r' (physical.with_cell s pair cookie bytes) × IsPlaceOf Tells s.end pair cookie bytes p
   pub run : DiskTells → (s : Stored) (run : Option Run) → physical.Stands files r s → HasRun files r s run →
       HasRun files r' (physical.with_cell s pair cookie bytes) (option_map longer run)
-  pub seen : IsSeen p
+  pub live : sight p ≡ Live
   pub deletable : DiskTells → physical.MayDeletePlace files r' p
   pub apart : DiskTells → (at size : ℕ) → physical.MaySee files r at size → physical.IsApartPlace at size p
 
@@ -198,11 +200,13 @@ abbrev pub SetsPlaceAt : {P : Type 0} → Pair → ℕ → Place P → MapRows P
 SetsPlaceAt pair at p rows rows' =
     (other : Pair) → row_at rows' other ≡ (if pair_eq pair other then slice_set (row_at rows other) at p else row_at rows other)
 
--- A refusal has left each row.
+-- A refusal has left each row, and comes only where the place was not looked at yet.
 pub record SeesRow {P : Type 0} (pair : Pair) (at : ℕ) (rows rows' : MapRows P) (result : Result Unit ReplicaFault) : Type 0 where
   pub width : rows'.replicas ≡ rows.replicas
   pub set : OnOk result (SetsPlaceAt pair at (place_in (row_at rows' pair) at) rows rows')
+  pub sees : OnOk result (SeesPair pair at (sights_of rows) (sights_of rows'))
   pub kept : OnErr result ((other : Pair) → row_at rows' other ≡ row_at rows other)
+  pub unseen : OnErr result (sights_of rows pair at ≡ Unseen)
 
 -- The bytes are the needle of a cell, and the place is what is seen of it. Where the disk tells, the place has the cell's photo.
 pub record IsSeenBy {P : Type 0} (DiskTells Tells : Type 0) (bytes : List ℕ) (there : Place P) : Type 0 where
@@ -221,11 +225,19 @@ DeletesAt DiskTells files place.None r r' = LosesRun DiskTells files r r'
 DeletesAt DiskTells files place.Gone r r' = LosesRun DiskTells files r r'
 DeletesAt DiskTells files (place.Unseen at size) r r' = LosesRun DiskTells files r r'
 
+-- a compaction ended only where the disk's count of faults rose
+abbrev pub KeepsRun : {D : Type 0} → (D → ℕ) → Copy D → Copy D → Type 0
+KeepsRun faults r r' = (goal_of r' ≡ goal_of r) ⊎ ((goal_of r' ≡ None) × Rose (faults r.disk) (faults r'.disk))
+
+-- so it is of each replica
+abbrev pub KeepsRuns : {D : Type 0} → (D → ℕ) → List (Copy D) → List (Copy D) → Type 0
+KeepsRuns {D} faults old new = (j : ℕ) (r r' : Copy D) → At old j r → At new j r' → KeepsRun faults r r'
+
 -- A compaction that stands follows a delete, or it ended where the disk's count of faults rose.
 pub record RunFollows {D : Type 0} (DiskTells : Type 0) (files : D → Files) (faults : D → ℕ) (pair : Pair) (at : ℕ) (r r' : Copy D) : Type 0 where
   pub run : DiskTells → (s : Stored) (run : Option Run) → physical.Stands files r s → HasRun files r s run → HasLastAt s.cells pair at →
       HasRun files r' (physical.without_cell s at) (option_map loosened run) ⊎ (goal_of r' ≡ None)
-  pub goal : (goal_of r' ≡ goal_of r) ⊎ ((goal_of r' ≡ None) × Rose (faults r.disk) (faults r'.disk))
+  pub goal : KeepsRun faults r r'
 
 abbrev pub FollowsAt : {D P : Type 0} → Type 0 → (D → Files) → (D → ℕ) → Pair → Place P → Copy D → Copy D → Type 0
 FollowsAt DiskTells files faults pair (place.Live needle) r r' = RunFollows DiskTells files faults pair needle.at r r'
@@ -335,7 +347,7 @@ IsBeginFault faults r r' fault.Frozen = ⊥
 IsBeginFault faults r r' (fault.Full end need capacity) = ⊥
 IsBeginFault faults r r' (fault.Busy goal) = (goal_of r ≡ Some goal) × (r' ≡ r)
 IsBeginFault faults r r' (fault.Ended printed) = ⊥
-IsBeginFault faults r r' fault.Worn = (goal_of r ≡ None) × (65535 ≤ generation_of r) × (r' ≡ r)
+IsBeginFault faults r r' fault.Worn = (goal_of r ≡ None) × (generation_of r ≡ 65535) × (r' ≡ r)
 IsBeginFault faults r r' (fault.Damaged at) = ⊥
 IsBeginFault faults r r' fault.NoMemory = (goal_of r ≡ None) × (generation_of r < 65535)
 
@@ -420,7 +432,7 @@ IsLeftBy faults start r r' (Refused (fault.Failed printed)) =
 IsLeftBy faults start r r' (Refused (fault.Damaged at)) = IsUp r' × (goal_of r' ≡ None) × WasAtRest start r
 IsLeftBy faults start r r' (Refused fault.NoMemory) = IsUp r' × (goal_of r' ≡ None) × WasAtRest start r
 IsLeftBy faults start r r' (Refused (fault.Busy goal)) = (start ≡ Fresh) × (goal_of r ≡ Some goal) × (r' ≡ r)
-IsLeftBy faults start r r' (Refused fault.Worn) = (start ≡ Fresh) × (goal_of r ≡ None) × (65535 ≤ generation_of r) × (r' ≡ r)
+IsLeftBy faults start r r' (Refused fault.Worn) = (start ≡ Fresh) × (goal_of r ≡ None) × (generation_of r ≡ 65535) × (r' ≡ r)
 IsLeftBy faults start r r' (Refused fault.Frozen) = ⊥
 IsLeftBy faults start r r' (Refused (fault.Full end need capacity)) = ⊥
 IsLeftBy faults start r r' (Refused (fault.Ended printed)) = ⊥
@@ -471,6 +483,7 @@ pub record SwapsAt {D P : Type 0} (DiskTells : Type 0) (files : D → Files) (fa
 -- the places of the replica moved to its new cells, those of the other replicas stay, and all rows behind a refusal
 pub record KeepsPlaces {P : Type 0} (rows rows' : MapRows P) (at : ℕ) (result : Result (NewFiles P) Unswapped) : Type 0 where
   pub moved : IfOk result (λ new. ChangesRows (op.Swap at new.cells) rows rows')
+  pub sights : OnOk result (SwapsSights at (sights_of rows) (sights_of rows'))
   pub width : rows'.replicas ≡ rows.replicas
   pub others : (pair : Pair) (i : ℕ) → (i ≡ at → ⊥) → place_in (row_at rows' pair) i ≡ place_in (row_at rows pair) i
   pub same : OnErr result (rows' ≡ rows)
@@ -492,8 +505,11 @@ pub record OpensAt {D P : Type 0} (DiskTells : Type 0) (files : D → Files) (Te
   pub sup : r'.sup ≡ r.sup
   pub loose : is_stuck r' ≡ false
   pub alone : goal_of r' ≡ None
+  pub most : generation_of r' ≤ 65535
+  pub from : 64 ≤ end_of r'
   pub undamaged : DiskTells → (file at : ℕ) → IsOpeningDamage r.sup (contents_of files r.disk) file at → ⊥
   pub undamaged_now : DiskTells → (file at : ℕ) → IsOpeningDamage r.sup (contents_of files r'.disk) file at → ⊥
+  pub formatted : DiskTells → contents_of files r'.disk 0 ≡ [] → ⊥
   pub opened : DiskTells → (s : Stored) → OpensAs r.sup (contents_of files r.disk) s → physical.Stands files r' s × PlacesAre Tells rows j s
   pub reopened : DiskTells → (stuck : Bool) (s t : Stored) → physical.Holds files r stuck s t → (found : Stored)
       × (physical.IsLike stuck s found ⊎ physical.IsLike stuck t found) × physical.Stands files r' found × PlacesAre Tells rows j found
@@ -520,7 +536,7 @@ IsOpenFault DiskTells files faults r r' (open_fault.Damaged file at) =
     × (DiskTells → (stuck : Bool) (s t : Stored) → physical.Holds files r stuck s t → ⊥)
 IsOpenFault DiskTells files faults r r' open_fault.NoMemory = Unit {0}
 
--- Of the replicas before it nothing that was read was damaged, and nothing that stands there now is.
+-- Of the replicas before it nothing that was read was damaged, and what stands there now is neither damaged nor void.
 pub record IsRefusedAt {D : Type 0} (DiskTells : Type 0) (files : D → Files) (faults : D → ℕ) (old new : List (Copy D)) (refusal : Unopened) : Type 0 where
   pub before : Copy D
   pub after : Copy D
@@ -530,6 +546,7 @@ pub record IsRefusedAt {D : Type 0} (DiskTells : Type 0) (files : D → Files) (
   pub earlier : DiskTells → (i : ℕ) (r r' : Copy D) → i < refusal.replica → At old i r → At new i r' →
       ((file at : ℕ) → IsOpeningDamage r.sup (contents_of files r.disk) file at → ⊥)
       × ((file at : ℕ) → IsOpeningDamage r.sup (contents_of files r'.disk) file at → ⊥)
+      × (contents_of files r'.disk 0 ≡ [] → ⊥)
 
 -- LOOKS OF AN OPENING
 

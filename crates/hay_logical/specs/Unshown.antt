@@ -27,6 +27,8 @@ use Rattle.hay_logical.specs.declared.written.Erased.{Erased}
 use Rattle.hay_logical.specs.declared.written.Written.{Written}
 use Rattle.hay_logical.specs.Answers.{HasRoom, ended_runs, is_held}
 use Rattle.hay_logical.specs.Fits.{At, Fits, Makes, PhotoAt, PlaceStands, RunsAs}
+use Rattle.hay_logical.specs.Sights.{sight}
+use Rattle.hay_logical.specs.Sights.Sight.{Live}
 use Rattle.hay_logical.specs.Stands.{IsChange, Stands}
 use Rattle.hay_logical.specs.Volumes.{CanReach, HasAll, Volume}
 
@@ -81,10 +83,11 @@ pub record IsWritten {D P : Type 0} (files : D → Files) (Tells : Type 0) (k : 
   pub ends : IsChange (change.Put written.ends) k (Put pair cookie bytes)
   pub unshown : IsUnshown files Tells k (Put pair cookie bytes) (op.Put pair written.row) (map (grown (length bytes)) k.replicas) volume
 
--- It can be shown without memory, and each photo is in reach then.
+-- It can be shown without memory, each place is that of the photo, and each photo is in reach then.
 pub record IsWrittenFor {D P : Type 0} (DiskTells : Type 0) (files : D → Files) (written : Written P) (volume : Volume D P) : Type 0 where
   pub room : HasRowRoom volume.rows
   pub long : length written.row ≡ volume.rows.replicas
+  pub live : (j : ℕ) → j < length written.row → sight (place_in written.row j) ≡ Live
   pub reach : (rows : MapRows P) → ChangesRows (op.Put written.pair written.row) volume.rows rows → CanReach DiskTells files volume.replicas rows
 
 -- DELETES

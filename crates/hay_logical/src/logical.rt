@@ -21,8 +21,10 @@ ghost use Rattle.hay_logical.specs.Draws.{DrewAt, HasDrawnNothing, looked_pair};
 ghost use Rattle.hay_logical.specs.Fits.{At, PlaceStands, super_of};
 ghost use Rattle.hay_logical.specs.Notes.{DeleteLeavesUnsure, NotesTell, PutLeavesUnsure};
 ghost use Rattle.hay_logical.specs.Refusals.{DeleteFreezes, FailureMayFreeze, FlushSticks, IsUntouchedBy, PutFreezes};
-ghost use Rattle.hay_logical.specs.Seen.{BeginRefusedSeen, BeginSeen, ChangesAt, CompactRefusedSeen, CompactSeen, DeleteRefusedSeen, EndsAlone, EraseSeen, FinishRefusedSeen, FinishSeen, FlushRefusedSeen, FlushSeen, FreezesSeen, HideSeen, OpenSeen, PutRefusedSeen, RoomRefusedSeen, RoomSeen, StepRefusedSeen, StepSeen, StoreSeen, WriteSeen, volume_seen};
-ghost use Rattle.hay_logical.specs.Steps.{AllIdle, IsRefusedAt, IsSeenBy, KeepsAbove, KeepsDisk, KeepsFiles, KeepsStuck, LosesRun, RoomFor, SetsPlaceAt};
+ghost use Rattle.hay_logical.specs.Seen.{BeginRefusedSeen, BeginSeen, ChangesAt, CompactRefusedSeen, CompactSeen, DeleteRefusedSeen, EraseSeen, FinishRefusedSeen, FinishSeen, FlushRefusedSeen, FlushSeen, FreezesSeen, HideSeen, IsEnded, OpenSeen, PutRefusedSeen, PutSeen, RoomRefusedSeen, RoomSeen, StepRefusedSeen, StepSeen, WriteSeen, volume_seen};
+ghost use Rattle.hay_logical.specs.Sights.{DeleteRefusedSights, DeletesSights, ErasesSights, FindsPhoto, KeepsSights, LookRefusedSights, LooksAtPair, SeesPair, StoresSights, SwapsSights, sights_of};
+ghost use Rattle.hay_logical.specs.Sights.Sight.{Unseen};
+ghost use Rattle.hay_logical.specs.Steps.{AllIdle, IsRefusedAt, IsSeenBy, KeepsAbove, KeepsDisk, KeepsFiles, KeepsRuns, KeepsStuck, LosesRun, RoomFor, SetsPlaceAt};
 ghost use Rattle.hay_logical.specs.Volumes.{HasAll, IsClosed, IsMachineOf, IsOfSettings, IsOpenVolume, IsSame, KeepsCounts, Volume};
 ghost use Rattle.hay_logical.specs.Unshown.{GivesUp, IsErased, IsWritten, IsWrittenFor, ShowsSame};
 ghost use Rattle.hay_logical.specs.Stands.{Holds, IsFirst, IsIdleVolume, IsTightAt, Stands, Stopped};
@@ -146,7 +148,7 @@ impl<D: Disk> Logical<D> {
             IfOk result (λ notes. (notes ≡ []) × Stands D.files D.Piece.Tells self.new k) }
         ensures reopened { D.Tells → (k : VolumeKnown) → Stopped D.files self.old k →
             IfOk result (λ notes. IsReopened D.files D.Piece.Tells k notes self.new) }
-        ensures told { IfOk result (NotesTell self.old.settings self.old.number self.old.unsure) }
+        ensures told { IfOk result (NotesTell self.old.settings self.old.number self.old.unsure (sights_of self.new.rows) (volume_seen self.new).replicas) }
         ensures fits { IfOk result (AllByRecursion FitsNote) }
         ensures settled { OnOk result (self.new.unsure ≡ None) }
         // No disk is void then.
@@ -327,6 +329,7 @@ impl<D: Disk> Logical<D> {
         ensures position { result ≡ written.position }
         ensures rows { ChangesRows (map_op.Put written.pair written.row) self.old.rows self.new.rows }
         ensures still { self.new ≡ record self.old { rows = self.new.rows; front = written.position } }
+        ensures sights { StoresSights written.pair self.old.settings.replicas (sights_of self.old.rows) (sights_of self.new.rows) }
     {
         give_row::<D>(&mut self.rows, written.pair, written.row);
         self.front = written.position;
@@ -425,8 +428,10 @@ impl<D: Disk> Logical<D> {
         ensures open { IsOpenVolume self.new }
         ensures counts { KeepsCounts D.fault_count D.fuse_count self.old.replicas self.new.replicas }
         ensures same { IsSame self.old self.new }
-        ensures seen { IfOk result (λ position. StoreSeen (length bytes.now) position (volume_seen self.old) (volume_seen self.new)) }
+        ensures seen { IfOk result (λ position. PutSeen (length bytes.now) position (volume_seen self.old) (volume_seen self.new)) }
         ensures refused_seen { IfErr result (PutRefusedSeen self.old.settings self.old.number tag (length bytes.now) (volume_seen self.old) (volume_seen self.new)) }
+        ensures sights { OnOk result (StoresSights pair self.old.settings.replicas (sights_of self.old.rows) (sights_of self.new.rows)) }
+        ensures refused_sights { OnErr result (KeepsSights (sights_of self.old.rows) (sights_of self.new.rows)) }
     {
         let written = self.write(alloc, tag, pair, cookie, bytes)?;
         Ok(self.show(written))
@@ -460,6 +465,9 @@ impl<D: Disk> Logical<D> {
         ensures row { IfOk result (λ looked. SetsPlaceAt pair replica (place_in looked.row replica) self.old.rows self.new.rows) }
         ensures answered { IfOk result (λ looked. (looked.front ≡ self.new.front) × (looked.row ≡ row_at self.new.rows pair)) }
         ensures kept { OnErr result ((other : Pair) → row_at self.new.rows other ≡ row_at self.old.rows other) }
+        ensures sights { OnOk result (SeesPair pair replica (sights_of self.old.rows) (sights_of self.new.rows)) }
+        // A refusal comes only where it was not looked at yet.
+        ensures refused_sights { OnErr result (KeepsSights (sights_of self.old.rows) (sights_of self.new.rows) × (sights_of self.old.rows pair replica ≡ Unseen)) }
 
         // A place that was not looked at yet is what the needle shows that was read. Where the disk tells, its piece has that photo.
         ensures needle { (IsSeen (place_in (row_at self.old.rows pair) replica) → ⊥) →
@@ -500,6 +508,9 @@ impl<D: Disk> Logical<D> {
         ensures seen { OnOk result (IsSeen (place_in (row_at self.new.rows pair) replica)) }
         ensures row { OnOk result (SetsPlaceAt pair replica (place_in (row_at self.new.rows pair) replica) self.old.rows self.new.rows) }
         ensures kept { OnErr result ((other : Pair) → row_at self.new.rows other ≡ row_at self.old.rows other) }
+        ensures sights { OnOk result (SeesPair pair replica (sights_of self.old.rows) (sights_of self.new.rows)) }
+        ensures unseen { OnErr result (sights_of self.old.rows pair replica ≡ Unseen) }
+        ensures refused_sights { IfErr result (LookRefusedSights self.old.settings self.old.number pair (sights_of self.old.rows) (sights_of self.new.rows)) }
         ensures needle { (IsSeen (place_in (row_at self.old.rows pair) replica) → ⊥) →
             OnOk result (IsSeenBy D.Tells D.Piece.Tells out.new.items (place_in (row_at self.new.rows pair) replica)) }
         ensures causes { IfErr result (IsSightFault D.fault_count self.old.settings self.old.number self.old.replicas self.new.replicas) }
@@ -535,6 +546,8 @@ impl<D: Disk> Logical<D> {
         ensures undamaged { D.Tells → (k : VolumeKnown) → Stands D.files D.Piece.Tells self.old k →
             (m at : ℕ) → result ≡ Err (LogicalFault.Damaged m at) → ⊥ }
         ensures seen { OnOk result ((j : ℕ) → j < self.new.settings.replicas → IsSeen (place_in (row_at self.new.rows pair) j)) }
+        ensures sights { OnOk result (LooksAtPair pair (sights_of self.old.rows) (sights_of self.new.rows)) }
+        ensures refused_sights { IfErr result (LookRefusedSights self.old.settings self.old.number pair (sights_of self.old.rows) (sights_of self.new.rows)) }
         ensures causes { IfErr result (IsSightFault D.fault_count self.old.settings self.old.number self.old.replicas self.new.replicas) }
         ensures files { KeepsFiles D.Tells D.files self.old.replicas self.new.replicas }
         ensures stuck { KeepsStuck self.old.replicas self.new.replicas }
@@ -587,6 +600,10 @@ impl<D: Disk> Logical<D> {
         ensures same { IsSame self.old self.new }
         ensures after { OnOk result (EraseSeen (volume_seen self.old) (volume_seen self.new)) }
         ensures refused_seen { IfErr result (DeleteRefusedSeen tag pair (volume_seen self.old) (volume_seen self.new)) }
+        ensures sights { OnOk result (FindsPhoto pair self.old.settings.replicas (sights_of self.old.rows) (sights_of self.new.rows)) }
+        ensures refused_sights { IfErr result (DeleteRefusedSights self.old.settings self.old.number pair self.new.frozen (sights_of self.old.rows) (sights_of self.new.rows)) }
+        // A compaction ended only where its disk's count of faults rose.
+        ensures ended { OnOk result (KeepsRuns D.fault_count self.old.replicas self.new.replicas) }
     {
         if let Some(machine) = self.frozen {
             return Err(LogicalFault::ReadOnly { machine });
@@ -623,6 +640,10 @@ impl<D: Disk> Logical<D> {
         ensures same { IsSame self.old self.new }
         ensures after { OnOk result (EraseSeen (volume_seen self.old) (volume_seen self.new)) }
         ensures refused_seen { IfErr result (DeleteRefusedSeen tag pair (volume_seen self.old) (volume_seen self.new)) }
+        ensures sights { OnOk result (FindsPhoto pair self.old.settings.replicas (sights_of self.old.rows) (sights_of self.new.rows)) }
+        ensures refused_sights { IfErr result (DeleteRefusedSights self.old.settings self.old.number pair self.new.frozen (sights_of self.old.rows) (sights_of self.new.rows)) }
+        // A compaction ended only where its disk's count of faults rose.
+        ensures ended { OnOk result (KeepsRuns D.fault_count self.old.replicas self.new.replicas) }
     {
         let row = self.rows.row(pair);
         if !has_live(&row) {
@@ -657,6 +678,7 @@ impl<D: Disk> Logical<D> {
         ensures position { result ≡ erased.position }
         ensures rows { ChangesRows (map_op.Del erased.pair) self.old.rows self.new.rows }
         ensures still { self.new ≡ record self.old { rows = self.new.rows; front = erased.position } }
+        ensures sights { ErasesSights erased.pair (sights_of self.old.rows) (sights_of self.new.rows) }
     {
         self.rows.del(erased.pair);
         self.front = erased.position;
@@ -694,6 +716,10 @@ impl<D: Disk> Logical<D> {
         ensures same { IsSame self.old self.new }
         ensures after { IfOk result (λ position. HideSeen position (volume_seen self.old) (volume_seen self.new)) }
         ensures refused_seen { IfErr result (DeleteRefusedSeen tag pair (volume_seen self.old) (volume_seen self.new)) }
+        ensures sights { OnOk result (DeletesSights pair self.old.settings.replicas (sights_of self.old.rows) (sights_of self.new.rows)) }
+        ensures refused_sights { IfErr result (DeleteRefusedSights self.old.settings self.old.number pair self.new.frozen (sights_of self.old.rows) (sights_of self.new.rows)) }
+        // A compaction ended only where its disk's count of faults rose.
+        ensures ended { OnOk result (KeepsRuns D.fault_count self.old.replicas self.new.replicas) }
     {
         let erased = self.erase(tag, pair, out)?;
         Ok(self.hide(erased))
@@ -722,7 +748,7 @@ impl<D: Disk> Logical<D> {
         ensures open { IsOpenVolume self.new }
         ensures counts { KeepsCounts D.fault_count D.fuse_count self.old.replicas self.new.replicas }
         ensures same { IsSame self.old self.new }
-        ensures seen { OnOk result (FlushSeen replica (volume_seen self.old) (volume_seen self.new)) }
+        ensures seen { IfOk result (λ number. FlushSeen replica number (volume_seen self.old) (volume_seen self.new)) }
         ensures refused_seen { IfErr result (FlushRefusedSeen self.old.settings self.old.number replica (volume_seen self.old) (volume_seen self.new)) }
     {
         if let Some(machine) = self.frozen {
@@ -850,6 +876,8 @@ impl<D: Disk> Logical<D> {
         ensures same { IsSame self.old self.new }
         ensures seen { IfOk result (λ files. FinishSeen replica files.generation files.end (volume_seen self.old) (volume_seen self.new)) }
         ensures refused_seen { IfErr result (FinishRefusedSeen self.old.settings self.old.number replica (volume_seen self.old) (volume_seen self.new)) }
+        ensures sights { OnOk result (SwapsSights replica (sights_of self.old.rows) (sights_of self.new.rows)) }
+        ensures refused_sights { OnErr result (KeepsSights (sights_of self.old.rows) (sights_of self.new.rows)) }
     {
         if let Some(machine) = self.frozen {
             return Err(LogicalFault::ReadOnly { machine });
@@ -900,6 +928,8 @@ impl<D: Disk> Logical<D> {
         ensures same { IsSame self.old self.new }
         ensures seen { IfOk result (λ generation. (end : ℕ) × FinishSeen replica generation end (volume_seen self.old) (volume_seen self.new)) }
         ensures refused_seen { IfErr result (FinishRefusedSeen self.old.settings self.old.number replica (volume_seen self.old) (volume_seen self.new)) }
+        ensures sights { OnOk result (SwapsSights replica (sights_of self.old.rows) (sights_of self.new.rows)) }
+        ensures refused_sights { OnErr result (KeepsSights (sights_of self.old.rows) (sights_of self.new.rows)) }
     {
         let files = self.finish_files(replica)?;
         Ok(files.generation)
@@ -941,6 +971,8 @@ impl<D: Disk> Logical<D> {
         ensures same { IsSame self.old self.new }
         ensures seen { IfOk result (λ files. CompactSeen replica files.generation files.end (volume_seen self.old) (volume_seen self.new)) }
         ensures refused_seen { IfErr result (CompactRefusedSeen self.old.settings self.old.number replica (volume_seen self.old) (volume_seen self.new)) }
+        ensures sights { OnOk result (SwapsSights replica (sights_of self.old.rows) (sights_of self.new.rows)) }
+        ensures refused_sights { OnErr result (KeepsSights (sights_of self.old.rows) (sights_of self.new.rows)) }
     {
         if let Some(machine) = self.frozen {
             return Err(LogicalFault::ReadOnly { machine });
@@ -987,6 +1019,8 @@ impl<D: Disk> Logical<D> {
         ensures same { IsSame self.old self.new }
         ensures seen { IfOk result (λ generation. (end : ℕ) × CompactSeen replica generation end (volume_seen self.old) (volume_seen self.new)) }
         ensures refused_seen { IfErr result (CompactRefusedSeen self.old.settings self.old.number replica (volume_seen self.old) (volume_seen self.new)) }
+        ensures sights { OnOk result (SwapsSights replica (sights_of self.old.rows) (sights_of self.new.rows)) }
+        ensures refused_sights { OnErr result (KeepsSights (sights_of self.old.rows) (sights_of self.new.rows)) }
     {
         let files = self.compact_files(alloc, replica)?;
         Ok(files.generation)
@@ -1003,7 +1037,7 @@ impl<D: Disk> Logical<D> {
         ensures open { IsOpenVolume self.new }
         ensures counts { KeepsCounts D.fault_count D.fuse_count self.old.replicas self.new.replicas }
         ensures same { IsSame self.old self.new }
-        ensures seen { ChangesAt replica EndsAlone (volume_seen self.old) (volume_seen self.new) }
+        ensures seen { ChangesAt replica IsEnded (volume_seen self.old) (volume_seen self.new) }
     {
         drop_run_at(self.replicas.as_mut_slice(), replica as usize);
     }

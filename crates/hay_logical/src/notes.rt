@@ -1,5 +1,5 @@
 //! What an opening tells of a change that was broken off before the stop.
-ghost use Rattle.std.specs.Prelude.{◌≡◌, ◌≤◌, ◌<◌, ℕ, length, IfOk};
+ghost use Rattle.std.specs.Prelude.{◌≡◌, ◌≤◌, ◌<◌, ℕ, length, map, IfOk};
 ghost use Rattle.std.specs.List.{AllByRecursion};
 ghost use Rattle.hay_reply.specs.Fits.{FitsNote};
 ghost use Rattle.hay_legal.specs.Known.{machine_of};
@@ -7,7 +7,9 @@ ghost use Rattle.hay_legal.specs.Restarts.{replica_notes};
 ghost use Rattle.hay_physical.specs.Copies.{Copy, IsOpenCopy};
 ghost use Rattle.hay_logical.specs.Fits.{At};
 ghost use Rattle.hay_logical.specs.Volumes.{IsOfSettings};
-ghost use Rattle.hay_logical.specs.Notes.{KeptIn, NotesAre, keeps, may_be_live};
+ghost use Rattle.hay_logical.specs.Notes.{KeptIn, NotesTell, keeps, may_be_live};
+ghost use Rattle.hay_logical.specs.Seen.{replica_seen};
+ghost use Rattle.hay_logical.specs.Sights.{sight, sights_of};
 
 use crate::unsure::{Change, Unsure};
 use arrayvec::ArrayVec;
@@ -30,7 +32,7 @@ pub(crate) fn machine_of(settings: &Settings, number: u32, replica: u32) -> u32
 
 // Whether a place is that of a photo, for all that was seen.
 fn may_be_live<P: Piece>(place: &Place<P>) -> bool
-    ensures { result ≡ may_be_live place.now }
+    ensures { result ≡ may_be_live (sight place.now) }
 {
     match place {
         Place::Live(_) | Place::Unseen { .. } => true,
@@ -42,7 +44,7 @@ fn may_be_live<P: Piece>(place: &Place<P>) -> bool
 fn is_kept<P: Piece>(change: &Change, rows: &MapView<P>, replica: usize, end: u64) -> bool
     requires within { replica < rows.now.replicas }
     requires most { replica < 4 }
-    ensures { result ≡ keeps change.now rows.now replica end }
+    ensures { result ≡ keeps change.now (sights_of rows.now) replica end }
 {
     match change {
         Change::Put { ends } => end != ends[replica],
@@ -62,7 +64,7 @@ fn kept_in<D: Disk>(
     requires most { length replicas.now ≤ 4 }
     requires open { (j : ℕ) (r : Copy D) → At replicas.now j r → IsOpenCopy r }
     requires width { rows.now.replicas ≡ length replicas.now }
-    ensures { KeptIn change.now rows.now replicas.now result.items }
+    ensures { KeptIn change.now (sights_of rows.now) (map replica_seen replicas.now) result.items }
 {
     let mut kept = ArrayVec::new();
     for (j, replica) in replicas.iter().enumerate() {
@@ -117,7 +119,7 @@ pub(crate) fn notes_of<D: Disk>(
     requires most { length replicas.now ≤ 4 }
     requires open { (j : ℕ) (r : Copy D) → At replicas.now j r → IsOpenCopy r }
     requires width { rows.now.replicas ≡ length replicas.now }
-    ensures are { IfOk result (NotesAre settings.now number unsure.now rows.now replicas.now) }
+    ensures are { IfOk result (NotesTell settings.now number unsure.now (sights_of rows.now) (map replica_seen replicas.now)) }
     ensures fits { IfOk result (AllByRecursion FitsNote) }
 {
     match unsure {

@@ -5,7 +5,7 @@ ghost use Rattle.hay_map.specs.Places.{place_in};
 ghost use Rattle.hay_map.specs.Rows.{row_at};
 ghost use Rattle.hay_map.specs.Sealed.{SealedNeedle};
 ghost use Rattle.hay_map.specs.declared.place.Place.TheVariants as place;
-ghost use Rattle.hay_physical.specs.Copies.{Copy, HasCapacity, IsOpenCopy, IsUp, KeepsEnd, end_of, goal_of, is_frozen};
+ghost use Rattle.hay_physical.specs.Copies.{Copy, HasCapacity, IsOpenCopy, IsUp, end_of, is_frozen, is_stuck};
 ghost use Rattle.hay_physical.specs.declared.state.Phase.TheVariants.{Closed};
 ghost use Rattle.hay_physical.specs.Replicas as physical;
 ghost use Rattle.hay_physical.specs.Runs.{HasRun, Run};
@@ -14,7 +14,7 @@ ghost use Rattle.hay_logical.specs.Draws.{DrewRecordedAt, HasDrawnNothing};
 ghost use Rattle.hay_logical.specs.Fits.{At};
 ghost use Rattle.hay_logical.specs.Refusals.{IsUntouched};
 ghost use Rattle.hay_logical.specs.Volumes.{CanReach, KeepsCounts, ReachesPlaces};
-ghost use Rattle.hay_logical.specs.Seen.{DeleteSeen, PutSeen, replica_seen};
+ghost use Rattle.hay_logical.specs.Seen.{DeleteSeen, FlushesTo, grown, replica_seen};
 ghost use Rattle.hay_logical.specs.Steps.{AllIdle, CallsOne, DeleteLeaves, DeletesAt, EndsRuns, FlushesAt, FollowsAt, FusesAt, IsOpenFault, IsRefusedAt, KeepsDisk, KeepsFiles, LacksRoom, LeftAt, OpensAt, PutLeaves, PutsAt, RoomFor, StaysBeside, StaysInReach, Stops};
 
 use crate::fault::Unopened;
@@ -92,7 +92,7 @@ pub(crate) fn put_each<D: Disk>(
     requires up { (j : ℕ) (r : Copy D) → At replicas.old j r → IsUp r }
     requires room { (j : ℕ) (r : Copy D) → At replicas.old j r → RoomFor (length bytes.now) r }
     ensures counts { KeepsCounts D.fault_count D.fuse_count replicas.old replicas.new }
-    ensures seen { OnOk result ((j : ℕ) (r r' : Copy D) → At replicas.old j r → At replicas.new j r' → PutSeen (length bytes.now) (replica_seen r) (replica_seen r')) }
+    ensures seen { OnOk result ((j : ℕ) (r r' : Copy D) → At replicas.old j r → At replicas.new j r' → replica_seen r' ≡ grown (length bytes.now) (replica_seen r)) }
     ensures refused_seen { IfErr result (λ broken. IsUntouched replicas.new broken → (j : ℕ) (r r' : Copy D) → At replicas.old j r → At replicas.new j r' →
         replica_seen r' ≡ replica_seen r) }
     ensures places { IfOk result (λ row. length row ≡ length replicas.old) }
@@ -127,7 +127,7 @@ fn put_in_order<D: Disk>(
     requires up { (j : ℕ) (r : Copy D) → At replicas.old j r → IsUp r }
     requires room { (j : ℕ) (r : Copy D) → At replicas.old j r → RoomFor (length bytes.now) r }
     ensures counts { KeepsCounts D.fault_count D.fuse_count replicas.old replicas.new }
-    ensures seen { OnOk result ((j : ℕ) (r r' : Copy D) → At replicas.old j r → At replicas.new j r' → PutSeen (length bytes.now) (replica_seen r) (replica_seen r')) }
+    ensures seen { OnOk result ((j : ℕ) (r r' : Copy D) → At replicas.old j r → At replicas.new j r' → replica_seen r' ≡ grown (length bytes.now) (replica_seen r)) }
     ensures refused_seen { IfErr result (λ broken. IsUntouched replicas.new broken → (j : ℕ) (r r' : Copy D) → At replicas.old j r → At replicas.new j r' →
         replica_seen r' ≡ replica_seen r) }
     ensures places { IfOk result (λ row. length row ≡ length replicas.old) }
@@ -238,7 +238,8 @@ pub(crate) fn flush_at<D: Disk>(replicas: &mut [Replica<D>], at: usize) -> Resul
     ensures one { CallsOne at replicas.old replicas.new }
     ensures flushes { (r r' : Copy D) → At replicas.old at r → At replicas.new at r' → FlushesAt D.Tells D.files D.fault_count r r' result }
     ensures counts { KeepsCounts D.fault_count D.fuse_count replicas.old replicas.new }
-    ensures stays { (r r' : Copy D) → At replicas.old at r → At replicas.new at r' → KeepsEnd r r' × (goal_of r' ≡ goal_of r) }
+    ensures seen { (r r' : Copy D) → At replicas.old at r → At replicas.new at r' → IfOk result (λ number. FlushesTo number (replica_seen r) (replica_seen r')) }
+    ensures left { (r r' : Copy D) → At replicas.old at r → At replicas.new at r' → OnErr result (replica_seen r' ≡ record (replica_seen r) { stuck = is_stuck r' }) }
 {
     replicas[at].flush()
 }

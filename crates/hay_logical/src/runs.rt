@@ -1,9 +1,9 @@
 //! Compactions of replicas.
-ghost use Rattle.std.specs.Prelude.{◌≡◌, ◌≤◌, ◌<◌, ◌+◌, ℕ, true, false, length, None, IfOk, OnErr};
+ghost use Rattle.std.specs.Prelude.{◌≡◌, ◌≤◌, ◌<◌, ℕ, if◌then◌else◌, true, false, length, None, IfOk, OnErr};
 ghost use Rattle.hay_map.specs.Places.{place_in};
-ghost use Rattle.hay_physical.specs.Copies.{Copy, IsUp, KeepsEnd, generation_of, goal_of, is_frozen};
+ghost use Rattle.hay_physical.specs.Copies.{Copy, IsUp, goal_of, is_frozen};
 ghost use Rattle.hay_logical.specs.Fits.{At};
-ghost use Rattle.hay_logical.specs.Seen.{SwapSeen, replica_seen};
+ghost use Rattle.hay_logical.specs.Seen.{BeginsTo, BreaksStep, ChangesRun, IsEnded, StepsTo, SwapSeen, replica_seen};
 ghost use Rattle.hay_logical.specs.Steps.Start.{Examined, Fresh, Going};
 ghost use Rattle.hay_logical.specs.Steps.{AllIdle, BeginsAt, CallsOne, ExaminesAt, KeepsPlaces, LosesRun, StaysInReach, StepsAt, SwapsAt, SwapsOne, latest_of};
 ghost use Rattle.hay_logical.specs.Volumes.{KeepsCounts};
@@ -50,7 +50,7 @@ pub(crate) fn drop_run_at<D: Disk>(replicas: &mut [Replica<D>], at: usize)
     ensures one { CallsOne at replicas.old replicas.new }
     ensures loses { (r r' : Copy D) → At replicas.old at r → At replicas.new at r' → LosesRun D.Tells D.files r r' }
     ensures idle { (r : Copy D) → At replicas.new at r → goal_of r ≡ None }
-    ensures stays { (r r' : Copy D) → At replicas.old at r → At replicas.new at r' → KeepsEnd r r' }
+    ensures seen { (r r' : Copy D) → At replicas.old at r → At replicas.new at r' → IsEnded (replica_seen r) (replica_seen r') }
 {
     replicas[at].drop_run();
 }
@@ -66,7 +66,8 @@ pub(crate) fn begin_at<D: Disk>(
     ensures one { CallsOne at replicas.old replicas.new }
     ensures begins { (r r' : Copy D) → At replicas.old at r → At replicas.new at r' → BeginsAt D.Tells D.files D.fault_count r r' result }
     ensures counts { KeepsCounts D.fault_count D.fuse_count replicas.old replicas.new }
-    ensures stays { (r r' : Copy D) → At replicas.old at r → At replicas.new at r' → KeepsEnd r r' × IfOk result (λ goal. goal ≡ generation_of r + 1) }
+    ensures seen { (r r' : Copy D) → At replicas.old at r → At replicas.new at r' → IfOk result (λ goal. BeginsTo goal (replica_seen r) (replica_seen r')) }
+    ensures kept { (r r' : Copy D) → At replicas.old at r → At replicas.new at r' → OnErr result (replica_seen r' ≡ replica_seen r) }
 {
     replicas[at].begin(alloc)
 }
@@ -87,8 +88,8 @@ pub(crate) fn step_at<D: Disk>(
     ensures steps { (r r' : Copy D) → At replicas.old at r → At replicas.new at r' →
         StepsAt D.Tells D.files D.fault_count D.Piece.Tells rows.now at cells r r' result }
     ensures counts { KeepsCounts D.fault_count D.fuse_count replicas.old replicas.new }
-    ensures stays { (r r' : Copy D) → At replicas.old at r → At replicas.new at r' → KeepsEnd r r' }
-    ensures few { IfOk result (λ number. number ≤ cells) }
+    ensures seen { (r r' : Copy D) → At replicas.old at r → At replicas.new at r' → IfOk result (λ number. StepsTo cells number (replica_seen r) (replica_seen r')) }
+    ensures left { (r r' : Copy D) → At replicas.old at r → At replicas.new at r' → OnErr result (BreaksStep (replica_seen r) (replica_seen r')) }
 {
     step(&mut replicas[at], at as u32, rows, cells)
 }
@@ -112,7 +113,7 @@ pub(crate) fn finish_at<D: Disk>(
     ensures places { KeepsPlaces rows.old rows.new at result }
     ensures counts { KeepsCounts D.fault_count D.fuse_count replicas.old replicas.new }
     ensures seen { (r r' : Copy D) → At replicas.old at r → At replicas.new at r' → IfOk result (λ files. SwapSeen files.generation files.end (replica_seen r) (replica_seen r')) }
-    ensures kept { (r r' : Copy D) → At replicas.old at r → At replicas.new at r' → OnErr result (KeepsEnd r r') }
+    ensures kept { (r r' : Copy D) → At replicas.old at r → At replicas.new at r' → OnErr result (ChangesRun (replica_seen r) (replica_seen r')) }
 {
     let result = finish(&mut replicas[at], at as u32, rows);
     drop_behind(replicas, at);
@@ -137,7 +138,7 @@ pub(crate) fn compact_at<D: Disk>(
     ensures places { KeepsPlaces rows.old rows.new at result }
     ensures counts { KeepsCounts D.fault_count D.fuse_count replicas.old replicas.new }
     ensures seen { (r r' : Copy D) → At replicas.old at r → At replicas.new at r' → IfOk result (λ files. SwapSeen files.generation files.end (replica_seen r) (replica_seen r')) }
-    ensures kept { (r r' : Copy D) → At replicas.old at r → At replicas.new at r' → OnErr result (KeepsEnd r r') }
+    ensures kept { (r r' : Copy D) → At replicas.old at r → At replicas.new at r' → OnErr result (ChangesRun (replica_seen r) (replica_seen r')) }
 {
     let result = compact(&mut replicas[at], at as u32, rows, alloc);
     drop_behind(replicas, at);
@@ -172,7 +173,7 @@ fn compact<D: Disk>(
     ensures counts { D.fault_count replica.old.disk ≤ D.fault_count replica.new.disk }
     ensures fuses { D.fuse_count replica.new.disk ≡ D.fuse_count replica.old.disk }
     ensures seen { IfOk result (λ files. SwapSeen files.generation files.end (replica_seen replica.old) (replica_seen replica.new)) }
-    ensures kept { OnErr result (KeepsEnd replica.old replica.new) }
+    ensures kept { OnErr result (ChangesRun (replica_seen replica.old) (replica_seen replica.new)) }
 {
     match replica.begin(alloc) {
         Ok(_) => finish(replica, at, rows),
@@ -195,7 +196,7 @@ fn finish<D: Disk>(
     ensures counts { D.fault_count replica.old.disk ≤ D.fault_count replica.new.disk }
     ensures fuses { D.fuse_count replica.new.disk ≡ D.fuse_count replica.old.disk }
     ensures seen { IfOk result (λ files. SwapSeen files.generation files.end (replica_seen replica.old) (replica_seen replica.new)) }
-    ensures kept { OnErr result (KeepsEnd replica.old replica.new) }
+    ensures kept { OnErr result (ChangesRun (replica_seen replica.old) (replica_seen replica.new)) }
 {
     // There are fewer cells than bytes.
     let most = replica.end();
@@ -223,7 +224,7 @@ fn swap<D: Disk>(
     ensures counts { D.fault_count replica.old.disk ≤ D.fault_count replica.new.disk }
     ensures fuses { D.fuse_count replica.new.disk ≡ D.fuse_count replica.old.disk }
     ensures seen { IfOk result (λ files. SwapSeen files.generation files.end (replica_seen replica.old) (replica_seen replica.new)) }
-    ensures kept { OnErr result (KeepsEnd replica.old replica.new) }
+    ensures kept { OnErr result (ChangesRun (replica_seen replica.old) (replica_seen replica.new)) }
 {
     let count = replica.copied();
     match replica.finish() {
@@ -267,8 +268,8 @@ fn step<D: Disk>(
     ensures steps { StepsAt D.Tells D.files D.fault_count D.Piece.Tells rows.now at cells replica.old replica.new result }
     ensures counts { D.fault_count replica.old.disk ≤ D.fault_count replica.new.disk }
     ensures fuses { D.fuse_count replica.new.disk ≡ D.fuse_count replica.old.disk }
-    ensures stays { KeepsEnd replica.old replica.new }
-    ensures few { IfOk result (λ number. number ≤ cells) }
+    ensures seen { IfOk result (λ number. StepsTo cells number (replica_seen replica.old) (replica_seen replica.new)) }
+    ensures left { OnErr result (BreaksStep (replica_seen replica.old) (replica_seen replica.new)) }
 {
     for examined in 0..cells {
         match examine(replica, at, rows) {
@@ -292,7 +293,8 @@ fn examine<D: Disk>(
     ensures examines { ExaminesAt D.Tells D.files D.fault_count D.Piece.Tells rows.now at replica.old replica.new result }
     ensures counts { D.fault_count replica.old.disk ≤ D.fault_count replica.new.disk }
     ensures fuses { D.fuse_count replica.new.disk ≡ D.fuse_count replica.old.disk }
-    ensures stays { KeepsEnd replica.old replica.new }
+    ensures seen { IfOk result (λ more. StepsTo 1 (if more then 1 else 0) (replica_seen replica.old) (replica_seen replica.new)) }
+    ensures left { OnErr result (BreaksStep (replica_seen replica.old) (replica_seen replica.new)) }
 {
     match replica.peek() {
         Ok(None) => Ok(false),

@@ -107,7 +107,8 @@ loop-j-preserved g c =
             ));
         seen = subst (λ rs. Went S (c.loop-j.j + 1) c.args.replicas.now rs) (sym w.replicas-is)
             (went_step S S c.loop-j.j c.args.replicas.now c.loop-j.replicas here w.delete.new.self c.loop-j.invariant.seen there (λ i r r' h p. p)
-            (delete_seen here w.delete.new.self w.delete.ensures.stays w.delete.ensures.stuck (ended_or here w.delete.new.self (g.D.Disk.fault_count w.delete.new.self.disk) w.in-Ok.ensures.goal)));
+            (delete_seen here w.delete.new.self w.delete.ensures.stays w.delete.ensures.stuck w.delete.ensures.bare w.delete.ensures.place
+            (ended_or here w.delete.new.self (g.D.Disk.fault_count w.delete.new.self.disk) w.in-Ok.ensures.goal)));
       }
       | in_default w ↦ record {
         went = subst (λ rs. Went R (c.loop-j.j + 1) c.args.replicas.now rs) (sym w.replicas-is)

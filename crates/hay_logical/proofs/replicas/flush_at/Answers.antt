@@ -6,7 +6,11 @@ use Rattle.hay_logical.specs.Steps.{FlushesAt}
 use Rattle.hay_logical.proofs.Calls.{flush_if, not_stuck_before, one_counts, still_up, went_on}
 use Rattle.hay_logical.proofs.Lists.{at_read, one_same}
 use Rattle.std.proofs.Common.{◌≡◌}
-use Rattle.hay_physical.specs.Copies.{KeepsEnd, goal_of}
+use Rattle.std.specs.Prelude.{IfOk, OnErr}
+use Rattle.hay_physical.specs.Copies.{is_stuck}
+use Rattle.hay_physical.proofs.Views.{on_err_so}
+use Rattle.hay_logical.specs.Seen.{FlushesTo, replica_seen}
+use Rattle.hay_logical.proofs.Seen.{flush_seen, seen_stuck}
 use Rattle.hay_logical.proofs.replicas.flush_at.Goals as goal
 
 pub returns-clause-one : goal.returns-clause-one
@@ -42,10 +46,21 @@ returns-clause-counts g c =
     let there : At c.args.replicas.now c.args.at here = at_read c.args.replicas.now c.args.at c.index-replicas-at.result c.requires.within in
     one_counts g.D.Disk.fault_count g.D.Disk.fuse_count c.args.at c.args.replicas.now here c.flush.new.self there (c.flush.ensures.counts, c.flush.ensures.fuses)
 
-pub returns-clause-stays : goal.returns-clause-stays
-returns-clause-stays g c = λ r r' e f.
+pub returns-clause-seen : goal.returns-clause-seen
+returns-clause-seen g c = λ r r' e f.
     let here : Copy g.row.D.Denot = slice_index_or c.args.replicas.now c.args.at c.index-replicas-at.result in
     let there : At c.args.replicas.now c.args.at here = at_read c.args.replicas.now c.args.at c.index-replicas-at.result c.requires.within in
     let same = one_same c.args.replicas.now c.args.at here c.flush.new.self r r' there e f in
-    subst (λ x. KeepsEnd x r' × (goal_of r' ≡ goal_of x)) (sym same.0)
-    (subst (λ x. KeepsEnd here x × (goal_of x ≡ goal_of here)) (sym same.1) (c.flush.ensures.stays, c.flush.ensures.goal))
+    subst (λ x. IfOk c.flush.result (λ number. FlushesTo number (replica_seen x) (replica_seen r'))) (sym same.0)
+    (subst (λ x. IfOk c.flush.result (λ number. FlushesTo number (replica_seen here) (replica_seen x))) (sym same.1)
+    (flush_seen here c.flush.new.self c.flush.result (went_on here c.flush.new.self c.flush.result c.flush.ensures.frozen c.flush.ensures.going) c.flush.ensures.number c.flush.ensures.none_bare
+    c.flush.ensures.stays c.flush.ensures.goal c.flush.ensures.place))
+
+pub returns-clause-left : goal.returns-clause-left
+returns-clause-left g c = λ r r' e f.
+    let here : Copy g.row.D.Denot = slice_index_or c.args.replicas.now c.args.at c.index-replicas-at.result in
+    let there : At c.args.replicas.now c.args.at here = at_read c.args.replicas.now c.args.at c.index-replicas-at.result c.requires.within in
+    let same = one_same c.args.replicas.now c.args.at here c.flush.new.self r r' there e f in
+    subst (λ x. OnErr c.flush.result (replica_seen r' ≡ record (replica_seen x) { stuck = is_stuck r' })) (sym same.0)
+    (subst (λ x. OnErr c.flush.result (replica_seen x ≡ record (replica_seen here) { stuck = is_stuck x })) (sym same.1)
+    (on_err_so c.flush.result _ _ (seen_stuck here c.flush.new.self c.flush.ensures.stays c.flush.ensures.goal c.flush.ensures.place) c.flush.ensures.still_bare))

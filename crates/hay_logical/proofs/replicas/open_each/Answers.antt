@@ -87,7 +87,7 @@ returns-in-Err-clause-refused g c =
       cause = c.in-Err.ensures.refused;
       earlier = λ tells i r r' less e f.
           let opened = (broken_below _ c.loop-j.j c.args.replicas.now c.loop-j.replicas here c.open_one.new.replica c.loop-j.invariant.went there i r r' less e f).0 in
-          (opened.undamaged tells, opened.undamaged_now tells);
+          (opened.undamaged tells, opened.undamaged_now tells, opened.formatted tells);
     }
 
 pub loop-j-preserved : goal.loop-j-preserved

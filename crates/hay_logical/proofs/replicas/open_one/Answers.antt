@@ -1,13 +1,14 @@
-use Rattle.std.proofs.Common.{◌≡◌, ◌<◌, length, Err, sym, ap, subst, ◌∙◌, arith}
+use Rattle.std.proofs.Common.{◌≡◌, ◌<◌, length, Err, refl, sym, ap, subst, ◌∙◌, arith}
 use Rattle.hay_needle.specs.declared.needle.Pair.{Pair}
 use Rattle.hay_map.specs.Places.{place_in}
 use Rattle.hay_map.specs.Rows.{last_place, row_at}
 use Rattle.hay_map.specs.declared.place.Place.TheVariants as place
 use Rattle.hay_open.specs.Stored.{PlaceOf, last_cell}
-use Rattle.hay_physical.specs.Copies.{phase_frozen}
+use Rattle.hay_physical.specs.Copies.{contents_of, phase_frozen}
 use Rattle.hay_logical.proofs.Calls.{loaded, loaded_other, open_cause, opened_holds, reaches_loaded, reaches_none, up_thawed}
 use Rattle.hay_logical.proofs.Compacting.{photo_at}
 use Rattle.hay_logical.proofs.Lists.{length-slice_set}
+use Rattle.hay_logical.proofs.Formatting.{opened_formatted}
 use Rattle.hay_logical.proofs.replicas.open_one.Goals as goal
 
 pub returns-in-Ok-load-clause-opened : goal.returns-in-Ok-load-clause-opened
@@ -22,8 +23,13 @@ returns-in-Ok-load-clause-opened g c =
       sup = c.open.ensures.sup;
       loose = c.in-Ok.ensures.stuck;
       alone = c.open.ensures.alone;
+      most = c.in-Ok.ensures.most;
+      from = c.in-Ok.ensures.from;
       undamaged = c.in-Ok.ensures.undamaged;
       undamaged_now = c.in-Ok.ensures.undamaged_now;
+      formatted = λ tells.
+          opened_formatted g.D.Disk.files c.args.replica.now c.open.new.self (contents_of g.D.Disk.files (c.args.replica.now).disk 0) refl (λ s opens. (c.in-Ok.ensures.opened tells s opens).0)
+          (record { kept = c.open.ensures.kept tells; nothing = c.open.ensures.nothing tells });
       opened = λ tells s opens.
           let p = c.in-Ok.ensures.opened tells s opens in
           (p.0, λ pair. photo_at g.D.Piece.Piece.Tells (last_cell s.cells pair) (place_in (row_at c.load.new.self pair) c.args.j) (subst (PlaceOf g.D.Piece.Piece.Tells (last_cell s.cells pair)) (sym (there pair)) (p.1 pair)));

@@ -12,10 +12,8 @@ use Rattle.hay_logical.proofs.Calls.{Counted, loses_none, place_before, place_la
 use Rattle.hay_logical.proofs.Lists.{at_read, at_same, broken_above, broken_below, broken_is, broken_was, went_all, went_every, went_next, went_start, went_step}
 use Rattle.hay_logical.proofs.Looking.{bytes_same}
 use Rattle.std.proofs.lemmas.Bool.{cases_lt}
-use Rattle.hay_needle.specs.Sizes.{needle_total}
-use Rattle.hay_physical.specs.Copies.{end_of}
-use Rattle.hay_logical.specs.Seen.{PutSeen, replica_seen}
-use Rattle.hay_logical.proofs.Seen.{seen_end, seen_phase}
+use Rattle.hay_logical.specs.Seen.{grown, replica_seen}
+use Rattle.hay_logical.proofs.Seen.{seen_grown, seen_phase}
 use Rattle.hay_logical.proofs.replicas.put_in_order.Goals as goal
 
 pub loop-j-init : goal.loop-j-init
@@ -77,15 +75,24 @@ loop-j-preserved g c =
       went = went_step _ _ c.loop-j.j c.args.replicas.now c.loop-j.replicas here c.put.new.self c.loop-j.invariant.went there
           (λ i r r' h p. (puts_on g.D.Disk.Tells g.D.Disk.files g.D.Piece.Piece.Tells c.args.pair c.args.cookie c.args.bytes.now r r' (place_in c.loop-j.row i) (place_in c.push.new.self i) (same i h) p.0, p.1, p.2, p.3)) (
             puts_on g.D.Disk.Tells g.D.Disk.files g.D.Piece.Piece.Tells c.args.pair c.args.cookie c.args.bytes.now here c.put.new.self (place.Live c.in-Ok.needle) (place_in c.push.new.self c.loop-j.j) last
-                (record { up = c.in-Ok.ensures.up; sup = c.put.ensures.sup; stuck = c.put.ensures.stuck; stands = λ tells s stands. c.in-Ok.ensures.stored tells s stands; run = c.in-Ok.ensures.run; seen = tt; deletable = c.in-Ok.ensures.can_delete; apart = c.in-Ok.ensures.apart }),
+                (record {
+                  up = c.in-Ok.ensures.up;
+                  sup = c.put.ensures.sup;
+                  stuck = c.put.ensures.stuck;
+                  stands = λ tells s stands. c.in-Ok.ensures.stored tells s stands;
+                  run = c.in-Ok.ensures.run;
+                  live = refl;
+                  deletable = c.in-Ok.ensures.can_delete;
+                  apart = c.in-Ok.ensures.apart;
+                }),
             c.put.ensures.counts,
             c.put.ensures.fuses,
             λ tells. record { deletes = c.put.ensures.deletes tells; sees = c.put.ensures.sees tells },
           );
-      seen = went_step _ (λ i r r'. PutSeen (length c.args.bytes.now) (replica_seen r)
-          (replica_seen r')) c.loop-j.j c.args.replicas.now c.loop-j.replicas here c.put.new.self c.loop-j.invariant.seen there (λ i r r' h p. p)
-          (seen_end here c.put.new.self (end_of here + needle_total (length c.args.bytes.now)) c.put.ensures.generation
-          (c.put.ensures.goal c.in-Ok.ensures.up) c.put.ensures.stuck c.in-Ok.ensures.moved);
+      seen = went_step _ (λ i r r'. replica_seen r' ≡ grown (length c.args.bytes.now)
+          (replica_seen r)) c.loop-j.j c.args.replicas.now c.loop-j.replicas here c.put.new.self c.loop-j.invariant.seen there (λ i r r' h p. p)
+          (seen_grown here c.put.new.self (length c.args.bytes.now) c.put.ensures.generation (c.put.ensures.goal c.in-Ok.ensures.up) c.put.ensures.stuck c.in-Ok.ensures.moved c.in-Ok.ensures.bare
+          (c.put.ensures.place c.in-Ok.ensures.up));
       places = ap length c.push.ensures ∙ length-append c.loop-j.row (place.Live c.in-Ok.needle ∷ []) ∙ ap (λ n. n + 1) places;
     }
 

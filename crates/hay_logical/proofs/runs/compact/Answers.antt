@@ -8,7 +8,8 @@ use Rattle.hay_logical.proofs.Reaching.{reaches_on}
 use Rattle.hay_logical.proofs.Swapping.{keeps_rows, stays_later, swaps_later}
 use Rattle.hay_logical.proofs.runs.compact.Given as given
 use Rattle.hay_physical.proofs.Views.{if_ok_so, on_err_so}
-use Rattle.hay_logical.proofs.Seen.{keeps_on, swap_later}
+use Rattle.hay_logical.proofs.Seen.{changes_through, run_changed, swap_later}
+use Rattle.hay_logical.specs.Seen.{replica_seen}
 use Rattle.hay_logical.proofs.runs.compact.Goals as goal
 use Rattle.hay_logical.proofs.runs.compact.Goals.{After-begin}
 
@@ -67,11 +68,16 @@ returns-in-Err-clause-places g c = keeps_rows c.args.rows.now c.args.at _
 
 pub returns-in-Ok-clause-seen : goal.returns-in-Ok-clause-seen
 returns-in-Ok-clause-seen g c =
-    if_ok_so c.finish.result _ _ (λ files seen. swap_later c.begin.new.self c.finish.new.replica c.args.replica.now files.generation files.end c.begin.ensures.stays seen) c.finish.ensures.seen
+    let stays = c.begin.ensures.stays in
+    if_ok_so c.finish.result _ _ (λ files seen. swap_later (replica_seen c.args.replica.now) (replica_seen c.begin.new.self)
+    (replica_seen c.finish.new.replica) files.generation files.end stays.0 stays.1 seen) c.finish.ensures.seen
 
 pub returns-in-Ok-clause-kept : goal.returns-in-Ok-clause-kept
 returns-in-Ok-clause-kept g c =
-    on_err_so c.finish.result _ _ (λ kept. keeps_on c.args.replica.now c.begin.new.self c.finish.new.replica c.begin.ensures.stays kept) c.finish.ensures.kept
+    let r : Copy g.row.D.Denot = c.args.replica.now in
+    let x : Copy g.row.D.Denot = c.begin.new.self in
+    let b = c.begin.ensures in
+    on_err_so c.finish.result _ _ (λ kept. changes_through (replica_seen r) (replica_seen x) (replica_seen c.finish.new.replica) (run_changed r x b.stays b.stuck b.bare) kept) c.finish.ensures.kept
 
 pub returns-in-Err-clause-kept : goal.returns-in-Err-clause-kept
-returns-in-Err-clause-kept g c = c.begin.ensures.stays
+returns-in-Err-clause-kept g c = let b = c.begin.ensures in run_changed c.args.replica.now c.begin.new.self b.stays b.stuck b.bare

@@ -8,8 +8,7 @@ use Rattle.hay_logical.proofs.Dropping.{counts_on}
 use Rattle.hay_logical.proofs.Ends.{called_there, stays_there, swaps_one, swaps_there}
 use Rattle.hay_logical.proofs.Lists.{at_read}
 use Rattle.std.specs.Prelude.{IfOk, OnErr}
-use Rattle.hay_physical.specs.Copies.{KeepsEnd}
-use Rattle.hay_logical.specs.Seen.{SwapSeen, replica_seen}
+use Rattle.hay_logical.specs.Seen.{ChangesRun, SwapSeen, replica_seen}
 use Rattle.hay_logical.proofs.runs.compact_at.Goals as goal
 
 pub compact-result-requires : goal.compact-result-requires
@@ -68,4 +67,4 @@ returns-clause-kept g c = λ r r' e f.
     called_there g.D.Disk.Tells g.D.Disk.files g.D.Disk.fault_count g.D.Piece.Piece.Tells Fresh c.args.rows.now c.compact-result.new.rows c.args.at c.args.replicas.now
     c.drop_behind.new.replicas here c.compact-result.new.replica c.compact-result.result there
     (c.requires.up c.args.at here there) c.compact-result.ensures.swaps c.drop_behind.ensures.count c.drop_behind.ensures.each c.drop_behind.ensures.still c.drop_behind.ensures.idle
-    (λ (a b : Copy g.row.D.Denot). OnErr c.compact-result.result (KeepsEnd a b)) c.compact-result.ensures.kept r r' e f
+    (λ (a b : Copy g.row.D.Denot). OnErr c.compact-result.result (ChangesRun (replica_seen a) (replica_seen b))) c.compact-result.ensures.kept r r' e f

@@ -5,7 +5,8 @@ use Rattle.hay_logical.specs.Fits.{At}
 use Rattle.hay_logical.specs.Steps.{LosesRun}
 use Rattle.hay_logical.proofs.Calls.{frozen_is, frozen_open, open_frozen}
 use Rattle.hay_logical.proofs.Lists.{at_read, one_same}
-use Rattle.hay_physical.specs.Copies.{KeepsEnd}
+use Rattle.hay_logical.specs.Seen.{IsEnded, replica_seen}
+use Rattle.hay_logical.proofs.Seen.{run_changed, run_ended}
 use Rattle.hay_logical.proofs.runs.drop_run_at.Goals as goal
 
 pub returns-clause-one : goal.returns-clause-one
@@ -41,9 +42,11 @@ returns-clause-idle g c = λ r f.
     let same = one_same c.args.replicas.now c.args.at here c.drop_run.new.self here r there there f in
     subst (λ (x : Copy g.row.D.Denot). goal_of x ≡ None) (sym same.1) c.drop_run.ensures.goal
 
-pub returns-clause-stays : goal.returns-clause-stays
-returns-clause-stays g c = λ r r' e f.
+pub returns-clause-seen : goal.returns-clause-seen
+returns-clause-seen g c = λ r r' e f.
     let here : Copy g.row.D.Denot = slice_index_or c.args.replicas.now c.args.at c.index-replicas-at.result in
     let there : At c.args.replicas.now c.args.at here = at_read c.args.replicas.now c.args.at c.index-replicas-at.result c.requires in
     let same = one_same c.args.replicas.now c.args.at here c.drop_run.new.self r r' there e f in
-    subst (λ x. KeepsEnd x r') (sym same.0) (subst (λ x. KeepsEnd here x) (sym same.1) c.drop_run.ensures.stays)
+    let d = c.drop_run.ensures in
+    subst (λ x. IsEnded (replica_seen x) (replica_seen r')) (sym same.0) (subst (λ x. IsEnded (replica_seen here) (replica_seen x)) (sym same.1)
+    (run_ended here c.drop_run.new.self (run_changed here c.drop_run.new.self d.stays d.stuck d.bare) d.goal))

@@ -8,9 +8,12 @@ use Rattle.hay_logical.specs.Fits.{PhotoAt}
 use Rattle.hay_logical.specs.Steps.{GoesOn}
 use Rattle.std.proofs.lemmas.Bool.{true≢false}
 use Rattle.hay_logical.proofs.Calls.{still_up}
-use Rattle.hay_logical.proofs.Examining.{copy_cause, goes_after, latest_is, leaves_none, peek_cause, run_whole, step_later}
+use Rattle.hay_logical.proofs.Examining.{examine_cause, goes_after, latest_is, leaves_none, peeked_fits, step_later}
 use Rattle.hay_logical.proofs.runs.examine.Given as given
-use Rattle.hay_logical.proofs.Seen.{keeps_on}
+use Rattle.std.proofs.Common.{arith}
+use Rattle.hay_physical.specs.Runs.{IsPeeked}
+use Rattle.hay_logical.specs.Seen.{ChangesRun, replica_seen}
+use Rattle.hay_logical.proofs.Seen.{changes_through, run_changed, steps_end, steps_one}
 use Rattle.hay_logical.proofs.runs.examine.Goals as goal
 use Rattle.hay_logical.proofs.runs.examine.Goals.{After-peek, After-copy}
 
@@ -83,9 +86,9 @@ returns-in-Err-copy-clause-examines g c =
       refused = λ tells s run stands has places.
           leaves_none g.D.Disk.files y s run 0 c.in-Err-copy.fault
           (λ e. c.copy.ensures.memory tells (c.in-Err-copy.is ∙ ap Err e) s run (c.in-Ok-Some.ensures.run tells s run has))
-          (λ at e. run_whole (g.D.Disk.fault_count x.disk) (g.D.Disk.fault_count y.disk) c.in-Err-copy.fault at e c.in-Err-copy.ensures.causes);
+          (λ at e. c.copy.ensures.whole tells s run (rw c.in-Ok-Some.field-0-is at (c.in-Ok-Some.ensures.next tells s run has)).0 at (c.in-Err-copy.is ∙ ap Err e));
       cause = step_later g.D.Disk.fault_count r x y c.in-Err-copy.fault c.peek.ensures.counts goal_stays
-          (copy_cause g.D.Disk.fault_count x y c.in-Err-copy.fault peeks.up (λ e. c.requires.standing (sym goal_stays ∙ e))
+          (examine_cause g.D.Disk.fault_count x y c.in-Err-copy.fault peeks.up (λ e. c.requires.standing (sym goal_stays ∙ e))
           (λ e. c.copy.ensures.thawed (c.in-Err-copy.is ∙ ap Err e)) (λ n e. c.copy.ensures.none n (c.in-Err-copy.is ∙ ap Err e))
           c.in-Err-copy.ensures.causes c.in-Err-copy.ensures.ends);
     }
@@ -102,13 +105,43 @@ returns-in-Err-clause-examines g c =
           leaves_none g.D.Disk.files x s run 0 c.in-Err.fault
           (λ e. c.peek.ensures.memory tells (c.in-Err.is ∙ ap Err e) s run has)
           (λ at e. c.peek.ensures.whole tells s run has at (c.in-Err.is ∙ ap Err e));
-      cause = peek_cause g.D.Disk.fault_count r x c.in-Err.fault c.requires.up c.requires.standing
+      cause = examine_cause g.D.Disk.fault_count r x c.in-Err.fault c.requires.up c.requires.standing
           (λ e. c.peek.ensures.thawed (c.in-Err.is ∙ ap Err e)) (λ n e. c.peek.ensures.none n (c.in-Err.is ∙ ap Err e))
           c.in-Err.ensures.causes c.in-Err.ensures.ends;
     }
 
-pub returns-in-Ok-clause-stays : goal.returns-in-Ok-clause-stays
-returns-in-Ok-clause-stays g c = keeps_on c.args.replica.now c.peek.new.self c.copy.new.self c.peek.ensures.stays c.copy.ensures.stays
+-- what is seen of the replica behind them
+peek_changes : (g : given.Over) (c : goal.After-peek g) → ChangesRun (replica_seen c.args.replica.now) (replica_seen c.peek.new.self)
+peek_changes g c = let p = c.peek.ensures in run_changed c.args.replica.now c.peek.new.self p.stays p.stuck p.bare
 
-pub returns-in-Err-copy-clause-stays : goal.returns-in-Err-copy-clause-stays
-returns-in-Err-copy-clause-stays g c = keeps_on c.args.replica.now c.peek.new.self c.copy.new.self c.peek.ensures.stays c.copy.ensures.stays
+copy_changes : (g : given.Over) (c : goal.After-copy g) → ChangesRun (replica_seen c.peek.new.self) (replica_seen c.copy.new.self)
+copy_changes g c = let p = c.copy.ensures in run_changed c.peek.new.self c.copy.new.self p.stays p.stuck p.bare
+
+pub returns-in-Ok-None-clause-seen : goal.returns-in-Ok-None-clause-seen
+returns-in-Ok-None-clause-seen g c =
+    let held = c.in-Ok-None.ensures.goal in
+    steps_end c.args.replica.now c.peek.new.self c.requires.standing (peek_changes g (goal.at.returns-in-Ok-None-clause-seen g c).After-peek) held (c.peek.ensures.place held)
+    (rw c.in-Ok-None.field-0-is at c.in-Ok-None.ensures.at_end)
+
+pub returns-in-Ok-clause-seen : goal.returns-in-Ok-clause-seen
+returns-in-Ok-clause-seen g c =
+    let x : Copy g.row.D.Denot = c.peek.new.self in
+    let held = c.in-Ok-Some.ensures.goal in
+    let peeked : IsPeeked x c.in-Ok-Some.cell = rw c.in-Ok-Some.field-0-is at c.in-Ok-Some.ensures.peeked in
+    steps_one c.args.replica.now x c.copy.new.self c.in-Ok-Some.cell.size c.requires.standing (peek_changes g (goal.at.returns-in-Ok-clause-seen g c).After-peek)
+    (copy_changes g (goal.at.returns-in-Ok-clause-seen g c).After-copy) held c.in-Ok.ensures.goal (c.peek.ensures.place held) c.in-Ok.ensures.moved
+    (peeked_fits x c.in-Ok-Some.cell peeked (λ e. c.requires.standing (sym held ∙ e)))
+
+pub returns-in-Err-copy-clause-left : goal.returns-in-Err-copy-clause-left
+returns-in-Err-copy-clause-left g c =
+    let r : Copy g.row.D.Denot = c.args.replica.now in
+    let x : Copy g.row.D.Denot = c.peek.new.self in
+    let y : Copy g.row.D.Denot = c.copy.new.self in
+    let held = c.in-Ok-Some.ensures.goal in (
+      changes_through (replica_seen r) (replica_seen x) (replica_seen y) (peek_changes g (goal.at.returns-in-Err-copy-clause-left g c).After-peek)
+          (copy_changes g (goal.at.returns-in-Err-copy-clause-left g c).After-copy),
+      λ same. let next = c.in-Err-copy.ensures.place (same ∙ sym held) ∙ c.peek.ensures.place held in omega (arith, next),
+    )
+
+pub returns-in-Err-clause-left : goal.returns-in-Err-clause-left
+returns-in-Err-clause-left g c = (peek_changes g (goal.at.returns-in-Err-clause-left g c).After-peek, λ same. let next = c.peek.ensures.place same in omega (arith, next))

@@ -9,7 +9,9 @@ use Rattle.hay_logical.proofs.SwapSizes.{cells_within}
 use Rattle.hay_logical.proofs.Swapping.{keeps_rows, stays_later, step_holds, step_left, swaps_later}
 use Rattle.hay_logical.proofs.runs.finish.Given as given
 use Rattle.hay_physical.proofs.Views.{if_ok_so, on_err_so}
-use Rattle.hay_logical.proofs.Seen.{keeps_on, swap_later}
+use Rattle.hay_logical.proofs.Seen.{changes_through, run_changed, steps_change, swap_later}
+use Rattle.hay_logical.specs.Seen.{ReplicaSeen, replica_seen}
+use Rattle.std.proofs.Common.{ap}
 use Rattle.hay_logical.proofs.runs.finish.Goals as goal
 use Rattle.hay_logical.proofs.runs.finish.Goals.{After-drop_run}
 
@@ -71,11 +73,18 @@ returns-in-Err-clause-places g c = keeps_rows c.args.rows.now c.args.at _
 
 pub returns-in-Ok-clause-seen : goal.returns-in-Ok-clause-seen
 returns-in-Ok-clause-seen g c =
-    if_ok_so c.swap.result _ _ (λ files seen. swap_later c.step.new.replica c.swap.new.replica c.args.replica.now files.generation files.end c.step.ensures.stays seen) c.swap.ensures.seen
+    let steps = c.in-Ok.ensures.seen in
+    if_ok_so c.swap.result _ _ (λ files seen. swap_later (replica_seen c.args.replica.now) (replica_seen c.step.new.replica) (replica_seen c.swap.new.replica) files.generation files.end
+    (ap (λ (s : ReplicaSeen). s.generation) steps.only) (ap (λ (s : ReplicaSeen). s.end) steps.only) seen) c.swap.ensures.seen
 
 pub returns-in-Ok-clause-kept : goal.returns-in-Ok-clause-kept
 returns-in-Ok-clause-kept g c =
-    on_err_so c.swap.result _ _ (λ kept. keeps_on c.args.replica.now c.step.new.replica c.swap.new.replica c.step.ensures.stays kept) c.swap.ensures.kept
+    let r : ReplicaSeen = replica_seen c.args.replica.now in
+    let x : ReplicaSeen = replica_seen c.step.new.replica in
+    on_err_so c.swap.result _ _ (λ kept. changes_through r x (replica_seen c.swap.new.replica) (steps_change c.end-most.result c.in-Ok.field-0 r x c.in-Ok.ensures.seen) kept) c.swap.ensures.kept
 
 pub returns-in-Err-clause-kept : goal.returns-in-Err-clause-kept
-returns-in-Err-clause-kept g c = keeps_on c.args.replica.now c.step.new.replica c.drop_run.new.self c.step.ensures.stays c.drop_run.ensures.stays
+returns-in-Err-clause-kept g c =
+    let d = c.drop_run.ensures in
+    changes_through (replica_seen c.args.replica.now) (replica_seen c.step.new.replica) (replica_seen c.drop_run.new.self) c.in-Err.ensures.left.0
+    (run_changed c.step.new.replica c.drop_run.new.self d.stays d.stuck d.bare)

@@ -1,16 +1,17 @@
 use Rattle.std.proofs.Common.{◌≡◌, ◌≤◌, ◌<◌, ◌+◌, Some, refl, sym, subst, ◌∙◌, arith}
-use Rattle.std.specs.Prelude.{min}
+use Rattle.std.specs.Prelude.{if◌then◌else◌, min}
 use Rattle.hay_physical.specs.Runs.{HasRun, Run}
 use Rattle.hay_logical.specs.Steps.{stepped_by}
 use Rattle.hay_logical.proofs.Examining.{goes_after, goes_none, leaves_some, step_later, step_more, step_none}
-use Rattle.hay_logical.proofs.Seen.{keeps_on}
+use Rattle.hay_logical.proofs.Seen.{steps_break, steps_more, steps_none, steps_stop}
+use Rattle.hay_logical.specs.Seen.{StepsTo, replica_seen}
 use Rattle.hay_logical.proofs.runs.step.Goals as goal
 
 pub loop-examined-init : goal.loop-examined-init
 loop-examined-init g c = record {
   on = goes_none g.D.Disk.Tells g.D.Disk.files c.args.replica.now c.requires.up;
   goal = refl;
-  stays = (refl, refl);
+  seen = steps_none c.args.replica.now c.requires.standing;
   counts = omega arith;
   fuses = refl;
   stepped = λ tells s run stands has places. ((let low : 0 ≤ run.left = omega arith in low), subst (λ (x : Run). HasRun g.D.Disk.files c.args.replica.now s (Some x)) (sym (step_none run)) has);
@@ -23,7 +24,8 @@ loop-examined-preserved g c =
     record {
       on = goes_after g.D.Disk.Tells g.D.Disk.files c.args.replica.now c.loop-examined.replica c.examine.new.replica was.on c.in-Ok-true.ensures.examines.on;
       goal = c.in-Ok-true.ensures.examines.goal ∙ was.goal;
-      stays = keeps_on c.args.replica.now c.loop-examined.replica c.examine.new.replica was.stays c.examine.ensures.stays;
+      seen = steps_more c.loop-examined.examined (replica_seen c.args.replica.now) (replica_seen c.loop-examined.replica) (replica_seen c.examine.new.replica) was.seen
+          (subst (λ more. StepsTo 1 (if more then 1 else 0) (replica_seen c.loop-examined.replica) (replica_seen c.examine.new.replica)) c.in-Ok-true.field-0-test c.in-Ok-true.ensures.seen);
       counts = (let low = was.counts in omega (arith, low, counts));
       fuses = c.examine.ensures.fuses ∙ was.fuses;
       stepped = λ tells s run stands has places.
@@ -88,14 +90,19 @@ returns-clause-steps g c =
       cause = tt;
     }
 
-pub returns-in-Ok-false-clause-stays : goal.returns-in-Ok-false-clause-stays
-returns-in-Ok-false-clause-stays g c = keeps_on c.args.replica.now c.loop-examined.replica c.examine.new.replica c.loop-examined.invariant.stays c.examine.ensures.stays
+pub returns-in-Ok-false-clause-seen : goal.returns-in-Ok-false-clause-seen
+returns-in-Ok-false-clause-seen g c =
+    let less = c.loop-examined-test.true in
+    let few : c.loop-examined.examined ≤ c.args.cells = omega (arith, less) in
+    steps_stop c.args.cells c.loop-examined.examined (replica_seen c.args.replica.now) (replica_seen c.loop-examined.replica) (replica_seen c.examine.new.replica) few c.loop-examined.invariant.seen
+    (subst (λ more. StepsTo 1 (if more then 1 else 0) (replica_seen c.loop-examined.replica) (replica_seen c.examine.new.replica)) c.in-Ok-false.field-0-test c.in-Ok-false.ensures.seen)
 
-pub returns-in-Err-clause-stays : goal.returns-in-Err-clause-stays
-returns-in-Err-clause-stays g c = keeps_on c.args.replica.now c.loop-examined.replica c.examine.new.replica c.loop-examined.invariant.stays c.examine.ensures.stays
+pub returns-in-Err-clause-left : goal.returns-in-Err-clause-left
+returns-in-Err-clause-left g c =
+    steps_break c.loop-examined.examined (replica_seen c.args.replica.now) (replica_seen c.loop-examined.replica)
+    (replica_seen c.examine.new.replica) c.loop-examined.invariant.seen c.in-Err.ensures.left
 
-pub returns-clause-stays : goal.returns-clause-stays
-returns-clause-stays g c = c.loop-examined.invariant.stays
-
-pub returns-in-Ok-false-clause-few : goal.returns-in-Ok-false-clause-few
-returns-in-Ok-false-clause-few g c = let less = c.loop-examined-test.true in omega (arith, less)
+pub returns-clause-seen : goal.returns-clause-seen
+returns-clause-seen g c =
+    let done : c.loop-examined.examined ≡ c.args.cells = omega arith in
+    subst (λ n. StepsTo n n (replica_seen c.args.replica.now) (replica_seen c.loop-examined.replica)) done c.loop-examined.invariant.seen

@@ -1,15 +1,16 @@
 use Rattle.std.proofs.Common.{◌≡◌, ◌≤◌, Some}
 use Rattle.hay_open.specs.Stored.{Stored}
-use Rattle.hay_physical.specs.Copies.{KeepsEnd, goal_of}
+use Rattle.hay_physical.specs.Copies.{goal_of}
 use Rattle.hay_physical.specs.Replicas as physical
 use Rattle.hay_physical.specs.Runs.{HasRun, Run}
+use Rattle.hay_logical.specs.Seen.{StepsTo, replica_seen}
 use Rattle.hay_logical.specs.Steps.{GoesOn, PlacesAre, stepped_by}
 use Rattle.hay_logical.proofs.runs.step.Given as goal
 
 abbrev pub invariant-loop-examined : goal.invariant-loop-examined
 invariant-loop-examined g l = record {
   on : GoesOn g.D.Disk.Tells g.D.Disk.files l.fn.replica l.replica;
-  stays : KeepsEnd l.fn.replica l.replica;
+  seen : StepsTo l.examined l.examined (replica_seen l.fn.replica) (replica_seen l.replica);
   goal : goal_of l.replica ≡ goal_of l.fn.replica;
   counts : g.D.Disk.fault_count l.fn.replica.disk ≤ g.D.Disk.fault_count l.replica.disk;
   fuses : g.D.Disk.fuse_count l.replica.disk ≡ g.D.Disk.fuse_count l.fn.replica.disk;

@@ -5,7 +5,8 @@ use Rattle.hay_logical.specs.Fits.{At}
 use Rattle.hay_logical.specs.Steps.{StepsAt}
 use Rattle.hay_logical.proofs.Calls.{one_counts}
 use Rattle.hay_logical.proofs.Lists.{at_read, one_same}
-use Rattle.hay_physical.specs.Copies.{KeepsEnd}
+use Rattle.std.specs.Prelude.{IfOk, OnErr}
+use Rattle.hay_logical.specs.Seen.{BreaksStep, StepsTo, replica_seen}
 use Rattle.hay_logical.proofs.runs.step_at.Goals as goal
 
 pub step-requires : goal.step-requires
@@ -41,9 +42,18 @@ returns-clause-counts g c =
     let there : At c.args.replicas.now c.args.at here = at_read c.args.replicas.now c.args.at c.index-replicas-at.result c.requires.within in
     one_counts g.D.Disk.fault_count g.D.Disk.fuse_count c.args.at c.args.replicas.now here c.step.new.replica there (c.step.ensures.counts, c.step.ensures.fuses)
 
-pub returns-clause-stays : goal.returns-clause-stays
-returns-clause-stays g c = λ r r' e f.
+pub returns-clause-seen : goal.returns-clause-seen
+returns-clause-seen g c = λ r r' e f.
     let here : Copy g.row.D.Denot = slice_index_or c.args.replicas.now c.args.at c.index-replicas-at.result in
     let there : At c.args.replicas.now c.args.at here = at_read c.args.replicas.now c.args.at c.index-replicas-at.result c.requires.within in
     let same = one_same c.args.replicas.now c.args.at here c.step.new.replica r r' there e f in
-    subst (λ x. KeepsEnd x r') (sym same.0) (subst (λ x. KeepsEnd here x) (sym same.1) c.step.ensures.stays)
+    subst (λ x. IfOk c.step.result (λ number. StepsTo c.args.cells number (replica_seen x) (replica_seen r'))) (sym same.0)
+    (subst (λ x. IfOk c.step.result (λ number. StepsTo c.args.cells number (replica_seen here) (replica_seen x))) (sym same.1) c.step.ensures.seen)
+
+pub returns-clause-left : goal.returns-clause-left
+returns-clause-left g c = λ r r' e f.
+    let here : Copy g.row.D.Denot = slice_index_or c.args.replicas.now c.args.at c.index-replicas-at.result in
+    let there : At c.args.replicas.now c.args.at here = at_read c.args.replicas.now c.args.at c.index-replicas-at.result c.requires.within in
+    let same = one_same c.args.replicas.now c.args.at here c.step.new.replica r r' there e f in
+    subst (λ x. OnErr c.step.result (BreaksStep (replica_seen x) (replica_seen r'))) (sym same.0)
+    (subst (λ x. OnErr c.step.result (BreaksStep (replica_seen here) (replica_seen x))) (sym same.1) c.step.ensures.left)

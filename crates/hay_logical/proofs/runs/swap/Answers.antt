@@ -14,9 +14,9 @@ use Rattle.hay_logical.specs.Steps.Start.{Examined}
 use Rattle.hay_logical.specs.Volumes.{ReachesPlaces}
 use Rattle.hay_logical.proofs.Calls.{loaded_other, not_both, open_frozen, open_up, up_open}
 use Rattle.hay_logical.proofs.Reaching.{reaches_on}
-use Rattle.hay_logical.proofs.Swapping.{places_swapped, reach_swapped, refused_holds, refused_left, unsure_left}
+use Rattle.hay_logical.proofs.Swapping.{places_swapped, reach_swapped, refused_holds, refused_left, swaps_sights, unsure_left}
 use Rattle.hay_logical.proofs.runs.swap.Given as given
-use Rattle.hay_logical.proofs.Seen.{swap_seen}
+use Rattle.hay_logical.proofs.Seen.{run_changed, swap_seen}
 use Rattle.hay_logical.proofs.runs.swap.Goals as goal
 use Rattle.hay_logical.proofs.runs.swap.Goals.{In-Err}
 
@@ -24,8 +24,10 @@ pub returns-in-Ok-clause-swaps : goal.returns-in-Ok-clause-swaps
 returns-in-Ok-clause-swaps g c =
     let x : Copy g.row.D.Denot = c.finish.new.self in
     let photos = c.in-Ok.ensures.photos in
-    let changed : (pair : Pair) → row_at c.swap.new.self pair ≡ slice_set (row_at c.args.rows.now pair) c.args.at (swapped_place c.in-Ok.places.items pair (gone_place (place_in (row_at c.args.rows.now pair) c.args.at))) =
-    subst (λ l. (pair : Pair) → row_at c.swap.new.self pair ≡ slice_set (row_at c.args.rows.now pair) c.args.at (swapped_place l pair (gone_place (place_in (row_at c.args.rows.now pair) c.args.at)))) c.as_slice.ensures.value c.swap.ensures.rows in
+    let changed : (pair : Pair) → row_at c.swap.new.self pair ≡ slice_set (row_at c.args.rows.now pair) c.args.at
+    (swapped_place c.in-Ok.places.items pair (gone_place (place_in (row_at c.args.rows.now pair) c.args.at))) =
+    subst (λ l. (pair : Pair) → row_at c.swap.new.self pair ≡ slice_set (row_at c.args.rows.now pair) c.args.at
+    (swapped_place l pair (gone_place (place_in (row_at c.args.rows.now pair) c.args.at)))) c.as_slice.ensures.value c.swap.ensures.rows in
     record {
       «open» = c.finish.ensures.«open»;
       sup = c.finish.ensures.sup;
@@ -50,12 +52,18 @@ returns-in-Ok-clause-swaps g c =
     }
 
 pub returns-in-Ok-clause-places : goal.returns-in-Ok-clause-places
-returns-in-Ok-clause-places g c = record {
-  moved = subst (λ l. ChangesRows (op.Swap c.args.at l) c.args.rows.now c.swap.new.self) (c.as_slice.ensures.value ∙ sym c.from_vec.ensures) c.swap.ensures;
-  width = c.swap.ensures.replicas;
-  others = λ pair i apart. loaded_other (row_at c.args.rows.now pair) (row_at c.swap.new.self pair) i c.args.at _ (c.swap.ensures.rows pair) apart;
-  same = tt;
-}
+returns-in-Ok-clause-places g c =
+    let changed : (pair : Pair) → row_at c.swap.new.self pair ≡ slice_set (row_at c.args.rows.now pair) c.args.at
+    (swapped_place c.in-Ok.places.items pair (gone_place (place_in (row_at c.args.rows.now pair) c.args.at))) =
+    subst (λ l. (pair : Pair) → row_at c.swap.new.self pair ≡ slice_set (row_at c.args.rows.now pair) c.args.at
+    (swapped_place l pair (gone_place (place_in (row_at c.args.rows.now pair) c.args.at)))) c.as_slice.ensures.value c.swap.ensures.rows in
+    record {
+      moved = subst (λ l. ChangesRows (op.Swap c.args.at l) c.args.rows.now c.swap.new.self) (c.as_slice.ensures.value ∙ sym c.from_vec.ensures) c.swap.ensures;
+      sights = swaps_sights g.D.Piece.Piece.Tells c.args.rows.now c.swap.new.self c.args.at c.in-Ok.places.items c.in-Ok.ensures.photos changed;
+      width = c.swap.ensures.replicas;
+      others = λ pair i apart. loaded_other (row_at c.args.rows.now pair) (row_at c.swap.new.self pair) i c.args.at _ (c.swap.ensures.rows pair) apart;
+      same = tt;
+    }
 
 -- a refusal has left what could be reached
 kept : (g : given.Over) (c : In-Err g) → StaysInReach g.D.Disk.Tells g.D.Disk.files c.args.replica.now c.finish.new.self
@@ -115,7 +123,9 @@ returns-in-Err-clause-swaps g c =
 
 pub returns-in-Ok-clause-seen : goal.returns-in-Ok-clause-seen
 returns-in-Ok-clause-seen g c =
-    swap_seen c.args.replica.now c.finish.new.self c.generation.result c.end.result c.generation.ensures.is c.end.ensures.is c.in-Ok.ensures.moved c.finish.ensures.goal c.in-Ok.ensures.going
+    let made = c.in-Ok.ensures in
+    swap_seen c.args.replica.now c.finish.new.self c.generation.result c.end.result c.generation.ensures.is c.end.ensures.is made.moved made.small made.from made.shorter
+    c.finish.ensures.goal made.going made.none_bare
 
 pub returns-in-Err-clause-kept : goal.returns-in-Err-clause-kept
-returns-in-Err-clause-kept g c = (c.in-Err.ensures.still.1, c.in-Err.ensures.stays)
+returns-in-Err-clause-kept g c = run_changed c.args.replica.now c.finish.new.self (c.in-Err.ensures.still.1, c.in-Err.ensures.stays) c.in-Err.ensures.still.0 c.in-Err.ensures.still_bare

@@ -7,6 +7,8 @@ use Rattle.hay_physical.specs.declared.fault.ReplicaFault.{ReplicaFault}
 use Rattle.hay_logical.specs.Draws.{DrawsAtMost, look_total}
 use Rattle.hay_logical.specs.Steps.{IsSeenBy}
 use Rattle.hay_logical.proofs.Looking.{Looked, becomes_same, becomes_seen, same_places, same_sets, set_here, set_places, sets_this, sight_seen, sights_looked, sights_none}
+use Rattle.hay_logical.specs.Sights.{sight, sights_of}
+use Rattle.hay_logical.proofs.SightChanges.{cell_sight, seen_sight, sees_kept, sees_set}
 use Rattle.hay_logical.proofs.sights.see.Goals as goal
 
 pub returns-in-Ok-see-clause-sights : goal.returns-in-Ok-see-clause-sights
@@ -14,7 +16,8 @@ returns-in-Ok-see-clause-sights g c =
     let T = g.D.Disk.Tells in
     let files = g.D.Disk.files in
     let seen = c.in-Ok.ensures in
-    let was : place_in (row_at c.args.rows.now c.args.pair) c.args.at ≡ place.Unseen c.in-Unseen.place c.in-Unseen.size = sym (c.place.ensures ∙ ap (λ l. place_in l c.args.at) c.row-row.ensures.row) ∙ c.in-Unseen.is in
+    let was : place_in (row_at c.args.rows.now c.args.pair) c.args.at ≡ place.Unseen c.in-Unseen.place c.in-Unseen.size =
+    sym (c.place.ensures ∙ ap (λ l. place_in l c.args.at) c.row-row.ensures.row) ∙ c.in-Unseen.is in
     let long : c.args.at < length (row_at c.args.rows.now c.args.pair) = let w = c.requires.within in let l = c.row-row.ensures.long in subst (λ x. c.args.at < length x) c.row-row.ensures.row (omega (arith, w, l)) in
     sights_looked T files g.D.Disk.fault_count g.D.Piece.Piece.Tells c.args.pair c.args.rows.now c.see.new.self c.args.at c.args.replica.now c.cell.new.self c.in-Unseen.place c.in-Unseen.size c.in-Ok.seen _
     (record { same = c.cell.ensures.same; stands = c.cell.ensures.stands; run = c.cell.ensures.run; deletes = c.cell.ensures.deletes; sees = c.cell.ensures.sees }) was
@@ -25,18 +28,24 @@ returns-in-Ok-see-clause-sights g c =
 
 pub returns-in-Ok-see-clause-row : goal.returns-in-Ok-see-clause-row
 returns-in-Ok-see-clause-row g c =
+    let seen = c.in-Ok.ensures in
+    let was : place_in (row_at c.args.rows.now c.args.pair) c.args.at ≡ place.Unseen c.in-Unseen.place c.in-Unseen.size =
+    sym (c.place.ensures ∙ ap (λ l. place_in l c.args.at) c.row-row.ensures.row) ∙ c.in-Unseen.is in
     let long : c.args.at < length (row_at c.args.rows.now c.args.pair) = let w = c.requires.within in let l = c.row-row.ensures.long in subst (λ x. c.args.at < length x) c.row-row.ensures.row (omega (arith, w, l)) in
     record {
       width = c.in-Ok-see.ensures.ok.replicas;
       set = sets_this c.args.pair c.args.at c.args.rows.now c.see.new.self c.in-Ok.seen c.in-Ok-see.ensures.ok.rows long;
+      sees = sees_set c.args.rows.now c.see.new.self c.args.pair c.args.at c.in-Ok.seen c.in-Ok-see.ensures.ok.rows long (ap (λ p. sight p) was) (cell_sight seen.needle.0 c.in-Ok.seen seen.needle.3);
       kept = tt;
+      unseen = tt;
     }
 
 pub returns-in-Ok-clause-sights : goal.returns-in-Ok-clause-sights
 returns-in-Ok-clause-sights g c =
     let T = g.D.Disk.Tells in
     let files = g.D.Disk.files in
-    let was : place_in (row_at c.args.rows.now c.args.pair) c.args.at ≡ place.Unseen c.in-Unseen.place c.in-Unseen.size = sym (c.place.ensures ∙ ap (λ l. place_in l c.args.at) c.row-row.ensures.row) ∙ c.in-Unseen.is in
+    let was : place_in (row_at c.args.rows.now c.args.pair) c.args.at ≡ place.Unseen c.in-Unseen.place c.in-Unseen.size =
+    sym (c.place.ensures ∙ ap (λ l. place_in l c.args.at) c.row-row.ensures.row) ∙ c.in-Unseen.is in
     let looked : Looked T files c.in-Unseen.place c.in-Unseen.size c.args.replica.now c.cell.new.self = record { same = c.cell.ensures.same; stands = c.cell.ensures.stands; run = c.cell.ensures.run; deletes = c.cell.ensures.deletes; sees = c.cell.ensures.sees } in
     sights_looked T files g.D.Disk.fault_count g.D.Piece.Piece.Tells c.args.pair c.args.rows.now c.see.new.self c.args.at c.args.replica.now c.cell.new.self c.in-Unseen.place c.in-Unseen.size (place.Unseen c.in-Unseen.place c.in-Unseen.size) _
     looked was (same_places c.args.pair c.args.at c.args.rows.now c.see.new.self (place.Unseen c.in-Unseen.place c.in-Unseen.size) was c.in-Err-see.ensures.err.rows)
@@ -53,13 +62,38 @@ returns-in-None-clause-sights g c =
     (subst IsSeen (c.place.ensures ∙ ap (λ l. place_in l c.args.at) c.row-row.ensures.row) seen)
 
 pub returns-in-None-clause-row : goal.returns-in-None-clause-row
-returns-in-None-clause-row g c = record { width = refl; set = same_sets c.args.pair c.args.at c.args.rows.now c.args.rows.now (λ q. refl); kept = tt }
+returns-in-None-clause-row g c =
+    let seen : IsSeen c.place.result.now = elim c.in-None.is [
+      | inl none ↦ subst IsSeen (sym none) tt
+      | inr others ↦ elim others [ inl live ↦ subst IsSeen (sym live.1) tt | inr gone ↦ subst IsSeen (sym gone) tt ]
+    ] in
+    let here : IsSeen (place_in (row_at c.args.rows.now c.args.pair) c.args.at) = subst IsSeen (c.place.ensures ∙ ap (λ l. place_in l c.args.at) c.row-row.ensures.row) seen in
+    record {
+      width = refl;
+      set = same_sets c.args.pair c.args.at c.args.rows.now c.args.rows.now (λ q. refl);
+      sees = sees_kept c.args.pair c.args.at (sights_of c.args.rows.now) (sights_of c.args.rows.now) (λ q j. refl) (seen_sight (place_in (row_at c.args.rows.now c.args.pair) c.args.at) here);
+      kept = tt;
+      unseen = tt;
+    }
+
+pub returns-in-Ok-clause-row : goal.returns-in-Ok-clause-row
+returns-in-Ok-clause-row g c =
+    let was : place_in (row_at c.args.rows.now c.args.pair) c.args.at ≡ place.Unseen c.in-Unseen.place c.in-Unseen.size =
+    sym (c.place.ensures ∙ ap (λ l. place_in l c.args.at) c.row-row.ensures.row) ∙ c.in-Unseen.is in
+    record { width = c.in-Err-see.ensures.err.replicas; set = tt; sees = tt; kept = c.in-Err-see.ensures.err.rows; unseen = ap (λ p. sight p) was }
+
+pub returns-clause-row : goal.returns-clause-row
+returns-clause-row g c =
+    let was : place_in (row_at c.args.rows.now c.args.pair) c.args.at ≡ place.Unseen c.in-Unseen.place c.in-Unseen.size =
+    sym (c.place.ensures ∙ ap (λ l. place_in l c.args.at) c.row-row.ensures.row) ∙ c.in-Unseen.is in
+    record { width = refl; set = tt; sees = tt; kept = λ q. refl; unseen = ap (λ p. sight p) was }
 
 pub returns-clause-sights : goal.returns-clause-sights
 returns-clause-sights g c =
     let T = g.D.Disk.Tells in
     let files = g.D.Disk.files in
-    let was : place_in (row_at c.args.rows.now c.args.pair) c.args.at ≡ place.Unseen c.in-Unseen.place c.in-Unseen.size = sym (c.place.ensures ∙ ap (λ l. place_in l c.args.at) c.row-row.ensures.row) ∙ c.in-Unseen.is in
+    let was : place_in (row_at c.args.rows.now c.args.pair) c.args.at ≡ place.Unseen c.in-Unseen.place c.in-Unseen.size =
+    sym (c.place.ensures ∙ ap (λ l. place_in l c.args.at) c.row-row.ensures.row) ∙ c.in-Unseen.is in
     let looked : Looked T files c.in-Unseen.place c.in-Unseen.size c.args.replica.now c.cell.new.self = record { same = c.cell.ensures.same; stands = c.cell.ensures.stands; run = c.cell.ensures.run; deletes = c.cell.ensures.deletes; sees = c.cell.ensures.sees } in
     sights_looked T files g.D.Disk.fault_count g.D.Piece.Piece.Tells c.args.pair c.args.rows.now c.args.rows.now c.args.at c.args.replica.now c.cell.new.self c.in-Unseen.place c.in-Unseen.size (place.Unseen c.in-Unseen.place c.in-Unseen.size) _
     looked was (same_places c.args.pair c.args.at c.args.rows.now c.args.rows.now (place.Unseen c.in-Unseen.place c.in-Unseen.size) was (λ q. refl))
@@ -68,17 +102,20 @@ returns-clause-sights g c =
 
 pub returns-in-Ok-see-clause-drawn : goal.returns-in-Ok-see-clause-drawn
 returns-in-Ok-see-clause-drawn g c = λ tells.
-    let was : place_in (row_at c.args.rows.now c.args.pair) c.args.at ≡ place.Unseen c.in-Unseen.place c.in-Unseen.size = sym (c.place.ensures ∙ ap (λ l. place_in l c.args.at) c.row-row.ensures.row) ∙ c.in-Unseen.is in
+    let was : place_in (row_at c.args.rows.now c.args.pair) c.args.at ≡ place.Unseen c.in-Unseen.place c.in-Unseen.size =
+    sym (c.place.ensures ∙ ap (λ l. place_in l c.args.at) c.row-row.ensures.row) ∙ c.in-Unseen.is in
     subst (λ p. DrawsAtMost g.D.Disk.drawn (look_total p) c.args.replica.now c.cell.new.self) (sym was) (c.cell.ensures.drawn tells)
 
 pub returns-in-Ok-clause-drawn : goal.returns-in-Ok-clause-drawn
 returns-in-Ok-clause-drawn g c = λ tells.
-    let was : place_in (row_at c.args.rows.now c.args.pair) c.args.at ≡ place.Unseen c.in-Unseen.place c.in-Unseen.size = sym (c.place.ensures ∙ ap (λ l. place_in l c.args.at) c.row-row.ensures.row) ∙ c.in-Unseen.is in
+    let was : place_in (row_at c.args.rows.now c.args.pair) c.args.at ≡ place.Unseen c.in-Unseen.place c.in-Unseen.size =
+    sym (c.place.ensures ∙ ap (λ l. place_in l c.args.at) c.row-row.ensures.row) ∙ c.in-Unseen.is in
     subst (λ p. DrawsAtMost g.D.Disk.drawn (look_total p) c.args.replica.now c.cell.new.self) (sym was) (c.cell.ensures.drawn tells)
 
 pub returns-clause-drawn : goal.returns-clause-drawn
 returns-clause-drawn g c = λ tells.
-    let was : place_in (row_at c.args.rows.now c.args.pair) c.args.at ≡ place.Unseen c.in-Unseen.place c.in-Unseen.size = sym (c.place.ensures ∙ ap (λ l. place_in l c.args.at) c.row-row.ensures.row) ∙ c.in-Unseen.is in
+    let was : place_in (row_at c.args.rows.now c.args.pair) c.args.at ≡ place.Unseen c.in-Unseen.place c.in-Unseen.size =
+    sym (c.place.ensures ∙ ap (λ l. place_in l c.args.at) c.row-row.ensures.row) ∙ c.in-Unseen.is in
     subst (λ p. DrawsAtMost g.D.Disk.drawn (look_total p) c.args.replica.now c.cell.new.self) (sym was) (c.cell.ensures.drawn tells)
 
 pub returns-in-None-clause-drawn : goal.returns-in-None-clause-drawn

@@ -28,10 +28,10 @@ use Rattle.hay_logical.proofs.Changing.{some_none}
 use Rattle.hay_logical.specs.declared.fault.LogicalFault.TheVariants as logical
 use Rattle.hay_logical.proofs.Untouched.{begin_untouched, one_untouched, stuck_same}
 use Rattle.hay_legal.specs.Known.{machine_of}
-use Rattle.std.proofs.Common.{Some, None, ◌+◌}
-use Rattle.hay_physical.specs.Copies.{generation_of}
-use Rattle.hay_logical.specs.Seen.{BeginRefusedSeen, BeginSeen, BeginsTo, VolumeSeen, volume_seen}
-use Rattle.hay_logical.proofs.Seen.{begin_refused_seen, changes_one, same_one, seen_goal, seen_same, sees_before}
+use Rattle.std.proofs.Common.{None}
+use Rattle.hay_logical.specs.Seen.{BeginRefusedSeen, BeginSeen, BeginsTo, VolumeSeen, replica_seen, volume_seen}
+use Rattle.hay_logical.proofs.Seen.{begin_refused_seen, changes_one, same_one, sees_before}
+use Rattle.std.specs.Prelude.{OnErr}
 use Rattle.hay_logical.proofs.logical.Logical.begin.Goals as goal
 use Rattle.hay_logical.proofs.logical.Logical.begin.Goals.{in-Ok, in-Err}
 
@@ -286,23 +286,20 @@ returns-clause-seen g c =
     let one : CallsOne c.args.replica c.self.inside.replicas.items c.begin_at.new.replicas = subst (λ xs. CallsOne c.args.replica xs c.begin_at.new.replicas) now c.begin_at.ensures.one in
     let was : At c.as_mut_slice.result.now c.args.replica one.before = subst (λ xs. At xs c.args.replica one.before) (sym now) one.was in
     let there = one_after c.args.replica c.self.inside.replicas.items c.begin_at.new.replicas one in
-    let step : BeginsAt g.D.Disk.Tells g.D.Disk.files g.D.Disk.fault_count one.before one.after c.begin_at.result = c.begin_at.ensures.begins one.before one.after was there in
-    let stays = c.begin_at.ensures.stays one.before one.after was there in
     let none : c.args.self.now.frozen ≡ None = ap (λ v. v.frozen) (sym c.self.view_is) ∙ not_some c.self.inside.frozen c.in_default.not-Some in
     let new : VolumeSeen = volume_seen (volume_with c.self.inside.settings c.self.inside.number
     (with_items c.self.inside.replicas c.begin_at.new.replicas).items c.self.inside.rows c.self.inside.front c.self.inside.frozen c.self.inside.unsure) in
     let old : VolumeSeen = volume_seen c.args.self.now in
     elim c.match-begin_at.branch [
       | in-Ok w ↦
-          let done : BeginsAt g.D.Disk.Tells g.D.Disk.files g.D.Disk.fault_count one.before one.after (Ok w.in-Ok.generation) =
-          subst (λ x. BeginsAt g.D.Disk.Tells g.D.Disk.files g.D.Disk.fault_count one.before one.after x) w.in-Ok.is step in
-          let next : w.in-Ok.generation ≡ generation_of one.before + 1 = subst (λ x. IfOk x (λ goal. goal ≡ generation_of one.before + 1)) w.in-Ok.is stays.1 in
+          let begins : BeginsTo w.in-Ok.generation (replica_seen one.before) (replica_seen one.after) =
+          subst (λ x. IfOk x (λ goal. BeginsTo goal (replica_seen one.before) (replica_seen one.after))) w.in-Ok.is (c.begin_at.ensures.seen one.before one.after was there) in
           subst (λ r. IfOk r (λ goal. BeginSeen c.args.replica goal old new)) (sym w.result-is) (
             none,
             changes_one c.args.replica
                 (BeginsTo w.in-Ok.generation) c.self.inside.settings c.self.inside.number c.self.inside.replicas.items c.begin_at.new.replicas c.self.inside.rows c.self.inside.front
                 c.self.inside.frozen c.self.inside.unsure one c.args.self.now c.self.view_is (with_items c.self.inside.replicas c.begin_at.new.replicas).items kept
-                (done.rest.0, next, seen_goal one.before one.after (Some w.in-Ok.generation) stays.0 done.goal done.on.stuck),
+                begins,
           )
       | in-Err w ↦ rw w.result-is tt
     ]
@@ -315,7 +312,6 @@ returns-clause-refused_seen g c =
     let was : At c.as_mut_slice.result.now c.args.replica one.before = subst (λ xs. At xs c.args.replica one.before) (sym now) one.was in
     let there = one_after c.args.replica c.self.inside.replicas.items c.begin_at.new.replicas one in
     let step : BeginsAt g.D.Disk.Tells g.D.Disk.files g.D.Disk.fault_count one.before one.after c.begin_at.result = c.begin_at.ensures.begins one.before one.after was there in
-    let stays = c.begin_at.ensures.stays one.before one.after was there in
     let none : c.args.self.now.frozen ≡ None = ap (λ v. v.frozen) (sym c.self.view_is) ∙ not_some c.self.inside.frozen c.in_default.not-Some in
     let new : VolumeSeen = volume_seen (volume_with c.self.inside.settings c.self.inside.number
     (with_items c.self.inside.replicas c.begin_at.new.replicas).items c.self.inside.rows c.self.inside.front c.self.inside.frozen c.self.inside.unsure) in
@@ -332,8 +328,8 @@ returns-clause-refused_seen g c =
           (subst (λ f. BeginRefusedSeen c.args.self.now.settings c.args.self.now.number c.args.replica old new f) (sym said)
           (begin_refused_seen c.args.self.now.settings c.args.self.now.number c.args.replica g.D.Disk.fault_count one.before one.after old new
           (sees_before c.args.replica c.self.inside.settings c.self.inside.number c.self.inside.replicas.items c.begin_at.new.replicas c.self.inside.rows c.self.inside.front
-          c.self.inside.frozen c.self.inside.unsure one c.args.self.now c.self.view_is (with_items c.self.inside.replicas c.begin_at.new.replicas).items kept)
+          c.self.inside.frozen c.self.inside.unsure one c.args.self.now c.self.view_is (with_items c.self.inside.replicas c.begin_at.new.replicas).items kept) none
           (same_one c.args.replica c.self.inside.settings c.self.inside.number c.self.inside.replicas.items c.begin_at.new.replicas c.self.inside.rows c.self.inside.front
           c.self.inside.frozen c.self.inside.unsure one c.args.self.now c.self.view_is (with_items c.self.inside.replicas c.begin_at.new.replicas).items kept
-          (seen_same one.before one.after stays.0 left.kept left.on.stuck)) w.in-Err.fault left.cause))
+          (subst (λ x. OnErr x (replica_seen one.after ≡ replica_seen one.before)) w.in-Err.is (c.begin_at.ensures.kept one.before one.after was there))) w.in-Err.fault left.cause))
     ]

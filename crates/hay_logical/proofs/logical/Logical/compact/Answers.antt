@@ -5,6 +5,8 @@ use Rattle.hay_logical.specs.declared.fault.LogicalFault.TheVariants.{ReadOnly}
 use Rattle.std.proofs.Common.{subst}
 use Rattle.std.specs.Prelude.{IfErr}
 use Rattle.hay_logical.specs.Seen.{CompactRefusedSeen, VolumeSeen, volume_seen}
+use Rattle.std.specs.Prelude.{OnErr}
+use Rattle.hay_logical.specs.Sights.{KeepsSights, sights_of}
 use Rattle.hay_logical.proofs.logical.Logical.compact.Goals as goal
 
 pub returns-in_err-files-clause-frozen : goal.returns-in_err-files-clause-frozen
@@ -35,3 +37,8 @@ returns-in_err-files-clause-refused_seen g c =
     let new : VolumeSeen = volume_seen c.compact_files.new.self in
     subst (λ r. IfErr r (CompactRefusedSeen c.args.self.now.settings c.args.self.now.number c.args.replica old new)) (sym fault.1)
     (subst (λ (f : LogicalFault). CompactRefusedSeen c.args.self.now.settings c.args.self.now.number c.args.replica old new f) (sym fault.2) c.in_err-files.ensures.refused_seen)
+
+pub returns-in_err-files-clause-refused_sights : goal.returns-in_err-files-clause-refused_sights
+returns-in_err-files-clause-refused_sights g c =
+    let fault = err_from_is_err_and c.from_residual.result c.from_residual.ensures.1 in
+    subst (λ r. OnErr r (KeepsSights (sights_of c.args.self.now.rows) (sights_of c.compact_files.new.self.rows))) (sym fault.1) c.in_err-files.ensures.refused_sights

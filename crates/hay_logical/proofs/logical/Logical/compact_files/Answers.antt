@@ -25,15 +25,17 @@ use Rattle.hay_logical.proofs.Untouched.{called_thawed, called_untouched}
 use Rattle.hay_logical.proofs.Freezing.{frozen_unfinished, unfinished_freezes}
 use Rattle.std.proofs.Common.{◌≡◌, ℕ, Option, None, refl}
 use Rattle.std.specs.Prelude.{map, IfOk, OnErr}
-use Rattle.hay_physical.specs.Copies.{KeepsEnd, goal_of}
+use Rattle.hay_physical.specs.Copies.{goal_of}
 use Rattle.hay_logical.proofs.Lists.{at_map}
 use Rattle.hay_logical.specs.Refusals.{unfinished_by}
-use Rattle.hay_logical.specs.Seen.{CompactRefusedSeen, CompactsTo, SwapSeen, VolumeSeen, replica_seen, volume_seen}
-use Rattle.hay_logical.proofs.Seen.{changes_one, same_one, seen_same}
+use Rattle.hay_logical.specs.Seen.{ChangesRun, CompactRefusedSeen, CompactsTo, SwapSeen, VolumeSeen, replica_seen, volume_seen}
+use Rattle.hay_logical.proofs.Seen.{changes_one, many_seen, same_one}
 use Rattle.hay_logical.proofs.SeenSwaps.{calls_set, compact_refused_seen, idle_seen}
 use Rattle.hay_logical.proofs.logical.Logical.compact_files.Given as given
 use Rattle.hay_logical.proofs.Changing.{some_none}
 use Rattle.hay_logical.specs.declared.fault.LogicalFault.TheVariants as logical
+use Rattle.hay_logical.specs.Sights.{SwapsSights, sights_of}
+use Rattle.hay_logical.proofs.SightChanges.{sights_kept}
 use Rattle.hay_logical.proofs.logical.Logical.compact_files.Goals as goal
 use Rattle.hay_logical.proofs.logical.Logical.compact_files.Goals.{After-compact_at}
 
@@ -276,8 +278,8 @@ returns-in-Err-clause-refused_seen g c =
     let call = called_with c.in-Err.is (called g after) in
     let thawed = not_some c.self.inside.frozen c.in_default.not-Some in
     let was : At c.as_mut_slice.result.now c.args.replica call.one.before = subst (λ xs. At xs c.args.replica call.one.before) (sym c.as_mut_slice.ensures.value) call.one.was in
-    let stays : KeepsEnd call.one.before call.one.after =
-    subst (λ x. OnErr x (KeepsEnd call.one.before call.one.after)) c.in-Err.is (c.compact_at.ensures.kept call.one.before call.one.after was call.one.is) in
+    let changes : ChangesRun (replica_seen call.one.before) (replica_seen call.one.after) =
+    subst (λ x. OnErr x (ChangesRun (replica_seen call.one.before) (replica_seen call.one.after))) c.in-Err.is (c.compact_at.ensures.kept call.one.before call.one.after was call.one.is) in
     let one : IsUp call.one.after → CallsOne c.args.replica c.self.inside.replicas.items c.compact_at.new.replicas =
     λ up. record { before = call.one.before; after = call.one.after; was = call.one.was; is = calls_set call up } in
     let old : VolumeSeen = volume_seen
@@ -289,17 +291,32 @@ returns-in-Err-clause-refused_seen g c =
     (sym c.unfinished_by-unfinished.ensures)
     (subst (λ v. CompactRefusedSeen v.settings v.number c.args.replica (volume_seen v) (seen by.frozen) by.fault) c.self.view_is
     (compact_refused_seen c.self.inside.settings c.self.inside.number c.args.replica g.D.Disk.fault_count call.one.before call.one.after old (seen by.frozen)
-    (at_map replica_seen c.self.inside.replicas.items c.args.replica call.one.before call.one.was) c.in-Err.unswapped (call.ups c.args.replica call.one.before call.one.was) call.swaps.left
-    (λ none up goal. subst (λ o. seen o ≡ old) (thawed ∙ sym none)
+    (at_map replica_seen c.self.inside.replicas.items c.args.replica call.one.before call.one.was) thawed
+    (call.ups c.args.replica call.one.before call.one.was) changes c.in-Err.unswapped call.swaps.left
+    (λ none up same. subst (λ o. seen o ≡ old) (thawed ∙ sym none)
     (same_one c.args.replica c.self.inside.settings c.self.inside.number c.self.inside.replicas.items c.compact_at.new.replicas c.self.inside.rows c.self.inside.front c.self.inside.frozen
     c.self.inside.unsure (one up)
     (volume_with c.self.inside.settings c.self.inside.number c.self.inside.replicas.items c.self.inside.rows c.self.inside.front c.self.inside.frozen c.self.inside.unsure) refl _
-    (kept g after) (seen_same call.one.before call.one.after stays goal call.swaps.still)))
+    (kept g after) same))
     (λ m froze by_m. record {
       thawed = thawed;
+      many = many_seen c.self.inside.replicas.items _ (ap length (kept g after) ∙ call.one.count);
       front = refl;
       frozen = by_m;
       unsure = refl;
       idle = λ j s e. idle_seen c.compact_at.new.replicas (call.one.idle froze) j s (subst (λ rs. At
           (map replica_seen rs) j s) (kept g after) e);
     })))
+
+pub returns-in-Ok-clause-sights : goal.returns-in-Ok-clause-sights
+returns-in-Ok-clause-sights g c =
+    let call = called_with c.in-Ok.is (called g (goal.at.returns-in-Ok-clause-sights g c).After-compact_at) in
+    subst (λ v. SwapsSights c.args.replica (sights_of v.rows) (sights_of c.compact_at.new.rows)) c.self.view_is call.places.sights
+
+pub returns-in-Err-clause-refused_sights : goal.returns-in-Err-clause-refused_sights
+returns-in-Err-clause-refused_sights g c =
+    let after = (goal.at.returns-in-Err-clause-refused_sights g c).After-compact_at in
+    sights_kept c.args.self.now.rows c.compact_at.new.rows (λ pair. rows_stay (called_with c.in-Err.is (called g after)).places pair ∙ ap (λ v. row_at v.rows pair) c.self.view_is)
+
+pub returns-in-Some-clause-refused_sights : goal.returns-in-Some-clause-refused_sights
+returns-in-Some-clause-refused_sights g c = λ q j. refl

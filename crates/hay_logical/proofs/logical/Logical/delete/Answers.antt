@@ -8,6 +8,8 @@ use Rattle.std.specs.Prelude.{IfErr}
 use Rattle.hay_logical.specs.Seen.{DeleteRefusedSeen, VolumeSeen, volume_seen}
 use Rattle.std.proofs.Common.{length}
 use Rattle.hay_logical.specs.Fits.{At}
+use Rattle.hay_needle.specs.declared.needle.Pair.{Pair}
+use Rattle.hay_logical.specs.Sights.{DeleteRefusedSights, ErasesSights, Sights, sights_of}
 use Rattle.hay_logical.proofs.logical.Logical.delete.Goals as goal
 
 pub returns-clause-deleted : goal.returns-clause-deleted
@@ -77,3 +79,22 @@ returns-in_err-erased-clause-refused_seen g c =
     let new : VolumeSeen = volume_seen c.erase.new.self in
     subst (λ r. IfErr r (DeleteRefusedSeen c.args.tag c.args.pair old new)) (sym fault.1)
     (subst (λ (f : LogicalFault). DeleteRefusedSeen c.args.tag c.args.pair old new f) (sym fault.2) c.in_err-erased.ensures.refused_seen)
+
+pub returns-clause-sights : goal.returns-clause-sights
+returns-clause-sights g c = record {
+  found = sights_of c.erase.new.self.rows;
+  finds = c.in_ok-erased.ensures.sights;
+  erases = subst (λ (p : Pair). ErasesSights p (sights_of c.erase.new.self.rows) (sights_of c.hide.new.self.rows)) c.in_ok-erased.ensures.of.0 c.hide.ensures.sights;
+}
+
+pub returns-in_err-erased-clause-refused_sights : goal.returns-in_err-erased-clause-refused_sights
+returns-in_err-erased-clause-refused_sights g c =
+    let fault = err_from_is_err_and c.from_residual.result c.from_residual.ensures.1 in
+    let old : Sights = sights_of c.args.self.now.rows in
+    let new : Sights = sights_of c.erase.new.self.rows in
+    subst (λ r. IfErr r (DeleteRefusedSights c.args.self.now.settings c.args.self.now.number c.args.pair c.erase.new.self.frozen old new)) (sym fault.1)
+    (subst (λ (f : LogicalFault). DeleteRefusedSights c.args.self.now.settings c.args.self.now.number c.args.pair c.erase.new.self.frozen old new f)
+    (sym fault.2) c.in_err-erased.ensures.refused_sights)
+
+pub returns-clause-ended : goal.returns-clause-ended
+returns-clause-ended g c = λ j r r' e f. c.in_ok-erased.ensures.ended j r r' e (subst (λ v. At v.replicas j r') c.hide.ensures.still f)

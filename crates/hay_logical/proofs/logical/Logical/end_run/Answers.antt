@@ -14,9 +14,8 @@ use Rattle.hay_logical.proofs.Lists.{at_below, at_there}
 use Rattle.hay_logical.proofs.Methods.{one_after, one_count, one_each, other_same, same_by, shaped_on}
 use Rattle.hay_logical.proofs.Reaching.{same_rows}
 use Rattle.hay_logical.proofs.Standing.{volume_with}
-use Rattle.std.proofs.Common.{None}
-use Rattle.hay_logical.specs.Seen.{EndsAlone}
-use Rattle.hay_logical.proofs.Seen.{changes_one, seen_goal}
+use Rattle.hay_logical.specs.Seen.{IsEnded}
+use Rattle.hay_logical.proofs.Seen.{changes_one}
 use Rattle.hay_logical.proofs.logical.Logical.end_run.Given as given
 use Rattle.hay_logical.proofs.logical.Logical.end_run.Goals as goal
 use Rattle.hay_logical.proofs.logical.Logical.end_run.Goals.{After-drop_run_at}
@@ -115,7 +114,6 @@ returns-clause-seen g c =
     let a = (goal.at.returns-clause-seen g c).After-drop_run_at in
     let o = one g a in
     let after = one_after c.args.replica c.self.inside.replicas.items c.drop_run_at.new.replicas o in
-    let stays = c.drop_run_at.ensures.stays o.before o.after (subst (λ xs. At xs c.args.replica o.before) (sym c.as_mut_slice.ensures.value) o.was) after in
-    changes_one c.args.replica EndsAlone c.self.inside.settings c.self.inside.number c.self.inside.replicas.items c.drop_run_at.new.replicas c.self.inside.rows c.self.inside.front
+    changes_one c.args.replica IsEnded c.self.inside.settings c.self.inside.number c.self.inside.replicas.items c.drop_run_at.new.replicas c.self.inside.rows c.self.inside.front
     c.self.inside.frozen c.self.inside.unsure o c.args.self.now c.self.view_is
-    _ (kept g a) (seen_goal o.before o.after None stays (c.drop_run_at.ensures.idle o.after after) (there g a).stuck)
+    _ (kept g a) (c.drop_run_at.ensures.seen o.before o.after (subst (λ xs. At xs c.args.replica o.before) (sym c.as_mut_slice.ensures.value) o.was) after)

@@ -26,6 +26,10 @@ use Rattle.hay_logical.specs.Answers.{IsSightFault}
 use Rattle.std.proofs.Common.{refl}
 use Rattle.hay_logical.specs.Seen.{DeleteRefusedSeen, EraseSeen, VolumeSeen, volume_seen}
 use Rattle.hay_logical.proofs.SeenChanges.{look_refused_seen}
+use Rattle.hay_logical.specs.Sights.{DeleteRefusedSights, FindsPhoto, Sights, sights_of}
+use Rattle.hay_logical.proofs.SightChanges.{delete_refused_behind, delete_unlooked, finds_behind}
+use Rattle.hay_logical.proofs.Looks.{if_err_at}
+use Rattle.hay_logical.proofs.Through.{runs_later}
 use Rattle.hay_logical.proofs.logical.Logical.erase.Goals as goal
 
 pub returns-in-Some-clause-refused : goal.returns-in-Some-clause-refused
@@ -151,7 +155,7 @@ returns-in_err-see_each-clause-refused_seen g c =
     subst (λ r. IfErr r (DeleteRefusedSeen c.args.tag c.args.pair old new)) (sym fault.1)
     (subst (λ (f : LogicalFault). DeleteRefusedSeen c.args.tag c.args.pair old new f) (sym fault.2)
     (look_refused_seen g.D.Disk.fault_count c.args.self.now.settings c.args.self.now.number c.args.self.now.replicas c.see_each.new.self.replicas c.args.tag c.args.pair old new
-    c.see_each.ensures.unchanged c.in_err-see_each.field-0.0 c.in_err-see_each.ensures.causes))
+    (ap (λ v. v.frozen) (sym c.self.view_is) ∙ not_some c.self.inside.frozen c.in_default.not-Some, c.see_each.ensures.unchanged) c.in_err-see_each.field-0.0 c.in_err-see_each.ensures.causes))
 
 pub returns-clause-after : goal.returns-clause-after
 returns-clause-after g c = on_ok_weaker c.erase_seen.result (λ seen. subst (λ (s : VolumeSeen). EraseSeen s
@@ -161,3 +165,43 @@ pub returns-clause-refused_seen : goal.returns-clause-refused_seen
 returns-clause-refused_seen g c =
     subst (λ (s : VolumeSeen). IfErr c.erase_seen.result (DeleteRefusedSeen c.args.tag c.args.pair s
     (volume_seen c.erase_seen.new.self))) c.see_each.ensures.unchanged c.erase_seen.ensures.refused_seen
+
+pub returns-in-Some-clause-refused_sights : goal.returns-in-Some-clause-refused_sights
+returns-in-Some-clause-refused_sights g c = λ q j. refl
+
+pub returns-in_err-see_each-clause-refused_sights : goal.returns-in_err-see_each-clause-refused_sights
+returns-in_err-see_each-clause-refused_sights g c =
+    let fault = err_from_is_err_and c.from_residual.result c.from_residual.ensures.1 in
+    let old : Sights = sights_of c.args.self.now.rows in
+    let new : Sights = sights_of c.see_each.new.self.rows in
+    let thawed : c.see_each.new.self.frozen ≡ None = c.see_each.ensures.still.0 ∙ ap (λ v. v.frozen) (sym c.self.view_is) ∙ not_some c.self.inside.frozen c.in_default.not-Some in
+    subst (λ r. IfErr r (DeleteRefusedSights c.args.self.now.settings c.args.self.now.number c.args.pair c.see_each.new.self.frozen old new)) (sym fault.1)
+    (subst (λ (f : LogicalFault). DeleteRefusedSights c.args.self.now.settings c.args.self.now.number c.args.pair c.see_each.new.self.frozen old new f) (sym fault.2)
+    (delete_unlooked c.args.self.now.settings c.args.self.now.number c.args.pair old new c.see_each.new.self.frozen thawed c.in_err-see_each.field-0.0 c.in_err-see_each.ensures.refused_sights))
+
+pub returns-clause-sights : goal.returns-clause-sights
+returns-clause-sights g c =
+    let old : Sights = sights_of c.args.self.now.rows in
+    let mid : Sights = sights_of c.see_each.new.self.rows in
+    let new : Sights = sights_of c.erase_seen.new.self.rows in
+    on_ok_weaker c.erase_seen.result (λ finds. finds_behind c.args.pair c.args.self.now.settings.replicas old mid new c.in_ok-see_each.ensures.sights
+    (subst (λ (s : Settings). FindsPhoto c.args.pair s.replicas mid new) c.see_each.ensures.same.settings finds)) c.erase_seen.ensures.sights
+
+pub returns-clause-refused_sights : goal.returns-clause-refused_sights
+returns-clause-refused_sights g c =
+    let old : Sights = sights_of c.args.self.now.rows in
+    let mid : Sights = sights_of c.see_each.new.self.rows in
+    let new : Sights = sights_of c.erase_seen.new.self.rows in
+    let same = c.see_each.ensures.same in
+    if_err_at c.erase_seen.result _ _
+    (λ f e is. delete_refused_behind c.args.self.now.settings c.args.self.now.number c.args.pair old mid new c.erase_seen.new.self.frozen c.in_ok-see_each.ensures.sights f
+    (λ m by. c.erase_seen.ensures.thawed m (e ∙ ap (λ (x : LogicalFault). Err x) by))
+    (subst (λ n. DeleteRefusedSights c.args.self.now.settings n c.args.pair c.erase_seen.new.self.frozen mid new f) same.number
+    (subst (λ (s : Settings). DeleteRefusedSights s c.see_each.new.self.number c.args.pair c.erase_seen.new.self.frozen mid new f) same.settings is)))
+    c.erase_seen.ensures.refused_sights
+
+pub returns-clause-ended : goal.returns-clause-ended
+returns-clause-ended g c = on_ok_weaker c.erase_seen.result
+    (λ keeps. runs_later g.D.Disk.files g.D.Piece.Piece.Tells g.D.Disk.fault_count g.D.Disk.fuse_count c.args.self.now c.see_each.new.self c.erase_seen.new.self
+    c.see_each.ensures.counts c.see_each.ensures.same
+    c.see_each.ensures.runs keeps) c.erase_seen.ensures.ended

@@ -1,4 +1,4 @@
-use Rattle.std.proofs.Common.{◌≡◌, ◌≤◌, ◌<◌, ◌+◌, ℕ, length, Some, refl, sym, ap, subst, ◌∙◌, arith, inr}
+use Rattle.std.proofs.Common.{◌≡◌, ◌≤◌, ◌<◌, ◌+◌, ℕ, length, Some, refl, sym, ap, subst, ◌∙◌, arith, inl, inr}
 use Rattle.std.specs.Vec.{with_items}
 use Rattle.std.proofs.lemmas.List.{with_items_is}
 use Rattle.hay_map.specs.Places.{place_in}
@@ -30,8 +30,11 @@ use Rattle.std.proofs.Common.{inr, Some, refl, length}
 use Rattle.std.proofs.lemmas.List.{length-map}
 use Rattle.std.specs.Prelude.{map}
 use Rattle.hay_logical.specs.Seen.{DeleteSeen, EraseSeen, ReplicaSeen, VolumeSeen, replica_seen, volume_seen}
-use Rattle.hay_logical.proofs.Seen.{map_at}
+use Rattle.hay_logical.proofs.Seen.{many_seen, map_at}
 use Rattle.hay_logical.proofs.SeenSwaps.{idle_seen}
+use Rattle.hay_logical.specs.Sights.{FindsPhoto, SeesLive, sights_of}
+use Rattle.hay_logical.proofs.Calls.{follows_keeps}
+use Rattle.hay_logical.proofs.SightChanges.{live_none, live_some, looks_kept, seen_sight}
 use Rattle.hay_logical.proofs.logical.Logical.erase_seen.Goals as goal
 
 pub returns-then-not-has_live-clause-refused : goal.returns-then-not-has_live-clause-refused
@@ -323,10 +326,10 @@ returns-clause-tight g c = λ tells j tight same.
     some_none (same ∙ settled)
 
 pub returns-then-not-has_live-clause-refused_seen : goal.returns-then-not-has_live-clause-refused_seen
-returns-then-not-has_live-clause-refused_seen g c = (refl, ap (λ (v : Volume g.row.D.Denot g.row.D-Piece.Denot). v.front) c.self.view_is)
+returns-then-not-has_live-clause-refused_seen g c = ((c.requires.thawed, refl), ap (λ (v : Volume g.row.D.Denot g.row.D-Piece.Denot). v.front) c.self.view_is)
 
 pub returns-in_default-clause-refused_seen : goal.returns-in_default-clause-refused_seen
-returns-in_default-clause-refused_seen g c = refl
+returns-in_default-clause-refused_seen g c = (c.requires.thawed, refl)
 
 pub returns-in-Ok-clause-after : goal.returns-in-Ok-clause-after
 returns-in-Ok-clause-after g c =
@@ -356,8 +359,52 @@ returns-clause-refused_seen g c =
     let kept = with_items_is c.self.inside.replicas c.delete_each.new.replicas (c.delete_each.auto.replicas ∙ c.as_mut_slice.ensures.len) in
     inr (record {
       thawed = c.requires.thawed;
+      many = many_seen c.args.self.now.replicas _ (ap length kept ∙ c.delete_each.ensures.counts.count ∙ ap length (c.as_mut_slice.ensures.value) ∙ ap
+          (λ (v : Volume g.row.D.Denot g.row.D-Piece.Denot). length v.replicas) c.self.view_is);
       front = ap (λ (v : Volume g.row.D.Denot g.row.D-Piece.Denot). v.front) c.self.view_is;
       frozen = refl;
       unsure = refl;
       idle = λ j s e. idle_seen c.delete_each.new.replicas c.in-Err.ensures.runs j s (subst (λ rs. At (map replica_seen rs) j s) kept e);
     })
+
+pub returns-then-not-has_live-clause-refused_sights : goal.returns-then-not-has_live-clause-refused_sights
+returns-then-not-has_live-clause-refused_sights g c = record {
+  looks = looks_kept c.args.pair (sights_of c.args.self.now.rows) (sights_of c.args.self.now.rows) (λ q j. refl);
+  all = λ j h. seen_sight (place_in (row_at c.args.self.now.rows c.args.pair) j) (c.requires.seen j h);
+  none = subst (λ v. SeesLive c.args.pair v.settings.replicas (sights_of v.rows) → ⊥) c.self.view_is
+      (live_none c.self.inside.rows c.args.pair c.row-row.result c.self.inside.settings.replicas c.row-row.ensures.row (c.row-row.ensures.long ∙ (c.self.invariant.0).width)
+      (c.has_live.ensures.none c.if-not-has_live.true));
+}
+
+pub returns-in_default-clause-refused_sights : goal.returns-in_default-clause-refused_sights
+returns-in_default-clause-refused_sights g c = looks_kept c.args.pair (sights_of c.args.self.now.rows) (sights_of c.args.self.now.rows) (λ q j. refl)
+
+pub returns-in-Ok-clause-sights : goal.returns-in-Ok-clause-sights
+returns-in-Ok-clause-sights g c = subst (λ v. FindsPhoto c.args.pair v.settings.replicas (sights_of v.rows) (sights_of c.self.inside.rows)) c.self.view_is (record {
+  looks = looks_kept c.args.pair (sights_of c.self.inside.rows) (sights_of c.self.inside.rows) (λ q j. refl);
+  all = λ j h.
+      seen_sight (place_in (row_at c.self.inside.rows c.args.pair) j)
+      (subst (λ v. IsSeen (place_in (row_at v.rows c.args.pair) j)) (sym c.self.view_is) (c.requires.seen j (subst (λ v. j < v.settings.replicas) c.self.view_is h)));
+  live = live_some c.self.inside.rows c.args.pair c.row-row.result c.self.inside.settings.replicas c.row-row.ensures.row (c.row-row.ensures.long ∙ (c.self.invariant.0).width)
+      (c.has_live.ensures.some c.if-not-has_live.false);
+})
+
+pub returns-clause-refused_sights : goal.returns-clause-refused_sights
+returns-clause-refused_sights g c = inl (
+  refl,
+  subst (λ v. FindsPhoto c.args.pair v.settings.replicas (sights_of v.rows) (sights_of c.self.inside.rows)) c.self.view_is (record {
+    looks = looks_kept c.args.pair (sights_of c.self.inside.rows) (sights_of c.self.inside.rows) (λ q j. refl);
+    all = λ j h.
+        seen_sight (place_in (row_at c.self.inside.rows c.args.pair) j)
+        (subst (λ v. IsSeen (place_in (row_at v.rows c.args.pair) j)) (sym c.self.view_is) (c.requires.seen j (subst (λ v. j < v.settings.replicas) c.self.view_is h)));
+    live = live_some c.self.inside.rows c.args.pair c.row-row.result c.self.inside.settings.replicas c.row-row.ensures.row (c.row-row.ensures.long ∙ (c.self.invariant.0).width)
+        (c.has_live.ensures.some c.if-not-has_live.false);
+  }),
+)
+
+pub returns-in-Ok-clause-ended : goal.returns-in-Ok-clause-ended
+returns-in-Ok-clause-ended g c = λ j r r' e f.
+    let now = c.as_mut_slice.ensures.value in
+    let kept = with_items_is c.self.inside.replicas c.delete_each.new.replicas (c.delete_each.auto.replicas ∙ c.as_mut_slice.ensures.len) in
+    let was : At c.as_mut_slice.result.now j r = subst (λ xs. At xs j r) (sym now) (subst (λ v. At v.replicas j r) (sym c.self.view_is) e) in
+    follows_keeps g.D.Disk.Tells g.D.Disk.files g.D.Disk.fault_count c.args.pair (place_in c.row-row.result j) r r' (c.in-Ok.ensures.follow j r r' was (subst (λ xs. At xs j r') kept f))

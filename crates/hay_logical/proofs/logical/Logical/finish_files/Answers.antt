@@ -29,15 +29,17 @@ use Rattle.hay_logical.proofs.Tightness.{tightened}
 use Rattle.hay_logical.specs.Answers.{IsTightened}
 use Rattle.std.proofs.Common.{◌≡◌, ◌+◌, ℕ, Option, None, Some, refl}
 use Rattle.std.specs.Prelude.{map, IfOk, OnErr}
-use Rattle.hay_physical.specs.Copies.{KeepsEnd, generation_of, goal_of}
+use Rattle.hay_physical.specs.Copies.{generation_of, goal_of}
 use Rattle.hay_logical.proofs.Lists.{at_map}
 use Rattle.hay_logical.proofs.Lists.{at_there}
-use Rattle.hay_logical.specs.Seen.{ChangesAt, EndsAlone, FinishRefusedSeen, FinishesTo, SwapSeen, VolumeSeen, replica_seen, volume_seen}
-use Rattle.hay_logical.proofs.Seen.{changes_one, no_goal, seen_goal}
+use Rattle.hay_logical.specs.Seen.{ChangesAt, ChangesRun, EndsAlone, FinishRefusedSeen, FinishesTo, SwapSeen, VolumeSeen, replica_seen, volume_seen}
+use Rattle.hay_logical.proofs.Seen.{changes_one, many_seen, no_goal, run_ended}
 use Rattle.hay_logical.proofs.SeenSwaps.{calls_set, finish_refused_seen, idle_seen, if_some_so, some_next}
 use Rattle.hay_logical.proofs.logical.Logical.finish_files.Given as given
 use Rattle.hay_logical.proofs.Changing.{some_none}
 use Rattle.hay_logical.specs.declared.fault.LogicalFault.TheVariants as logical
+use Rattle.hay_logical.specs.Sights.{SwapsSights, sights_of}
+use Rattle.hay_logical.proofs.SightChanges.{sights_kept}
 use Rattle.hay_logical.proofs.logical.Logical.finish_files.Goals as goal
 use Rattle.hay_logical.proofs.logical.Logical.finish_files.Goals.{After-finish_at}
 
@@ -308,7 +310,7 @@ returns-in-Ok-clause-seen g c =
     let held : c.standing.result ≡ None → ⊥ = λ none. stands_there c.standing.result c.is_none.result c.is_none.ensures c.if-is_none.false none in
     let there = subst (λ v. At v.replicas c.args.replica call.one.before) c.self.view_is call.one.was in
     let next = some_next c.standing.result (generation_of call.one.before + 1) held (if_some_so c.standing.result _ _ (λ n next. next call.one.before there) c.standing.ensures.next) in
-    let goal : goal_of call.one.before ≡ Some c.in-Ok.files.generation = sym (c.standing.ensures.is call.one.before there) ∙ next ∙ ap Some (sym seen.0) in (
+    let goal : goal_of call.one.before ≡ Some c.in-Ok.files.generation = sym (c.standing.ensures.is call.one.before there) ∙ next ∙ ap Some (sym seen.next) in (
       ap (λ v. v.frozen) (sym c.self.view_is) ∙ thawed,
       changes_one c.args.replica
           (FinishesTo c.in-Ok.files.generation c.in-Ok.files.end) c.self.inside.settings c.self.inside.number c.self.inside.replicas.items c.finish_at.new.replicas c.self.inside.rows
@@ -322,8 +324,8 @@ returns-in-Err-clause-refused_seen g c =
     let call = called_with c.in-Err.is (called g after) in
     let thawed = not_some c.self.inside.frozen c.in_default.not-Some in
     let was : At c.as_mut_slice.result.now c.args.replica call.one.before = subst (λ xs. At xs c.args.replica call.one.before) (sym c.as_mut_slice.ensures.value) call.one.was in
-    let stays : KeepsEnd call.one.before call.one.after =
-    subst (λ x. OnErr x (KeepsEnd call.one.before call.one.after)) c.in-Err.is (c.finish_at.ensures.kept call.one.before call.one.after was call.one.is) in
+    let changes : ChangesRun (replica_seen call.one.before) (replica_seen call.one.after) =
+    subst (λ x. OnErr x (ChangesRun (replica_seen call.one.before) (replica_seen call.one.after))) c.in-Err.is (c.finish_at.ensures.kept call.one.before call.one.after was call.one.is) in
     let one : IsUp call.one.after → CallsOne c.args.replica c.self.inside.replicas.items c.finish_at.new.replicas =
     λ up. record { before = call.one.before; after = call.one.after; was = call.one.was; is = calls_set call up } in
     let old : VolumeSeen = volume_seen
@@ -331,18 +333,22 @@ returns-in-Err-clause-refused_seen g c =
     let seen : Option ℕ → VolumeSeen = λ o. volume_seen (volume_with c.self.inside.settings c.self.inside.number
     (with_items c.self.inside.replicas c.finish_at.new.replicas).items c.self.inside.rows c.self.inside.front o c.self.inside.unsure) in
     let by : Unfinished = unfinished_by c.self.inside.settings c.self.inside.number c.args.replica c.in-Err.unswapped in
+    let has : goal_of call.one.before ≡ None → ⊥ =
+    λ none. stands_there c.standing.result c.is_none.result c.is_none.ensures c.if-is_none.false
+    (c.standing.ensures.is call.one.before (subst (λ v. At v.replicas c.args.replica call.one.before) c.self.view_is call.one.was) ∙ none) in
     subst (λ (u : Unfinished). FinishRefusedSeen c.args.self.now.settings c.args.self.now.number c.args.replica (volume_seen c.args.self.now) (seen u.frozen) u.fault)
     (sym c.unfinished_by-unfinished.ensures)
     (subst (λ v. FinishRefusedSeen v.settings v.number c.args.replica (volume_seen v) (seen by.frozen) by.fault) c.self.view_is
     (finish_refused_seen c.self.inside.settings c.self.inside.number c.args.replica g.D.Disk.fault_count call.one.before call.one.after old (seen by.frozen)
-    (at_map replica_seen c.self.inside.replicas.items c.args.replica call.one.before call.one.was) c.in-Err.unswapped call.swaps.left
+    (at_map replica_seen c.self.inside.replicas.items c.args.replica call.one.before call.one.was) thawed has c.in-Err.unswapped call.swaps.left
     (λ none up goal. subst (λ o. ChangesAt c.args.replica EndsAlone old (seen o)) (thawed ∙ sym none)
     (changes_one c.args.replica EndsAlone c.self.inside.settings c.self.inside.number c.self.inside.replicas.items c.finish_at.new.replicas c.self.inside.rows c.self.inside.front
     c.self.inside.frozen c.self.inside.unsure (one up)
     (volume_with c.self.inside.settings c.self.inside.number c.self.inside.replicas.items c.self.inside.rows c.self.inside.front c.self.inside.frozen c.self.inside.unsure) refl _
-    (kept g after) (seen_goal call.one.before call.one.after None stays goal call.swaps.still)))
+    (kept g after) (has, run_ended call.one.before call.one.after changes goal)))
     (λ m froze by_m. record {
       thawed = thawed;
+      many = many_seen c.self.inside.replicas.items _ (ap length (kept g after) ∙ call.one.count);
       front = refl;
       frozen = by_m;
       unsure = refl;
@@ -355,7 +361,7 @@ returns-then-is_none-clause-refused_seen g c =
     let within = c.requires.within in
     let all = c.requires.«open».all in
     let r = at_there c.args.self.now.replicas c.args.replica (let less : c.args.replica < length c.args.self.now.replicas = omega (arith, within, all) in less) in (
-      refl,
+      (ap (λ v. v.frozen) (sym c.self.view_is) ∙ not_some c.self.inside.frozen c.in_default.not-Some, refl),
       (
         replica_seen r.0,
         at_map replica_seen c.args.self.now.replicas c.args.replica r.0 r.1,
@@ -363,3 +369,19 @@ returns-then-is_none-clause-refused_seen g c =
             (c.standing.ensures.is r.0 r.1) ∙ no_goal c.standing.result c.is_none.result c.is_none.ensures c.if-is_none.true,
       ),
     )
+
+pub returns-in-Ok-clause-sights : goal.returns-in-Ok-clause-sights
+returns-in-Ok-clause-sights g c =
+    let call = called_with c.in-Ok.is (called g (goal.at.returns-in-Ok-clause-sights g c).After-finish_at) in
+    subst (λ v. SwapsSights c.args.replica (sights_of v.rows) (sights_of c.finish_at.new.rows)) c.self.view_is call.places.sights
+
+pub returns-in-Err-clause-refused_sights : goal.returns-in-Err-clause-refused_sights
+returns-in-Err-clause-refused_sights g c =
+    let after = (goal.at.returns-in-Err-clause-refused_sights g c).After-finish_at in
+    sights_kept c.args.self.now.rows c.finish_at.new.rows (λ pair. rows_stay (called_with c.in-Err.is (called g after)).places pair ∙ ap (λ v. row_at v.rows pair) c.self.view_is)
+
+pub returns-in-Some-clause-refused_sights : goal.returns-in-Some-clause-refused_sights
+returns-in-Some-clause-refused_sights g c = λ q j. refl
+
+pub returns-then-is_none-clause-refused_sights : goal.returns-then-is_none-clause-refused_sights
+returns-then-is_none-clause-refused_sights g c = λ q j. refl

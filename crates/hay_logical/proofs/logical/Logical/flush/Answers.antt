@@ -1,5 +1,5 @@
 use Rattle.std.proofs.Common.{◌≡◌, ◌<◌, ℕ, length, Ok, Err, inl, refl, sym, ap, subst, ◌∙◌, arith}
-use Rattle.std.specs.Prelude.{IfErr, IfOk, OnOk, false}
+use Rattle.std.specs.Prelude.{IfErr, IfOk, OnErr, OnOk, false}
 use Rattle.std.specs.Vec.{with_items}
 use Rattle.std.proofs.lemmas.List.{with_items_is}
 use Rattle.hay_legal.specs.Known.{machine_of}
@@ -21,9 +21,9 @@ use Rattle.hay_logical.proofs.Untouched.{flush_sticks, flush_stuck, flush_untouc
 use Rattle.hay_logical.specs.declared.fault.LogicalFault.TheVariants as logical
 use Rattle.hay_logical.specs.Refusals.{FlushSticks, IsUntouchedBy, answer_at}
 use Rattle.hay_logical.proofs.Tightness.{tight_flushed, tight_one}
-use Rattle.std.proofs.Common.{None, true, inl}
-use Rattle.hay_logical.specs.Seen.{FlushRefusedSeen, FlushSeen, Sticks, VolumeSeen, replica_seen, volume_seen}
-use Rattle.hay_logical.proofs.Seen.{changes_one, flush_refused_seen, same_one, seen_same, seen_stuck, sees_before}
+use Rattle.std.proofs.Common.{None, inl}
+use Rattle.hay_logical.specs.Seen.{FlushRefusedSeen, FlushSeen, FlushesTo, Sticks, VolumeSeen, replica_seen, volume_seen}
+use Rattle.hay_logical.proofs.Seen.{changes_one, flush_refused_seen, same_one, sees_before}
 use Rattle.hay_physical.specs.declared.fault.ReplicaFault.TheVariants as fault
 use Rattle.hay_logical.proofs.logical.Logical.flush.Goals as goal
 use Rattle.hay_logical.proofs.logical.Logical.flush.Goals.{in-Ok, in-Err}
@@ -294,27 +294,19 @@ returns-clause-seen g c =
     let one : CallsOne c.args.replica c.self.inside.replicas.items c.flush_at.new.replicas = subst (λ xs. CallsOne c.args.replica xs c.flush_at.new.replicas) now c.flush_at.ensures.one in
     let was : At c.as_mut_slice.result.now c.args.replica one.before = subst (λ xs. At xs c.args.replica one.before) (sym now) one.was in
     let there = one_after c.args.replica c.self.inside.replicas.items c.flush_at.new.replicas one in
-    let step : FlushesAt g.D.Disk.Tells g.D.Disk.files g.D.Disk.fault_count one.before one.after c.flush_at.result = c.flush_at.ensures.flushes one.before one.after was there in
-    let stays = c.flush_at.ensures.stays one.before one.after was there in
     let none : c.args.self.now.frozen ≡ None = ap (λ v. v.frozen) (sym c.self.view_is) ∙ not_some c.self.inside.frozen c.in_default.not-Some in
     let new : VolumeSeen = volume_seen (volume_with c.self.inside.settings c.self.inside.number
     (with_items c.self.inside.replicas c.flush_at.new.replicas).items c.self.inside.rows c.self.inside.front c.self.inside.frozen c.self.inside.unsure) in
     let old : VolumeSeen = volume_seen c.args.self.now in
     elim c.match-flush_at.branch [
       | in-Ok w ↦
-          let done : FlushesAt g.D.Disk.Tells g.D.Disk.files g.D.Disk.fault_count one.before one.after (Ok w.in-Ok.count) =
-          subst (λ x. FlushesAt g.D.Disk.Tells g.D.Disk.files g.D.Disk.fault_count one.before one.after x) w.in-Ok.is step in
-          subst (λ r. OnOk r (FlushSeen c.args.replica old new)) (sym w.result-is) (
-            same_one c.args.replica c.self.inside.settings c.self.inside.number c.self.inside.replicas.items c.flush_at.new.replicas c.self.inside.rows c.self.inside.front
-                c.self.inside.frozen c.self.inside.unsure one c.args.self.now c.self.view_is (with_items c.self.inside.replicas c.flush_at.new.replicas).items kept
-                (seen_same one.before one.after stays.0 stays.1 (done.loose.1 ∙ sym done.loose.0)),
+          let flushes : FlushesTo w.in-Ok.count (replica_seen one.before) (replica_seen one.after) =
+          subst (λ x. IfOk x (λ number. FlushesTo number (replica_seen one.before) (replica_seen one.after))) w.in-Ok.is (c.flush_at.ensures.seen one.before one.after was there) in
+          subst (λ r. IfOk r (λ number. FlushSeen c.args.replica number old new)) (sym w.result-is) (
             none,
-            (
-              replica_seen one.before,
-              sees_before c.args.replica c.self.inside.settings c.self.inside.number c.self.inside.replicas.items c.flush_at.new.replicas c.self.inside.rows
-                  c.self.inside.front c.self.inside.frozen c.self.inside.unsure one c.args.self.now c.self.view_is (with_items c.self.inside.replicas c.flush_at.new.replicas).items kept,
-              done.loose.0,
-            ),
+            changes_one c.args.replica
+                (FlushesTo w.in-Ok.count) c.self.inside.settings c.self.inside.number c.self.inside.replicas.items c.flush_at.new.replicas c.self.inside.rows c.self.inside.front
+                c.self.inside.frozen c.self.inside.unsure one c.args.self.now c.self.view_is (with_items c.self.inside.replicas c.flush_at.new.replicas).items kept flushes,
           )
       | in-Err w ↦ rw w.result-is tt
     ]
@@ -327,7 +319,6 @@ returns-clause-refused_seen g c =
     let was : At c.as_mut_slice.result.now c.args.replica one.before = subst (λ xs. At xs c.args.replica one.before) (sym now) one.was in
     let there = one_after c.args.replica c.self.inside.replicas.items c.flush_at.new.replicas one in
     let step : FlushesAt g.D.Disk.Tells g.D.Disk.files g.D.Disk.fault_count one.before one.after c.flush_at.result = c.flush_at.ensures.flushes one.before one.after was there in
-    let stays = c.flush_at.ensures.stays one.before one.after was there in
     let none : c.args.self.now.frozen ≡ None = ap (λ v. v.frozen) (sym c.self.view_is) ∙ not_some c.self.inside.frozen c.in_default.not-Some in
     let new : VolumeSeen = volume_seen (volume_with c.self.inside.settings c.self.inside.number
     (with_items c.self.inside.replicas c.flush_at.new.replicas).items c.self.inside.rows c.self.inside.front c.self.inside.frozen c.self.inside.unsure) in
@@ -340,6 +331,8 @@ returns-clause-refused_seen g c =
           let said : w.answer_at.result ≡ answer_at (machine_of c.args.self.now.settings c.args.self.now.number c.args.replica) w.in-Err.fault =
           w.answer_at.ensures ∙ ap (λ m. answer_at m w.in-Err.fault) (c.machine_of-machine.ensures ∙ ap
           (λ (v : Volume g.row.D.Denot g.row.D-Piece.Denot). machine_of v.settings v.number c.args.replica) c.self.view_is) in
+          let sticks : replica_seen one.after ≡ record (replica_seen one.before) { stuck = is_stuck one.after } =
+          subst (λ x. OnErr x (replica_seen one.after ≡ record (replica_seen one.before) { stuck = is_stuck one.after })) w.in-Err.is (c.flush_at.ensures.left one.before one.after was there) in
           subst (λ r. IfErr r (FlushRefusedSeen c.args.self.now.settings c.args.self.now.number c.args.replica old new)) (sym w.result-is)
           (subst (λ f. FlushRefusedSeen c.args.self.now.settings c.args.self.now.number c.args.replica old new f) (sym said)
           (flush_refused_seen c.args.self.now.settings c.args.self.now.number c.args.replica g.D.Disk.fault_count one.before one.after old new
@@ -347,9 +340,10 @@ returns-clause-refused_seen g c =
           c.self.inside.frozen c.self.inside.unsure one c.args.self.now c.self.view_is (with_items c.self.inside.replicas c.flush_at.new.replicas).items kept) w.in-Err.fault none left.cause
           (λ stuck. same_one c.args.replica c.self.inside.settings c.self.inside.number c.self.inside.replicas.items c.flush_at.new.replicas c.self.inside.rows c.self.inside.front
           c.self.inside.frozen c.self.inside.unsure one c.args.self.now c.self.view_is (with_items c.self.inside.replicas c.flush_at.new.replicas).items kept
-          (seen_same one.before one.after stays.0 stays.1 stuck))
+          (sticks ∙ ap (λ b. record (replica_seen one.before) { stuck = b }) stuck))
           (λ never stuck. let loose = left.not_stuck (λ e. never
           (let same : w.in-Err.fault ≡ fault.Frozen = cc in same)) in changes_one c.args.replica Sticks c.self.inside.settings c.self.inside.number c.self.inside.replicas.items
           c.flush_at.new.replicas c.self.inside.rows c.self.inside.front c.self.inside.frozen c.self.inside.unsure one c.args.self.now c.self.view_is
-          (with_items c.self.inside.replicas c.flush_at.new.replicas).items kept (loose, seen_stuck one.before one.after true stays.0 stays.1 stuck))))
+          (with_items c.self.inside.replicas c.flush_at.new.replicas).items kept
+          (loose, sticks ∙ ap (λ b. record (replica_seen one.before) { stuck = b }) stuck))))
     ]

@@ -10,6 +10,7 @@ use Rattle.hay_logical.proofs.Methods.{same_still}
 use Rattle.hay_logical.proofs.Standing.{volume_with}
 use Rattle.hay_logical.specs.Seen.{FreezesSeen, volume_seen}
 use Rattle.hay_logical.proofs.SeenSwaps.{idle_seen}
+use Rattle.hay_logical.proofs.Seen.{many_seen}
 use Rattle.hay_logical.proofs.logical.Logical.freeze.Goals as goal
 
 never : {X : Type 0} (o : Option ℕ) → is_some o ≡ true → o ≡ None → X
@@ -58,4 +59,11 @@ pub returns-clause-seen : goal.returns-clause-seen
 returns-clause-seen g c = λ none.
     let old = c.args.self.now in
     subst (λ v. FreezesSeen (machine_of old.settings old.number 0) old.unsure (volume_seen old) (volume_seen v)) (sym c.halt.ensures.still)
-    (record { thawed = none; front = refl; frozen = refl; unsure = refl; idle = idle_seen c.halt.new.self.replicas c.halt.ensures.ended })
+    (record {
+      thawed = none;
+      many = many_seen c.args.self.now.replicas c.halt.new.self.replicas c.halt.ensures.counts.count;
+      front = refl;
+      frozen = refl;
+      unsure = refl;
+      idle = idle_seen c.halt.new.self.replicas c.halt.ensures.ended;
+    })

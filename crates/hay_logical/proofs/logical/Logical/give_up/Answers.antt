@@ -10,6 +10,7 @@ use Rattle.hay_logical.proofs.Showing.{given_up}
 use Rattle.hay_logical.proofs.Standing.{volume_with}
 use Rattle.hay_logical.specs.Seen.{FreezesSeen, volume_seen}
 use Rattle.hay_logical.proofs.SeenSwaps.{idle_seen}
+use Rattle.hay_logical.proofs.Seen.{many_seen}
 use Rattle.hay_logical.proofs.logical.Logical.give_up.Goals as goal
 
 pub invariant_of-self : goal.invariant_of-self
@@ -49,4 +50,11 @@ returns-clause-seen g c = λ none.
     let unsure : Unsure = record { tag = c.args.tag; change = c.args.change } in
     subst (λ (v : Volume g.row.D.Denot g.row.D-Piece.Denot). FreezesSeen (machine_of old.settings old.number 0) (Some unsure) (volume_seen old) (volume_seen
     (record v { unsure = Some unsure }))) (sym (c.self.view_is ∙ c.halt.ensures.still))
-    (record { thawed = none; front = refl; frozen = refl; unsure = refl; idle = idle_seen c.halt.new.self.replicas c.halt.ensures.ended })
+    (record {
+      thawed = none;
+      many = many_seen c.args.self.now.replicas c.halt.new.self.replicas c.halt.ensures.counts.count;
+      front = refl;
+      frozen = refl;
+      unsure = refl;
+      idle = idle_seen c.halt.new.self.replicas c.halt.ensures.ended;
+    })

@@ -12,6 +12,8 @@ use Rattle.hay_logical.proofs.Lists.{at_same}
 use Rattle.hay_logical.proofs.Methods.{shaped_on}
 use Rattle.hay_logical.proofs.Reaching.{delete_row}
 use Rattle.hay_logical.proofs.Showing.{delete_shown}
+use Rattle.hay_logical.specs.Sights.{ErasesSights, sights_of}
+use Rattle.hay_logical.proofs.SightChanges.{erases_sights}
 use Rattle.hay_logical.proofs.logical.Logical.hide.Goals as goal
 
 pub invariant_of-self : goal.invariant_of-self
@@ -35,3 +37,7 @@ returns-clause-rows g c = subst (λ v. ChangesRows (op.Del c.args.erased.pair) v
 
 pub returns-clause-still : goal.returns-clause-still
 returns-clause-still g c = ap (λ (v : Volume g.row.D.Denot g.row.D-Piece.Denot). record v { rows = c.del.new.self; front = c.args.erased.position }) c.self.view_is
+
+pub returns-clause-sights : goal.returns-clause-sights
+returns-clause-sights g c =
+    subst (λ v. ErasesSights c.args.erased.pair (sights_of v.rows) (sights_of c.del.new.self)) c.self.view_is (erases_sights c.self.inside.rows c.del.new.self c.args.erased.pair c.del.ensures.rows)

@@ -13,12 +13,14 @@ use Rattle.hay_logical.proofs.Calls.{up_open, up_thawed}
 use Rattle.hay_logical.proofs.Holding.{held_on}
 use Rattle.hay_logical.proofs.Lists.{at_below, at_there}
 use Rattle.hay_logical.proofs.Methods.{same_by, shaped_on}
-use Rattle.hay_logical.proofs.Opened.{err_same, first_stands, no_damage, no_notes, not_damaged, notes_on, notes_tell, reopened, reopened_on}
+use Rattle.hay_logical.proofs.Opened.{err_same, first_stands, no_damage, no_notes, not_damaged, notes_on, reopened, reopened_on}
 use Rattle.hay_logical.proofs.Standing.{volume_with}
 use Rattle.hay_logical.proofs.Freezing.{never_frozen}
-use Rattle.hay_logical.proofs.Formatting.{opened_formatted}
 use Rattle.std.specs.Prelude.{map}
-use Rattle.hay_logical.specs.Seen.{ReplicaSeen, replica_seen}
+use Rattle.hay_logical.specs.Seen.{IsFresh, replica_seen}
+use Rattle.hay_logical.specs.Sights.{sights_of}
+use Rattle.std.specs.Vec.{with_items}
+use Rattle.hay_physical.proofs.Laws.{no_next}
 use Rattle.hay_logical.proofs.Seen.{map_at}
 use Rattle.hay_logical.proofs.logical.Logical.open.Goals as goal
 
@@ -243,7 +245,7 @@ returns-clause-first g c = λ tells k first.
     λ j r r' e f. c.in-Ok.ensures.opened j r r' (subst (λ xs. At xs j r) (sym now) e) f in
     let all : length olds ≡ here.settings.replicas = subst (λ (v : Volume g.row.D.Denot g.row.D-Piece.Denot). length v.replicas ≡ v.settings.replicas) (sym c.self.view_is) c.requires.all in
     let was : IsFirst g.D.Disk.files (volume_with here.settings here.number olds here.rows here.front here.frozen here.unsure) k = subst (λ v. IsFirst g.D.Disk.files v k) (sym c.self.view_is) first in (
-      no_notes here.settings here.number here.unsure c.open_all.new.rows c.as_slice.result.now _ was.unsure c.in-Ok-notes_of.ensures.are,
+      no_notes here.settings here.number here.unsure (sights_of c.open_all.new.rows) (map replica_seen c.as_slice.result.now) _ was.unsure c.in-Ok-notes_of.ensures.are,
       subst (λ rs. StandsFor g.D.Disk.files g.D.Piece.Piece.Tells (volume_with here.settings here.number rs c.open_all.new.rows 0 None None) k) (sym kept)
           (first_stands g.D.Disk.Tells g.D.Disk.files g.D.Piece.Piece.Tells here.settings here.number olds news c.open_all.new.rows count opened tells here.rows here.front here.frozen here.unsure k all (c.self.invariant.0).sups was),
     )
@@ -263,17 +265,16 @@ returns-clause-reopened g c = λ tells k stopped.
     let was : StoppedFor g.D.Disk.files (volume_with here.settings here.number olds here.rows here.front here.frozen here.unsure) k = subst (λ v. StoppedFor g.D.Disk.files v k) (sym c.self.view_is) stopped in
     reopened_on g.D.Disk.files g.D.Piece.Piece.Tells k here.settings here.number c.open_all.new.rows news _ _ kept
     (reopened g.D.Disk.Tells g.D.Disk.files g.D.Piece.Piece.Tells here.settings here.number olds news c.open_all.new.rows count opened tells (c.self.invariant.0).settings here.rows here.front here.frozen here.unsure k
-    was.holds was.unsure (λ j r e. c.in-Ok.ensures.seen tells j r (subst (λ xs. At xs j r) (sym now) e)) _ (notes_on here.settings here.number here.unsure c.open_all.new.rows c.as_slice.result.now news _ slice c.in-Ok-notes_of.ensures.are))
+    was.holds was.unsure (λ j r e. c.in-Ok.ensures.seen tells j r (subst (λ xs. At xs j r) (sym now) e)) _
+    (notes_on here.settings here.number here.unsure (sights_of c.open_all.new.rows) c.as_slice.result.now news _ slice c.in-Ok-notes_of.ensures.are))
 
 pub returns-clause-told : goal.returns-clause-told
 returns-clause-told g c =
-    let now = c.as_mut_slice.ensures.value in
-    let kept = with_items_is c.self.inside.replicas c.open_all.new.replicas (c.open_all.auto.replicas ∙ c.as_mut_slice.ensures.len) in
     let here = c.self.inside in
-    let count = c.open_all.ensures.counts.count ∙ ap length now in
-    let all : length here.replicas.items ≡ here.settings.replicas = subst (λ (v : Volume g.row.D.Denot g.row.D-Piece.Denot). length v.replicas ≡ v.settings.replicas) (sym c.self.view_is) c.requires.all in
-    subst (λ (v : Volume g.row.D.Denot g.row.D-Piece.Denot). NotesTell v.settings v.number v.unsure c.in-Ok-notes_of.notes) c.self.view_is
-    (notes_tell here.settings here.number here.unsure c.open_all.new.rows c.as_slice.result.now _ (ap length (c.as_slice.ensures.value ∙ kept) ∙ count ∙ all) c.in-Ok-notes_of.ensures.are)
+    subst (λ (v : Volume g.row.D.Denot g.row.D-Piece.Denot). NotesTell v.settings v.number v.unsure (sights_of c.open_all.new.rows)
+    (map replica_seen (with_items c.self.inside.replicas c.open_all.new.replicas).items)
+    c.in-Ok-notes_of.notes) c.self.view_is
+    (notes_on here.settings here.number here.unsure (sights_of c.open_all.new.rows) c.as_slice.result.now _ _ c.as_slice.ensures.value c.in-Ok-notes_of.ensures.are)
 
 pub returns-clause-open : goal.returns-clause-open
 returns-clause-open g c =
@@ -351,8 +352,7 @@ returns-clause-formatted g c = λ tells j r' here.
     let f : At news j r' = subst (λ xs. At xs j r') kept here in
     let old = at_there olds j (let h = at_below news j r' f in let less : j < length olds = omega (arith, h, count) in less) in
     let e = subst (λ xs. At xs j old.0) (sym now) old.1 in
-    opened_formatted g.D.Disk.Tells g.D.Disk.files g.D.Piece.Piece.Tells c.open_all.new.rows j old.0 r' _ refl (c.in-Ok.ensures.opened j old.0 r' e f)
-    (c.open_all.ensures.kept tells j old.0 r' e f) tells
+    (c.in-Ok.ensures.opened j old.0 r' e f).formatted tells
 
 pub returns-clause-seen : goal.returns-clause-seen
 returns-clause-seen g c =
@@ -369,5 +369,5 @@ returns-clause-seen g c =
           let y = map_at replica_seen news j s (subst (λ rs. At (map replica_seen rs) j s) kept e) in
           let old = at_there olds j (let h = at_below news j y.0 y.1 in let less : j < length olds = omega (arith, h, count) in less) in
           let opened = c.in-Ok.ensures.opened j old.0 y.0 (subst (λ xs. At xs j old.0) (sym now) old.1) y.1 in
-          (ap (λ (r : ReplicaSeen). r.goal) y.2 ∙ opened.alone, ap (λ (r : ReplicaSeen). r.stuck) y.2 ∙ opened.loose);
+          subst IsFresh (sym y.2) (record { goal = opened.alone; next = no_next y.0 opened.alone; loose = opened.loose; most = opened.most; from = opened.from });
     }

@@ -7,6 +7,11 @@ use Rattle.hay_logical.specs.Steps.{KeepsStuck}
 use Rattle.std.proofs.Common.{ℕ, length}
 use Rattle.std.specs.Prelude.{map, IfErr}
 use Rattle.hay_logical.specs.Seen.{PutRefusedSeen, VolumeSeen, grown, volume_seen}
+use Rattle.std.specs.Prelude.{OnErr}
+use Rattle.hay_needle.specs.declared.needle.Pair.{Pair}
+use Rattle.hay_needle.specs.declared.settings.Settings.{Settings}
+use Rattle.hay_logical.specs.Sights.{KeepsSights, StoresSights, sights_of}
+use Rattle.hay_logical.proofs.SightChanges.{sights_kept, stores_kept}
 use Rattle.hay_logical.proofs.logical.Logical.put.Goals as goal
 
 pub returns-clause-stored : goal.returns-clause-stored
@@ -60,3 +65,18 @@ returns-in_err-written-clause-refused_seen g c =
     subst (λ r. IfErr r (PutRefusedSeen c.args.self.now.settings c.args.self.now.number c.args.tag (length c.args.bytes.now) old new)) (sym fault.1)
     (subst (λ (f : LogicalFault). PutRefusedSeen c.args.self.now.settings c.args.self.now.number c.args.tag (length c.args.bytes.now) old new f) (sym fault.2)
     c.in_err-written.ensures.refused_seen)
+
+pub returns-clause-sights : goal.returns-clause-sights
+returns-clause-sights g c =
+    let of = c.in_ok-written.ensures.of in
+    let same = c.write.ensures.same in
+    let kept = sights_kept c.args.self.now.rows c.write.new.self.rows c.in_ok-written.ensures.still.rows.rows in
+    stores_kept c.args.pair c.args.self.now.settings.replicas (sights_of c.args.self.now.rows) (sights_of c.write.new.self.rows) (sights_of c.show.new.self.rows) kept
+    (subst (λ (p : Pair). StoresSights p c.args.self.now.settings.replicas (sights_of c.write.new.self.rows) (sights_of c.show.new.self.rows)) of.0
+    (subst (λ (s : Settings). StoresSights c.in_ok-written.written.pair s.replicas (sights_of c.write.new.self.rows) (sights_of c.show.new.self.rows)) same.settings c.show.ensures.sights))
+
+pub returns-in_err-written-clause-refused_sights : goal.returns-in_err-written-clause-refused_sights
+returns-in_err-written-clause-refused_sights g c =
+    let fault = err_from_is_err_and c.from_residual.result c.from_residual.ensures.1 in
+    subst (λ r. OnErr r (KeepsSights (sights_of c.args.self.now.rows) (sights_of c.write.new.self.rows))) (sym fault.1)
+    (sights_kept c.args.self.now.rows c.write.new.self.rows c.in_err-written.ensures.kept)

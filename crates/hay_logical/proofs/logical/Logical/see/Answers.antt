@@ -9,6 +9,9 @@ use Rattle.hay_map.specs.Rows.{row_at}
 use Rattle.hay_compact.specs.Finishing.{IsSeen}
 use Rattle.hay_logical.specs.Answers.{IsSightFault}
 use Rattle.hay_logical.specs.Steps.{IsSeenBy, SetsPlaceAt}
+use Rattle.hay_logical.specs.Sights.{KeepsSights, SeesPair, sights_of}
+use Rattle.hay_logical.specs.Sights.Sight.{Unseen}
+use Rattle.hay_logical.proofs.SightChanges.{sights_kept}
 use Rattle.hay_logical.proofs.logical.Logical.see.Goals as goal
 use Rattle.hay_logical.proofs.logical.Logical.see.Goals.{in-Ok, in-Err}
 
@@ -81,4 +84,22 @@ returns-clause-needle g c = λ unseen. elim c.match-see_in.branch [
       subst (λ r. IfOk r (λ looked. IsSeenBy g.D.Disk.Tells g.D.Piece.Piece.Tells c.see_in.new.out.items (place_in looked.row c.args.replica))) (sym w.result-is)
       (subst (λ l. IsSeenBy g.D.Disk.Tells g.D.Piece.Piece.Tells c.see_in.new.out.items (place_in l c.args.replica)) (sym (w.row.ensures.row ∙ ap (λ v. row_at v.rows c.args.pair) c.self.view_is)) by)
   | in-Err w ↦ rw w.result-is tt
+]
+
+pub returns-clause-sights : goal.returns-clause-sights
+returns-clause-sights g c = elim c.match-see_in.branch [
+  | in-Ok w ↦
+      let sees = subst (λ x. OnOk x (SeesPair c.args.pair c.args.replica (sights_of c.args.self.now.rows) (sights_of c.see_in.new.self.rows))) w.in-Ok.is c.see_in.ensures.sights in
+      subst (λ r. OnOk r (SeesPair c.args.pair c.args.replica (sights_of c.args.self.now.rows) (sights_of c.see_in.new.self.rows))) (sym w.result-is) sees
+  | in-Err w ↦ rw w.result-is tt
+]
+
+pub returns-clause-refused_sights : goal.returns-clause-refused_sights
+returns-clause-refused_sights g c = elim c.match-see_in.branch [
+  | in-Ok w ↦ rw w.result-is tt
+  | in-Err w ↦
+      let kept = subst (λ x. OnErr x ((other : Pair) → row_at c.see_in.new.self.rows other ≡ row_at c.args.self.now.rows other)) w.in-Err.is c.see_in.ensures.kept in
+      let unseen = subst (λ x. OnErr x (sights_of c.args.self.now.rows c.args.pair c.args.replica ≡ Unseen)) w.in-Err.is c.see_in.ensures.unseen in
+      subst (λ r. OnErr r (KeepsSights (sights_of c.args.self.now.rows) (sights_of c.see_in.new.self.rows) × (sights_of c.args.self.now.rows c.args.pair c.args.replica ≡ Unseen))) (sym w.result-is)
+      (sights_kept c.args.self.now.rows c.see_in.new.self.rows kept, unseen)
 ]

@@ -6,6 +6,9 @@ use Rattle.hay_logical.specs.declared.fault.LogicalFault.{LogicalFault}
 use Rattle.hay_logical.specs.Answers.{IsSightFault}
 use Rattle.hay_logical.proofs.Through.{cause_later, kept_more, kept_none, seen_more}
 use Rattle.hay_logical.proofs.Untouched.{stuck_more, stuck_same}
+use Rattle.hay_needle.specs.declared.settings.Settings.{Settings}
+use Rattle.hay_logical.specs.Sights.{LookRefusedSights, Sights, sights_of}
+use Rattle.hay_logical.proofs.SightChanges.{look_refused_behind, looks_kept, looks_more}
 use Rattle.hay_logical.proofs.logical.Logical.see_each.Goals as goal
 
 pub loop-replica-init : goal.loop-replica-init
@@ -14,6 +17,7 @@ loop-replica-init g c = record {
   tight = λ tells k stands j tight. tight;
   stuck = stuck_same c.args.self.now.replicas;
   seen = λ j h. let wrong : ⊥ = omega (arith, h) in absurd wrong;
+  looks = looks_kept c.args.pair (sights_of c.args.self.now.rows) (sights_of c.args.self.now.rows) (λ q j. refl);
   unchanged = refl;
 }
 
@@ -59,6 +63,8 @@ loop-replica-preserved g c = record {
   tight = λ tells k stands j tight. c.see_in.ensures.tight tells k (c.loop-replica.invariant.kept.stands tells k stands) j (c.loop-replica.invariant.tight tells k stands j tight);
   stuck = stuck_more c.args.self.now.replicas c.loop-replica.self.replicas c.see_in.new.self.replicas c.loop-replica.invariant.kept.counts.count c.loop-replica.invariant.stuck c.see_in.ensures.stuck;
   seen = seen_more c.args.pair c.loop-replica.replica c.loop-replica.self.rows c.see_in.new.self.rows (row_at c.see_in.new.self.rows c.args.pair) c.in_ok-see_in.ensures.row refl c.in_ok-see_in.ensures.seen c.loop-replica.invariant.seen;
+  looks = looks_more c.args.pair (sights_of c.args.self.now.rows) (sights_of c.loop-replica.self.rows)
+      (sights_of c.see_in.new.self.rows) c.loop-replica.invariant.looks c.in_ok-see_in.ensures.sights.looks;
   unchanged = c.see_in.ensures.unchanged ∙ c.loop-replica.invariant.unchanged;
 }
 
@@ -116,3 +122,19 @@ returns-in_err-see_in-clause-unchanged g c = c.see_in.ensures.unchanged ∙ c.lo
 
 pub returns-clause-unchanged : goal.returns-clause-unchanged
 returns-clause-unchanged g c = c.loop-replica.invariant.unchanged
+
+pub returns-clause-sights : goal.returns-clause-sights
+returns-clause-sights g c = c.loop-replica.invariant.looks
+
+pub returns-in_err-see_in-clause-refused_sights : goal.returns-in_err-see_in-clause-refused_sights
+returns-in_err-see_in-clause-refused_sights g c =
+    let fault = err_from_is_err_and c.from_residual.result c.from_residual.ensures.1 in
+    let same = c.loop-replica.invariant.kept.same in
+    let old : Sights = sights_of c.args.self.now.rows in
+    let mid : Sights = sights_of c.loop-replica.self.rows in
+    let new : Sights = sights_of c.see_in.new.self.rows in
+    subst (λ r. IfErr r (LookRefusedSights c.args.self.now.settings c.args.self.now.number c.args.pair old new)) (sym fault.1)
+    (subst (λ (f : LogicalFault). LookRefusedSights c.args.self.now.settings c.args.self.now.number c.args.pair old new f) (sym fault.2)
+    (look_refused_behind c.args.self.now.settings c.args.self.now.number c.args.pair old mid new c.loop-replica.invariant.looks c.in_err-see_in.field-0.0
+    (subst (λ n. LookRefusedSights c.args.self.now.settings n c.args.pair mid new c.in_err-see_in.field-0.0) same.number
+    (subst (λ (s : Settings). LookRefusedSights s c.loop-replica.self.number c.args.pair mid new c.in_err-see_in.field-0.0) same.settings c.in_err-see_in.ensures.refused_sights))))

@@ -27,6 +27,9 @@ use Rattle.hay_logical.proofs.Tightness.{tight_one, tight_seen}
 use Rattle.std.proofs.Common.{◌≡◌, ap, ◌∙◌}
 use Rattle.hay_logical.specs.Seen.{replica_seen}
 use Rattle.hay_logical.proofs.Seen.{same_one}
+use Rattle.hay_logical.specs.Sights.{LookRefusedSights, SeesPair, sights_of}
+use Rattle.hay_logical.specs.Sights.Sight.{Unseen}
+use Rattle.hay_logical.proofs.SightChanges.{look_refused_at, sights_kept}
 use Rattle.hay_logical.proofs.logical.Logical.see_in.Goals as goal
 use Rattle.hay_logical.proofs.logical.Logical.see_in.Goals.{in-Ok, in-Err}
 
@@ -284,3 +287,45 @@ returns-clause-unchanged g c =
     same_one c.args.replica c.self.inside.settings c.self.inside.number c.self.inside.replicas.items c.see_at.new.replicas c.self.inside.rows c.self.inside.front c.self.inside.frozen
     c.self.inside.unsure one c.args.self.now c.self.view_is
     (with_items c.self.inside.replicas c.see_at.new.replicas).items kept (ap (λ (x : Copy g.row.D.Denot). replica_seen x) sights.copy)
+
+pub returns-clause-sights : goal.returns-clause-sights
+returns-clause-sights g c = elim c.match-see_at.branch [
+  | in-Ok w ↦
+      let sees : SeesPair c.args.pair c.args.replica (sights_of c.self.inside.rows) (sights_of c.see_at.new.rows) =
+      subst (λ x. OnOk x (SeesPair c.args.pair c.args.replica (sights_of c.self.inside.rows) (sights_of c.see_at.new.rows))) w.in-Ok.is c.see_at.ensures.row.sees in
+      subst (λ r. OnOk r (SeesPair c.args.pair c.args.replica (sights_of c.args.self.now.rows) (sights_of c.see_at.new.rows))) (sym w.result-is)
+      (subst (λ v. SeesPair c.args.pair c.args.replica (sights_of v.rows) (sights_of c.see_at.new.rows)) c.self.view_is sees)
+  | in-Err w ↦ rw w.result-is tt
+]
+
+pub returns-clause-unseen : goal.returns-clause-unseen
+returns-clause-unseen g c = elim c.match-see_at.branch [
+  | in-Ok w ↦ rw w.result-is tt
+  | in-Err w ↦
+      let unseen : sights_of c.self.inside.rows c.args.pair c.args.replica ≡ Unseen =
+      subst (λ x. OnErr x (sights_of c.self.inside.rows c.args.pair c.args.replica ≡ Unseen)) w.in-Err.is c.see_at.ensures.row.unseen in
+      subst (λ r. OnErr r (sights_of c.args.self.now.rows c.args.pair c.args.replica ≡ Unseen)) (sym w.result-is)
+      (subst (λ v. sights_of v.rows c.args.pair c.args.replica ≡ Unseen) c.self.view_is unseen)
+]
+
+pub returns-clause-refused_sights : goal.returns-clause-refused_sights
+returns-clause-refused_sights g c =
+    let now = c.as_mut_slice.ensures.value in
+    let one : CallsOne c.args.replica c.self.inside.replicas.items c.see_at.new.replicas = subst (λ xs. CallsOne c.args.replica xs c.see_at.new.replicas) now c.see_at.ensures.one in
+    let sights : SightsAt g.D.Disk.Tells g.D.Disk.files g.D.Disk.fault_count g.D.Piece.Piece.Tells c.args.pair c.self.inside.rows c.see_at.new.rows c.args.replica one.before one.after c.see_at.result =
+    c.see_at.ensures.sights one.before one.after (subst (λ xs. At xs c.args.replica one.before) (sym now) one.was) (one_after c.args.replica c.self.inside.replicas.items c.see_at.new.replicas one) in
+    let within : c.args.replica < c.self.inside.settings.replicas = subst (λ v. c.args.replica < v.settings.replicas) (sym c.self.view_is) c.requires.within in
+    elim c.match-see_at.branch [
+      | in-Ok w ↦ rw w.result-is tt
+      | in-Err w ↦
+          let cause = subst (λ x. IfErr x (physical_faults.IsSightFault (g.D.Disk.fault_count (one.before).disk) (g.D.Disk.fault_count (one.after).disk))) w.in-Err.is sights.cause in
+          let unseen : sights_of c.self.inside.rows c.args.pair c.args.replica ≡ Unseen =
+          subst (λ x. OnErr x (sights_of c.self.inside.rows c.args.pair c.args.replica ≡ Unseen)) w.in-Err.is c.see_at.ensures.row.unseen in
+          let kept = subst (λ x. OnErr x ((other : Pair) → row_at c.see_at.new.rows other ≡ row_at c.self.inside.rows other)) w.in-Err.is c.see_at.ensures.row.kept in
+          subst (λ r. IfErr r (LookRefusedSights c.args.self.now.settings c.args.self.now.number c.args.pair (sights_of c.args.self.now.rows) (sights_of c.see_at.new.rows))) (sym w.result-is)
+          (subst (λ v. LookRefusedSights v.settings v.number c.args.pair (sights_of v.rows) (sights_of c.see_at.new.rows) w.answer_at.result) c.self.view_is
+          (subst (λ f. LookRefusedSights c.self.inside.settings c.self.inside.number c.args.pair (sights_of c.self.inside.rows) (sights_of c.see_at.new.rows) f) (sym w.answer_at.ensures)
+          (look_refused_at c.self.inside.settings c.self.inside.number c.args.pair (sights_of c.self.inside.rows) (sights_of c.see_at.new.rows) c.args.replica c.machine_of-machine.result within
+          c.machine_of-machine.ensures (sights_kept c.self.inside.rows c.see_at.new.rows kept) unseen (g.D.Disk.fault_count (one.before).disk)
+          (g.D.Disk.fault_count (one.after).disk) w.in-Err.fault cause)))
+    ]

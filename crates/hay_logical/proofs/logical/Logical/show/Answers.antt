@@ -1,4 +1,4 @@
-use Rattle.std.proofs.Common.{refl, sym, ap, subst}
+use Rattle.std.proofs.Common.{◌<◌, length, refl, sym, ap, subst, arith}
 use Rattle.hay_map.specs.Rows.{ChangesRows}
 use Rattle.hay_map.specs.declared.view.MapOp.TheVariants as op
 use Rattle.hay_logical.specs.Unshown.{IsWritten, IsWrittenFor}
@@ -6,6 +6,8 @@ use Rattle.hay_logical.specs.Volumes.{Volume}
 use Rattle.hay_logical.proofs.Lists.{at_same}
 use Rattle.hay_logical.proofs.Methods.{shaped_on}
 use Rattle.hay_logical.proofs.Showing.{put_shown}
+use Rattle.hay_logical.specs.Sights.{StoresSights, sights_of}
+use Rattle.hay_logical.proofs.SightChanges.{stores_sights}
 use Rattle.hay_logical.proofs.logical.Logical.show.Goals as goal
 
 pub give_row-requires : goal.give_row-requires
@@ -32,3 +34,12 @@ returns-clause-rows g c = subst (λ v. ChangesRows (op.Put c.args.written.pair c
 
 pub returns-clause-still : goal.returns-clause-still
 returns-clause-still g c = ap (λ (v : Volume g.row.D.Denot g.row.D-Piece.Denot). record v { rows = c.give_row.new.rows; front = c.args.written.position }) c.self.view_is
+
+pub returns-clause-sights : goal.returns-clause-sights
+returns-clause-sights g c =
+    let fits = subst (λ v. IsWrittenFor g.D.Disk.Tells g.D.Disk.files c.args.written v) (sym c.self.view_is) c.requires in
+    let long = fits.long in
+    let width = (c.self.invariant.0).width in
+    subst (λ v. StoresSights c.args.written.pair v.settings.replicas (sights_of v.rows) (sights_of c.give_row.new.rows)) c.self.view_is
+    (stores_sights c.self.inside.rows c.give_row.new.rows c.args.written.pair c.args.written.row c.self.inside.settings.replicas c.give_row.ensures.rows
+    (λ j h. fits.live j (let less : j < length c.args.written.row = omega (arith, h, long, width) in less)))

@@ -19,18 +19,18 @@ use Rattle.hay_logical.proofs.Stepping.{none_there, stands_there, step_fault, st
 use Rattle.hay_logical.proofs.Reaching.{same_rows}
 use Rattle.hay_logical.specs.declared.fault.LogicalFault.{LogicalFault}
 use Rattle.hay_logical.proofs.Untouched.{answered_memory, one_untouched, step_thawed, step_untouched, stuck_same}
-use Rattle.hay_physical.specs.Copies.{is_stuck}
+use Rattle.hay_physical.specs.Copies.{is_stuck, next_of}
 use Rattle.hay_logical.proofs.Tightness.{tight_one, tight_partly, tight_stepped}
 use Rattle.hay_logical.specs.Stands.{RunsTight}
-use Rattle.std.specs.Prelude.{OnOk}
+use Rattle.std.specs.Prelude.{OnErr, OnOk}
 use Rattle.hay_physical.specs.declared.fault.ReplicaFault.TheVariants as fault
 use Rattle.hay_logical.specs.declared.fault.LogicalFault.TheVariants as logical
 use Rattle.hay_logical.proofs.Changing.{some_none}
 use Rattle.hay_legal.specs.Known.{machine_of}
-use Rattle.std.proofs.Common.{None, ◌≤◌}
-use Rattle.hay_logical.specs.Seen.{EndsAlone, StepRefusedSeen, StepSeen, VolumeSeen, replica_seen, volume_seen}
+use Rattle.std.proofs.Common.{None, Option, ◌≤◌}
+use Rattle.hay_logical.specs.Seen.{BreaksStep, EndsAlone, StepRefusedSeen, StepSeen, StepsPartly, StepsTo, VolumeSeen, replica_seen, volume_seen}
 use Rattle.hay_logical.proofs.Lists.{at_map}
-use Rattle.hay_logical.proofs.Seen.{changes_one, no_goal, same_one, seen_goal, seen_same, sees_before, step_refused_seen}
+use Rattle.hay_logical.proofs.Seen.{changes_one, no_goal, run_ended, sees_before, step_refused_seen}
 use Rattle.hay_logical.proofs.logical.Logical.step.Goals as goal
 use Rattle.hay_logical.proofs.logical.Logical.step.Goals.{in-Ok, in-Err}
 
@@ -333,32 +333,20 @@ returns-clause-seen g c =
     let one : CallsOne c.args.replica c.self.inside.replicas.items c.step_at.new.replicas = subst (λ xs. CallsOne c.args.replica xs c.step_at.new.replicas) now c.step_at.ensures.one in
     let was : At c.as_mut_slice.result.now c.args.replica one.before = subst (λ xs. At xs c.args.replica one.before) (sym now) one.was in
     let there = one_after c.args.replica c.self.inside.replicas.items c.step_at.new.replicas one in
-    let step : StepsAt g.D.Disk.Tells g.D.Disk.files g.D.Disk.fault_count g.D.Piece.Piece.Tells c.self.inside.rows c.args.replica c.args.cells one.before one.after c.step_at.result =
-    c.step_at.ensures.steps one.before one.after was there in
-    let stays = c.step_at.ensures.stays one.before one.after was there in
     let none : c.args.self.now.frozen ≡ None = ap (λ v. v.frozen) (sym c.self.view_is) ∙ not_some c.self.inside.frozen c.in_default.not-Some in
     let new : VolumeSeen = volume_seen (volume_with c.self.inside.settings c.self.inside.number
     (with_items c.self.inside.replicas c.step_at.new.replicas).items c.self.inside.rows c.self.inside.front c.self.inside.frozen c.self.inside.unsure) in
     let old : VolumeSeen = volume_seen c.args.self.now in
     elim c.match-step_at.branch [
       | in-Ok w ↦
-          let done : StepsAt g.D.Disk.Tells g.D.Disk.files g.D.Disk.fault_count g.D.Piece.Piece.Tells c.self.inside.rows c.args.replica c.args.cells one.before one.after (Ok w.in-Ok.number) =
-          subst (λ x. StepsAt g.D.Disk.Tells g.D.Disk.files g.D.Disk.fault_count g.D.Piece.Piece.Tells c.self.inside.rows c.args.replica c.args.cells one.before one.after x) w.in-Ok.is step in
-          subst (λ r. IfOk r (λ number. StepSeen c.args.replica c.args.cells number old new)) (sym w.result-is) (record {
-            few = subst (λ x. IfOk x (λ number. number ≤ c.args.cells)) w.in-Ok.is c.step_at.ensures.few;
-            thawed = none;
-            stands = (
-              replica_seen one.before,
-              sees_before c.args.replica c.self.inside.settings c.self.inside.number c.self.inside.replicas.items c.step_at.new.replicas c.self.inside.rows
-                  c.self.inside.front c.self.inside.frozen c.self.inside.unsure one c.args.self.now c.self.view_is
-                  (with_items c.self.inside.replicas c.step_at.new.replicas).items kept,
-              λ none. stands_there c.standing.result c.is_none.result c.is_none.ensures c.if-is_none.false
-                  (c.standing.ensures.is one.before (subst (λ v. At v.replicas c.args.replica one.before) c.self.view_is one.was) ∙ none),
-            );
-            same = same_one c.args.replica c.self.inside.settings c.self.inside.number c.self.inside.replicas.items c.step_at.new.replicas c.self.inside.rows c.self.inside.front
-                c.self.inside.frozen c.self.inside.unsure one c.args.self.now c.self.view_is (with_items c.self.inside.replicas c.step_at.new.replicas).items kept
-                (seen_same one.before one.after stays done.goal done.on.stuck);
-          })
+          let steps : StepsTo c.args.cells w.in-Ok.number (replica_seen one.before) (replica_seen one.after) =
+          subst (λ x. IfOk x (λ number. StepsTo c.args.cells number (replica_seen one.before) (replica_seen one.after))) w.in-Ok.is (c.step_at.ensures.seen one.before one.after was there) in
+          subst (λ r. IfOk r (λ number. StepSeen c.args.replica c.args.cells number old new)) (sym w.result-is) (
+            none,
+            changes_one c.args.replica (StepsTo c.args.cells w.in-Ok.number) c.self.inside.settings c.self.inside.number c.self.inside.replicas.items c.step_at.new.replicas
+                c.self.inside.rows c.self.inside.front c.self.inside.frozen c.self.inside.unsure one c.args.self.now c.self.view_is
+                (with_items c.self.inside.replicas c.step_at.new.replicas).items kept steps,
+          )
       | in-Err w ↦ rw w.result-is tt
     ]
 
@@ -371,7 +359,6 @@ returns-clause-refused_seen g c =
     let there = one_after c.args.replica c.self.inside.replicas.items c.step_at.new.replicas one in
     let step : StepsAt g.D.Disk.Tells g.D.Disk.files g.D.Disk.fault_count g.D.Piece.Piece.Tells c.self.inside.rows c.args.replica c.args.cells one.before one.after c.step_at.result =
     c.step_at.ensures.steps one.before one.after was there in
-    let stays = c.step_at.ensures.stays one.before one.after was there in
     let none : c.args.self.now.frozen ≡ None = ap (λ v. v.frozen) (sym c.self.view_is) ∙ not_some c.self.inside.frozen c.in_default.not-Some in
     let new : VolumeSeen = volume_seen (volume_with c.self.inside.settings c.self.inside.number
     (with_items c.self.inside.replicas c.step_at.new.replicas).items c.self.inside.rows c.self.inside.front c.self.inside.frozen c.self.inside.unsure) in
@@ -384,17 +371,22 @@ returns-clause-refused_seen g c =
           let said : w.answer_at.result ≡ answer_at (machine_of c.args.self.now.settings c.args.self.now.number c.args.replica) w.in-Err.fault =
           w.answer_at.ensures ∙ ap (λ m. answer_at m w.in-Err.fault) (c.machine_of-machine.ensures ∙ ap
           (λ (v : Volume g.row.D.Denot g.row.D-Piece.Denot). machine_of v.settings v.number c.args.replica) c.self.view_is) in
+          let broken : BreaksStep (replica_seen one.before) (replica_seen one.after) =
+          subst (λ x. OnErr x (BreaksStep (replica_seen one.before) (replica_seen one.after))) w.in-Err.is (c.step_at.ensures.left one.before one.after was there) in
+          let has : goal_of one.before ≡ None → ⊥ =
+          λ none. stands_there c.standing.result c.is_none.result c.is_none.ensures c.if-is_none.false
+          (c.standing.ensures.is one.before (subst (λ v. At v.replicas c.args.replica one.before) c.self.view_is one.was) ∙ none) in
           subst (λ r. IfErr r (StepRefusedSeen c.args.self.now.settings c.args.self.now.number c.args.replica old new)) (sym w.result-is)
           (subst (λ f. StepRefusedSeen c.args.self.now.settings c.args.self.now.number c.args.replica old new f) (sym said)
           (step_refused_seen c.args.self.now.settings c.args.self.now.number c.args.replica g.D.Disk.fault_count one.before one.after old new
           (sees_before c.args.replica c.self.inside.settings c.self.inside.number c.self.inside.replicas.items c.step_at.new.replicas c.self.inside.rows c.self.inside.front
-          c.self.inside.frozen c.self.inside.unsure one c.args.self.now c.self.view_is (with_items c.self.inside.replicas c.step_at.new.replicas).items kept) w.in-Err.fault left.cause
-          (same_one c.args.replica c.self.inside.settings c.self.inside.number c.self.inside.replicas.items c.step_at.new.replicas c.self.inside.rows c.self.inside.front c.self.inside.frozen
-          c.self.inside.unsure one c.args.self.now c.self.view_is (with_items c.self.inside.replicas c.step_at.new.replicas).items kept)
-          (λ goal. seen_same one.before one.after stays goal left.on.stuck)
+          c.self.inside.frozen c.self.inside.unsure one c.args.self.now c.self.view_is (with_items c.self.inside.replicas c.step_at.new.replicas).items kept) none w.in-Err.fault left.cause
+          (λ goal. changes_one c.args.replica StepsPartly c.self.inside.settings c.self.inside.number c.self.inside.replicas.items c.step_at.new.replicas c.self.inside.rows c.self.inside.front
+          c.self.inside.frozen c.self.inside.unsure one c.args.self.now c.self.view_is (with_items c.self.inside.replicas c.step_at.new.replicas).items kept
+          (has, broken.0 ∙ ap (λ (o : Option ℕ). record (replica_seen one.before) { goal = o; next = next_of one.after }) goal, broken.1 goal))
           (λ goal. changes_one c.args.replica EndsAlone c.self.inside.settings c.self.inside.number c.self.inside.replicas.items c.step_at.new.replicas c.self.inside.rows c.self.inside.front
           c.self.inside.frozen c.self.inside.unsure one c.args.self.now c.self.view_is (with_items c.self.inside.replicas c.step_at.new.replicas).items kept
-          (seen_goal one.before one.after None stays goal left.on.stuck))))
+          (has, run_ended one.before one.after broken.0 goal))))
     ]
 
 pub returns-then-is_none-clause-refused_seen : goal.returns-then-is_none-clause-refused_seen
@@ -402,7 +394,7 @@ returns-then-is_none-clause-refused_seen g c =
     let within = c.requires.within in
     let all = c.requires.«open».all in
     let r = at_there c.args.self.now.replicas c.args.replica (let less : c.args.replica < length c.args.self.now.replicas = omega (arith, within, all) in less) in (
-      refl,
+      (ap (λ v. v.frozen) (sym c.self.view_is) ∙ not_some c.self.inside.frozen c.in_default.not-Some, refl),
       (
         replica_seen r.0,
         at_map replica_seen c.args.self.now.replicas c.args.replica r.0 r.1,

@@ -41,9 +41,10 @@ use Rattle.std.proofs.Common.{ap, List, Option}
 use Rattle.std.specs.Prelude.{map}
 use Rattle.hay_logical.specs.declared.unsure.Unsure.{Unsure}
 use Rattle.hay_logical.specs.Seen.{PutRefusedSeen, ReplicaSeen, VolumeSeen, grown, replica_seen, volume_seen}
-use Rattle.hay_logical.proofs.Seen.{map_at}
+use Rattle.hay_logical.proofs.Seen.{many_seen, map_at}
 use Rattle.hay_logical.proofs.SeenSwaps.{idle_seen}
 use Rattle.hay_logical.proofs.SeenChanges.{broken_put_seen, map_both, maps_by, room_put_seen}
+use Rattle.hay_logical.proofs.SightChanges.{live_seen}
 use Rattle.hay_logical.proofs.logical.Logical.write.Goals as goal
 
 pub put_each-requires : goal.put_each-requires
@@ -268,13 +269,22 @@ returns-in-Ok-clause-fits g c =
       room = ok_of c.reserve.result _ c.reserve.ensures.room (sym c.is_err.ensures.value ∙ c.if-is_err.false);
       long = c.in-Ok.ensures.places ∙ ap length now ∙ ap (λ v. length v.replicas) c.self.view_is ∙ c.requires.«open».all ∙ ap (λ v. v.settings.replicas) (sym c.self.view_is)
           ∙ sym (c.self.invariant.0).width ∙ sym c.reserve.ensures.rows.replicas;
+      live = λ j h.
+          let count = c.put_each.ensures.counts.count ∙ ap length now in
+          let long = c.in-Ok.ensures.places ∙ ap length now in
+          let r = at_there c.self.inside.replicas.items j (let less : j < length c.self.inside.replicas.items = omega (arith, h, long) in less) in
+          let r' = at_there c.put_each.new.replicas j (let less : j < length c.put_each.new.replicas = omega (arith, h, long, count) in less) in
+          (each j r.0 r'.0 r.1 r'.1).live;
       reach = λ rows changes.
           subst (λ rs. CanReach g.D.Disk.Tells g.D.Disk.files rs rows) (sym kept)
           (put_row g.D.Disk.Tells g.D.Disk.files c.self.inside.replicas.items c.put_each.new.replicas c.self.inside.rows rows c.self.invariant.2 (c.put_each.ensures.counts.count ∙ ap length now)
           (λ j r r' e f. (λ u. up j r e, λ u. up_open r (up j r e))) c.args.pair c.in-Ok.row
           (λ other. changes.rows other ∙ ap (λ l. cond (pair_eq c.args.pair other) c.in-Ok.row l) (c.reserve.ensures.rows.rows other))
           (λ j r r' e f. c.put_each.ensures.reach j r r' (subst (λ xs. At xs j r) (sym now) e) f)
-          (λ j r r' e f tells. let put = each j r r' e f in (put.deletable tells, seen_sees g.D.Disk.files r' (place_in c.in-Ok.row j) put.seen, seen_apart (place_in c.in-Ok.row j) put.seen, put.apart tells)));
+          (λ j r r' e f tells.
+          let put = each j r r' e f in
+          let seen = live_seen (place_in c.in-Ok.row j) put.live in
+          (put.deletable tells, seen_sees g.D.Disk.files r' (place_in c.in-Ok.row j) seen, seen_apart (place_in c.in-Ok.row j) seen, put.apart tells)));
     }
 
 pub returns-in-Ok-clause-still : goal.returns-in-Ok-clause-still
@@ -541,10 +551,10 @@ returns-in_err-room-clause-refused_seen g c =
     (room_put_seen c.args.self.now.settings c.args.self.now.number c.args.tag (length c.args.bytes.now) old c.in_err-room.field-0.0 c.in_err-room.ensures.refused_seen)
 
 pub returns-in_default-clause-refused_seen : goal.returns-in_default-clause-refused_seen
-returns-in_default-clause-refused_seen g c = inl refl
+returns-in_default-clause-refused_seen g c = inl (c.in_ok-room.ensures.fits.0, refl)
 
 pub returns-then-is_err-clause-refused_seen : goal.returns-then-is_err-clause-refused_seen
-returns-then-is_err-clause-refused_seen g c = inl (ap volume_seen c.self.view_is)
+returns-then-is_err-clause-refused_seen g c = inl (c.in_ok-room.ensures.fits.0, ap volume_seen c.self.view_is)
 
 pub returns-in-Ok-clause-seen : goal.returns-in-Ok-clause-seen
 returns-in-Ok-clause-seen g c =
@@ -568,7 +578,7 @@ returns-then-is_untouched-clause-refused_seen g c =
     let same : map replica_seen c.put_each.new.replicas ≡ map replica_seen c.self.inside.replicas.items =
     maps_by replica_seen replica_seen c.self.inside.replicas.items c.put_each.new.replicas (c.put_each.ensures.counts.count ∙ ap length now)
     (λ j r r' e f. c.in-Err.ensures.refused_seen un j r r' (subst (λ xs. At xs j r) (sym now) e) f) in
-    inl (ap with (ap (map replica_seen) kept ∙ same) ∙ ap volume_seen c.self.view_is)
+    inl (c.in_ok-room.ensures.fits.0, ap with (ap (map replica_seen) kept ∙ same) ∙ ap volume_seen c.self.view_is)
 
 pub returns-else-is_untouched-clause-refused_seen : goal.returns-else-is_untouched-clause-refused_seen
 returns-else-is_untouched-clause-refused_seen g c =
@@ -592,6 +602,7 @@ returns-else-is_untouched-clause-refused_seen g c =
           c.ends_of-ends.ensures j x.0 (subst (λ xs. At xs j x.0) (sym c.as_slice.ensures.value) x.1) ∙ ap (λ (r : ReplicaSeen). r.end) (sym x.2);
       freezes = record {
         thawed = thawed;
+        many = many_seen c.self.inside.replicas.items _ (ap length kept ∙ c.put_each.ensures.counts.count ∙ ap length now);
         front = refl;
         frozen = refl;
         unsure = refl;
