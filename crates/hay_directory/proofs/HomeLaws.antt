@@ -99,7 +99,7 @@ kept_home rows pending false homeless =
 
 -- the note tells what was kept
 pub notes_are : (rows : List HomeRow) (pending : Option PendingRow) (kept : Bool) (homes : List ((ℕ × ℕ) × ℕ)) → IsDue rows pending → AreHomes homes (rows ++ kept_row pending kept)
-    → notes_by (option_map unsure_row pending) homes ≡ row_notes pending kept
+    → notes_by (option_map unsure_row pending) (home_among homes) ≡ row_notes pending kept
 notes_are rows None kept homes due are = refl
 notes_are rows (Some pending) kept homes due are =
     ap (λ (b : Bool). row_note (pending.tag).line b ∷ []) (ap is_some (are.are (pending.row).pair) ∙ kept_home rows pending kept due)

@@ -293,13 +293,13 @@ stands_opened files settings old d' drained rows found same mode drains = record
 
 -- and behind a stop
 pub reopened : {D : Type 0} (files : D → Files) (d d' : State D) (drained : List Bool) (known : DirKnown) (notes : List Note) (rows : List HomeRow) (found : FindsRows d.settings (files d.disk 0) (files d'.disk 0) d'.journal.end d'.homes d'.count rows) → StoppedFor files d known
-    → d'.settings ≡ d.settings → d'.mode ≡ Open → d'.drained ≡ drained → notes ≡ notes_by (unsure_of d.mode) d'.homes
+    → d'.settings ≡ d.settings → d'.mode ≡ Open → d'.drained ≡ drained → notes ≡ notes_by (unsure_of d.mode) (home_of d')
     → (kept : Bool) × (notes ≡ row_notes known.pending kept) × (rows ≡ known.rows ++ kept_row known.pending kept) × StandsFor files d' (directory_with (known.rows ++ kept_row known.pending kept)) drained
 reopened files d d' drained known notes rows found s settings mode drains told =
     let same : rows ≡ known.rows ++ kept_row known.pending s.kept = found.only (known.rows ++ kept_row known.pending s.kept) (inr s.journal) in
     let homes : AreHomes d'.homes (known.rows ++ kept_row known.pending s.kept) = subst (λ l. AreHomes d'.homes l) same (record { are = found.homes_are }) in (
       s.kept,
-      told ∙ ap (λ u. notes_by u d'.homes) (ap unsure_of s.mode) ∙ notes_are known.rows known.pending s.kept d'.homes s.due homes,
+      told ∙ ap (λ u. notes_by u (home_of d')) (ap unsure_of s.mode) ∙ notes_are known.rows known.pending s.kept d'.homes s.due homes,
       same,
       subst (λ l. StandsFor files d' (directory_with l) drained) same (stands_opened files d.settings (files d.disk 0) d' drained rows found settings mode drains),
     )

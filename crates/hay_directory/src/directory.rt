@@ -11,7 +11,7 @@ ghost use Rattle.hay_legal.specs.declared.known.DirKnown.{DirKnown};
 ghost use Rattle.hay_legal.specs.declared.known.HomeRow.{HomeRow};
 ghost use Rattle.hay_legal.specs.Known.{home_in};
 ghost use Rattle.hay_legal.specs.Restarts.{directory_with, kept_row, row_notes};
-ghost use Rattle.hay_directory.specs.Notes.{NotesTell};
+ghost use Rattle.hay_directory.specs.Notes.{notes_by};
 ghost use Rattle.hay_directory.specs.Homes.{HomesWithin, KeepsHomes, SetsHome};
 ghost use Rattle.hay_directory.specs.Rows.{OpensRows, RowsWithin, dir_row, home_row, journal_super};
 ghost use Rattle.hay_directory.specs.Seen.{ClosedSeen, DrainSeen, KeepsSeen, OpenSeen, PendsSeen, SettleRefusedSeen, SettleSeen, ShowSeen, directory_seen};
@@ -121,7 +121,7 @@ impl<D: Disk> Directory<D> {
             × Stands D.files self.new (directory_with (known.rows ++ kept_row known.pending kept)) (replicate self.old.settings.machines false)) }
         ensures up { OnOk result (IsUp self.new) }
         // Whatever the disk has, it tells of the row that was pending, and none is then.
-        ensures told { IfOk result (NotesTell (unsure_of self.old.mode)) }
+        ensures told { IfOk result (λ notes. notes ≡ notes_by (unsure_of self.old.mode) (home_of self.new)) }
         ensures fits { IfOk result (AllByRecursion FitsNote) }
         ensures serves { OnOk result (self.new.mode ≡ Mode.Open) }
         ensures seen { OnOk result ((rows : List HomeRow) × OpenSeen self.old.settings.machines rows (directory_seen self.new)) }
@@ -138,6 +138,7 @@ impl<D: Disk> Directory<D> {
         ensures undamaged { D.Tells → 0 < length (D.files self.old.disk 0).now →
             OnOk result ((at : ℕ) → IsDamagedJournal (journal_super self.old.settings) (D.files self.old.disk 0).now at → ⊥) }
         ensures undamaged_now { D.Tells → OnOk result ((at : ℕ) → IsDamagedJournal (journal_super self.old.settings) (D.files self.new.disk 0).now at → ⊥) }
+        ensures formatted { D.Tells → OnOk result (0 < length (D.files self.new.disk 0).now) }
         // Whatever a stop leaves of a void disk has no rows, by whatever settings, then or after a refusal.
         ensures nothing { D.Tells → (D.files self.old.disk 0).now ≡ [] → (image : ℕ → List ℕ) (rows : List HomeRow) →
             (other : Settings) → IsImage (D.files self.new.disk 0) (image 0) → OpensRows other image rows → rows ≡ [] }
@@ -176,7 +177,7 @@ impl<D: Disk> Directory<D> {
         ensures undrained { OnOk result (self.new.drained ≡ replicate self.old.settings.machines false) }
         ensures up { OnOk result (IsUp self.new) }
         // Whatever the disk has, it tells of the row that was pending, and none is then.
-        ensures told { IfOk result (λ opened. NotesTell (unsure_of self.old.mode) opened.notes) }
+        ensures told { IfOk result (λ opened. opened.notes ≡ notes_by (unsure_of self.old.mode) (home_of self.new)) }
         ensures fits { IfOk result (λ opened. AllByRecursion FitsNote opened.notes) }
         ensures serves { OnOk result (self.new.mode ≡ Mode.Open) }
         ensures seen { IfOk result (λ opened. OpenSeen self.old.settings.machines (map home_row opened.rows.items) (directory_seen self.new)) }
@@ -193,6 +194,7 @@ impl<D: Disk> Directory<D> {
         ensures undamaged { D.Tells → 0 < length (D.files self.old.disk 0).now →
             OnOk result ((at : ℕ) → IsDamagedJournal (journal_super self.old.settings) (D.files self.old.disk 0).now at → ⊥) }
         ensures undamaged_now { D.Tells → OnOk result ((at : ℕ) → IsDamagedJournal (journal_super self.old.settings) (D.files self.new.disk 0).now at → ⊥) }
+        ensures formatted { D.Tells → OnOk result (0 < length (D.files self.new.disk 0).now) }
         // Whatever a stop leaves of a void disk has no rows, by whatever settings, then or after a refusal.
         ensures nothing { D.Tells → (D.files self.old.disk 0).now ≡ [] → (image : ℕ → List ℕ) (rows : List HomeRow) →
             (other : Settings) → IsImage (D.files self.new.disk 0) (image 0) → OpensRows other image rows → rows ≡ [] }

@@ -48,7 +48,7 @@ pub fn load<D: Disk>(
     ensures within { IfOk result (λ loaded. RowsWithin settings.now.volumes (map home_row loaded.rows.items)) }
     ensures count { IfOk result (λ loaded. loaded.count ≡ length loaded.rows.items) }
     ensures few { IfOk result (λ loaded. loaded.count < 2 ^ 63) }
-    ensures notes { IfOk result (λ loaded. loaded.notes ≡ notes_by unsure loaded.homes.volumes) }
+    ensures notes { IfOk result (λ loaded. loaded.notes ≡ notes_by unsure (home_among loaded.homes.volumes)) }
     ensures fits { IfOk result (λ loaded. AllByRecursion FitsNote loaded.notes) }
     ensures failed { (faults : ℕ) → result ≡ Err (OpenFault.Failed faults) →
         (faults ≡ D.fault_count disk.new) × Rose (D.fault_count disk.old) (D.fault_count disk.new) }

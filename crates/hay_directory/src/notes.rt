@@ -2,6 +2,7 @@
 ghost use Rattle.std.specs.Prelude.{◌≡◌, IfOk};
 ghost use Rattle.std.specs.List.{AllByRecursion};
 ghost use Rattle.hay_reply.specs.Fits.{FitsNote};
+ghost use Rattle.hay_directory.specs.Homes.{home_among};
 ghost use Rattle.hay_directory.specs.Notes.{notes_by};
 
 use crate::homes::Homes;
@@ -16,7 +17,7 @@ pub fn notes_of(
     unsure: Option<Unsure>,
     homes: &Homes,
 ) -> Result<Listed<Note>, NoMemory>
-    ensures are { IfOk result (λ notes. notes ≡ notes_by unsure homes.now.volumes) }
+    ensures are { IfOk result (λ notes. notes ≡ notes_by unsure (home_among homes.now.volumes)) }
     ensures fits { IfOk result (AllByRecursion FitsNote) }
 {
     let Some(Unsure { tag, row }) = unsure else {

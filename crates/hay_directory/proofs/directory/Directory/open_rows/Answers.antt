@@ -5,10 +5,12 @@ use Rattle.std.proofs.lemmas.Result.{err_from_is_err_and}
 use Rattle.hay_dirfile.specs.declared.fault.OpenFault.{OpenFault}
 use Rattle.hay_legal.specs.Restarts.{directory_with}
 use Rattle.hay_directory.specs.declared.mode.Unsure.{Unsure}
+use Rattle.hay_directory.specs.Homes.{home_among}
 use Rattle.hay_directory.specs.Notes.{notes_by}
 use Rattle.hay_directory.specs.Rows.{OpensRows, home_row}
 use Rattle.hay_directory.specs.State.{State, Stands, Stopped, is_closed, unsure_of}
 use Rattle.hay_directory.proofs.HomeLaws.{homes_within}
+use Rattle.hay_directory.proofs.RowLaws.{not_void}
 use Rattle.hay_directory.proofs.Standing.{not_closed, on_err, same_fault, reopened, stands_opened, stopped_still}
 use Rattle.hay_directory.proofs.directory.Directory.open_rows.Goals as goal
 
@@ -56,7 +58,7 @@ returns-clause-opened g c = rw (← c.self.view_is) (λ tells fresh.
     let found = c.in_ok-loaded.ensures.found tells in
     let unsure = c.unsure-unsure.ensures ∙ ap unsure_of fresh in
     let drains = c.self.invariant.undrained (ap is_closed fresh) in (
-      c.in_ok-loaded.ensures.notes ∙ ap (λ (u : Option Unsure). notes_by u c.in_ok-loaded.loaded.homes.volumes) unsure,
+      c.in_ok-loaded.ensures.notes ∙ ap (λ (u : Option Unsure). notes_by u (home_among c.in_ok-loaded.loaded.homes.volumes)) unsure,
       found.found,
       stands_opened files was.settings (files was.disk 0) _ _ (map home_row c.in_ok-loaded.loaded.rows.items) found refl refl drains,
     ))
@@ -69,7 +71,7 @@ returns-clause-reopened g c = λ tells known stopped.
     let closed : is_closed c.self.inside.mode ≡ true = ap (λ (d : State _). is_closed d.mode) c.self.view_is ∙ c.requires.closed in
     let drains = c.self.invariant.undrained closed ∙ ap (λ (d : State _). replicate d.settings.machines false) c.self.view_is in
     reopened files _ _ _ known c.in_ok-loaded.loaded.notes (map home_row c.in_ok-loaded.loaded.rows.items) (c.in_ok-loaded.ensures.found tells) s refl refl drains
-    (c.in_ok-loaded.ensures.notes ∙ ap (λ (u : Option Unsure). notes_by u c.in_ok-loaded.loaded.homes.volumes) c.unsure-unsure.ensures)
+    (c.in_ok-loaded.ensures.notes ∙ ap (λ (u : Option Unsure). notes_by u (home_among c.in_ok-loaded.loaded.homes.volumes)) c.unsure-unsure.ensures)
 
 pub returns-clause-undamaged : goal.returns-clause-undamaged
 returns-clause-undamaged g c = rw (← c.self.view_is) (λ tells some. c.in_ok-loaded.ensures.undamaged tells some)
@@ -104,3 +106,8 @@ pub returns-in_err-loaded-clause-refused_seen : goal.returns-in_err-loaded-claus
 returns-in_err-loaded-clause-refused_seen g c =
     let closed : is_closed c.self.inside.mode ≡ true = ap (λ (d : State _). is_closed d.mode) c.self.view_is ∙ c.requires.closed in
     rw (← c.self.view_is) (on_err c.from_residual.result _ (record { pending = refl; drained = c.self.invariant.undrained closed }))
+
+pub returns-clause-formatted : goal.returns-clause-formatted
+returns-clause-formatted g c = λ tells.
+    let found = c.in_ok-loaded.ensures.found tells in
+    not_void c.self.inside.settings _ (map home_row c.in_ok-loaded.loaded.rows.items) (found.settled).journal
