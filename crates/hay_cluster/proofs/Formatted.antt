@@ -23,7 +23,7 @@ use Rattle.hay_logical.specs.Fits.Part.{Kept, Unsure, Lost}
 use Rattle.hay_logical.specs.Stands as logical
 use Rattle.hay_logical.specs.Stands.{HoldsPending}
 use Rattle.hay_logical.specs.Volumes.{Volume}
-use Rattle.hay_cluster.specs.Opening.{Gathers, IsLeft, MovesDirectory, MovesVolume, OpensDirectory, OpensParts, OpensVolume, StopsDirectory, StopsVolume}
+use Rattle.hay_cluster.specs.Opening.{Gathers, IsLeft, LeavesDirectory, LeavesVolume, OpensDirectory, OpensParts, OpensVolume, StopsDirectory, StopsVolume}
 use Rattle.hay_cluster.specs.Outside.{IsVoid}
 use Rattle.hay_cluster.specs.State.{Stands}
 use Rattle.hay_cluster.specs.Store.{IsShaped, Open, contents_in, disk_of, disks_of, volume_disks}
@@ -130,7 +130,7 @@ module _ {D : Type 0} (files : D → Files) (now : (disk : D) (n : ℕ) → IsIm
   left_formatted Tells volume k (inr (notes, again)) = volume_formatted Tells volume again.opened again.stands
 
   refused_volumes : {P : Type 0} (DiskTells Tells : Type 0) (faults fuses : D → ℕ) → DiskTells → (xs ys zs : List (Volume D P)) (ks : List VolumeKnown) → AllZip (logical.Stands files Tells) xs ks
-      → AllZip (StopsVolume DiskTells files Tells faults fuses) xs ys → AllZip (MovesVolume DiskTells files Tells faults fuses) ys zs → AllByRecursion IsFormatted (flat_map volume_disks zs)
+      → AllZip (StopsVolume DiskTells files Tells faults fuses) xs ys → AllZip (LeavesVolume DiskTells files Tells faults fuses) ys zs → AllByRecursion IsFormatted (flat_map volume_disks zs)
   refused_volumes DiskTells Tells faults fuses tells [] [] [] ks stands stops moves = tt
   refused_volumes DiskTells Tells faults fuses tells [] [] (z ∷ zs) ks stands stops moves = absurd moves
   refused_volumes DiskTells Tells faults fuses tells [] (y ∷ ys) zs ks stands stops moves = absurd stops
@@ -148,7 +148,7 @@ module _ {D : Type 0} (files : D → Files) (now : (disk : D) (n : ℕ) → IsIm
       omega (arith, some, ap length void)
 
   refused_directory : (DiskTells : Type 0) (faults fuses : D → ℕ) → DiskTells → (old mid new : directory.State D) (known : DirKnown) (drained : List Bool) → directory.Stands files old known drained
-      → StopsDirectory DiskTells files faults fuses old mid → MovesDirectory DiskTells files faults fuses mid new → IsFormatted new.disk
+      → StopsDirectory DiskTells files faults fuses old mid → LeavesDirectory DiskTells files faults fuses mid new → IsFormatted new.disk
   refused_directory DiskTells faults fuses tells old mid new known drained stands stops moves =
       elim (moves.left tells known (stops.stopped tells known drained stands)) [
         | inl stopped ↦ stopped_formatted new known stopped

@@ -1,5 +1,5 @@
 -- Which disks of a store a call of one of its parts leaves.
-use Rattle.std.proofs.Common.{◌≡◌, ◌≢◌, ◌⊎◌, ℕ, zero, suc, ◌+◌, ◌*◌, ◌<◌, List, [], ◌∷◌, ◌++◌, length, map, Option, None, Some, refl, sym, ap, subst, ◌∙◌, inl, inr, arith}
+use Rattle.std.proofs.Common.{◌≡◌, ◌≢◌, ◌⊎◌, ℕ, zero, suc, ◌+◌, ◌*◌, ◌<◌, List, [], ◌∷◌, ◌++◌, length, map, Option, Some, refl, sym, ap, subst, ◌∙◌, inl, inr, arith}
 use Rattle.std.specs.Prelude.{slice_get, slice_set}
 use Rattle.std.specs.List.{AllByRecursion, flat_map}
 use Rattle.std.specs.Option.{option_map_or}
@@ -28,16 +28,18 @@ use Rattle.hay_directory.specs.declared.fault.DirFault.TheVariants as settling
 use Rattle.hay_cluster.specs.Changes.{IsDeleteReply}
 use Rattle.hay_cluster.specs.declared.maintenance.Maintenance.{Maintenance}
 use Rattle.hay_cluster.specs.declared.maintenance.Maintenance.TheVariants.{Flush, Begin, Step, Finish, Compact}
-use Rattle.hay_cluster.specs.Leaving.{AddsRow, AnySlot, ComesToPend, DeleteKeeps, IsApart, IsApartOn, IsBeside, IsReplicaBeside, IsReplicaSlot, KeepsBehind, KeepsIn, LeavesByDelete, LeavesByPut, LeavesByWork, LeavesIn, LeavesReplicas, MayAddRow, MayPut, MayWork, PutKeeps}
-use Rattle.hay_cluster.specs.Maintenance.{IsRefusedAs, WorkKeeps, done_as}
-use Rattle.hay_cluster.specs.Pending.{ChangePends, PendingLines}
+use Rattle.hay_cluster.specs.Leaving.{AddsRow, AnySlot, ComesToPend, DeleteKeeps, IsApart, IsApartOn, IsBeside, IsReplicaBeside, IsReplicaSlot, KeepsBehind, KeepsIn, LeavesByDelete, LeavesByPut, LeavesByWork, LeavesIn, LeavesReplicas, MayAddRow, MayPut, MayWork, PutKeeps, WorkKeeps}
+use Rattle.hay_cluster.specs.Maintenance.{IsRefusedAs, done_as}
+use Rattle.hay_cluster.specs.Seen.{store_seen}
+use Rattle.hay_logical.specs.Seen.{VolumeSeen, volume_seen}
 use Rattle.hay_cluster.specs.Puts.{IsPutReply, settle_reply}
 use Rattle.hay_cluster.specs.Store.{IsShaped, Open, contents_in, disk_of, disks_of, volume_disks}
 use Rattle.hay_cluster.proofs.Changing.{replica_machine}
 use Rattle.hay_cluster.proofs.ClosingStore.{contents_at, order_item, order_self, volumes_long}
-use Rattle.hay_cluster.proofs.Lists.{map-append, slice_get-set}
+use Rattle.hay_cluster.proofs.Lists.{map-append, map-at, slice_get-set}
 use Rattle.hay_cluster.proofs.Moves.{Called, called_shape, length-disks, volume_of, with_directory, with_one}
 use Rattle.hay_cluster.proofs.OpeningTaken.{in_volume}
+use Rattle.hay_cluster.proofs.Seeing.{seen_at}
 
 -- LISTS
 
@@ -235,12 +237,18 @@ module _ {D P A : Type 0} (DiskTells : Type 0) (files : D → Files) (faults fus
   called_behind tells old store v before after is shape called m above =
       subst (λ (st : Open D P A). KeepsBehind st.settings v m (contents_in files st) (contents_in files (with_one store v after))) is (behind_in tells store v before after shape called m above)
 
--- what a change that was broken off leaves pending
-pub comes_to_pend : (v line : ℕ) (before after : PendingLines) → ChangePends v line before after → ComesToPend v before after
-comes_to_pend v line before after pends = (
-  pends.0,
-  (line, ap (λ (p : PendingLines). slice_get p.changes v) pends.1 ∙ slice_get-set before.changes v None (Some line) pends.0),
-)
+-- a change that was broken off is pending
+pub comes_to_pend : {D P A : Type 0} (old store : Open D P A) (v : ℕ) (before after : Volume D P) (tag : CoreTag) → store ≡ old → At store.volumes v before → IsBrokenOff tag before.unsure after.unsure
+    → ComesToPend v (store_seen old).volumes (store_seen (with_one store v after)).volumes
+comes_to_pend old store v before after tag is at broken = record {
+  before = volume_seen before;
+  after = volume_seen after;
+  was = seen_at old store is v before at;
+  is = map-at volume_seen (slice_set store.volumes v after) v after (slice_get-set store.volumes v before after at);
+  settled = broken.settled;
+  change = record { tag = tag; change = broken.change };
+  pends = broken.is;
+}
 
 -- PUTS AND DELETES
 
@@ -254,7 +262,7 @@ pub keeps-fewer : (settings : Settings) (Among : ℕ → Type 0) (old new : ℕ 
 keeps-fewer settings Among old new keeps slot file within among = keeps slot file within tt
 
 -- What a refusal leaves, by whether the change is pending.
-module _ (settings : Settings) (v : ℕ) (pending pending' : PendingLines) (old new : ℕ → Contents) (tag : CoreTag) (before after : Option Unsure)
+module _ (settings : Settings) (v : ℕ) (pending pending' : List VolumeSeen) (old new : ℕ → Contents) (tag : CoreTag) (before after : Option Unsure)
     (keeps : after ≡ before → KeepsIn settings AnySlot old new) (broke : IsBrokenOff tag before after → ComesToPend v pending pending') where
   abbrev Behind : LogicalFault → Type 0
   Behind fault = (m f : ℕ) → fault ≡ refusal.Failed m f → KeepsBehind settings v m old new
@@ -292,7 +300,7 @@ module _ (settings : Settings) (v : ℕ) (pending pending' : PendingLines) (old 
 
 -- THE REPLIES OF PUTS AND DELETES
 
-module _ (settings : Settings) (before after : PendingLines) (old new : ℕ → Contents) where
+module _ (settings : Settings) (before after : List VolumeSeen) (old new : ℕ → Contents) where
   pub put_leaves : (v : ℕ) (fault : LogicalFault) (said : Reply) → IsPutReply v fault said → KeepsIn settings (IsReplicaBeside settings v) old new → PutKeeps settings v before after old new fault
       → LeavesReplicas settings said before after old new
   put_leaves v (refusal.Failed m f) said is beside keeps = inl (v, inr (inl (m, f, is, keeps)), beside)
@@ -340,7 +348,7 @@ put_adds v refusal.Idle said is breaks = absurd breaks
 put_adds v (refusal.Damaged m at) said is breaks = absurd breaks
 
 -- a put that changed nothing
-pub nothing_put : (settings : Settings) (pair : Pair) (said : Reply) (before after : PendingLines) (old : ℕ → Contents) → LeavesByPut settings pair said before after old old
+pub nothing_put : (settings : Settings) (pair : Pair) (said : Reply) (before after : List VolumeSeen) (old : ℕ → Contents) → LeavesByPut settings pair said before after old old
 nothing_put settings pair said before after old = record { replicas = inr (keeps-all settings IsReplicaSlot old); rows = inr refl }
 
 -- WORK ON A REPLICA
@@ -407,7 +415,7 @@ module _ {D P A : Type 0} (files : D → Files) where
   leaves_reads Among old new leaves slot file among = ap (λ (o : Option D). option_map_or (λ disk. (files disk file).now) o []) (leaves slot among)
 
 -- A change of the Directory before a put changes no replica.
-module _ (settings : Settings) (before after : PendingLines) (old mid new : ℕ → Contents) (said : Reply) (first : (slot file : ℕ) → IsReplicaSlot slot → mid slot file ≡ old slot file) where
+module _ (settings : Settings) (before after : List VolumeSeen) (old mid new : ℕ → Contents) (said : Reply) (first : (slot file : ℕ) → IsReplicaSlot slot → mid slot file ≡ old slot file) where
   put_later : (v : ℕ) → MayPut said before after mid new settings v → MayPut said before after old new settings v
   put_later v (inl stored) = inl stored
   put_later v (inr (inl (m, f, is, behind))) =

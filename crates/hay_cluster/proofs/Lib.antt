@@ -1,9 +1,9 @@
 pub mod Answering
 pub mod Calls
 pub mod Changing
-pub mod Closures
 pub mod ClosingSlots
 pub mod ClosingStore
+pub mod Drained
 pub mod Finds
 pub mod Fitting
 pub mod Formatted
@@ -24,13 +24,14 @@ pub mod OpeningStore
 pub mod OpeningTaken
 pub mod OpeningVoid
 pub mod OpeningVolumes
-pub mod Pending
 pub mod Puts
+pub mod ReadSights
 pub mod Refusals
 pub mod Seeing
 pub mod SeenOpening
 pub mod SeenWork
 pub mod Settling
+pub mod Sighting
 pub mod Showing
 pub mod Standing
 pub mod Suiting

@@ -213,3 +213,15 @@ module _ {X D : Type 0} (f : D → ℕ) (g : X → List D) where
       behind (a ∷ front) back k =
           let e : length (a ∷ front) + k ≡ suc (length front + k) = omega arith in
           ap (λ z. slice_index (a ∷ (front ++ back)) z) e ∙ behind front back k
+
+-- ONE ITEM OF A LIST THAT IS MAPPED
+
+pub map-set : {A B : Type 0} (f : A → B) (xs : List A) (i : ℕ) (x : A) → map f (slice_set xs i x) ≡ slice_set (map f xs) i (f x)
+map-set f [] i x = refl
+map-set f (y ∷ xs) zero x = refl
+map-set f (y ∷ xs) (suc i) x = ap (λ zs. f y ∷ zs) (map-set f xs i x)
+
+pub map-at : {A B : Type 0} (f : A → B) (xs : List A) (i : ℕ) (x : A) → slice_get xs i ≡ Some x → slice_get (map f xs) i ≡ Some (f x)
+map-at f [] i x at = absurd cc
+map-at f (y ∷ xs) zero x at = let same : y ≡ x = cc in ap (λ z. Some (f z)) same
+map-at f (y ∷ xs) (suc i) x at = map-at f xs i x at

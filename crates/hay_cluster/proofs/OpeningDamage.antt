@@ -31,8 +31,8 @@ use Rattle.hay_cluster.specs.declared.fault.ClusterFault.{ClusterFault}
 use Rattle.hay_cluster.specs.declared.fault.ClusterFault.TheVariants.{Shelf, Failed, Damaged, NoMemory}
 use Rattle.hay_cluster.specs.Causes.{HasFaultCause}
 use Rattle.hay_cluster.specs.Faults.{not_opened}
-use Rattle.hay_cluster.specs.Opening.{Gathers, IsRefusedIn, MovesVolume, OpensDirectory, OpensParts, OpensVolume, RefusesDirectory, RefusesParts, StaysUndamaged}
-use Rattle.hay_cluster.specs.Outside.{IsDamagedDisk, IsFirstDamage, IsNotWhole, IsUndamaged, IsUndamagedBelow, IsVoid, read_of}
+use Rattle.hay_cluster.specs.Opening.{Gathers, IsRefusedIn, LeavesVolume, OpensDirectory, OpensParts, OpensVolume, RefusesDirectory, RefusesParts, StaysUndamaged}
+use Rattle.hay_cluster.specs.Outside.{AreSoundBelow, IsDamagedDisk, IsFirstDamage, IsNotWhole, IsUndamaged, IsUndamagedBelow, IsVoid, read_of}
 use Rattle.hay_cluster.specs.Store.{IsShaped, IsVolumeOf, Open, contents_in, disks_of}
 use Rattle.hay_cluster.proofs.ClosingStore.{contents_at, disks_many, order_item, order_self}
 use Rattle.hay_cluster.proofs.Lists.{AllZip-long}
@@ -137,11 +137,17 @@ undamaged_on settings end f g same none slot file at below some damaged =
     none slot file at below (λ void. some (ap (λ (contents : Contents). contents 0) (same slot below) ∙ void)) (subst (λ (contents : Contents). IsFirstDamage settings slot file at contents) (same slot below) damaged)
 
 -- the slot that a refusal tells of
-abbrev TellsSlot : ClusterFault → ℕ → Type 0
+abbrev pub TellsSlot : ClusterFault → ℕ → Type 0
 TellsSlot (Shelf count) slot = ⊥
 TellsSlot (Failed told count) slot = told ≡ slot
 TellsSlot (Damaged told file at) slot = told ≡ slot
 TellsSlot NoMemory slot = ⊥
+
+told_within : (settings : Settings) (before after : List ℕ) (fault : ClusterFault) (slot : ℕ) → HasFaultCause settings before after fault → TellsSlot fault slot → slot < disk_count settings
+told_within settings before after (Shelf count) slot cause told = absurd told
+told_within settings before after (Failed there count) slot cause told = subst (λ n. n < disk_count settings) told cause.0
+told_within settings before after (Damaged there file at) slot cause told = subst (λ n. n < disk_count settings) told cause
+told_within settings before after NoMemory slot cause told = absurd told
 
 told_here : (told slot : ℕ) (f : OpenFault) → TellsSlot (not_opened told f) slot → told ≡ slot
 told_here told slot (opening.Failed count) tells = tells
@@ -284,7 +290,7 @@ module _ {D P A : Type 0} (DiskTells : Type 0) (files : D → Files) (Tells : Ty
       → end ≤ disk_count old.settings → LowerStay old new end → IsUndamagedBelow old.settings end (contents_in files old)
   before_sound tells old new notes end shape m opened most stay =
       slots_sound old end shape most (opened.undamaged tells) (λ v j x r low at there file place.
-      let y = zip_get (MovesVolume DiskTells files Tells faults fuses) old.volumes new.volumes v x at m.volumes in
+      let y = zip_get (LeavesVolume DiskTells files Tells faults fuses) old.volumes new.volumes v x at m.volumes in
       let within = slice_get_within x.replicas j r there in
       let count : length (y.0).replicas ≡ length x.replicas = (y.2).counts.count in
       let r' = order_item (y.0).replicas j (let less : j < length (y.0).replicas = omega (arith, within, count) in less) in
@@ -299,9 +305,9 @@ module _ {D P A : Type 0} (DiskTells : Type 0) (files : D → Files) (Tells : Ty
       (λ some place damage. opened.undamaged_now tells place (subst (λ (s : Settings). IsDamagedJournal (journal_super s) (files (new.directory).disk 0).now place) m.directory.settings damage))
       (λ v j y r' low at' there' file place damage.
       let below = slice_get_within new.volumes v y at' in
-      let many : length new.volumes ≡ length old.volumes = sym (AllZip-long (MovesVolume DiskTells files Tells faults fuses) old.volumes new.volumes m.volumes) in
+      let many : length new.volumes ≡ length old.volumes = sym (AllZip-long (LeavesVolume DiskTells files Tells faults fuses) old.volumes new.volumes m.volumes) in
       let x = order_item old.volumes v (let less : v < length old.volumes = omega (arith, below, many) in less) in
-      let z = zip_get (MovesVolume DiskTells files Tells faults fuses) old.volumes new.volumes v x.0 x.1 m.volumes in
+      let z = zip_get (LeavesVolume DiskTells files Tells faults fuses) old.volumes new.volumes v x.0 x.1 m.volumes in
       let same : z.0 ≡ y = same_Some z.0 y (sym z.1 ∙ at') in
       let there : At (z.0).replicas j r' = subst (λ (w : Volume D P). At w.replicas j r') (sym same) there' in
       let within = slice_get_within (z.0).replicas j r' there in
@@ -327,15 +333,40 @@ module _ {D P A : Type 0} (DiskTells : Type 0) (files : D → Files) (Tells : Ty
             c.earlier tells j r r' same.1 (subst (λ (w : Volume D P). At w.replicas j r) was there) (subst (λ (w : Volume D P). At w.replicas j r') is there')
       ]
 
-  -- nothing in a lower slot than that of which a refusal tells was damaged, and nothing is now
+  -- no disk in a lower slot is void
+  lower_formatted : DiskTells → (old new : Open D P A) (notes : List Note) (end : ℕ) → IsShaped old → MovedParts DiskTells files Tells faults fuses arm_faults old new → OpensDirectory DiskTells files old.directory new.directory notes
+      → end ≤ disk_count old.settings → LowerStay old new end → (slot : ℕ) → slot < end → IsVoid (contents_in files new slot) → ⊥
+  lower_formatted tells old new notes end shape m opened most stay zero below void =
+      let some = opened.formatted tells in
+      let none : (files (new.directory).disk 0).now ≡ [] = ap (λ (contents : Contents). contents 0) (sym (contents_at files new 0 (new.directory).disk refl)) ∙ void in
+      let long = ap length none in
+      omega (arith, some, long)
+  lower_formatted tells old new notes end shape m opened most stay (suc n) below void =
+      let shape' = shape_moved DiskTells files Tells faults fuses arm_faults old new shape m in
+      let p = slot_found old.settings n (shape.built).some_replicas (let low : suc n < disk_count old.settings = omega (arith, below, most) in low) in
+      let x = order_item old.volumes p.0 (let many = shape.many in let volume = p.2 in let less : p.0 < length old.volumes = omega (arith, volume, many) in less) in
+      let y = zip_get (LeavesVolume DiskTells files Tells faults fuses) old.volumes new.volumes p.0 x.0 x.1 m.volumes in
+      let of = volume_of old p.0 x.0 shape x.1 in
+      let long : length (x.0).replicas ≡ (old.settings).replicas = of.all ∙ ap (λ (s : Settings). s.replicas) of.settings_are in
+      let count : length (y.0).replicas ≡ length (x.0).replicas = (y.2).counts.count in
+      let within = p.3 in
+      let r = order_item (x.0).replicas p.1 (let less : p.1 < length (x.0).replicas = omega (arith, within, long) in less) in
+      let r' = order_item (y.0).replicas p.1 (let less : p.1 < length (y.0).replicas = omega (arith, within, long, count) in less) in
+      let low : slot_of old.settings p.0 p.1 < end = subst (λ slot. slot < end) (sym p.4) below in
+      let here : slot_of new.settings p.0 p.1 ≡ suc n = ap (λ (s : Settings). slot_of s p.0 p.1) m.settings ∙ p.4 in
+      let stands : slice_get (disks_of new) (slot_of new.settings p.0 p.1) ≡ Some (r'.0).disk = in_volume (λ k disk. slice_get (disks_of new) k ≡ Some disk) new p.0 p.1 y.0 r'.0 shape' y.1 r'.1 (order_self (disks_of new)) in
+      (stay p.0 p.1 x.0 y.0 r.0 r'.0 low x.1 y.1 r.1 r'.1).2
+      (ap (λ (contents : Contents). contents 0) (sym (contents_at files new (suc n) (r'.0).disk (subst (λ k. slice_get (disks_of new) k ≡ Some (r'.0).disk) here stands))) ∙ void)
+
+  -- nothing in a lower slot than that of which a refusal tells was damaged, and no disk there is now damaged or void
   abbrev LowerSound : Open D P A → Open D P A → ℕ → Type 0
-  LowerSound old new slot = IsUndamagedBelow old.settings slot (contents_in files old) × IsUndamagedBelow old.settings slot (contents_in files new)
+  LowerSound old new slot = IsUndamagedBelow old.settings slot (contents_in files old) × AreSoundBelow old.settings slot (contents_in files new)
 
   lower_sound : DiskTells → (old new : Open D P A) (fault : ClusterFault) (slot : ℕ) → IsShaped old → MovedParts DiskTells files Tells faults fuses arm_faults old new
       → RefusesParts DiskTells files faults old.settings old.directory new.directory old.volumes new.volumes fault → TellsSlot fault slot → LowerSound old new slot
   lower_sound tells old new fault slot shape m (inl by) told =
       let zeroth = directory_first DiskTells files faults old.directory new.directory fault slot by told in
-      (none_below old.settings slot (contents_in files old) zeroth, none_below old.settings slot (contents_in files new) zeroth)
+      (none_below old.settings slot (contents_in files old) zeroth, record { formatted = λ n below. absurd (omega (arith, below, zeroth)); undamaged = none_below old.settings slot (contents_in files new) zeroth })
   lower_sound tells old new fault slot shape m (inr (notes, opened, inl memory)) told = absurd (subst (λ f. TellsSlot f slot) memory told)
   lower_sound tells old new fault slot shape m (inr (notes, opened, inr by)) told =
       let j = by.refused.refusal.replica in
@@ -348,7 +379,10 @@ module _ {D P A : Type 0} (DiskTells : Type 0) (files : D → Files) (Tells : Ty
       let inside = slot_within old.settings by.volume j volume (let less : j < (old.settings).replicas = omega (arith, within, many) in less) in
       let most : end ≤ disk_count old.settings = omega (arith, inside) in
       let stay = refused_stay tells old new fault shape by in
-      subst (λ n. LowerSound old new n) here (before_sound tells old new notes end shape m opened most stay, behind_sound tells old new notes end shape m opened most stay)
+      subst (λ n. LowerSound old new n) here (
+        before_sound tells old new notes end shape m opened most stay,
+        record { formatted = lower_formatted tells old new notes end shape m opened most stay; undamaged = behind_sound tells old new notes end shape m opened most stay },
+      )
 
   -- WHAT A RESTART NAMES
 
@@ -359,14 +393,13 @@ module _ {D P A : Type 0} (DiskTells : Type 0) (files : D → Files) (Tells : Ty
       let told : TellsSlot fault slot = subst (λ f. TellsSlot f slot) (sym is) refl in
       damaged_disk old.settings slot file at (contents_in files new)
       (subst (λ (t : Settings). NamesDamage t slot file at (contents_in files new slot)) s.settings (named_behind tells mid new fault shape m refused slot file at is))
-      (subst (λ (t : Settings). IsUndamagedBelow t slot (contents_in files new)) s.settings (lower_sound tells mid new fault slot shape m refused told).1)
+      (subst (λ (t : Settings). IsUndamagedBelow t slot (contents_in files new)) s.settings ((lower_sound tells mid new fault slot shape m refused told).1).undamaged)
 
-  pub restart_failed : DiskTells → (old mid new : Open D P A) (fault : ClusterFault) → IsShaped mid → StoppedParts DiskTells files Tells faults fuses arm_faults old mid → MovedParts DiskTells files Tells faults fuses arm_faults mid new
-      → RefusesParts DiskTells files faults mid.settings mid.directory new.directory mid.volumes new.volumes fault → (slot count : ℕ) → fault ≡ Failed slot count
-      → IsUndamagedBelow old.settings slot (contents_in files new)
-  restart_failed tells old mid new fault shape s m refused slot count is =
-      subst (λ (t : Settings). IsUndamagedBelow t slot (contents_in files new)) s.settings
-      (lower_sound tells mid new fault slot shape m refused (subst (λ f. TellsSlot f slot) (sym is) refl)).1
+  -- and those below are sound
+  pub restart_first : DiskTells → (old mid new : Open D P A) (fault : ClusterFault) → IsShaped mid → StoppedParts DiskTells files Tells faults fuses arm_faults old mid → MovedParts DiskTells files Tells faults fuses arm_faults mid new
+      → RefusesParts DiskTells files faults mid.settings mid.directory new.directory mid.volumes new.volumes fault → (slot : ℕ) → TellsSlot fault slot → AreSoundBelow old.settings slot (contents_in files new)
+  restart_first tells old mid new fault shape s m refused slot told =
+      subst (λ (t : Settings). AreSoundBelow t slot (contents_in files new)) s.settings (lower_sound tells mid new fault slot shape m refused told).1
 
   pub restart_sound : DiskTells → (old mid new : Open D P A) (notes : List Note) → IsShaped mid → StoppedParts DiskTells files Tells faults fuses arm_faults old mid → MovedParts DiskTells files Tells faults fuses arm_faults mid new
       → OpensParts DiskTells files Tells faults fuses mid.directory new.directory mid.volumes new.volumes notes → IsUndamaged old.settings (contents_in files new)
@@ -404,7 +437,7 @@ module _ {D P A : Type 0} (DiskTells : Type 0) (files : D → Files) (Tells : Ty
             (subst (λ (s : Settings). NamesDamage s slot file at (read_of (after slot))) same
             (subst (λ (contents : Contents). NamesDamage old.settings slot file at contents) (sym (back slot below)) behind))
             (undamaged_on settings slot (contents_in files new) (λ n. read_of (after n)) (λ n less. back n (let low : n < disk_count settings = omega (arith, less, below) in low))
-            (subst (λ (s : Settings). IsUndamagedBelow s slot (contents_in files new)) same lower.1)),
+            (subst (λ (s : Settings). IsUndamagedBelow s slot (contents_in files new)) same (lower.1).undamaged)),
       )
 
   pub opening_failed : DiskTells → (drawn : D → ℕ → ℕ) (sure : A → Bool) (disks : ℕ → HeldDisk) (arms : ℕ → HeldArm) (settings : Settings) (old new : Open D P A) (fault : ClusterFault) → old.settings ≡ settings
@@ -417,6 +450,21 @@ module _ {D P A : Type 0} (DiskTells : Type 0) (files : D → Files) (Tells : Ty
       subst (λ f. HasFaultCause old.settings (map faults (disks_of old)) (map faults (disks_of new)) f) is (opening_cause DiskTells files Tells faults fuses arm_faults old new fault t.shape m refused) in
       let within : slot < disk_count old.settings = cause.0 in
       subst (λ (s : Settings). IsUndamagedBelow s slot (λ n. read_of (disks n))) same (lower_taken tells drawn sure disks arms old t slot (let most : slot ≤ disk_count old.settings = omega (arith, within) in most) (lower_sound tells old new fault slot t.shape m refused told).0)
+
+  pub opening_first : DiskTells → (drawn : D → ℕ → ℕ) (sure : A → Bool) (disks after : ℕ → HeldDisk) (arms : ℕ → HeldArm) (settings : Settings) (old new : Open D P A) (fault : ClusterFault) → old.settings ≡ settings
+      → IsTaken DiskTells files Tells faults fuses arm_faults drawn sure disks arms old → MovedParts DiskTells files Tells faults fuses arm_faults old new
+      → ((slot : ℕ) → slot < disk_count settings → ◌≡◌ {A = Contents} (read_of (after slot)) (contents_in files new slot))
+      → RefusesParts DiskTells files faults old.settings old.directory new.directory old.volumes new.volumes fault → (slot : ℕ) → TellsSlot fault slot
+      → AreSoundBelow settings slot (λ n. read_of (after n))
+  opening_first tells drawn sure disks after arms settings old new fault same t m back refused slot told =
+      let within = subst (λ (s : Settings). slot < disk_count s) same
+      (told_within old.settings (map faults (disks_of old)) (map faults (disks_of new)) fault slot (opening_cause DiskTells files Tells faults fuses arm_faults old new fault t.shape m refused) told) in
+      let lower = subst (λ (s : Settings). AreSoundBelow s slot (contents_in files new)) same (lower_sound tells old new fault slot t.shape m refused told).1 in
+      let here = λ (n : ℕ) (less : n < slot). back n (let low : n < disk_count settings = omega (arith, less, within) in low) in
+      record {
+        formatted = λ n less void. lower.formatted n less (ap (λ (contents : Contents). contents 0) (sym (here n less)) ∙ void);
+        undamaged = undamaged_on settings slot (contents_in files new) (λ n. read_of (after n)) here lower.undamaged;
+      }
 
   -- WHAT AN OPENING THAT IS NOT REFUSED FOUND
 

@@ -33,7 +33,7 @@ use Rattle.hay_cluster.specs.declared.fault.ClusterFault.{ClusterFault}
 use Rattle.hay_cluster.specs.declared.fault.ClusterFault.TheVariants.{Shelf, Failed, Damaged, NoMemory}
 use Rattle.hay_cluster.specs.Causes.{HasFaultCause}
 use Rattle.hay_cluster.specs.Faults.{not_opened}
-use Rattle.hay_cluster.specs.Opening.{Gathers, IsLeft, MovesDirectory, MovesVolume, OpensParts, OpensVolume, RefusesDirectory, RefusesParts, StopsDirectory, StopsVolume}
+use Rattle.hay_cluster.specs.Opening.{Gathers, IsLeft, LeavesDirectory, LeavesVolume, OpensParts, OpensVolume, RefusesDirectory, RefusesParts, StopsDirectory, StopsVolume}
 use Rattle.hay_cluster.specs.State.{DirectoryHolds, Holds, LeftAt, Stands, VolumeHolds}
 use Rattle.hay_cluster.specs.Store.{IsBuilt, IsShaped, IsVolumeOf, Open, disks_of, volume_disks}
 use Rattle.hay_cluster.proofs.Lists.{AllZip-long}
@@ -117,7 +117,7 @@ module _ {D P : Type 0} (files : D → Files) (Tells : Type 0) where
 
 module _ {D P : Type 0} (DiskTells : Type 0) (files : D → Files) (Tells : Type 0) (faults fuses : D → ℕ) where
   pub left_each : DiskTells → (settings : Settings) (v : ℕ) (xs ys : List (Volume D P)) (ks : List VolumeKnown) → IsBuilt settings → v + length ys ≤ settings.volumes → InOrder (IsVolumeOf settings) v ys
-      → AllZip (MovesVolume DiskTells files Tells faults fuses) xs ys → AllZip (Stopped files) xs ks → AllZip (VolumeHolds files) ys ks
+      → AllZip (LeavesVolume DiskTells files Tells faults fuses) xs ys → AllZip (Stopped files) xs ks → AllZip (VolumeHolds files) ys ks
   left_each tells settings v [] [] [] built few order all stopped = tt
   left_each tells settings v [] [] (k ∷ ks) built few order all stopped = absurd stopped
   left_each tells settings v [] (y ∷ ys) ks built few order all stopped = absurd all
@@ -179,8 +179,8 @@ module _ {D P A : Type 0} (DiskTells : Type 0) (files : D → Files) (Tells : Ty
   pub record MovedParts (old new : Open D P A) : Type 0 where
     pub settings : new.settings ≡ old.settings
     pub arms : new.arms ≡ old.arms
-    pub directory : MovesDirectory DiskTells files faults fuses old.directory new.directory
-    pub volumes : AllZip (MovesVolume DiskTells files Tells faults fuses) old.volumes new.volumes
+    pub directory : LeavesDirectory DiskTells files faults fuses old.directory new.directory
+    pub volumes : AllZip (LeavesVolume DiskTells files Tells faults fuses) old.volumes new.volumes
 
   pub shape_stopped : (old new : Open D P A) → IsShaped old → StoppedParts old new → IsShaped new
   shape_stopped old new shape s = record {
@@ -195,7 +195,7 @@ module _ {D P A : Type 0} (DiskTells : Type 0) (files : D → Files) (Tells : Ty
   shape_moved old new shape m = record {
     built = subst (λ (t : Settings). IsBuilt t) (sym m.settings) shape.built;
     directory = m.directory.settings ∙ shape.directory ∙ sym m.settings;
-    many = sym (AllZip-long (MovesVolume DiskTells files Tells faults fuses) old.volumes new.volumes m.volumes) ∙ shape.many ∙ ap (λ (t : Settings). t.volumes) (sym m.settings);
+    many = sym (AllZip-long (LeavesVolume DiskTells files Tells faults fuses) old.volumes new.volumes m.volumes) ∙ shape.many ∙ ap (λ (t : Settings). t.volumes) (sym m.settings);
     volumes = subst (λ (t : Settings). InOrder (IsVolumeOf t) 0 new.volumes) (sym m.settings) (moved_shape DiskTells files Tells faults fuses old.settings 0 old.volumes new.volumes m.volumes shape.volumes);
     lanes = ap (λ (as' : List A). length as') m.arms ∙ shape.lanes;
   }

@@ -17,7 +17,7 @@ use Rattle.hay_logical.specs.Volumes.{IsClosed, Volume}
 use Rattle.hay_cluster.specs.declared.fault.ClusterFault.{ClusterFault}
 use Rattle.hay_cluster.specs.declared.fault.ClusterFault.TheVariants.{Shelf, Failed, Damaged, NoMemory}
 use Rattle.hay_cluster.specs.Causes.{HasFaultCause}
-use Rattle.hay_cluster.specs.Opening.{IsResting, MovesDirectory, MovesVolume, RefusesParts}
+use Rattle.hay_cluster.specs.Opening.{IsResting, LeavesDirectory, LeavesVolume, RefusesParts}
 use Rattle.hay_cluster.specs.Outside.{CountsOn, read_of}
 use Rattle.hay_cluster.specs.Store.{IsShaped, Open, contents_in, disk_of, disks_of, volume_disks}
 use Rattle.hay_cluster.proofs.ClosingStore.{contents_at, disks_many, index_of, order_flat, order_get, order_item, volumes_long}
@@ -84,13 +84,13 @@ module _ {D : Type 0} (DiskTells : Type 0) (files : D → Files) (faults fuses :
   copies_keep (r ∷ old) (r' ∷ new) many keeps =
       (keeps 0 r r' refl refl, copies_keep old new (let less : length new ≡ length old = omega (arith, many) in less) (λ j s s' at at'. keeps (suc j) s s' at at'))
 
-  directory_keeps : DiskTells → (d d' : directory.State D) → MovesDirectory DiskTells files faults fuses d d' → KeepsBytes files d.disk d'.disk
+  directory_keeps : DiskTells → (d d' : directory.State D) → LeavesDirectory DiskTells files faults fuses d d' → KeepsBytes files d.disk d'.disk
   directory_keeps tells d d' moves some n =
       let same : files d'.disk ≡ files d.disk = moves.same tells (some_of (files d.disk 0).now some) in
       (ap (λ (f : Files). (f n).now) same, λ solid. subst (λ (f : Files). IsSolid (f n)) (sym same) solid)
 
 module _ {D P A : Type 0} (DiskTells : Type 0) (files : D → Files) (Tells : Type 0) (faults fuses : D → ℕ) (arm_faults : A → ℕ) where
-  volumes_keep : DiskTells → (xs ys : List (Volume D P)) → AllZip (MovesVolume DiskTells files Tells faults fuses) xs ys → AllZip (KeepsBytes files) (flat_map volume_disks xs) (flat_map volume_disks ys)
+  volumes_keep : DiskTells → (xs ys : List (Volume D P)) → AllZip (LeavesVolume DiskTells files Tells faults fuses) xs ys → AllZip (KeepsBytes files) (flat_map volume_disks xs) (flat_map volume_disks ys)
   volumes_keep tells [] [] all = tt
   volumes_keep tells [] (y ∷ ys) all = absurd all
   volumes_keep tells (x ∷ xs) [] all = absurd all

@@ -15,7 +15,7 @@ use Rattle.hay_legal.specs.Stands.{Contents, Found, found_of}
 use Rattle.hay_legal.specs.Statuses.{FindsNothing}
 use Rattle.hay_directory.specs.Rows.{OpensRows}
 use Rattle.hay_logical.specs.Fits.{IsReplica, found_as, super_of}
-use Rattle.hay_cluster.specs.Opening.{MovesVolume, OpensParts}
+use Rattle.hay_cluster.specs.Opening.{LeavesVolume, OpensParts}
 use Rattle.hay_cluster.specs.Outside.{FormatsVoid, IsKept, KeepsContents, read_of}
 use Rattle.hay_cluster.specs.Store.{IsShaped, Open, contents_in, disks_of}
 use Rattle.hay_cluster.proofs.ClosingStore.{contents_at, order_get, order_item, order_self}
@@ -55,7 +55,7 @@ module _ {D P A : Type 0} (DiskTells : Type 0) (files : D → Files) (Tells : Ty
   replica_left tells old new shape m v j d d' volume replica at at' void image may sup s opens =
       let shape' = shape_moved DiskTells files Tells faults fuses arm_faults old new shape m in
       let x = order_item old.volumes v (let many = shape.many in let less : v < length old.volumes = omega (arith, volume, many) in less) in
-      let y = zip_get (MovesVolume DiskTells files Tells faults fuses) old.volumes new.volumes v x.0 x.1 m.volumes in
+      let y = zip_get (LeavesVolume DiskTells files Tells faults fuses) old.volumes new.volumes v x.0 x.1 m.volumes in
       let of = volume_of old v x.0 shape x.1 in
       let many : length (x.0).replicas ≡ (old.settings).replicas = of.all ∙ ap (λ (s : Settings). s.replicas) of.settings_are in
       let count : length (y.0).replicas ≡ length (x.0).replicas = (y.2).counts.count in

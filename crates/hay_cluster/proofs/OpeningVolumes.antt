@@ -24,7 +24,7 @@ use Rattle.hay_logical.proofs.Methods.{same_still, sups_on}
 use Rattle.hay_cluster.specs.declared.fault.ClusterFault.{ClusterFault}
 use Rattle.hay_cluster.specs.declared.fault.ClusterFault.TheVariants.{Damaged}
 use Rattle.hay_cluster.specs.Faults.{not_opened}
-use Rattle.hay_cluster.specs.Opening.{Gathers, MovesVolume, OpensVolume, RefusesVolume, RefusesVolumes, StopsVolume, VolumesReopened}
+use Rattle.hay_cluster.specs.Opening.{Gathers, LeavesVolume, OpensVolume, RefusesVolume, RefusesVolumes, StopsVolume, VolumesReopened}
 use Rattle.hay_cluster.specs.Store.{IsVolumeOf, volume_disks}
 use Rattle.hay_cluster.proofs.Moves.{copies_later, copies_same}
 use Rattle.hay_cluster.proofs.OpeningLists.{Gathered, at_set, each_later, each_same, gathered_break, gathered_done, gathered_was}
@@ -42,7 +42,7 @@ module _ {D P : Type 0} (files : D → Files) where
 
 module _ {D P : Type 0} (DiskTells : Type 0) (files : D → Files) (Tells : Type 0) (faults fuses : D → ℕ) where
   -- a closed volume that is left as it was
-  pub moves_still : (volume : Volume D P) → (DiskTells → IsIdleVolume files volume) → MovesVolume DiskTells files Tells faults fuses volume volume
+  pub moves_still : (volume : Volume D P) → (DiskTells → IsIdleVolume files volume) → LeavesVolume DiskTells files Tells faults fuses volume volume
   moves_still volume idle = record {
     same = same_still volume;
     counts = record {
@@ -56,11 +56,11 @@ module _ {D P : Type 0} (DiskTells : Type 0) (files : D → Files) (Tells : Type
 
   -- a volume behind a call that opened it, or that was refused
   pub moves_opened : (old new : Volume D P) (notes : List Note) → IsSame old new → KeepsCounts faults fuses old.replicas new.replicas → (DiskTells → (k : VolumeKnown) → Stopped files old k → IsReopened files Tells k notes new)
-      → (DiskTells → (j : ℕ) (r r' : Copy D) → At old.replicas j r → At new.replicas j r' → KeepsDisk files r r') → MovesVolume DiskTells files Tells faults fuses old new
+      → (DiskTells → (j : ℕ) (r r' : Copy D) → At old.replicas j r → At new.replicas j r' → KeepsDisk files r r') → LeavesVolume DiskTells files Tells faults fuses old new
   moves_opened old new notes same counts reopened kept = record { same = same; counts = counts; left = λ tells k stopped. inr (notes, reopened tells k stopped); kept = kept }
 
   pub moves_refused : (old new : Volume D P) → IsSame old new → KeepsCounts faults fuses old.replicas new.replicas → (DiskTells → (k : VolumeKnown) → Stopped files old k → Holds files new k)
-      → (DiskTells → (j : ℕ) (r r' : Copy D) → At old.replicas j r → At new.replicas j r' → KeepsDisk files r r') → MovesVolume DiskTells files Tells faults fuses old new
+      → (DiskTells → (j : ℕ) (r r' : Copy D) → At old.replicas j r → At new.replicas j r' → KeepsDisk files r r') → LeavesVolume DiskTells files Tells faults fuses old new
   moves_refused old new same counts left kept = record { same = same; counts = counts; left = λ tells k stopped. inl (left tells k stopped); kept = kept }
 
   -- the volume at which it ended
@@ -78,17 +78,17 @@ module _ {D P : Type 0} (DiskTells : Type 0) (files : D → Files) (Tells : Type
   })
 
   pub moved_at : (n : ℕ) (xs ys : List (Volume D P)) (all : List Note) (y z : Volume D P) → Gathered (OpensVolume DiskTells files Tells faults fuses) n xs ys all → At ys n y
-      → AllByRecursion (λ volume. DiskTells → IsIdleVolume files volume) xs → MovesVolume DiskTells files Tells faults fuses y z → AllZip (MovesVolume DiskTells files Tells faults fuses) xs (slice_set ys n z)
+      → AllByRecursion (λ volume. DiskTells → IsIdleVolume files volume) xs → LeavesVolume DiskTells files Tells faults fuses y z → AllZip (LeavesVolume DiskTells files Tells faults fuses) xs (slice_set ys n z)
   moved_at n xs ys all y z g at idle moves =
-      gathered_break (OpensVolume DiskTells files Tells faults fuses) (MovesVolume DiskTells files Tells faults fuses) (λ volume. DiskTells → IsIdleVolume files volume) n xs ys all y z (λ a b more r. r.moves) (λ a told. moves_still a told) idle g at moves
+      gathered_break (OpensVolume DiskTells files Tells faults fuses) (LeavesVolume DiskTells files Tells faults fuses) (λ volume. DiskTells → IsIdleVolume files volume) n xs ys all y z (λ a b more r. r.moves) (λ a told. moves_still a told) idle g at moves
 
   -- COUNTS
 
-  pub moved_later : (xs ys : List (Volume D P)) → AllZip (MovesVolume DiskTells files Tells faults fuses) xs ys → NoneFalls (map faults (flat_map volume_disks xs)) (map faults (flat_map volume_disks ys))
-  moved_later xs ys all = each_later faults volume_disks (MovesVolume DiskTells files Tells faults fuses) xs ys (λ x y m. copies_later faults x.replicas y.replicas m.counts.count m.counts.rises) all
+  pub moved_later : (xs ys : List (Volume D P)) → AllZip (LeavesVolume DiskTells files Tells faults fuses) xs ys → NoneFalls (map faults (flat_map volume_disks xs)) (map faults (flat_map volume_disks ys))
+  moved_later xs ys all = each_later faults volume_disks (LeavesVolume DiskTells files Tells faults fuses) xs ys (λ x y m. copies_later faults x.replicas y.replicas m.counts.count m.counts.rises) all
 
-  pub moved_fuses : (xs ys : List (Volume D P)) → AllZip (MovesVolume DiskTells files Tells faults fuses) xs ys → map fuses (flat_map volume_disks ys) ≡ map fuses (flat_map volume_disks xs)
-  moved_fuses xs ys all = each_same fuses volume_disks (MovesVolume DiskTells files Tells faults fuses) xs ys (λ x y m. copies_same fuses x.replicas y.replicas m.counts.count m.counts.stay) all
+  pub moved_fuses : (xs ys : List (Volume D P)) → AllZip (LeavesVolume DiskTells files Tells faults fuses) xs ys → map fuses (flat_map volume_disks ys) ≡ map fuses (flat_map volume_disks xs)
+  moved_fuses xs ys all = each_same fuses volume_disks (LeavesVolume DiskTells files Tells faults fuses) xs ys (λ x y m. copies_same fuses x.replicas y.replicas m.counts.count m.counts.stay) all
 
   pub stopped_faults : (xs ys : List (Volume D P)) → AllZip (StopsVolume DiskTells files Tells faults fuses) xs ys → map faults (flat_map volume_disks ys) ≡ map faults (flat_map volume_disks xs)
   stopped_faults xs ys all = each_same faults volume_disks (StopsVolume DiskTells files Tells faults fuses) xs ys (λ x y s. copies_same faults x.replicas y.replicas s.count (λ j r r' at at'. (s.counts j r r' at at').0)) all
@@ -98,7 +98,7 @@ module _ {D P : Type 0} (DiskTells : Type 0) (files : D → Files) (Tells : Type
 
   -- SHAPES
 
-  pub moved_shape : (settings : Settings) (v : ℕ) (xs ys : List (Volume D P)) → AllZip (MovesVolume DiskTells files Tells faults fuses) xs ys → InOrder (IsVolumeOf settings) v xs → InOrder (IsVolumeOf settings) v ys
+  pub moved_shape : (settings : Settings) (v : ℕ) (xs ys : List (Volume D P)) → AllZip (LeavesVolume DiskTells files Tells faults fuses) xs ys → InOrder (IsVolumeOf settings) v xs → InOrder (IsVolumeOf settings) v ys
   moved_shape settings v [] [] all order = tt
   moved_shape settings v [] (y ∷ ys) all order = absurd all
   moved_shape settings v (x ∷ xs) [] all order = absurd all

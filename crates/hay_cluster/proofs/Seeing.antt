@@ -18,7 +18,7 @@ use Rattle.hay_logical.specs.declared.fault.LogicalFault.{LogicalFault}
 use Rattle.hay_logical.specs.declared.fault.LogicalFault.TheVariants as refusal
 use Rattle.hay_logical.specs.Answers.{BreaksPutOff}
 use Rattle.hay_logical.specs.Fits.{At}
-use Rattle.hay_logical.specs.Seen.{DeleteRefusedSeen, FullSeen, PutRefusedSeen, RoomRefusedSeen, VolumeSeen, volume_seen}
+use Rattle.hay_logical.specs.Seen.{DeleteRefusedSeen, FullSeen, PutRefusedSeen, RoomRefusedSeen, StaysThawed, VolumeSeen, volume_seen}
 use Rattle.hay_logical.specs.Volumes.{Volume}
 use Rattle.hay_cluster.specs.Changes.{IsDeleteReply, IsReadOnly}
 use Rattle.hay_cluster.specs.Lacks.{lack_of}
@@ -26,9 +26,8 @@ use Rattle.hay_cluster.specs.Puts.{IsPutReply, IsRefusal, settle_reply}
 use Rattle.hay_cluster.specs.Seen.{AnswersDelete, AnswersPut, Closes, GetsHome, IsOpenAtHome, IsOpenTo, IsTaker, IsTurnedAside, Keeps, MovesDirectory, MovesVolume, NeedsHome, PutsAt, RefusesPhoto, StoreSeen, TakesPhotoAt, TurnsAside, home_seen, store_seen}
 use Rattle.hay_cluster.specs.Store.{Open}
 use Rattle.hay_cluster.proofs.Finds.{range-at}
-use Rattle.hay_cluster.proofs.Lists.{map-append, set-kept}
+use Rattle.hay_cluster.proofs.Lists.{map-append, map-at, map-set, set-kept}
 use Rattle.hay_cluster.proofs.Moves.{with_directory, with_one}
-use Rattle.hay_cluster.proofs.Pending.{map-at, map-set}
 
 -- NOTHING IS SEEN OTHERWISE
 
@@ -37,6 +36,20 @@ keeps_directory seen = record { homes = λ pair. refl; rows = refl; pending = re
 
 pub keeps_all : (seen : StoreSeen) → Keeps seen seen
 keeps_all seen = record { volumes = refl; moves = keeps_directory seen.directory }
+
+pub keeps_on : (old mid new : StoreSeen) → Keeps old mid → Keeps mid new → Keeps old new
+keeps_on old mid new first second = record {
+  volumes = second.volumes ∙ first.volumes;
+  moves = record {
+    homes = λ pair. second.moves.homes pair ∙ first.moves.homes pair;
+    rows = second.moves.rows ∙ first.moves.rows;
+    pending = second.moves.pending ∙ first.moves.pending;
+    drained = second.moves.drained ∙ first.moves.drained;
+  };
+}
+
+pub keeps_same : (old new : StoreSeen) → new ≡ old → Keeps old new
+keeps_same old new same = subst (λ (seen : StoreSeen). Keeps old seen) (sym same) (keeps_all old)
 
 -- CALLS OF ONE PART
 
@@ -75,6 +88,10 @@ module _ (v : ℕ) (old new : StoreSeen) where
       by : (m.after ≡ m.before) ⊎ Q m.before m.after → Keeps old new ⊎ MovesVolume v Q old new
       by (inl same) = inl (moves_none (record { before = m.before; after = m.after; was = m.was; volumes = m.volumes; directory = m.directory; moves = same }))
       by (inr moves) = inr (record { before = m.before; after = m.after; was = m.was; volumes = m.volumes; directory = m.directory; moves = moves })
+
+thawed_or : (before after : VolumeSeen) (Q : Type 0) → StaysThawed before after ⊎ Q → (after ≡ before) ⊎ Q
+thawed_or before after Q (inl still) = inl still.1
+thawed_or before after Q (inr q) = inr q
 
 -- WHAT A VOLUME REFUSES
 
@@ -144,7 +161,7 @@ module _ (settings : Settings) (tag : CoreTag) (pair : Pair) (size : ℕ) where
   pub unstored_seen : (v : ℕ) (fault : LogicalFault) (said : Reply) (old new : StoreSeen) → IsPutReply v fault said → BreaksPutOff fault
       → MovesVolume v (λ before after. PutRefusedSeen settings v tag size before after fault) old new → PutsAt settings tag size v said old new
   unstored_seen v (refusal.Failed m count) said old new told breaks moves = inr (inl (m, count, told, moves))
-  unstored_seen v refusal.NoMemory said old new told breaks moves = inr (inr (told, moves_perhaps v old new _ moves))
+  unstored_seen v refusal.NoMemory said old new told breaks moves = inr (inr (told, moves_perhaps v old new _ (moves_as v old new _ _ (λ before after. thawed_or before after _) moves)))
   unstored_seen v (refusal.ReadOnly m) said old new told breaks moves = absurd breaks
   unstored_seen v (refusal.Full m end need capacity) said old new told breaks moves = absurd breaks
   unstored_seen v (refusal.Gone front) said old new told breaks moves = absurd breaks
@@ -164,10 +181,12 @@ module _ (settings : Settings) (tag : CoreTag) (pair : Pair) (v : ℕ) where
     pub undeleted_seen : (fault : LogicalFault) → IsDeleteReply v rows fault said → MovesVolume v (λ before after. DeleteRefusedSeen tag pair before after fault) old new → AnswersDelete settings tag pair said old new
     undeleted_seen (refusal.Gone front) told moves =
         subst (λ (r : Reply). AnswersDelete settings tag pair r old new) (sym told)
-        (opens, moves_none v old new (moves_as v old new _ _ (λ before after both. both.0) moves), (moves.before, moves.was, moves.moves.1), count ∙ (moves.directory).rows)
-    undeleted_seen (refusal.Failed m count) told moves = subst (λ (r : Reply). AnswersDelete settings tag pair r old new) (sym told) (opens, moves_perhaps v old new _ moves)
-    undeleted_seen (refusal.Damaged m place) told moves = subst (λ (r : Reply). AnswersDelete settings tag pair r old new) (sym told) (opens, moves_none v old new moves)
-    undeleted_seen refusal.NoMemory told moves = subst (λ (r : Reply). AnswersDelete settings tag pair r old new) (sym told) (moves_none v old new moves)
+        (opens, moves_none v old new (moves_as v old new _ _ (λ before after both. (both.0).1) moves), (moves.before, moves.was, moves.moves.1), count ∙ (moves.directory).rows)
+    undeleted_seen (refusal.Failed m count) told moves = subst (λ (r : Reply). AnswersDelete settings tag pair r old new) (sym told) (opens, moves_perhaps v old new _ (moves_as v old new _ _ (λ before after. thawed_or before after _) moves))
+    undeleted_seen (refusal.Damaged m place) told moves =
+        subst (λ (r : Reply). AnswersDelete settings tag pair r old new) (sym told) (opens, moves_none v old new (moves_as v old new _ _ (λ before after still. still.1) moves))
+    undeleted_seen refusal.NoMemory told moves =
+        subst (λ (r : Reply). AnswersDelete settings tag pair r old new) (sym told) (moves_none v old new (moves_as v old new _ _ (λ before after still. still.1) moves))
     undeleted_seen (refusal.ReadOnly m) told moves = absurd (open_thawed settings old v m moves.before opens.1 moves.was moves.moves.1)
     undeleted_seen (refusal.Full m end need capacity) told moves = absurd told
     undeleted_seen (refusal.Busy m goal) told moves = absurd told

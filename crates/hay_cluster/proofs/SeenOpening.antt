@@ -1,29 +1,29 @@
 -- What is seen of a store in memory: laws of openings and restarts.
-use Rattle.std.proofs.Common.{◌≡◌, ℕ, ◌+◌, List, [], ◌∷◌, map, Option, refl, ap, subst, ◌∙◌}
+use Rattle.std.proofs.Common.{◌≡◌, ℕ, suc, ◌+◌, List, [], ◌∷◌, ◌++◌, map, Option, refl, ap, sym, subst, ◌∙◌, arith}
 use Rattle.std.proofs.lemmas.List.{length-map}
-use Rattle.std.specs.List.{AllByRecursion}
+use Rattle.std.specs.List.{AllByRecursion, AllZip}
 use Rattle.hay_needle.specs.declared.settings.Settings.{Settings}
 use Rattle.hay_disk.specs.Disk.{Files}
 use Rattle.hay_mount.specs.Mounts.{InOrder}
 use Rattle.hay_reply.specs.declared.Note.{Note}
+use Rattle.hay_reply.specs.Fits.{FitsNote}
+use Rattle.hay_directory.specs.declared.mode.Unsure.{Unsure as UnsureRow}
+use Rattle.hay_directory.specs.Notes.{notes_by}
+use Rattle.hay_directory.specs.Rows.{RowsWithin}
 use Rattle.hay_directory.specs.Seen.{directory_seen}
 use Rattle.hay_directory.specs.Seen as directory
-use Rattle.hay_logical.specs.Seen.{VolumeSeen, replica_seen, volume_seen}
+use Rattle.hay_logical.specs.declared.unsure.Unsure.{Unsure}
+use Rattle.hay_logical.specs.Fits.{At}
+use Rattle.hay_logical.specs.Notes.{NotesTell}
+use Rattle.hay_logical.specs.Seen.{replica_seen, volume_seen}
 use Rattle.hay_logical.specs.Volumes.{Volume}
-use Rattle.hay_cluster.specs.Opening.{Gathers, OpensParts, OpensVolume}
-use Rattle.hay_cluster.specs.Pending.{TellsChanges, TellsPending, line_of_change, pending_change, pending_of}
-use Rattle.hay_cluster.specs.Seen.{OpensSeen, OpensVolumeSeen, TellsSeen, store_seen}
+use Rattle.hay_logical.specs.Sights.{Sights, sights_of}
+use Rattle.hay_cluster.specs.Opening.{Gathers, OpensParts, OpensVolume, StopsVolume}
+use Rattle.hay_cluster.specs.Seen.{OpensSeen, OpensVolumeSeen, TellsSeen, TellsVolumes, places_of, store_seen}
 use Rattle.hay_cluster.specs.Store.{IsShaped, IsVolumeOf, Open}
-
--- RESTARTS
-
-lines_seen : {D P : Type 0} (volumes : List (Volume D P)) → map pending_change volumes ≡ map (λ (volume : VolumeSeen). line_of_change volume.unsure) (map volume_seen volumes)
-lines_seen [] = refl
-lines_seen (volume ∷ volumes) = ap (λ (lines : List (Option ℕ)). pending_change volume ∷ lines) (lines_seen volumes)
-
-pub tells_seen : {D P A : Type 0} (store : Open D P A) (notes : List Note) → TellsPending store.settings (pending_of store) notes → TellsSeen store.settings (store_seen store) notes
-tells_seen store notes (of_volumes, of_directory, told, changes, row) =
-    (of_volumes, of_directory, told, subst (λ (lines : List (Option ℕ)). TellsChanges store.settings 0 lines of_volumes) (lines_seen store.volumes) changes, row)
+use Rattle.hay_cluster.proofs.OpeningStore.{StoppedParts}
+use Rattle.hay_cluster.proofs.Showing.{all_append}
+use Rattle.hay_cluster.proofs.Sighting.{photos_at}
 
 -- OPENINGS
 
@@ -47,5 +47,60 @@ module _ {D P A : Type 0} (DiskTells : Type 0) (files : D → Files) (Tells : Ty
         volumes = subst (λ (s : Settings). AllByRecursion (OpensVolumeSeen s) (map volume_seen new.volumes)) same
             (opened_each DiskTells files Tells faults fuses new.settings 0 old.volumes new.volumes opens.of_volumes shape'.volumes opens.volumes);
         rows = seen.0;
-        directory = subst (λ (s : Settings). directory.OpenSeen s.machines seen.0 (directory_seen new.directory)) (shape.directory ∙ was) seen.1;
+        within = subst (λ (s : Settings). RowsWithin s.volumes seen.0) (shape'.directory ∙ same) seen.1;
+        directory = subst (λ (s : Settings). directory.OpenSeen s.machines seen.0 (directory_seen new.directory)) (shape.directory ∙ was) seen.2;
       }
+
+-- RESTARTS
+
+module _ {D P : Type 0} (DiskTells : Type 0) (files : D → Files) (Tells : Type 0) (faults fuses : D → ℕ) (settings : Settings) (places : ℕ → Sights) where
+  tells_each : (v : ℕ) (xs ys zs : List (Volume D P)) (notes : List Note) → InOrder (IsVolumeOf settings) v ys → AllZip (StopsVolume DiskTells files Tells faults fuses) xs ys
+      → Gathers (OpensVolume DiskTells files Tells faults fuses) ys zs notes → ((j : ℕ) (z : Volume D P) → At zs j z → places (v + j) ≡ sights_of z.rows)
+      → TellsVolumes settings v (map volume_seen xs) (map volume_seen zs) places notes
+  tells_each v [] [] [] notes order stops opens are = opens
+  tells_each v [] [] (z ∷ zs) notes order stops opens are = absurd opens
+  tells_each v [] (y ∷ ys) zs notes order stops opens are = absurd stops
+  tells_each v (x ∷ xs) [] zs notes order stops opens are = absurd stops
+  tells_each v (x ∷ xs) (y ∷ ys) [] notes order stops opens are = absurd opens
+  tells_each v (x ∷ xs) (y ∷ ys) (z ∷ zs) notes order stops opens are =
+      let here : places v ≡ sights_of z.rows = let e : v ≡ v + 0 = omega arith in ap places e ∙ are 0 z refl in
+      let of : NotesTell settings v x.unsure (places v) (volume_seen z).replicas opens.front =
+      subst (λ (seen : Sights). NotesTell settings v x.unsure seen (volume_seen z).replicas opens.front) (sym here)
+      (subst (λ (s : Settings). NotesTell s v x.unsure (sights_of z.rows) (volume_seen z).replicas opens.front) order.0.settings_are
+      (subst (λ n. NotesTell y.settings n x.unsure (sights_of z.rows) (volume_seen z).replicas opens.front) order.0.number
+      (subst (λ (u : Option Unsure). NotesTell y.settings y.number u (sights_of z.rows) (volume_seen z).replicas opens.front) stops.0.unsure opens.first.told))) in (
+        opens.front,
+        opens.behind,
+        opens.parts,
+        of,
+        tells_each (v + 1) xs ys zs opens.behind order.1 stops.1 opens.rest
+            (λ j w at. let e : v + 1 + j ≡ v + suc j = omega arith in ap places e ∙ are (suc j) w at),
+      )
+
+module _ {D P A : Type 0} (DiskTells : Type 0) (files : D → Files) (Tells : Type 0) (faults fuses : D → ℕ) (arm_faults : A → ℕ) where
+  -- the notes of a restart are of what was pending
+  pub tells_seen : (old mid new : Open D P A) (notes : List Note) → IsShaped mid → StoppedParts DiskTells files Tells faults fuses arm_faults old mid
+      → OpensParts DiskTells files Tells faults fuses mid.directory new.directory mid.volumes new.volumes notes → TellsSeen old.settings (store_seen old) (store_seen new) notes
+  tells_seen old mid new notes shape stopped opens = (
+    opens.of_volumes,
+    opens.told ∙ ap (λ (l : List Note). opens.of_volumes ++ l) ((opens.directory).told ∙ ap (λ (u : Option UnsureRow). notes_by u (directory_seen new.directory).homes) (stopped.directory).unsure),
+    subst (λ (s : Settings). TellsVolumes s 0 (map volume_seen old.volumes) (map volume_seen new.volumes) (places_of new.volumes) opens.of_volumes) stopped.settings
+        (tells_each DiskTells files Tells faults fuses mid.settings (places_of new.volumes) 0 old.volumes mid.volumes new.volumes opens.of_volumes shape.volumes stopped.volumes opens.volumes
+        (λ j z at. let e : 0 + j ≡ j = omega arith in ap (places_of new.volumes) e ∙ photos_at new new refl j z at)),
+  )
+
+-- NOTES
+
+module _ {D P : Type 0} (DiskTells : Type 0) (files : D → Files) (Tells : Type 0) (faults fuses : D → ℕ) where
+  fits_each : (ys zs : List (Volume D P)) (notes : List Note) → Gathers (OpensVolume DiskTells files Tells faults fuses) ys zs notes → AllByRecursion FitsNote notes
+  fits_each [] [] notes opens = subst (λ (l : List Note). AllByRecursion FitsNote l) (sym opens) tt
+  fits_each [] (z ∷ zs) notes opens = absurd opens
+  fits_each (y ∷ ys) [] notes opens = absurd opens
+  fits_each (y ∷ ys) (z ∷ zs) notes opens =
+      subst (λ (l : List Note). AllByRecursion FitsNote l) (sym opens.parts) (all_append FitsNote opens.front opens.behind opens.first.fits (fits_each ys zs opens.behind opens.rest))
+
+module _ {D P A : Type 0} (DiskTells : Type 0) (files : D → Files) (Tells : Type 0) (faults fuses : D → ℕ) where
+  pub opened_fit : (old new : Open D P A) (notes : List Note) → OpensParts DiskTells files Tells faults fuses old.directory new.directory old.volumes new.volumes notes → AllByRecursion FitsNote notes
+  opened_fit old new notes opens =
+      subst (λ (l : List Note). AllByRecursion FitsNote l) (sym opens.told)
+      (all_append FitsNote opens.of_volumes opens.of_directory (fits_each DiskTells files Tells faults fuses old.volumes new.volumes opens.of_volumes opens.volumes) opens.directory.fits)

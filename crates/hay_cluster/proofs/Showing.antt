@@ -159,7 +159,7 @@ module _ {D P A : Type 0} (files : D → Files) (Tells : Type 0) (faults fuses :
 
 -- PASSED REPLICAS
 
-all_append : {X : Type 0} (Q : X → Type 0) (xs ys : List X) → AllByRecursion Q xs → AllByRecursion Q ys → AllByRecursion Q (xs ++ ys)
+pub all_append : {X : Type 0} (Q : X → Type 0) (xs ys : List X) → AllByRecursion Q xs → AllByRecursion Q ys → AllByRecursion Q (xs ++ ys)
 all_append Q [] ys first rest = rest
 all_append Q (x ∷ xs) ys first rest = (first.0, all_append Q xs ys first.1 rest)
 
@@ -377,7 +377,7 @@ tried W settings lane v start before after causes j whole later passes =
 -- THE REPLICAS THAT WERE TRIED
 
 -- each is one of the volume's, and none is the next
-all_tried : (Q : ℕ → Type 0) (f : ℕ → ℕ) (n at : ℕ) → ((i : ℕ) → at ≤ i → i < at + n → Q (f i)) → (over : List PassedReplica) → map (λ p. p.replica) over ≡ map f (range_with_len at n) → AllByRecursion (λ p. Q p.replica) over
+pub all_tried : (Q : ℕ → Type 0) (f : ℕ → ℕ) (n at : ℕ) → ((i : ℕ) → at ≤ i → i < at + n → Q (f i)) → (over : List PassedReplica) → map (λ p. p.replica) over ≡ map f (range_with_len at n) → AllByRecursion (λ p. Q p.replica) over
 all_tried Q f n at each [] order = tt
 all_tried Q f zero at each (p ∷ over) order = absurd cc
 all_tried Q f (suc n) at each (p ∷ over) order =

@@ -12,12 +12,14 @@ use Rattle.hay_reply.specs.declared.Reply.{Reply}
 use Rattle.hay_reply.specs.declared.Reply.TheVariants as reply
 use Rattle.hay_legal.specs.Known.{CameUp, EachPair, disk_count, machine_of, replica_on, slot_of}
 use Rattle.hay_legal.specs.Plain.{ArmRises}
+use Rattle.hay_logical.specs.Seen.{SeesAt}
 use Rattle.hay_logical.specs.declared.fault.LogicalFault.{LogicalFault}
 use Rattle.hay_logical.specs.declared.fault.LogicalFault.TheVariants as refusal
 use Rattle.hay_cluster.specs.declared.fault.ClusterFault.{ClusterFault}
 use Rattle.hay_cluster.specs.declared.fault.ClusterFault.TheVariants as fault
 use Rattle.hay_cluster.specs.declared.maintenance.Maintenance.{Maintenance}
 use Rattle.hay_cluster.specs.declared.maintenance.Maintenance.TheVariants.{Flush, Begin, Step, Finish, Compact}
+use Rattle.hay_cluster.specs.Seen.{StoreSeen, VolumeAt}
 use Rattle.hay_cluster.specs.Suiting.{IsOn}
 
 -- The counts of the disks' faults by slot, and those of the arms' by lane.
@@ -89,6 +91,16 @@ HasFaultCause settings before after (fault.Failed slot count) =
     (slot < disk_count settings) × Rose (slice_index before slot) (slice_index after slot) × (count ≡ slice_index after slot)
 HasFaultCause settings before after (fault.Damaged slot file at) = slot < disk_count settings
 HasFaultCause settings before after fault.NoMemory = Unit {0}
+
+-- A compaction of volume v ended only where the count of its replica's disk rose.
+abbrev pub EndsByFaults : Settings → ℕ → StoreSeen → StoreSeen → List ℕ → List ℕ → Type 0
+EndsByFaults settings v old new before after =
+    (j goal : ℕ) → VolumeAt v (SeesAt j (λ r. r.goal ≡ Some goal)) old → VolumeAt v (SeesAt j (λ r. r.goal ≡ None)) new
+    → Rose (slice_index before (slot_of settings v j)) (slice_index after (slot_of settings v j))
+
+-- so it is of a delete
+abbrev pub EndsRuns : Settings → Reply → StoreSeen → StoreSeen → List ℕ → List ℕ → Type 0
+EndsRuns settings said old new before after = (v p d : ℕ) → said ≡ reply.Deleted v p d → EndsByFaults settings v old new before after
 
 -- HOW MANY FUSES WERE SET
 

@@ -1,5 +1,5 @@
 -- Which disks of a store a command leaves as they are.
-use Rattle.std.specs.Prelude.{◌≡◌, ◌≢◌, ◌⊎◌, ◌++◌, ◌∷◌, [], ℕ, ◌<◌, List, Some, slice_get}
+use Rattle.std.specs.Prelude.{◌≡◌, ◌≢◌, ◌⊎◌, ◌++◌, ◌∷◌, [], ℕ, ◌<◌, List, None, Some, slice_get}
 use Rattle.hay_needle.specs.declared.needle.Cookie.{Cookie}
 use Rattle.hay_needle.specs.declared.settings.Settings.{Settings}
 use Rattle.hay_script.specs.declared.Command.{Command}
@@ -11,7 +11,9 @@ use Rattle.hay_logical.specs.declared.fault.LogicalFault.TheVariants as refusal
 use Rattle.hay_needle.specs.declared.needle.Pair.{Pair}
 use Rattle.hay_legal.specs.declared.known.HomeRow.{HomeRow}
 use Rattle.hay_directory.specs.Rows.{OpensRows}
-use Rattle.hay_cluster.specs.Pending.{IsSettledAt, PendingLines}
+use Rattle.hay_logical.specs.Fits.{At}
+use Rattle.hay_logical.specs.Seen.{VolumeSeen}
+use Rattle.hay_logical.specs.declared.unsure.Unsure.{Unsure}
 use Rattle.hay_legal.specs.Known.{disk_count, replica_on, slot_of}
 use Rattle.hay_legal.specs.Stands.{Contents}
 
@@ -49,16 +51,22 @@ KeepsIn settings Among old new = (slot file : ℕ) → slot < disk_count setting
 
 -- CHANGES
 
--- nothing was pending in the volume, and something is now
-abbrev pub ComesToPend : ℕ → PendingLines → PendingLines → Type 0
-ComesToPend v before after = IsSettledAt v before × ((line : ℕ) × (slice_get after.changes v ≡ Some (Some line)))
+-- No change was pending in the volume, and one is now.
+pub record ComesToPend (v : ℕ) (old new : List VolumeSeen) : Type 0 where
+  pub before : VolumeSeen
+  pub after : VolumeSeen
+  pub was : At old v before
+  pub is : At new v after
+  pub settled : before.unsure ≡ None
+  pub change : Unsure
+  pub pends : after.unsure ≡ Some change
 
 -- Replicas of the volume have what they had that a change never reached: those behind the one on the machine that failed.
 abbrev pub KeepsBehind : Settings → ℕ → ℕ → (ℕ → Contents) → (ℕ → Contents) → Type 0
 KeepsBehind settings v m old new = (i j file : ℕ) → replica_on settings v m ≡ Some i → i < j → j < settings.replicas → new (slot_of settings v j) file ≡ old (slot_of settings v j) file
 
 -- A delete that volume v refused leaves every disk, unless one failed and it is pending: then those behind that one.
-abbrev pub DeleteKeeps : Settings → ℕ → PendingLines → PendingLines → (ℕ → Contents) → (ℕ → Contents) → LogicalFault → Type 0
+abbrev pub DeleteKeeps : Settings → ℕ → List VolumeSeen → List VolumeSeen → (ℕ → Contents) → (ℕ → Contents) → LogicalFault → Type 0
 DeleteKeeps settings v before after old new (refusal.Failed m f) =
     (ComesToPend v before after × KeepsBehind settings v m old new) ⊎ KeepsIn settings AnySlot old new
 DeleteKeeps settings v before after old new (refusal.ReadOnly m) = KeepsIn settings AnySlot old new
@@ -71,7 +79,7 @@ DeleteKeeps settings v before after old new (refusal.Damaged m at) = KeepsIn set
 DeleteKeeps settings v before after old new refusal.NoMemory = KeepsIn settings AnySlot old new
 
 -- A put leaves every disk where its volume is closed or lacks room, and where memory was wanting, unless it is pending.
-abbrev pub PutKeeps : Settings → ℕ → PendingLines → PendingLines → (ℕ → Contents) → (ℕ → Contents) → LogicalFault → Type 0
+abbrev pub PutKeeps : Settings → ℕ → List VolumeSeen → List VolumeSeen → (ℕ → Contents) → (ℕ → Contents) → LogicalFault → Type 0
 PutKeeps settings v before after old new (refusal.Failed m f) = KeepsBehind settings v m old new
 PutKeeps settings v before after old new refusal.NoMemory = ComesToPend v before after ⊎ KeepsIn settings AnySlot old new
 PutKeeps settings v before after old new (refusal.ReadOnly m) = KeepsIn settings AnySlot old new
@@ -92,14 +100,14 @@ AddsRow settings pair old new =
 
 -- A put changes the disks of the volume that stored its photo, or where it is pending now: then of no replica behind the one that
 -- failed.
-abbrev pub MayPut : Reply → PendingLines → PendingLines → (ℕ → Contents) → (ℕ → Contents) → Settings → ℕ → Type 0
+abbrev pub MayPut : Reply → List VolumeSeen → List VolumeSeen → (ℕ → Contents) → (ℕ → Contents) → Settings → ℕ → Type 0
 MayPut said before after old new settings v =
     ((p : ℕ) × (d : ℕ) × (c : Cookie) × (said ≡ reply.Stored v p d c))
     ⊎ ((m : ℕ) × (f : ℕ) × (said ≡ reply.Failed v m f) × KeepsBehind settings v m old new)
     ⊎ ((said ≡ reply.NoMem) × ComesToPend v before after)
 
 -- So does a delete.
-abbrev pub MayDelete : Reply → PendingLines → PendingLines → (ℕ → Contents) → (ℕ → Contents) → Settings → ℕ → Type 0
+abbrev pub MayDelete : Reply → List VolumeSeen → List VolumeSeen → (ℕ → Contents) → (ℕ → Contents) → Settings → ℕ → Type 0
 MayDelete said before after old new settings v =
     ((p : ℕ) × (d : ℕ) × (said ≡ reply.Deleted v p d))
     ⊎ ((m : ℕ) × (f : ℕ) × (said ≡ reply.Failed v m f) × ComesToPend v before after × KeepsBehind settings v m old new)
@@ -113,19 +121,31 @@ MayAddRow said =
     ⊎ (said ≡ reply.NoMem)
 
 -- of the replicas' disks a put changes those of one volume
-abbrev pub LeavesReplicas : Settings → Reply → PendingLines → PendingLines → (ℕ → Contents) → (ℕ → Contents) → Type 0
+abbrev pub LeavesReplicas : Settings → Reply → List VolumeSeen → List VolumeSeen → (ℕ → Contents) → (ℕ → Contents) → Type 0
 LeavesReplicas settings said before after old new =
     ((v : ℕ) × MayPut said before after old new settings v × KeepsIn settings (IsReplicaBeside settings v) old new) ⊎ KeepsIn settings IsReplicaSlot old new
 
-pub record LeavesByPut (settings : Settings) (pair : Pair) (said : Reply) (before after : PendingLines) (old new : ℕ → Contents) : Type 0 where
+pub record LeavesByPut (settings : Settings) (pair : Pair) (said : Reply) (before after : List VolumeSeen) (old new : ℕ → Contents) : Type 0 where
   pub replicas : LeavesReplicas settings said before after old new
   pub rows : (MayAddRow said × AddsRow settings pair (old 0) (new 0)) ⊎ (new 0 ≡ old 0)
 
-abbrev pub LeavesByDelete : Settings → Reply → PendingLines → PendingLines → (ℕ → Contents) → (ℕ → Contents) → Type 0
+abbrev pub LeavesByDelete : Settings → Reply → List VolumeSeen → List VolumeSeen → (ℕ → Contents) → (ℕ → Contents) → Type 0
 LeavesByDelete settings said before after old new =
     ((v : ℕ) × MayDelete said before after old new settings v × KeepsIn settings (IsBeside settings v) old new) ⊎ KeepsIn settings AnySlot old new
 
--- Work on a replica changes its disk alone, and only where it was done, failed, met a damaged needle or wanted memory.
+-- Work on a replica leaves every disk where it was refused before anything was done.
+abbrev pub WorkKeeps : Settings → (ℕ → Contents) → (ℕ → Contents) → LogicalFault → Type 0
+WorkKeeps settings old new (refusal.ReadOnly m) = KeepsIn settings AnySlot old new
+WorkKeeps settings old new (refusal.Busy m generation) = KeepsIn settings AnySlot old new
+WorkKeeps settings old new (refusal.Worn m) = KeepsIn settings AnySlot old new
+WorkKeeps settings old new refusal.Idle = KeepsIn settings AnySlot old new
+WorkKeeps settings old new (refusal.Failed m f) = Unit {0}
+WorkKeeps settings old new (refusal.Damaged m at) = Unit {0}
+WorkKeeps settings old new refusal.NoMemory = Unit {0}
+WorkKeeps settings old new (refusal.Full m end need capacity) = Unit {0}
+WorkKeeps settings old new (refusal.Gone front) = Unit {0}
+
+-- It changes its replica's disk alone, and only where it was done, failed, met a damaged needle or wanted memory.
 abbrev pub MayWork : Reply → Type 0
 MayWork said =
     ((v : ℕ) × (m : ℕ) × (n : ℕ) × ((said ≡ reply.Flushed v m n) ⊎ (said ≡ reply.Begun v m n) ⊎ (said ≡ reply.Stepped v m n) ⊎ (said ≡ reply.Compacted v m n)
@@ -137,7 +157,7 @@ LeavesByWork settings v m said old new = (MayWork said × KeepsIn settings (IsAp
 
 -- What reads give of the disks is changed by puts, deletes and work as their replies tell. Where there is no such replica, every disk
 -- stays; so it does with reads, drains and fuses.
-abbrev pub LeavesContents : Settings → Command → Reply → PendingLines → PendingLines → (ℕ → Contents) → (ℕ → Contents) → Type 0
+abbrev pub LeavesContents : Settings → Command → Reply → List VolumeSeen → List VolumeSeen → (ℕ → Contents) → (ℕ → Contents) → Type 0
 LeavesContents settings (asks.Put pair photo) said before after old new = LeavesByPut settings pair said before after old new
 LeavesContents settings (asks.Del pair) said before after old new = LeavesByDelete settings said before after old new
 LeavesContents settings (asks.Flush v m) said before after old new = LeavesByWork settings v m said old new

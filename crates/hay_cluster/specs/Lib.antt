@@ -1,6 +1,5 @@
 pub mod Causes
 pub mod Changes
-pub mod Closing
 pub mod Faults
 pub mod Lacks
 pub mod Leaving
@@ -8,10 +7,10 @@ pub mod Maintenance
 pub mod Opening
 pub mod Outside
 pub mod Parts
-pub mod Pending
 pub mod Puts
 pub mod Reads
 pub mod Seen
+pub mod Sights
 pub mod State
 pub mod Store
 pub mod Suiting

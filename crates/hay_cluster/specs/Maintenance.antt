@@ -1,5 +1,5 @@
 -- Flushes and compactions: how they are asked for, what they do to a replica, and how they are answered.
-use Rattle.std.specs.Prelude.{◌≡◌, ℕ, List, Option}
+use Rattle.std.specs.Prelude.{◌≡◌, ℕ, List}
 use Rattle.hay_needle.specs.declared.settings.Settings.{Settings}
 use Rattle.hay_disk.specs.Disk.{Files}
 use Rattle.hay_script.specs.declared.Command.{Command}
@@ -7,18 +7,14 @@ use Rattle.hay_script.specs.declared.Command.TheVariants as command
 use Rattle.hay_reply.specs.declared.Reply.{Reply}
 use Rattle.hay_reply.specs.declared.Reply.TheVariants as reply
 use Rattle.hay_legal.specs.declared.known.VolumeKnown.{VolumeKnown}
-use Rattle.hay_legal.specs.Stands.{Contents}
 use Rattle.hay_physical.specs.Copies.{Copy}
 use Rattle.hay_logical.specs.Answers.{BeginRefused, CompactRefused, FinishRefused, FlushRefused, IsBeginFault, IsBegun, IsCompactFault, IsCompacted, IsFinished, IsFlushFault, IsFlushed, IsRunFault, IsStepped, StepRefused}
 use Rattle.hay_logical.specs.declared.fault.LogicalFault.{LogicalFault}
 use Rattle.hay_logical.specs.declared.fault.LogicalFault.TheVariants.{Busy, Damaged, Failed, Full, Gone, Idle, NoMemory, ReadOnly, Worn}
-use Rattle.hay_logical.specs.Refusals.{FailureMayFreeze}
 use Rattle.hay_logical.specs.Volumes.{Volume}
 use Rattle.hay_cluster.specs.declared.maintenance.Maintenance.{Maintenance}
 use Rattle.hay_cluster.specs.declared.maintenance.Maintenance.TheVariants.{Flush, Begin, Step, Finish, Compact}
 use Rattle.hay_cluster.specs.Changes.{IsReadOnly}
-use Rattle.hay_cluster.specs.Closing.{Closures, FailureFroze}
-use Rattle.hay_cluster.specs.Leaving.{AnySlot, KeepsIn}
 
 -- the command that asks for it
 abbrev pub command_of : Maintenance → ℕ → ℕ → Command
@@ -51,34 +47,6 @@ IsReplicaFault faults settings Begin v j old new fault = IsBeginFault faults set
 IsReplicaFault faults settings (Step cells) v j old new fault = IsRunFault faults settings v j old new fault
 IsReplicaFault faults settings Finish v j old new fault = IsRunFault faults settings v j old new fault
 IsReplicaFault faults settings Compact v j old new fault = IsCompactFault faults settings v j old new fault
-
--- What it leaves the volume frozen by where it was refused: the end of a compaction alone may freeze it.
-abbrev pub WorkFreezes : Maintenance → Option ℕ → Option ℕ → LogicalFault → Type 0
-WorkFreezes Flush old new fault = new ≡ old
-WorkFreezes Begin old new fault = new ≡ old
-WorkFreezes (Step cells) old new fault = new ≡ old
-WorkFreezes Finish old new fault = FailureMayFreeze old new fault
-WorkFreezes Compact old new fault = FailureMayFreeze old new fault
-
--- So it is of the store.
-abbrev pub WorkFroze : Maintenance → ℕ → Closures → Closures → LogicalFault → Type 0
-WorkFroze Flush v before after fault = after ≡ before
-WorkFroze Begin v before after fault = after ≡ before
-WorkFroze (Step cells) v before after fault = after ≡ before
-WorkFroze Finish v before after fault = FailureFroze v before after fault
-WorkFroze Compact v before after fault = FailureFroze v before after fault
-
--- It leaves every disk where it was refused before anything was done.
-abbrev pub WorkKeeps : Settings → (ℕ → Contents) → (ℕ → Contents) → LogicalFault → Type 0
-WorkKeeps settings old new (ReadOnly m) = KeepsIn settings AnySlot old new
-WorkKeeps settings old new (Busy m generation) = KeepsIn settings AnySlot old new
-WorkKeeps settings old new (Worn m) = KeepsIn settings AnySlot old new
-WorkKeeps settings old new Idle = KeepsIn settings AnySlot old new
-WorkKeeps settings old new (Failed m f) = Unit {0}
-WorkKeeps settings old new (Damaged m at) = Unit {0}
-WorkKeeps settings old new NoMemory = Unit {0}
-WorkKeeps settings old new (Full m end need capacity) = Unit {0}
-WorkKeeps settings old new (Gone front) = Unit {0}
 
 -- how it is answered on volume v and machine m, done with this number
 abbrev pub done_as : ℕ → ℕ → Maintenance → ℕ → Reply

@@ -13,9 +13,8 @@ use Rattle.hay_legal.specs.declared.known.HomeRow.{HomeRow}
 use Rattle.hay_legal.specs.declared.known.VolumeKnown.{VolumeKnown}
 use Rattle.hay_legal.specs.Known.{slot_of}
 use Rattle.hay_legal.specs.Restarts.{ReopenedVolumes, directory_with, kept_row, row_notes, volume_notes}
-use Rattle.hay_directory.specs.declared.mode.Mode.TheVariants as mode
-use Rattle.hay_directory.specs.Notes as noting
-use Rattle.hay_directory.specs.Rows.{OpensRows, journal_super}
+use Rattle.hay_directory.specs.Notes.{notes_by}
+use Rattle.hay_directory.specs.Rows.{OpensRows, RowsWithin, journal_super}
 use Rattle.hay_directory.specs.Seen.{directory_seen}
 use Rattle.hay_directory.specs.Seen as open_seen
 use Rattle.hay_directory.specs.State.{State}
@@ -26,6 +25,7 @@ use Rattle.hay_logical.specs.Answers.{IsReopened}
 use Rattle.hay_logical.specs.Fits.{At}
 use Rattle.hay_logical.specs.Notes.{NotesTell}
 use Rattle.hay_logical.specs.Seen.{OpenSeen, volume_seen}
+use Rattle.hay_logical.specs.Sights.{sights_of}
 use Rattle.hay_logical.specs.Stands.{IsFirst, IsIdleVolume, Stopped}
 use Rattle.hay_logical.specs.Stands as logical
 use Rattle.hay_logical.specs.Steps.{IsRefusedAt, KeepsDisk}
@@ -58,32 +58,31 @@ abbrev pub IsLeft : {D P : Type 0} → (D → Files) → Type 0 → VolumeKnown 
 IsLeft files Tells k volume = logical.Holds files volume k ⊎ ((notes : List Note) × IsReopened files Tells k notes volume)
 
 -- what any opening does to a volume, refused or not
-pub record MovesVolume {D P : Type 0} (DiskTells : Type 0) (files : D → Files) (Tells : Type 0) (faults fuses : D → ℕ) (old new : Volume D P) : Type 0 where
+pub record LeavesVolume {D P : Type 0} (DiskTells : Type 0) (files : D → Files) (Tells : Type 0) (faults fuses : D → ℕ) (old new : Volume D P) : Type 0 where
   pub same : IsSame old new
   pub counts : KeepsCounts faults fuses old.replicas new.replicas
   pub left : DiskTells → (k : VolumeKnown) → Stopped files old k → IsLeft files Tells k new
   pub kept : DiskTells → (j : ℕ) (r r' : Copy D) → At old.replicas j r → At new.replicas j r' → KeepsDisk files r r'
 
--- a replica was not damaged, and is not as it now is
+-- a replica was not damaged; as it now is it is neither damaged nor void
 abbrev pub StaysUndamaged : {D : Type 0} → (D → Files) → Copy D → Copy D → Type 0
 StaysUndamaged files r r' =
     ((file at : ℕ) → IsOpeningDamage r.sup (contents_of files r.disk) file at → ⊥)
     × ((file at : ℕ) → IsOpeningDamage r.sup (contents_of files r'.disk) file at → ⊥)
+    × (contents_of files r'.disk 0 ≡ [] → ⊥)
 
 abbrev pub EachStaysUndamaged : {D P : Type 0} → (D → Files) → Volume D P → Volume D P → Type 0
 EachStaysUndamaged {D} files old new = (j : ℕ) (r r' : Copy D) → At old.replicas j r → At new.replicas j r' → StaysUndamaged files r r'
 
 -- the volume was opened, with these notes
 pub record OpensVolume {D P : Type 0} (DiskTells : Type 0) (files : D → Files) (Tells : Type 0) (faults fuses : D → ℕ) (old new : Volume D P) (notes : List Note) : Type 0 where
-  pub moves : MovesVolume DiskTells files Tells faults fuses old new
+  pub moves : LeavesVolume DiskTells files Tells faults fuses old new
   pub up : IsOpenVolume new
   pub first : DiskTells → (k : VolumeKnown) → IsFirst files old k → (notes ≡ []) × logical.Stands files Tells new k
   pub reopened : DiskTells → (k : VolumeKnown) → Stopped files old k → IsReopened files Tells k notes new
   pub undamaged : DiskTells → EachStaysUndamaged files old new
-  pub told : NotesTell old.settings old.number old.unsure notes
+  pub told : NotesTell old.settings old.number old.unsure (sights_of new.rows) (volume_seen new).replicas notes
   pub fits : AllByRecursion FitsNote notes
-  pub settled : new.unsure ≡ None
-  pub thawed : new.frozen ≡ None
   pub seen : OpenSeen (volume_seen new)
   pub formatted : DiskTells → (j : ℕ) (r : Copy D) → At new.replicas j r → contents_of files r.disk 0 ≡ [] → ⊥
 
@@ -154,7 +153,7 @@ pub record StopsDirectory {D : Type 0} (DiskTells : Type 0) (files : D → Files
   pub unsure : directory.unsure_of new.mode ≡ directory.unsure_of old.mode
 
 -- what any opening does to the Directory, refused or not
-pub record MovesDirectory {D : Type 0} (DiskTells : Type 0) (files : D → Files) (faults fuses : D → ℕ) (old new : State D) : Type 0 where
+pub record LeavesDirectory {D : Type 0} (DiskTells : Type 0) (files : D → Files) (faults fuses : D → ℕ) (old new : State D) : Type 0 where
   pub settings : new.settings ≡ old.settings
   pub later : faults old.disk ≤ faults new.disk
   pub fuses_stay : fuses new.disk ≡ fuses old.disk
@@ -173,11 +172,10 @@ pub record OpensDirectory {D : Type 0} (DiskTells : Type 0) (files : D → Files
       × directory.Stands files new (directory_with (known.rows ++ kept_row known.pending kept)) (replicate (old.settings).machines false)
   pub undamaged : DiskTells → 0 < length (files old.disk 0).now → (at : ℕ) → IsDamagedJournal (journal_super old.settings) (files old.disk 0).now at → ⊥
   pub undamaged_now : DiskTells → (at : ℕ) → IsDamagedJournal (journal_super old.settings) (files new.disk 0).now at → ⊥
-  pub told : noting.NotesTell (directory.unsure_of old.mode) notes
+  pub formatted : DiskTells → 0 < length (files new.disk 0).now
+  pub told : notes ≡ notes_by (directory.unsure_of old.mode) (directory.home_of new)
   pub fits : AllByRecursion FitsNote notes
-  pub serves : new.mode ≡ mode.Open
-  pub undrained : new.drained ≡ replicate (old.settings).machines false
-  pub seen : (rows : List HomeRow) × open_seen.OpenSeen (old.settings).machines rows (directory_seen new)
+  pub seen : (rows : List HomeRow) × RowsWithin (new.settings).volumes rows × open_seen.OpenSeen (old.settings).machines rows (directory_seen new)
 
 -- why the Directory was not opened
 abbrev pub RefusesDirectory : {D : Type 0} → Type 0 → (D → Files) → (D → ℕ) → State D → State D → ClusterFault → Type 0

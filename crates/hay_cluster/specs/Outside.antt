@@ -70,6 +70,11 @@ abbrev pub IsUndamagedBelow : Settings → ℕ → (ℕ → Contents) → Type 0
 IsUndamagedBelow settings end contents =
     (slot file at : ℕ) → slot < end → (IsVoid (contents slot) → ⊥) → IsFirstDamage settings slot file at (contents slot) → ⊥
 
+-- The disks in lower slots are formatted, and nothing that an opening reads of them is damaged.
+pub record AreSoundBelow (settings : Settings) (end : ℕ) (contents : ℕ → Contents) : Type 0 where
+  pub formatted : (slot : ℕ) → slot < end → IsVoid (contents slot) → ⊥
+  pub undamaged : IsUndamagedBelow settings end contents
+
 -- Of the disk in this slot, which is neither void nor of these settings, this is the first place that is not of the format.
 -- It is the lowest such slot.
 pub record IsDamagedDisk (settings : Settings) (contents : ℕ → Contents) (slot file at : ℕ) : Type 0 where

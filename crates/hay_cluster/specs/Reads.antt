@@ -33,6 +33,9 @@ use Rattle.hay_reader.specs.declared.seat.ReadReply.TheVariants as read
 use Rattle.hay_cluster.specs.declared.reading.Found.{Found}
 use Rattle.hay_cluster.specs.declared.reading.Found.TheVariants as found
 use Rattle.hay_cluster.specs.Causes.{Counts, IsNoArm, RoseIn}
+use Rattle.hay_logical.specs.Sights.{Sight}
+use Rattle.hay_logical.specs.Sights.Sight.{Live, Unseen}
+use Rattle.hay_cluster.specs.Sights.{IsAbsent, MayStand}
 use Rattle.hay_cluster.specs.State.{Stands}
 use Rattle.hay_cluster.specs.Store.{Open, disks_of}
 
@@ -169,6 +172,21 @@ IsSightCause (fault.Gone front) cause = ⊥
 IsSightCause (fault.Busy m generation) cause = ⊥
 IsSightCause (fault.Worn m) cause = ⊥
 IsSightCause fault.Idle cause = ⊥
+
+-- what a read found of a pair that is seen so on each replica: none was passed over that has no photo
+abbrev pub ReadSees : (ℕ → Sight) → ReadReply → Type 0
+ReadSees seen (read.Photo j) = seen j ≡ Live
+ReadSees seen (read.Gone j) = IsAbsent (seen j)
+ReadSees seen (read.WrongCookie j) = seen j ≡ Live
+ReadSees seen (read.Unseen j causes) = (seen j ≡ Unseen) × AllByRecursion (λ over. MayStand (seen over.replica)) causes
+ReadSees seen (read.Unreadable causes) = AllByRecursion (λ over. MayStand (seen over.replica)) causes
+
+abbrev pub FoundSees : (ℕ → Sight) → Found → Type 0
+FoundSees seen (found.Photo j) = seen j ≡ Live
+FoundSees seen (found.Gone j) = IsAbsent (seen j)
+FoundSees seen (found.WrongCookie j) = seen j ≡ Live
+FoundSees seen (found.Unreadable causes) = AllByRecursion (λ over. MayStand (seen over.replica)) causes
+FoundSees seen found.NoMemory = Unit {0}
 
 -- OUTCOMES
 

@@ -1,6 +1,7 @@
 -- What is seen of a store in memory, whatever its disks tell: how each command is answered by it, and how it changes that.
-use Rattle.std.specs.Prelude.{◌≡◌, ◌⊎◌, ◌<◌, ℕ, Bool, true, false, List, ◌∷◌, ◌++◌, [], length, map, slice_index_or, slice_set, Option, None, Some}
+use Rattle.std.specs.Prelude.{◌≡◌, ◌⊎◌, ◌<◌, ◌+◌, ℕ, Bool, true, false, List, ◌∷◌, ◌++◌, [], length, map, slice_get, slice_index_or, slice_set, Option, None, Some}
 use Rattle.std.specs.List.{AllByRecursion, AllZip}
+use Rattle.std.specs.Option.{option_map_or}
 use Rattle.hay_needle.specs.declared.needle.Cookie.{Cookie}
 use Rattle.hay_needle.specs.declared.needle.Pair.{Pair}
 use Rattle.hay_needle.specs.declared.settings.Settings.{Settings}
@@ -15,28 +16,41 @@ use Rattle.hay_core.specs.declared.entry.CoreTag.{CoreTag}
 use Rattle.hay_legal.specs.declared.known.HomeRow.{HomeRow}
 use Rattle.hay_legal.specs.Known.{all_tries, machine_of, replica_on, tries_by}
 use Rattle.hay_legal.specs.Plain.{as_closed}
+use Rattle.hay_directory.specs.Notes.{notes_by}
+use Rattle.hay_directory.specs.Rows.{RowsWithin}
 use Rattle.hay_directory.specs.Seen.{DirectorySeen, KeepsSeen, SettleRefusedSeen, SettleSeen, directory_seen}
 use Rattle.hay_directory.specs.Seen as directory
 use Rattle.hay_directory.specs.declared.fault.DirFault.TheVariants as settling
 use Rattle.hay_logical.specs.declared.fault.LogicalFault.{LogicalFault}
-use Rattle.hay_logical.specs.declared.fault.LogicalFault.TheVariants as refusal
 use Rattle.hay_logical.specs.declared.unsure.Change.TheVariants.{Delete}
 use Rattle.hay_logical.specs.Fits.{At}
-use Rattle.hay_logical.specs.Seen.{BeginRefusedSeen, BeginSeen, BreaksPutSeen, CompactRefusedSeen, CompactSeen, FinishRefusedSeen, FinishSeen, FlushRefusedSeen, FlushSeen, FreezesSeen, FullSeen, HideSeen, OpenSeen, RoomSeen, StepRefusedSeen, StepSeen, StoreSeen as PhotoSeen, VolumeSeen, volume_seen}
+use Rattle.hay_logical.specs.Notes.{NotesTell}
+use Rattle.hay_logical.specs.Seen.{BeginRefusedSeen, BeginSeen, BreaksPutSeen, CompactRefusedSeen, CompactSeen, FinishRefusedSeen, FinishSeen, FlushRefusedSeen, FlushSeen, FreezesSeen, FullSeen, HideSeen, OpenSeen, RoomSeen, StepRefusedSeen, StepSeen, PutSeen, VolumeSeen, volume_seen}
+use Rattle.hay_logical.specs.Sights.{Sights, sights_of}
+use Rattle.hay_logical.specs.Sights.Sight.{Never}
+use Rattle.hay_logical.specs.Volumes.{Volume}
 use Rattle.hay_cluster.specs.declared.maintenance.Maintenance.{Maintenance}
 use Rattle.hay_cluster.specs.declared.maintenance.Maintenance.TheVariants as work
 use Rattle.hay_cluster.specs.Maintenance.{IsRefusedAs, done_as}
-use Rattle.hay_cluster.specs.Pending.{PendingLines, TellsPending, line_of_change, line_of_row}
 use Rattle.hay_cluster.specs.Store.{Open}
 use Rattle.hay_cluster.specs.Suiting.{Refuses}
 
--- of each volume, and of the Directory
+-- no photo was ever seen
+abbrev pub no_sights : Sights
+no_sights pair replica = Never
+
+-- what is seen of the photos of the volume with this number; of one that there is not, none ever was
+abbrev pub places_of : {D P : Type 0} → List (Volume D P) → ℕ → Sights
+places_of {D} {P} volumes v = option_map_or (λ (volume : Volume D P). sights_of volume.rows) (slice_get volumes v) no_sights
+
+-- of each volume, and of the Directory; and of the photos by volume
 pub record StoreSeen : Type 0 where
   pub volumes : List VolumeSeen
   pub directory : DirectorySeen
+  pub places : ℕ → Sights
 
 abbrev pub store_seen : {D P A : Type 0} → Open D P A → StoreSeen
-store_seen store = record { volumes = map volume_seen store.volumes; directory = directory_seen store.directory }
+store_seen store = record { volumes = map volume_seen store.volumes; directory = directory_seen store.directory; places = places_of store.volumes }
 
 -- there is volume v, and it is seen so
 abbrev pub VolumeAt : ℕ → (VolumeSeen → Type 0) → StoreSeen → Type 0
@@ -65,8 +79,8 @@ abbrev pub home_seen : StoreSeen → Pair → Option ℕ
 home_seen seen pair = (seen.directory).homes pair
 
 -- the pair has this home, and there are so many rows
-abbrev pub IsAtHome : StoreSeen → Pair → ℕ → ℕ → Type 0
-IsAtHome seen pair v rows = (home_seen seen pair ≡ Some v) × (rows ≡ (seen.directory).rows)
+abbrev pub HasHome : StoreSeen → Pair → ℕ → ℕ → Type 0
+HasHome seen pair v rows = (home_seen seen pair ≡ Some v) × (rows ≡ (seen.directory).rows)
 
 -- WHAT CLOSES A VOLUME TO CHANGES
 
@@ -140,13 +154,13 @@ WantsAt settings tag v old new = Keeps old new ⊎ MovesVolume v (BreaksPutSeen 
 -- What a put that came to volume v does there: it stored the photo, or failed, or wanted memory.
 abbrev pub PutsAt : Settings → CoreTag → ℕ → ℕ → Reply → StoreSeen → StoreSeen → Type 0
 PutsAt settings tag size v said old new =
-    ((p : ℕ) × (d : ℕ) × (c : Cookie) × (said ≡ reply.Stored v p d c) × MovesVolume v (PhotoSeen size p) old new × (d ≡ (new.directory).rows))
+    ((p : ℕ) × (d : ℕ) × (c : Cookie) × (said ≡ reply.Stored v p d c) × MovesVolume v (PutSeen size p) old new × (d ≡ (new.directory).rows))
     ⊎ ((m : ℕ) × (n : ℕ) × (said ≡ reply.Failed v m n) × MovesVolume v (BreaksPutSeen tag m) old new)
     ⊎ ((said ≡ reply.NoMem) × WantsAt settings tag v old new)
 
 abbrev pub AnswersPut : Settings → CoreTag → Pair → ℕ → Reply → StoreSeen → StoreSeen → Type 0
 AnswersPut settings tag pair size (reply.Stored v p d c) old new =
-    ((mid : StoreSeen) × GetsHome settings pair size v old mid × MovesVolume v (PhotoSeen size p) mid new) × (d ≡ (new.directory).rows)
+    ((mid : StoreSeen) × GetsHome settings pair size v old mid × MovesVolume v (PutSeen size p) mid new) × (d ≡ (new.directory).rows)
 AnswersPut settings tag pair size (reply.Full tries) old new = Keeps old new × IsTurnedAside settings old pair size tries
 AnswersPut settings tag pair size (reply.ReadOnly tries) old new = Keeps old new × IsTurnedAside settings old pair size (map as_closed tries)
 AnswersPut settings tag pair size reply.ReadOnlyDir old new =
@@ -229,18 +243,18 @@ AnswersDelete settings tag pair reply.Unbuilt old new = ⊥
 -- READS AND URLS, which change nothing
 
 -- it is told of the pair's home, as of so many changes and rows
-abbrev pub IsShown : StoreSeen → Pair → ℕ → ℕ → ℕ → Type 0
-IsShown seen pair v front rows = IsAtHome seen pair v rows × VolumeAt v (λ volume. front ≡ volume.front) seen
+abbrev pub TellsHome : StoreSeen → Pair → ℕ → ℕ → ℕ → Type 0
+TellsHome seen pair v front rows = HasHome seen pair v rows × VolumeAt v (λ volume. front ≡ volume.front) seen
 
 -- What a read, a get and a URL of a pair tell.
 abbrev pub Shows : StoreSeen → Pair → Reply → Type 0
-Shows seen pair (reply.Photo v m f d photo) = IsShown seen pair v f d
-Shows seen pair (reply.Gone v m f d) = IsShown seen pair v f d
-Shows seen pair (reply.WrongCookie v m f d) = IsShown seen pair v f d
-Shows seen pair (reply.Unreadable v f d causes) = IsShown seen pair v f d
+Shows seen pair (reply.Photo v m f d photo) = TellsHome seen pair v f d
+Shows seen pair (reply.Gone v m f d) = TellsHome seen pair v f d
+Shows seen pair (reply.WrongCookie v m f d) = TellsHome seen pair v f d
+Shows seen pair (reply.Unreadable v f d causes) = TellsHome seen pair v f d
 Shows seen pair (reply.Unknown d) = (home_seen seen pair ≡ None) × (d ≡ (seen.directory).rows)
-Shows seen pair (reply.Moved v d) = IsAtHome seen pair v d
-Shows seen pair (reply.Url d url) = IsAtHome seen pair url.volume d
+Shows seen pair (reply.Moved v d) = HasHome seen pair v d
+Shows seen pair (reply.Url d url) = HasHome seen pair url.volume d
 Shows seen pair reply.Nowhere = Unit {0}
 Shows seen pair reply.NoMem = Unit {0}
 Shows seen pair (reply.Stored v p d c) = ⊥
@@ -273,22 +287,18 @@ AnswersRead pair said old new = Keeps old new × Shows old pair said
 -- WORK ON A REPLICA
 
 abbrev pub WorkSeen : Maintenance → ℕ → ℕ → VolumeSeen → VolumeSeen → Type 0
-WorkSeen work.Flush at number old new = FlushSeen at old new
+WorkSeen work.Flush at number old new = FlushSeen at number old new
 WorkSeen work.Begin at number old new = BeginSeen at number old new
 WorkSeen (work.Step cells) at number old new = StepSeen at cells number old new
 WorkSeen work.Finish at number old new = (end : ℕ) × FinishSeen at number end old new
 WorkSeen work.Compact at number old new = (end : ℕ) × CompactSeen at number end old new
 
-abbrev pub RefusesWork : Settings → Maintenance → ℕ → ℕ → LogicalFault → VolumeSeen → VolumeSeen → Type 0
-RefusesWork settings work.Flush v at fault old new = FlushRefusedSeen settings v at old new fault
-RefusesWork settings work.Begin v at fault old new = BeginRefusedSeen settings v at old new fault
-RefusesWork settings (work.Step cells) v at fault old new = StepRefusedSeen settings v at old new fault
-RefusesWork settings work.Finish v at fault old new = FinishRefusedSeen settings v at old new fault
-RefusesWork settings work.Compact v at fault old new = CompactRefusedSeen settings v at old new fault
-
--- A volume that is frozen refuses so, by the machine that has frozen it, and no otherwise.
 abbrev pub WorkRefusedSeen : Settings → Maintenance → ℕ → ℕ → LogicalFault → VolumeSeen → VolumeSeen → Type 0
-WorkRefusedSeen settings asked v at fault old new = RefusesWork settings asked v at fault old new × ((m : ℕ) → old.frozen ≡ Some m → fault ≡ refusal.ReadOnly m)
+WorkRefusedSeen settings work.Flush v at fault old new = FlushRefusedSeen settings v at old new fault
+WorkRefusedSeen settings work.Begin v at fault old new = BeginRefusedSeen settings v at old new fault
+WorkRefusedSeen settings (work.Step cells) v at fault old new = StepRefusedSeen settings v at old new fault
+WorkRefusedSeen settings work.Finish v at fault old new = FinishRefusedSeen settings v at old new fault
+WorkRefusedSeen settings work.Compact v at fault old new = CompactRefusedSeen settings v at old new fault
 
 -- It was done on the volume's replica there, or refused; or there is none.
 abbrev pub AnswersWork : Settings → Maintenance → ℕ → ℕ → Reply → StoreSeen → StoreSeen → Type 0
@@ -330,19 +340,28 @@ Answers settings tag (asks.Restart pick) said old new = ⊥
 abbrev pub OpensVolumeSeen : Settings → VolumeSeen → Type 0
 OpensVolumeSeen settings volume = OpenSeen volume × (length volume.replicas ≡ settings.replicas)
 
--- Nothing is pending or closed, no compaction stands, and no volume was changed yet.
+-- Nothing is pending or closed, no compaction stands, and no volume was changed yet. Each row is of a volume that there is.
 pub record OpensSeen (settings : Settings) (seen : StoreSeen) : Type 0 where
   pub many : length seen.volumes ≡ settings.volumes
   pub volumes : AllByRecursion (OpensVolumeSeen settings) seen.volumes
   pub rows : List HomeRow
+  pub within : RowsWithin settings.volumes rows
   pub directory : directory.OpenSeen settings.machines rows seen.directory
 
 -- RESTARTS
 
--- which lines left a change or a row pending
-abbrev pub pending_seen : StoreSeen → PendingLines
-pending_seen seen = record { changes = map (λ (volume : VolumeSeen). line_of_change volume.unsure) seen.volumes; row = line_of_row (seen.directory).pending }
+-- Each volume where a change was pending has a note for each replica, which says whether the replica has it now, and another volume has
+-- none: those of volume v come first.
+abbrev pub TellsVolumes : Settings → ℕ → List VolumeSeen → List VolumeSeen → (ℕ → Sights) → List Note → Type 0
+TellsVolumes settings v [] [] places notes = notes ≡ []
+TellsVolumes settings v [] (new ∷ news) places notes = ⊥
+TellsVolumes settings v (old ∷ olds) [] places notes = ⊥
+TellsVolumes settings v (old ∷ olds) (new ∷ news) places notes =
+    (first : List Note) × (rest : List Note) × (notes ≡ first ++ rest) × NotesTell settings v old.unsure (places v) new.replicas first
+    × TellsVolumes settings (v + 1) olds news places rest
 
--- A restart tells of all that was pending.
-abbrev pub TellsSeen : Settings → StoreSeen → List Note → Type 0
-TellsSeen settings seen notes = TellsPending settings (pending_seen seen) notes
+-- A restart tells of all that was pending, and at last of the row, which was kept where its pair has a home now.
+abbrev pub TellsSeen : Settings → StoreSeen → StoreSeen → List Note → Type 0
+TellsSeen settings before after notes =
+    (of_volumes : List Note) × (notes ≡ of_volumes ++ notes_by (before.directory).pending (after.directory).homes)
+    × TellsVolumes settings 0 before.volumes after.volumes after.places of_volumes

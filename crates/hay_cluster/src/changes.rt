@@ -5,12 +5,11 @@ ghost use Rattle.hay_core.specs.declared.entry.CoreTag.{CoreTag};
 ghost use Rattle.hay_reply.specs.Fits.{FitsReply};
 ghost use Rattle.hay_legal.specs.declared.known.Known.{Known};
 ghost use Rattle.hay_legal.specs.Known.{NoneFalls};
-ghost use Rattle.hay_cluster.specs.Causes.{IsCaused, RefusesDelete, SetsFuse, SetsFuseOn};
+ghost use Rattle.hay_cluster.specs.Causes.{EndsRuns, IsCaused, RefusesDelete, SetsFuse, SetsFuseOn};
 ghost use Rattle.hay_cluster.specs.Changes.{IsDeleteReply, IsReadOnly};
-ghost use Rattle.hay_cluster.specs.Closing.{Drains, FailureMayClose, MetByChange, closures_of};
 ghost use Rattle.hay_cluster.specs.Leaving.{AnySlot, KeepsIn, LeavesByDelete};
-ghost use Rattle.hay_cluster.specs.Pending.{LeavesDelete, pending_of};
 ghost use Rattle.hay_cluster.specs.Seen.{AnswersDelete, AnswersDrain, AnswersRead, Keeps, store_seen};
+ghost use Rattle.hay_cluster.specs.Sights.{DeleteSights, KeepsPhotos, told_by};
 ghost use Rattle.hay_cluster.specs.State.{Answered, Stands};
 ghost use Rattle.hay_cluster.specs.Store.{IsUp, contents_in, disks_of};
 ghost use Rattle.hay_cluster.specs.Suiting.{Suits};
@@ -41,12 +40,11 @@ impl<D: Disk, A: Arm<D::Piece>> Cluster<D, A> {
         ensures fits { FitsReply result }
         ensures counts { NoneFalls (map D.fault_count (disks_of self.old)) (map D.fault_count (disks_of self.new)) }
         ensures fuses { map D.fuse_count (disks_of self.new) ≡ map D.fuse_count (disks_of self.old) }
-        ensures contents { D.Tells → LeavesByDelete self.old.settings result (pending_of self.old) (pending_of self.new) (contents_in D.files self.old) (contents_in D.files self.new) }
+        ensures contents { D.Tells → LeavesByDelete self.old.settings result (store_seen self.old).volumes (store_seen self.new).volumes (contents_in D.files self.old) (contents_in D.files self.new) }
         ensures arms { self.new.arms ≡ self.old.arms }
-        ensures pending { LeavesDelete tag.line result (pending_of self.old) (pending_of self.new) }
-        ensures met { MetByChange self.old.settings (closures_of self.old) (pending_of self.old) result }
-        ensures closures { FailureMayClose result (closures_of self.old) (closures_of self.new) }
         ensures seen { AnswersDelete self.old.settings tag pair result (store_seen self.old) (store_seen self.new) }
+        ensures sights { DeleteSights self.old.settings pair (told_by result) (store_seen self.old) (store_seen self.new) }
+        ensures ended { EndsRuns self.old.settings result (store_seen self.old) (store_seen self.new) (map D.fault_count (disks_of self.old)) (map D.fault_count (disks_of self.new)) }
         ensures settings { self.new.settings ≡ self.old.settings }
         ensures up { IsUp self.new }
     {
@@ -81,9 +79,8 @@ impl<D: Disk, A: Arm<D::Piece>> Cluster<D, A> {
         ensures fuses { map D.fuse_count (disks_of self.new) ≡ map D.fuse_count (disks_of self.old) }
         ensures disks { disks_of self.new ≡ disks_of self.old }
         ensures arms { self.new.arms ≡ self.old.arms }
-        ensures pending { pending_of self.new ≡ pending_of self.old }
-        ensures closures { closures_of self.new ≡ closures_of self.old }
         ensures seen { AnswersRead pair result (store_seen self.old) (store_seen self.new) }
+        ensures sights { KeepsPhotos (store_seen self.old) (store_seen self.new) }
         ensures settings { self.new.settings ≡ self.old.settings }
         ensures up { IsUp self.new }
     {
@@ -117,9 +114,8 @@ impl<D: Disk, A: Arm<D::Piece>> Cluster<D, A> {
         ensures fuses { map D.fuse_count (disks_of self.new) ≡ map D.fuse_count (disks_of self.old) }
         ensures disks { disks_of self.new ≡ disks_of self.old }
         ensures arms { self.new.arms ≡ self.old.arms }
-        ensures pending { pending_of self.new ≡ pending_of self.old }
-        ensures closures { Drains machine true (Reply.Drained machine) result (closures_of self.old) (closures_of self.new) }
         ensures seen { AnswersDrain machine true (Reply.Drained machine) result (store_seen self.old) (store_seen self.new) }
+        ensures sights { KeepsPhotos (store_seen self.old) (store_seen self.new) }
         ensures settings { self.new.settings ≡ self.old.settings }
         ensures up { IsUp self.new }
     {
@@ -144,9 +140,8 @@ impl<D: Disk, A: Arm<D::Piece>> Cluster<D, A> {
         ensures fuses { map D.fuse_count (disks_of self.new) ≡ map D.fuse_count (disks_of self.old) }
         ensures disks { disks_of self.new ≡ disks_of self.old }
         ensures arms { self.new.arms ≡ self.old.arms }
-        ensures pending { pending_of self.new ≡ pending_of self.old }
-        ensures closures { Drains machine false (Reply.Undrained machine) result (closures_of self.old) (closures_of self.new) }
         ensures seen { AnswersDrain machine false (Reply.Undrained machine) result (store_seen self.old) (store_seen self.new) }
+        ensures sights { KeepsPhotos (store_seen self.old) (store_seen self.new) }
         ensures settings { self.new.settings ≡ self.old.settings }
         ensures up { IsUp self.new }
     {
@@ -171,9 +166,8 @@ impl<D: Disk, A: Arm<D::Piece>> Cluster<D, A> {
         ensures fuses { SetsFuseOn self.old.settings volume machine (map D.fuse_count (disks_of self.old)) (map D.fuse_count (disks_of self.new)) }
         ensures contents { D.Tells → KeepsIn self.old.settings AnySlot (contents_in D.files self.old) (contents_in D.files self.new) }
         ensures arms { self.new.arms ≡ self.old.arms }
-        ensures pending { pending_of self.new ≡ pending_of self.old }
-        ensures closures { closures_of self.new ≡ closures_of self.old }
         ensures seen { Keeps (store_seen self.old) (store_seen self.new) }
+        ensures sights { KeepsPhotos (store_seen self.old) (store_seen self.new) }
         ensures settings { self.new.settings ≡ self.old.settings }
         ensures up { IsUp self.new }
     {
@@ -202,9 +196,8 @@ impl<D: Disk, A: Arm<D::Piece>> Cluster<D, A> {
         ensures fuses { SetsFuse 0 (map D.fuse_count (disks_of self.old)) (map D.fuse_count (disks_of self.new)) }
         ensures contents { D.Tells → KeepsIn self.old.settings AnySlot (contents_in D.files self.old) (contents_in D.files self.new) }
         ensures arms { self.new.arms ≡ self.old.arms }
-        ensures pending { pending_of self.new ≡ pending_of self.old }
-        ensures closures { closures_of self.new ≡ closures_of self.old }
         ensures seen { Keeps (store_seen self.old) (store_seen self.new) }
+        ensures sights { KeepsPhotos (store_seen self.old) (store_seen self.new) }
         ensures settings { self.new.settings ≡ self.old.settings }
         ensures up { IsUp self.new }
     {

@@ -4,9 +4,7 @@ ghost use Rattle.hay_legal.specs.declared.known.Known.{Known};
 ghost use Rattle.hay_legal.specs.Known as known;
 ghost use Rattle.hay_reply.specs.Fits.{FitsRefused};
 ghost use Rattle.hay_directory.specs.State as directory;
-ghost use Rattle.hay_cluster.specs.Closing.{Closes, IsOpenTo, IsRefusedAs, closures_of};
 ghost use Rattle.hay_cluster.specs.Lacks as lacks;
-ghost use Rattle.hay_cluster.specs.Pending.{pending_of};
 ghost use Rattle.hay_cluster.specs.Puts.{TakesPhoto};
 ghost use Rattle.hay_cluster.specs.Seen as seen;
 ghost use Rattle.hay_cluster.specs.Seen.{RefusesPhoto, TakesPhotoAt, home_seen, store_seen};
@@ -67,10 +65,8 @@ impl<D: Disk, A: Arm<D::Piece>> Cluster<D, A> {
         requires volume { volume < self.now.settings.volumes }
         ensures known { D.Tells → (k : Known) → Stands D.files D.Piece.Tells D.fault_count D.fuse_count A.fault_count self.now k → result ≡ known.closed self.now.settings k volume }
         ensures on { IfSome result (IsOn self.now.settings volume) }
-        ensures opens { IfNone result (IsOpenTo self.now.settings (closures_of self.now) (pending_of self.now) volume) }
-        ensures closes { IfSome result (Closes self.now.settings (closures_of self.now) (pending_of self.now) volume) }
-        ensures opens_seen { IfNone result (seen.IsOpenTo self.now.settings (store_seen self.now) volume) }
-        ensures closes_seen { IfSome result (seen.Closes self.now.settings (store_seen self.now) volume) }
+        ensures opens { IfNone result (seen.IsOpenTo self.now.settings (store_seen self.now) volume) }
+        ensures closes { IfSome result (seen.Closes self.now.settings (store_seen self.now) volume) }
     {
         match self.volumes.as_slice()[volume as usize].frozen() {
             Some(machine) => Some(machine),
@@ -84,9 +80,7 @@ impl<D: Disk, A: Arm<D::Piece>> Cluster<D, A> {
         requires up { IsUp self.now }
         ensures known { D.Tells → (k : Known) → Stands D.files D.Piece.Tells D.fault_count D.fuse_count A.fault_count self.now k → result ≡ known.refusal_of self.now.settings k size volume }
         ensures takes { IfNone result (TakesPhoto self.now volume size) }
-        ensures opens { IfNone result (IsOpenTo self.now.settings (closures_of self.now) (pending_of self.now) volume) }
         ensures refuses { IfSome result (Refuses self.now.settings volume) }
-        ensures met { IfSome result (IsRefusedAs self.now.settings (closures_of self.now) (pending_of self.now)) }
         ensures takes_seen { IfNone result (TakesPhotoAt self.now.settings (store_seen self.now) size volume) }
         ensures refuses_seen { IfSome result (RefusesPhoto self.now.settings (store_seen self.now) size volume) }
         ensures fits { IfSome result FitsRefused }

@@ -4,11 +4,10 @@ ghost use Rattle.hay_legal.specs.declared.known.Known.{Known};
 ghost use Rattle.hay_legal.specs.Known.{NoneFalls};
 ghost use Rattle.hay_script.specs.Script.{IsWithin};
 ghost use Rattle.hay_reply.specs.Fits.{FitsReply};
-ghost use Rattle.hay_cluster.specs.Causes.{BlamesNoArm, IsCaused, LeavesFuses, StaySure};
-ghost use Rattle.hay_cluster.specs.Closing.{LeavesClosures, MetClosures, closures_of};
+ghost use Rattle.hay_cluster.specs.Causes.{BlamesNoArm, EndsRuns, IsCaused, LeavesFuses, StaySure};
 ghost use Rattle.hay_cluster.specs.Leaving.{LeavesContents};
-ghost use Rattle.hay_cluster.specs.Pending.{LeavesPending, pending_of};
 ghost use Rattle.hay_cluster.specs.Seen.{Answers, store_seen};
+ghost use Rattle.hay_cluster.specs.Sights.{LeavesSights};
 ghost use Rattle.hay_cluster.specs.State.{Answered, Stands};
 ghost use Rattle.hay_cluster.specs.Store.{IsUp, contents_in, disks_of};
 ghost use Rattle.hay_cluster.specs.Suiting.{Suits};
@@ -79,15 +78,14 @@ impl<D: Disk, A: Arm<D::Piece>> Cluster<D, A> {
         // A fuse is set by its command alone, on the disk that it names.
         ensures fuses { LeavesFuses self.old.settings command.now (map D.fuse_count (disks_of self.old)) (map D.fuse_count (disks_of self.new)) }
         // What reads give of the disks is changed as the reply tells, and by work on a replica on its disk alone.
-        ensures contents { D.Tells → LeavesContents self.old.settings command.now result (pending_of self.old) (pending_of self.new) (contents_in D.files self.old) (contents_in D.files self.new) }
+        ensures contents { D.Tells → LeavesContents self.old.settings command.now result (store_seen self.old).volumes (store_seen self.new).volumes (contents_in D.files self.old) (contents_in D.files self.new) }
         ensures arm_counts { NoneFalls (map A.fault_count self.old.arms) (map A.fault_count self.new.arms) }
-        // A change or a row is pending only where its own line failed, or wanted memory.
-        ensures pending { LeavesPending self.old.settings tag.line command.now result (pending_of self.old) (pending_of self.new) }
-        // What a reply tells of closed volumes is so, and it is left as the reply tells.
-        ensures met { MetClosures self.old.settings command.now (closures_of self.old) (pending_of self.old) result }
-        ensures closures { LeavesClosures self.old.settings command.now result (closures_of self.old) (closures_of self.new) }
         // What it tells of what is seen in memory is so, whatever the disks tell, and what is seen is changed as it tells.
         ensures seen { Answers self.old.settings tag command.now result (store_seen self.old) (store_seen self.new) }
+        // So it is with the photos.
+        ensures sights { LeavesSights self.old.settings command.now result (store_seen self.old) (store_seen self.new) }
+        // A delete ends a compaction only where the count of its replica's disk rose in this call.
+        ensures ended { EndsRuns self.old.settings result (store_seen self.old) (store_seen self.new) (map D.fault_count (disks_of self.old)) (map D.fault_count (disks_of self.new)) }
         ensures settings { self.new.settings ≡ self.old.settings }
         ensures up { IsUp self.new }
     {

@@ -1,5 +1,5 @@
 //! Flushes and compactions: work on one replica of a volume, which changes no photo.
-ghost use Rattle.std.specs.Prelude.{◌≡◌, ◌<◌, ℕ, None, Some, Err, map, IfOk, IfErr, OnOk};
+ghost use Rattle.std.specs.Prelude.{◌≡◌, ◌<◌, ℕ, Some, Err, map, IfOk, IfErr, OnErr, OnOk};
 ghost use Rattle.hay_core.specs.declared.entry.CoreTag.{CoreTag};
 ghost use Rattle.hay_reply.specs.Fits.{FitsReply};
 ghost use Rattle.hay_legal.specs.declared.known.Known.{Known};
@@ -12,11 +12,11 @@ ghost use Rattle.hay_logical.specs.Seen.{volume_seen};
 ghost use Rattle.hay_logical.specs.Stands as logical;
 ghost use Rattle.hay_logical.specs.Volumes.{IsOpenVolume, IsSame, KeepsCounts};
 ghost use Rattle.hay_cluster.specs.Causes.{IsCaused, RefusesWork};
-ghost use Rattle.hay_cluster.specs.Closing.{LeavesClosures, MetClosures, closures_of};
 ghost use Rattle.hay_cluster.specs.Leaving.{LeavesByWork};
-ghost use Rattle.hay_cluster.specs.Maintenance.{IsDone, IsRefused, IsRefusedAs, IsReplicaFault, WorkFreezes, command_of, done_as};
-ghost use Rattle.hay_cluster.specs.Pending.{pending_of};
+ghost use Rattle.hay_cluster.specs.Maintenance.{IsDone, IsRefused, IsRefusedAs, IsReplicaFault, command_of, done_as};
 ghost use Rattle.hay_cluster.specs.Seen.{AnswersWork, WorkRefusedSeen, WorkSeen, store_seen};
+ghost use Rattle.hay_logical.specs.Sights.{KeepsSights, sights_of};
+ghost use Rattle.hay_cluster.specs.Sights.{DoneSights, WorkSights, told_by};
 ghost use Rattle.hay_cluster.specs.State.{Answered, Stands};
 ghost use Rattle.hay_cluster.specs.Store.{IsUp, contents_in, disks_of};
 ghost use Rattle.hay_cluster.specs.Suiting.{Suits};
@@ -66,10 +66,8 @@ impl<D: Disk, A: Arm<D::Piece>> Cluster<D, A> {
         ensures fuses { map D.fuse_count (disks_of self.new) ≡ map D.fuse_count (disks_of self.old) }
         ensures contents { D.Tells → LeavesByWork self.old.settings volume machine result (contents_in D.files self.old) (contents_in D.files self.new) }
         ensures arms { self.new.arms ≡ self.old.arms }
-        ensures pending { pending_of self.new ≡ pending_of self.old }
-        ensures met { MetClosures self.old.settings (command_of work volume machine) (closures_of self.old) (pending_of self.old) result }
-        ensures closures { LeavesClosures self.old.settings (command_of work volume machine) result (closures_of self.old) (closures_of self.new) }
         ensures seen { AnswersWork self.old.settings work volume machine result (store_seen self.old) (store_seen self.new) }
+        ensures sights { WorkSights self.old.settings (told_by result) (store_seen self.old) (store_seen self.new) }
         ensures settings { self.new.settings ≡ self.old.settings }
         ensures up { IsUp self.new }
     {
@@ -98,16 +96,12 @@ pub(crate) fn maintain<D: Disk>(
     ensures refused { D.Tells → (k : VolumeKnown) → logical.Stands D.files D.Piece.Tells volume.old k →
         IfErr result (IsRefused D.files D.Piece.Tells work k replica volume.old volume.new) }
     ensures causes { IfErr result (IsReplicaFault D.fault_count volume.old.settings work volume.old.number replica volume.old.replicas volume.new.replicas) }
-    ensures unsure { volume.new.unsure ≡ volume.old.unsure }
     ensures seen { IfOk result (λ number. WorkSeen work replica number (volume_seen volume.old) (volume_seen volume.new)) }
     ensures refused_seen { IfErr result (λ fault. WorkRefusedSeen volume.old.settings work volume.old.number replica fault (volume_seen volume.old) (volume_seen volume.new)) }
+    ensures sights { OnOk result (DoneSights work replica (sights_of volume.old.rows) (sights_of volume.new.rows)) }
+    ensures refused_sights { OnErr result (KeepsSights (sights_of volume.old.rows) (sights_of volume.new.rows)) }
     // A volume that is frozen refuses, and of the others a flush alone, where the replica's index takes no records.
     ensures frozen { (m : ℕ) → volume.old.frozen ≡ Some m → result ≡ Err (LogicalFault.ReadOnly m) }
-    ensures thawed { volume.old.frozen ≡ None → (m : ℕ) → result ≡ Err (LogicalFault.ReadOnly m) →
-        (work ≡ Maintenance.Flush) × (m ≡ machine_of volume.old.settings volume.old.number replica) }
-    ensures settled { volume.old.frozen ≡ None → volume.old.unsure ≡ None }
-    ensures done_frozen { OnOk result (volume.new.frozen ≡ volume.old.frozen) }
-    ensures freezes { IfErr result (WorkFreezes work volume.old.frozen volume.new.frozen) }
     ensures untouched { IfErr result (λ fault. IsUntouchedBy fault → volume.new ≡ volume.old) }
     ensures open { IsOpenVolume volume.new }
     ensures others { (j : ℕ) → (j ≡ replica → ⊥) → (r r' : Copy D) → At volume.old.replicas j r → At volume.new.replicas j r' → r'.disk ≡ r.disk }

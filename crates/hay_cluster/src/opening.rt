@@ -16,11 +16,9 @@ ghost use Rattle.hay_logical.specs.Fits.{IsReplica};
 ghost use Rattle.hay_logical.specs.Stands.{IsIdleVolume};
 ghost use Rattle.hay_logical.specs.Volumes.{IsClosed, IsOfSettings};
 ghost use Rattle.hay_cluster.specs.Causes.{HasFaultCause};
-ghost use Rattle.hay_cluster.specs.Closing.{closures_of, none_closed};
 ghost use Rattle.hay_cluster.specs.Draws.{DrawsVolume, EachDrewLittle, FlushedDrewLittle, StopsDrawing, drawn_in, looked_in, no_look, none_drawn};
-ghost use Rattle.hay_cluster.specs.Outside.{CountsOn, FormatsVoid, IsDamagedDisk, IsKept, IsUndamaged, IsUndamagedBelow, IsVoid, KeepsContents, outside_of, read_of};
-ghost use Rattle.hay_cluster.specs.Opening.{FillsVolume, Gathers, IsResting, IsEmptyVolume, MovesDirectory, MovesVolume, OpensDirectory, OpensParts, OpensVolume, RefusesDirectory, RefusesParts, RefusesVolume, RefusesVolumes, StopsDirectory, StopsVolume};
-ghost use Rattle.hay_cluster.specs.Pending.{TellsPending, none_pending, pending_of};
+ghost use Rattle.hay_cluster.specs.Outside.{AreSoundBelow, CountsOn, FormatsVoid, IsDamagedDisk, IsKept, IsUndamaged, IsUndamagedBelow, IsVoid, KeepsContents, outside_of, read_of};
+ghost use Rattle.hay_cluster.specs.Opening.{FillsVolume, Gathers, IsResting, IsEmptyVolume, LeavesDirectory, LeavesVolume, OpensDirectory, OpensParts, OpensVolume, RefusesDirectory, RefusesParts, RefusesVolume, RefusesVolumes, StopsDirectory, StopsVolume};
 ghost use Rattle.hay_cluster.specs.Seen.{OpensSeen, TellsSeen, store_seen};
 ghost use Rattle.hay_cluster.specs.State.{LeftAt, Stands};
 ghost use Rattle.hay_cluster.specs.Store.{IsBuilt, IsShaped, IsUp, IsVolumeOf, contents_in, disks_of, volume_disks};
@@ -68,8 +66,6 @@ impl<D: Disk, A: Arm<D::Piece>> Cluster<D, A> {
             IfOk result (λ store. FlushedDrewLittle settings k (λ slot. (H.disks shelf.old slot).drawn) (drawn_in D.drawn store)) }
         ensures settings { IfOk result (λ store. store.settings ≡ settings) }
         ensures up { IfOk result IsUp }
-        ensures settled { IfOk result (λ store. pending_of store ≡ none_pending settings) }
-        ensures closures { IfOk result (λ store. closures_of store ≡ none_closed settings) }
         ensures opens { IfOk result (λ store. OpensSeen settings (store_seen store)) }
         ensures counts { IfOk result (λ store. (slot : ℕ) → slot < disk_count settings →
             CountsOn (H.disks shelf.old slot) (slice_index (map D.fault_count (disks_of store)) slot) (slice_index (map D.fuse_count (disks_of store)) slot)) }
@@ -94,6 +90,11 @@ impl<D: Disk, A: Arm<D::Piece>> Cluster<D, A> {
             × Rose (H.disks shelf.old slot).fault_count (H.disks shelf.new slot).fault_count × (faults ≡ (H.disks shelf.new slot).fault_count)) }
         ensures failed_lowest { D.Tells → (slot faults : ℕ) → result ≡ Err (ClusterFault.Failed slot faults) →
             IsUndamagedBelow settings slot (λ slot. read_of (H.disks shelf.old slot)) }
+        // So it is as given back, and no disk in a lower slot is void then: the one that is told of is the first that was not opened.
+        ensures failed_first { D.Tells → (slot faults : ℕ) → result ≡ Err (ClusterFault.Failed slot faults) →
+            AreSoundBelow settings slot (λ slot. read_of (H.disks shelf.new slot)) }
+        ensures damaged_first { D.Tells → (slot file at : ℕ) → result ≡ Err (ClusterFault.Damaged slot file at) →
+            AreSoundBelow settings slot (λ slot. read_of (H.disks shelf.new slot)) }
         ensures damaged_within { (slot file at : ℕ) → result ≡ Err (ClusterFault.Damaged slot file at) → slot < disk_count settings }
         ensures damaged { D.Tells → (slot file at : ℕ) → result ≡ Err (ClusterFault.Damaged slot file at) →
             IsDamagedDisk settings (λ slot. read_of (H.disks shelf.old slot)) slot file at × IsDamagedDisk settings (λ slot. read_of (H.disks shelf.new slot)) slot file at }
@@ -124,11 +125,8 @@ impl<D: Disk, A: Arm<D::Piece>> Cluster<D, A> {
             × IsRestarted self.new.settings k self.new.directory.count notes t
             × Stands D.files D.Piece.Tells D.fault_count D.fuse_count A.fault_count self.new t) }
         // Whatever the disks tell, the notes are of what was pending, and nothing is then.
-        ensures told { IfOk result (TellsPending self.old.settings (pending_of self.old)) }
-        ensures tells { IfOk result (TellsSeen self.old.settings (store_seen self.old)) }
+        ensures tells { IfOk result (TellsSeen self.old.settings (store_seen self.old) (store_seen self.new)) }
         ensures fits { IfOk result (AllByRecursion FitsNote) }
-        ensures settled { OnOk result (pending_of self.new ≡ none_pending self.old.settings) }
-        ensures closures { OnOk result (closures_of self.new ≡ none_closed self.old.settings) }
         ensures opens { OnOk result (OpensSeen self.old.settings (store_seen self.new)) }
         ensures up { OnOk result (IsUp self.new) }
         // Nothing that it read of a disk is damaged.
@@ -151,8 +149,11 @@ impl<D: Disk, A: Arm<D::Piece>> Cluster<D, A> {
             (slot file at : ℕ) → result ≡ Err (ClusterFault.Damaged slot file at) → ⊥ }
         ensures damaged { D.Tells → (slot file at : ℕ) → result ≡ Err (ClusterFault.Damaged slot file at) →
             IsDamagedDisk self.old.settings (contents_in D.files self.new) slot file at }
-        ensures failed_lowest { D.Tells → (slot faults : ℕ) → result ≡ Err (ClusterFault.Failed slot faults) →
-            IsUndamagedBelow self.old.settings slot (contents_in D.files self.new) }
+        // The disk that is told of is the first that was not opened.
+        ensures failed_first { D.Tells → (slot faults : ℕ) → result ≡ Err (ClusterFault.Failed slot faults) →
+            AreSoundBelow self.old.settings slot (contents_in D.files self.new) }
+        ensures damaged_first { D.Tells → (slot file at : ℕ) → result ≡ Err (ClusterFault.Damaged slot file at) →
+            AreSoundBelow self.old.settings slot (contents_in D.files self.new) }
 
         ensures counts { NoneFalls (map D.fault_count (disks_of self.old)) (map D.fault_count (disks_of self.new)) }
         ensures fuses { map D.fuse_count (disks_of self.new) ≡ map D.fuse_count (disks_of self.old) }
@@ -184,8 +185,8 @@ impl<D: Disk, A: Arm<D::Piece>> Cluster<D, A> {
         ensures opened { IfOk result (OpensParts D.Tells D.files D.Piece.Tells D.fault_count D.fuse_count self.old.directory self.new.directory self.old.volumes self.new.volumes) }
         ensures drew { D.Tells → OnOk result (AllZip (DrawsVolume D.files D.drawn) self.old.volumes self.new.volumes) }
         ensures refused { IfErr result (RefusesParts D.Tells D.files D.fault_count self.old.settings self.old.directory self.new.directory self.old.volumes self.new.volumes) }
-        ensures directory { MovesDirectory D.Tells D.files D.fault_count D.fuse_count self.old.directory self.new.directory }
-        ensures volumes { AllZip (MovesVolume D.Tells D.files D.Piece.Tells D.fault_count D.fuse_count) self.old.volumes self.new.volumes }
+        ensures directory { LeavesDirectory D.Tells D.files D.fault_count D.fuse_count self.old.directory self.new.directory }
+        ensures volumes { AllZip (LeavesVolume D.Tells D.files D.Piece.Tells D.fault_count D.fuse_count) self.old.volumes self.new.volumes }
         ensures arms { self.new.arms ≡ self.old.arms }
         ensures settings { self.new.settings ≡ self.old.settings }
         ensures shape { IsShaped self.new }
@@ -245,7 +246,7 @@ fn open_directory<D: Disk>(
     requires { IsResting D.Tells D.files directory.old }
     ensures opened { IfOk result (OpensDirectory D.Tells D.files directory.old directory.new) }
     ensures refused { IfErr result (RefusesDirectory D.Tells D.files D.fault_count directory.old directory.new) }
-    ensures moves { MovesDirectory D.Tells D.files D.fault_count D.fuse_count directory.old directory.new }
+    ensures moves { LeavesDirectory D.Tells D.files D.fault_count D.fuse_count directory.old directory.new }
 {
     match directory.open_rows(alloc) {
         Ok(opened) => Ok(opened.notes),
@@ -267,7 +268,7 @@ fn open_volumes<D: Disk>(
     ensures opened { IfOk result (λ notes. Gathers (OpensVolume D.Tells D.files D.Piece.Tells D.fault_count D.fuse_count) volumes.old volumes.new notes.items) }
     ensures drew { D.Tells → OnOk result (AllZip (DrawsVolume D.files D.drawn) volumes.old volumes.new) }
     ensures refused { IfErr result (RefusesVolumes D.Tells D.files D.fault_count settings.now volumes.old volumes.new) }
-    ensures moves { AllZip (MovesVolume D.Tells D.files D.Piece.Tells D.fault_count D.fuse_count) volumes.old volumes.new }
+    ensures moves { AllZip (LeavesVolume D.Tells D.files D.Piece.Tells D.fault_count D.fuse_count) volumes.old volumes.new }
 {
     let mut notes = Vec::new(alloc);
     for (number, volume) in volumes.iter_mut().enumerate() {
@@ -293,7 +294,7 @@ fn open_volume<D: Disk>(
         × OpensVolume D.Tells D.files D.Piece.Tells D.fault_count D.fuse_count volume.old volume.new more) }
     ensures drew { D.Tells → OnOk result (DrawsVolume D.files D.drawn volume.old volume.new) }
     ensures refused { IfErr result (RefusesVolume D.Tells D.files D.fault_count settings.now number volume.old volume.new) }
-    ensures moves { MovesVolume D.Tells D.files D.Piece.Tells D.fault_count D.fuse_count volume.old volume.new }
+    ensures moves { LeavesVolume D.Tells D.files D.Piece.Tells D.fault_count D.fuse_count volume.old volume.new }
 {
     match volume.open(alloc) {
         Ok(more) => {

@@ -1,23 +1,23 @@
 //! Calls of one part of a store: of a volume, of the Directory.
 //!
 //! A volume is reached by the slice of all, which tells how much room one takes at most.
-ghost use Rattle.std.specs.Prelude.{◌≡◌, ◌≢◌, ◌⊎◌, ◌≤◌, ◌<◌, ℕ, true, false, None, length, map, Err, IfOk, IfErr, OnOk, IsErrOf};
+ghost use Rattle.std.specs.Prelude.{◌≡◌, ◌≢◌, ◌⊎◌, ◌≤◌, ◌<◌, ℕ, true, false, None, length, map, Err, IfOk, IfErr, OnErr, OnOk, IsErrOf};
 ghost use Rattle.hay_disk.specs.Counts.{IsNext};
 ghost use Rattle.hay_legal.specs.declared.known.Known.{Known};
 ghost use Rattle.hay_legal.specs.Known.{NoneFalls, fuse_count, machine_of, slot_of, volume_at, with_home};
 ghost use Rattle.hay_legal.specs.Plain.{row_pending, with_drain, with_fuses};
 ghost use Rattle.hay_logical.specs.Answers.{BreaksPutOff, DeleteRefused, IsDeleted, IsPut, PutRefused};
-ghost use Rattle.hay_logical.specs.Seen.{DeleteRefusedSeen, HideSeen, PutRefusedSeen, StoreSeen as PhotoSeen};
+ghost use Rattle.hay_logical.specs.Seen.{DeleteRefusedSeen, HideSeen, PutRefusedSeen, PutSeen};
 ghost use Rattle.hay_directory.specs.Seen.{DrainSeen, SettleRefusedSeen, SettleSeen};
 ghost use Rattle.hay_directory.specs.State as directory;
-ghost use Rattle.hay_cluster.specs.Causes.{IsDeleteCause, IsPutCause, IsReplicaCause, RoseIn, SetsFuse};
-ghost use Rattle.hay_cluster.specs.Closing.{FailureFroze, IsFrozenBy, IsThawed, PutFroze, closures_of, with_drained};
-ghost use Rattle.hay_cluster.specs.Leaving.{AddsRow, AnySlot, DeleteKeeps, IsApart, IsBeside, IsReplicaSlot, KeepsIn, LeavesIn, PutKeeps};
-ghost use Rattle.hay_cluster.specs.Maintenance.{IsDone, IsRefused, WorkFroze, WorkKeeps};
+ghost use Rattle.hay_cluster.specs.Causes.{EndsByFaults, IsDeleteCause, IsPutCause, IsReplicaCause, RoseIn, SetsFuse};
+ghost use Rattle.hay_cluster.specs.Leaving.{AddsRow, AnySlot, DeleteKeeps, IsApart, IsBeside, IsReplicaSlot, KeepsIn, LeavesIn, PutKeeps, WorkKeeps};
+ghost use Rattle.hay_cluster.specs.Maintenance.{IsDone, IsRefused};
 ghost use Rattle.hay_cluster.specs.Parts.{Comes, InVolume};
 ghost use Rattle.hay_cluster.specs.Puts.{TakesPhoto};
-ghost use Rattle.hay_cluster.specs.Pending.{DeleteLeft, PutLeft, RowLeft, pending_of};
-ghost use Rattle.hay_cluster.specs.Seen.{Keeps, MovesDirectory, MovesVolume, WorkRefusedSeen, WorkSeen, store_seen};
+ghost use Rattle.hay_cluster.specs.Seen.{Keeps, MovesDirectory, MovesVolume, WorkRefusedSeen, VolumeAt, WorkSeen, store_seen};
+ghost use Rattle.hay_logical.specs.Sights.{DeleteRefusedSights, DeletesSights, StoresSights};
+ghost use Rattle.hay_cluster.specs.Sights.{ChangesPhotos, DoneSights, KeepsPhotos};
 ghost use Rattle.hay_cluster.specs.State.{Stands};
 ghost use Rattle.hay_cluster.specs.Store.{IsUp, contents_in, disks_of};
 
@@ -52,16 +52,14 @@ impl<D: Disk, A: Arm<D::Piece>> Cluster<D, A> {
         ensures counts { NoneFalls (map D.fault_count (disks_of self.old)) (map D.fault_count (disks_of self.new)) }
         ensures fuses { map D.fuse_count (disks_of self.new) ≡ map D.fuse_count (disks_of self.old) }
         ensures beside { LeavesIn (IsBeside self.old.settings volume) (disks_of self.old) (disks_of self.new) }
-        ensures kept { D.Tells → IfErr result (PutKeeps self.old.settings volume (pending_of self.old) (pending_of self.new) (contents_in D.files self.old) (contents_in D.files self.new)) }
+        ensures kept { D.Tells → IfErr result (PutKeeps self.old.settings volume (store_seen self.old).volumes (store_seen self.new).volumes (contents_in D.files self.old) (contents_in D.files self.new)) }
         ensures takes { TakesPhoto self.old volume (length bytes.now) → IfErr result BreaksPutOff }
         ensures arms { self.new.arms ≡ self.old.arms }
-        ensures done_pending { OnOk result (pending_of self.new ≡ pending_of self.old) }
-        ensures done_closures { OnOk result (closures_of self.new ≡ closures_of self.old) }
-        ensures refused_closures { IfErr result (PutFroze self.old.settings volume (closures_of self.old) (closures_of self.new)) }
-        ensures refused_pending { IfErr result (PutLeft tag.line volume (pending_of self.old) (pending_of self.new)) }
-        ensures seen { IfOk result (λ position. MovesVolume volume (PhotoSeen (length bytes.now) position) (store_seen self.old) (store_seen self.new)) }
+        ensures seen { IfOk result (λ position. MovesVolume volume (PutSeen (length bytes.now) position) (store_seen self.old) (store_seen self.new)) }
         ensures refused_seen { IfErr result (λ fault. MovesVolume volume
             (λ before after. PutRefusedSeen self.old.settings volume tag (length bytes.now) before after fault) (store_seen self.old) (store_seen self.new)) }
+        ensures sights { OnOk result (ChangesPhotos volume (StoresSights pair self.old.settings.replicas) (store_seen self.old) (store_seen self.new)) }
+        ensures refused_sights { OnErr result (KeepsPhotos (store_seen self.old) (store_seen self.new)) }
         ensures settings { self.new.settings ≡ self.old.settings }
         ensures up { IsUp self.new }
     {
@@ -87,15 +85,14 @@ impl<D: Disk, A: Arm<D::Piece>> Cluster<D, A> {
         ensures counts { NoneFalls (map D.fault_count (disks_of self.old)) (map D.fault_count (disks_of self.new)) }
         ensures fuses { map D.fuse_count (disks_of self.new) ≡ map D.fuse_count (disks_of self.old) }
         ensures beside { LeavesIn (IsBeside self.old.settings volume) (disks_of self.old) (disks_of self.new) }
-        ensures kept { D.Tells → IfErr result (DeleteKeeps self.old.settings volume (pending_of self.old) (pending_of self.new) (contents_in D.files self.old) (contents_in D.files self.new)) }
+        ensures kept { D.Tells → IfErr result (DeleteKeeps self.old.settings volume (store_seen self.old).volumes (store_seen self.new).volumes (contents_in D.files self.old) (contents_in D.files self.new)) }
         ensures arms { self.new.arms ≡ self.old.arms }
-        ensures done_pending { OnOk result (pending_of self.new ≡ pending_of self.old) }
-        ensures done_closures { OnOk result (closures_of self.new ≡ closures_of self.old) }
-        ensures refused_closures { IfErr result (FailureFroze volume (closures_of self.old) (closures_of self.new)) }
-        ensures thawed { IsThawed (closures_of self.old) (pending_of self.old) volume → (m : ℕ) → result ≡ Err (LogicalFault.ReadOnly m) → ⊥ }
-        ensures refused_pending { IfErr result (DeleteLeft tag.line volume (pending_of self.old) (pending_of self.new)) }
         ensures seen { IfOk result (λ position. MovesVolume volume (HideSeen position) (store_seen self.old) (store_seen self.new)) }
         ensures refused_seen { IfErr result (λ fault. MovesVolume volume (λ before after. DeleteRefusedSeen tag pair before after fault) (store_seen self.old) (store_seen self.new)) }
+        ensures sights { OnOk result (ChangesPhotos volume (DeletesSights pair self.old.settings.replicas) (store_seen self.old) (store_seen self.new)) }
+        ensures refused_sights { IfErr result (λ fault. VolumeAt volume
+            (λ seen. ChangesPhotos volume (λ before after. DeleteRefusedSights self.old.settings volume pair seen.frozen before after fault) (store_seen self.old) (store_seen self.new)) (store_seen self.new)) }
+        ensures ended { OnOk result (EndsByFaults self.old.settings volume (store_seen self.old) (store_seen self.new) (map D.fault_count (disks_of self.old)) (map D.fault_count (disks_of self.new))) }
         ensures settings { self.new.settings ≡ self.old.settings }
         ensures up { IsUp self.new }
     {
@@ -122,15 +119,11 @@ impl<D: Disk, A: Arm<D::Piece>> Cluster<D, A> {
         ensures fuses { map D.fuse_count (disks_of self.new) ≡ map D.fuse_count (disks_of self.old) }
         ensures others { LeavesIn (IsApart self.old.settings volume replica) (disks_of self.old) (disks_of self.new) }
         ensures arms { self.new.arms ≡ self.old.arms }
-        ensures pending { pending_of self.new ≡ pending_of self.old }
         ensures seen { IfOk result (λ number. MovesVolume volume (WorkSeen work replica number) (store_seen self.old) (store_seen self.new)) }
         ensures refused_seen { IfErr result (λ fault. MovesVolume volume (WorkRefusedSeen self.old.settings work volume replica fault) (store_seen self.old) (store_seen self.new)) }
-        ensures done_closures { OnOk result (closures_of self.new ≡ closures_of self.old) }
-        ensures refused_closures { IfErr result (WorkFroze work volume (closures_of self.old) (closures_of self.new)) }
-        ensures met { ((m : ℕ) × IsFrozenBy (closures_of self.old) volume m × (result ≡ Err (LogicalFault.ReadOnly m)))
-            ⊎ (IsThawed (closures_of self.old) (pending_of self.old) volume
-            × ((m : ℕ) → result ≡ Err (LogicalFault.ReadOnly m) → (work ≡ Maintenance.Flush) × (m ≡ machine_of self.old.settings volume replica))) }
         ensures kept { D.Tells → IfErr result (WorkKeeps self.old.settings (contents_in D.files self.old) (contents_in D.files self.new)) }
+        ensures sights { OnOk result (ChangesPhotos volume (DoneSights work replica) (store_seen self.old) (store_seen self.new)) }
+        ensures refused_sights { OnErr result (KeepsPhotos (store_seen self.old) (store_seen self.new)) }
         ensures settings { self.new.settings ≡ self.old.settings }
         ensures up { IsUp self.new }
     {
@@ -154,9 +147,8 @@ impl<D: Disk, A: Arm<D::Piece>> Cluster<D, A> {
         ensures fuses { SetsFuse (slot_of self.old.settings volume replica) (map D.fuse_count (disks_of self.old)) (map D.fuse_count (disks_of self.new)) }
         ensures contents { D.Tells → KeepsIn self.old.settings AnySlot (contents_in D.files self.old) (contents_in D.files self.new) }
         ensures arms { self.new.arms ≡ self.old.arms }
-        ensures pending { pending_of self.new ≡ pending_of self.old }
-        ensures closures { closures_of self.new ≡ closures_of self.old }
         ensures seen { Keeps (store_seen self.old) (store_seen self.new) }
+        ensures sights { KeepsPhotos (store_seen self.old) (store_seen self.new) }
         ensures settings { self.new.settings ≡ self.old.settings }
         ensures up { IsUp self.new }
     {
@@ -183,11 +175,7 @@ impl<D: Disk, A: Arm<D::Piece>> Cluster<D, A> {
         ensures refused_frozen { IsErrOf result DirFault.Frozen → disks_of self.new ≡ disks_of self.old }
         ensures volumes { self.new.volumes ≡ self.old.volumes }
         ensures arms { self.new.arms ≡ self.old.arms }
-        ensures settled_pending { OnOk result (pending_of self.new ≡ pending_of self.old) }
-        ensures frozen_pending { IsErrOf result DirFault.Frozen → (pending_of self.old).row ≢ None }
-        ensures closures { closures_of self.new ≡ closures_of self.old }
         ensures rows { D.Tells → AddsRow self.old.settings pair (contents_in D.files self.old 0) (contents_in D.files self.new 0) }
-        ensures refused_pending { IfErr result (RowLeft tag.line (pending_of self.old) (pending_of self.new)) }
         ensures seen { OnOk result (MovesDirectory (SettleSeen pair volume) (store_seen self.old) (store_seen self.new)) }
         ensures refused_seen { IfErr result (λ fault. MovesDirectory (λ before after. SettleRefusedSeen tag pair volume before after fault) (store_seen self.old) (store_seen self.new)) }
         ensures settings { self.new.settings ≡ self.old.settings }
@@ -205,9 +193,8 @@ impl<D: Disk, A: Arm<D::Piece>> Cluster<D, A> {
         ensures fuses { map D.fuse_count (disks_of self.new) ≡ map D.fuse_count (disks_of self.old) }
         ensures disks { disks_of self.new ≡ disks_of self.old }
         ensures arms { self.new.arms ≡ self.old.arms }
-        ensures pending { pending_of self.new ≡ pending_of self.old }
-        ensures closures { closures_of self.new ≡ with_drained machine is_drained (closures_of self.old) }
         ensures seen { MovesDirectory (DrainSeen machine is_drained) (store_seen self.old) (store_seen self.new) }
+        ensures sights { KeepsPhotos (store_seen self.old) (store_seen self.new) }
         ensures settings { self.new.settings ≡ self.old.settings }
         ensures up { IsUp self.new }
     {
@@ -227,9 +214,8 @@ impl<D: Disk, A: Arm<D::Piece>> Cluster<D, A> {
         ensures fuses { SetsFuse 0 (map D.fuse_count (disks_of self.old)) (map D.fuse_count (disks_of self.new)) }
         ensures contents { D.Tells → KeepsIn self.old.settings AnySlot (contents_in D.files self.old) (contents_in D.files self.new) }
         ensures arms { self.new.arms ≡ self.old.arms }
-        ensures pending { pending_of self.new ≡ pending_of self.old }
-        ensures closures { closures_of self.new ≡ closures_of self.old }
         ensures seen { Keeps (store_seen self.old) (store_seen self.new) }
+        ensures sights { KeepsPhotos (store_seen self.old) (store_seen self.new) }
         ensures settings { self.new.settings ≡ self.old.settings }
         ensures up { IsUp self.new }
     {

@@ -8,12 +8,11 @@ ghost use Rattle.hay_script.specs.declared.Command.TheVariants as asks;
 ghost use Rattle.hay_reply.specs.Fits.{FitsRefused, FitsReply};
 ghost use Rattle.hay_directory.specs.State as directory;
 ghost use Rattle.hay_cluster.specs.Causes.{IsCaused, RefusesPut};
-ghost use Rattle.hay_cluster.specs.Closing.{IsOpenTo, IsRefusedAs, MetByChange, PutCloses, closures_of};
 ghost use Rattle.hay_cluster.specs.Leaving.{IsBeside, LeavesByPut, LeavesIn, LeavesReplicas, MayAddRow};
-ghost use Rattle.hay_cluster.specs.Pending.{LeavesPut, pending_of};
 ghost use Rattle.hay_cluster.specs.Puts as puts;
 ghost use Rattle.hay_cluster.specs.Puts.{IsPutReply, IsRefusal, IsTried, StoredAs, TakesPhoto};
 ghost use Rattle.hay_cluster.specs.Seen.{AnswersPut, IsTaker, PutsAt, RefusesPhoto, store_seen};
+ghost use Rattle.hay_cluster.specs.Sights.{PutSights, told_by};
 ghost use Rattle.hay_cluster.specs.State.{Answered, Stands};
 ghost use Rattle.hay_cluster.specs.Store.{IsUp, contents_in, disks_of};
 ghost use Rattle.hay_cluster.specs.Suiting.{Refuses, Suits};
@@ -52,12 +51,10 @@ impl<D: Disk, A: Arm<D::Piece>> Cluster<D, A> {
         ensures fits { FitsReply result }
         ensures counts { NoneFalls (map D.fault_count (disks_of self.old)) (map D.fault_count (disks_of self.new)) }
         ensures fuses { map D.fuse_count (disks_of self.new) ≡ map D.fuse_count (disks_of self.old) }
-        ensures contents { D.Tells → LeavesByPut self.old.settings pair result (pending_of self.old) (pending_of self.new) (contents_in D.files self.old) (contents_in D.files self.new) }
+        ensures contents { D.Tells → LeavesByPut self.old.settings pair result (store_seen self.old).volumes (store_seen self.new).volumes (contents_in D.files self.old) (contents_in D.files self.new) }
         ensures arms { self.new.arms ≡ self.old.arms }
-        ensures pending { LeavesPut self.old.settings tag.line result (pending_of self.old) (pending_of self.new) }
-        ensures met { MetByChange self.old.settings (closures_of self.old) (pending_of self.old) result }
-        ensures closures { PutCloses self.old.settings result (closures_of self.old) (closures_of self.new) }
         ensures seen { AnswersPut self.old.settings tag pair (length bytes.now) result (store_seen self.old) (store_seen self.new) }
+        ensures sights { PutSights self.old.settings pair (told_by result) (store_seen self.old) (store_seen self.new) }
         ensures settings { self.new.settings ≡ self.old.settings }
         ensures up { IsUp self.new }
     {
@@ -80,10 +77,8 @@ impl<D: Disk, A: Arm<D::Piece>> Cluster<D, A> {
         ensures known { D.Tells → (k : Known) → Stands D.files D.Piece.Tells D.fault_count D.fuse_count A.fault_count self.now k → IfOk result (IsTried self.now.settings k pair size) }
         ensures within { (volume : ℕ) → result ≡ Ok (Tried.Taker volume) → volume < self.now.settings.volumes }
         ensures takes { (volume : ℕ) → result ≡ Ok (Tried.Taker volume) → TakesPhoto self.now volume size }
-        ensures opens { (volume : ℕ) → result ≡ Ok (Tried.Taker volume) → IsOpenTo self.now.settings (closures_of self.now) (pending_of self.now) volume }
         ensures refused { (refused : List Refused) → result ≡ Ok (Tried.Nobody refused) → AllZip (Refuses self.now.settings) (all_tries self.now.settings pair) refused }
         ensures fits { (refused : List Refused) → result ≡ Ok (Tried.Nobody refused) → AllByRecursion FitsRefused refused }
-        ensures met { (refused : List Refused) → result ≡ Ok (Tried.Nobody refused) → AllByRecursion (IsRefusedAs self.now.settings (closures_of self.now) (pending_of self.now)) refused }
         ensures seen { (volume : ℕ) → result ≡ Ok (Tried.Taker volume) → IsTaker self.now.settings (store_seen self.now) pair size volume }
         ensures refused_seen { (refused : List Refused) → result ≡ Ok (Tried.Nobody refused) →
             AllZip (RefusesPhoto self.now.settings (store_seen self.now) size) (all_tries self.now.settings pair) refused }
@@ -112,10 +107,8 @@ impl<D: Disk, A: Arm<D::Piece>> Cluster<D, A> {
         requires homeless { directory.home_of self.old.directory pair ≡ None }
         requires within { (volume : ℕ) → tried ≡ Tried.Taker volume → volume < self.old.settings.volumes }
         requires takes { (volume : ℕ) → tried ≡ Tried.Taker volume → TakesPhoto self.old volume (length bytes.now) }
-        requires opens { (volume : ℕ) → tried ≡ Tried.Taker volume → IsOpenTo self.old.settings (closures_of self.old) (pending_of self.old) volume }
         requires refused { (refused : List Refused) → tried ≡ Tried.Nobody refused → AllZip (Refuses self.old.settings) (all_tries self.old.settings pair) refused }
         requires fits { (refused : List Refused) → tried ≡ Tried.Nobody refused → AllByRecursion FitsRefused refused }
-        requires met { (refused : List Refused) → tried ≡ Tried.Nobody refused → AllByRecursion (IsRefusedAs self.old.settings (closures_of self.old) (pending_of self.old)) refused }
         requires seen { (volume : ℕ) → tried ≡ Tried.Taker volume → IsTaker self.old.settings (store_seen self.old) pair (length bytes.now) volume }
         requires refused_seen { (refused : List Refused) → tried ≡ Tried.Nobody refused →
             AllZip (RefusesPhoto self.old.settings (store_seen self.old) (length bytes.now)) (all_tries self.old.settings pair) refused }
@@ -130,12 +123,10 @@ impl<D: Disk, A: Arm<D::Piece>> Cluster<D, A> {
         ensures fits { FitsReply result }
         ensures counts { NoneFalls (map D.fault_count (disks_of self.old)) (map D.fault_count (disks_of self.new)) }
         ensures fuses { map D.fuse_count (disks_of self.new) ≡ map D.fuse_count (disks_of self.old) }
-        ensures contents { D.Tells → LeavesByPut self.old.settings pair result (pending_of self.old) (pending_of self.new) (contents_in D.files self.old) (contents_in D.files self.new) }
+        ensures contents { D.Tells → LeavesByPut self.old.settings pair result (store_seen self.old).volumes (store_seen self.new).volumes (contents_in D.files self.old) (contents_in D.files self.new) }
         ensures arms { self.new.arms ≡ self.old.arms }
-        ensures pending { LeavesPut self.old.settings tag.line result (pending_of self.old) (pending_of self.new) }
-        ensures met { MetByChange self.old.settings (closures_of self.old) (pending_of self.old) result }
-        ensures closures { PutCloses self.old.settings result (closures_of self.old) (closures_of self.new) }
         ensures seen { AnswersPut self.old.settings tag pair (length bytes.now) result (store_seen self.old) (store_seen self.new) }
+        ensures sights { PutSights self.old.settings pair (told_by result) (store_seen self.old) (store_seen self.new) }
         ensures settings { self.new.settings ≡ self.old.settings }
         ensures up { IsUp self.new }
     {
@@ -157,7 +148,6 @@ impl<D: Disk, A: Arm<D::Piece>> Cluster<D, A> {
         requires size { length bytes.now ≤ MAX_PHOTO }
         requires volume { volume < self.old.settings.volumes }
         requires takes { TakesPhoto self.old volume (length bytes.now) }
-        requires opens { IsOpenTo self.old.settings (closures_of self.old) (pending_of self.old) volume }
         requires seen { IsTaker self.old.settings (store_seen self.old) pair (length bytes.now) volume }
         requires homeless { directory.home_of self.old.directory pair ≡ None }
         requires up { IsUp self.old }
@@ -170,12 +160,10 @@ impl<D: Disk, A: Arm<D::Piece>> Cluster<D, A> {
         ensures fits { FitsReply result }
         ensures counts { NoneFalls (map D.fault_count (disks_of self.old)) (map D.fault_count (disks_of self.new)) }
         ensures fuses { map D.fuse_count (disks_of self.new) ≡ map D.fuse_count (disks_of self.old) }
-        ensures contents { D.Tells → LeavesByPut self.old.settings pair result (pending_of self.old) (pending_of self.new) (contents_in D.files self.old) (contents_in D.files self.new) }
+        ensures contents { D.Tells → LeavesByPut self.old.settings pair result (store_seen self.old).volumes (store_seen self.new).volumes (contents_in D.files self.old) (contents_in D.files self.new) }
         ensures arms { self.new.arms ≡ self.old.arms }
-        ensures pending { LeavesPut self.old.settings tag.line result (pending_of self.old) (pending_of self.new) }
-        ensures met { MetByChange self.old.settings (closures_of self.old) (pending_of self.old) result }
-        ensures closures { PutCloses self.old.settings result (closures_of self.old) (closures_of self.new) }
         ensures seen { AnswersPut self.old.settings tag pair (length bytes.now) result (store_seen self.old) (store_seen self.new) }
+        ensures sights { PutSights self.old.settings pair (told_by result) (store_seen self.old) (store_seen self.new) }
         ensures settings { self.new.settings ≡ self.old.settings }
         ensures up { IsUp self.new }
     {
@@ -197,7 +185,6 @@ impl<D: Disk, A: Arm<D::Piece>> Cluster<D, A> {
         requires size { length bytes.now ≤ MAX_PHOTO }
         requires volume { volume < self.old.settings.volumes }
         requires takes { TakesPhoto self.old volume (length bytes.now) }
-        requires opens { IsOpenTo self.old.settings (closures_of self.old) (pending_of self.old) volume }
         requires up { IsUp self.old }
         ensures stored { D.Tells → (k : Known) → Stands D.files D.Piece.Tells D.fault_count D.fuse_count A.fault_count self.old k →
             refusal_of self.old.settings k (length bytes.now) volume ≡ None →
@@ -210,13 +197,11 @@ impl<D: Disk, A: Arm<D::Piece>> Cluster<D, A> {
         ensures counts { NoneFalls (map D.fault_count (disks_of self.old)) (map D.fault_count (disks_of self.new)) }
         ensures fuses { map D.fuse_count (disks_of self.new) ≡ map D.fuse_count (disks_of self.old) }
         ensures beside { LeavesIn (IsBeside self.old.settings volume) (disks_of self.old) (disks_of self.new) }
-        ensures replicas { D.Tells → LeavesReplicas self.old.settings result (pending_of self.old) (pending_of self.new) (contents_in D.files self.old) (contents_in D.files self.new) }
+        ensures replicas { D.Tells → LeavesReplicas self.old.settings result (store_seen self.old).volumes (store_seen self.new).volumes (contents_in D.files self.old) (contents_in D.files self.new) }
         ensures adds { MayAddRow result }
         ensures arms { self.new.arms ≡ self.old.arms }
-        ensures pending { LeavesPut self.old.settings tag.line result (pending_of self.old) (pending_of self.new) }
-        ensures met { MetByChange self.old.settings (closures_of self.old) (pending_of self.old) result }
-        ensures closures { PutCloses self.old.settings result (closures_of self.old) (closures_of self.new) }
         ensures seen { PutsAt self.old.settings tag (length bytes.now) volume result (store_seen self.old) (store_seen self.new) }
+        ensures sights { PutSights self.old.settings pair (told_by result) (store_seen self.old) (store_seen self.new) }
         ensures settings { self.new.settings ≡ self.old.settings }
         ensures up { IsUp self.new }
     {

@@ -1,5 +1,5 @@
 //! Reads, and gets by URL.
-ghost use Rattle.std.specs.Prelude.{◌≡◌, ◌⊎◌, ◌≤◌, ◌<◌, ◌+◌, ◌%◌, ◌^◌, ℕ, true, List, [], Some, Err, length, map, slice_get, slice_index, IfOk, IfErr, IfSome, IfNone, OnOk};
+ghost use Rattle.std.specs.Prelude.{◌≡◌, ◌⊎◌, ◌≤◌, ◌<◌, ◌+◌, ◌%◌, ◌^◌, ℕ, true, List, [], Some, Err, length, map, slice_get, slice_index, IfOk, IfErr, IfSome, IfNone, OnErr, OnOk};
 ghost use Rattle.std.specs.List.{AllByRecursion};
 ghost use Rattle.hay_script.specs.declared.Command.TheVariants as asks;
 ghost use Rattle.hay_legal.specs.declared.known.Known.{Known};
@@ -11,12 +11,13 @@ ghost use Rattle.hay_reader.specs.Shown.{HasBytes, ShowsAt};
 ghost use Rattle.hay_legal.specs.Known.{NoneFalls, home_of, slot_of, volume_at};
 ghost use Rattle.hay_legal.specs.Plain.{start_of};
 ghost use Rattle.hay_cluster.specs.Causes.{BlamesNoArm, IsCaused, StaySure};
-ghost use Rattle.hay_cluster.specs.Reads.{CannotSee, FoundNoArm, FoundPasses, FoundSays, IsFoundAs, IsSeenAt, IsSeenByAt, IsSightCause, IsSightFault, IsWhole, PassesFrom, PassesNoArm, ReadNoArm, ReadPasses, ReadSays, ShownAs, StopsUnseen, counts_of, outcomes_of, passed_at};
-ghost use Rattle.hay_cluster.specs.Closing.{closures_of};
+ghost use Rattle.hay_cluster.specs.Reads.{CannotSee, FoundNoArm, FoundPasses, FoundSays, FoundSees, IsFoundAs, IsSeenAt, IsSeenByAt, IsSightCause, IsSightFault, IsWhole, PassesFrom, PassesNoArm, ReadNoArm, ReadPasses, ReadSays, ReadSees, ShownAs, StopsUnseen, counts_of, outcomes_of, passed_at};
 ghost use Rattle.hay_cluster.specs.Leaving.{AnySlot, KeepsIn};
 ghost use Rattle.hay_cluster.specs.Parts.{Comes};
-ghost use Rattle.hay_cluster.specs.Pending.{pending_of};
-ghost use Rattle.hay_cluster.specs.Seen.{Shows, VolumeAt, home_seen, store_seen};
+ghost use Rattle.hay_cluster.specs.Seen.{Keeps, Shows, VolumeAt, home_seen, store_seen};
+ghost use Rattle.hay_cluster.specs.Sights.{ChangesPhotos, KeepsPhotos, MayStand, ReadSights, told_by};
+ghost use Rattle.hay_logical.specs.Sights.{LooksAtPair, SeesPair};
+ghost use Rattle.hay_logical.specs.Sights.Sight.{Unseen};
 ghost use Rattle.hay_cluster.specs.State.{Answered, Stands};
 ghost use Rattle.hay_cluster.specs.Store.{IsBuilt, IsUp, contents_in, disks_of};
 ghost use Rattle.hay_cluster.specs.Suiting.{ShowsFrom, Suits};
@@ -72,9 +73,8 @@ impl<D: Disk, A: Arm<D::Piece>> Cluster<D, A> {
         ensures fuses { map D.fuse_count (disks_of self.new) ≡ map D.fuse_count (disks_of self.old) }
         ensures contents { D.Tells → KeepsIn self.old.settings AnySlot (contents_in D.files self.old) (contents_in D.files self.new) }
         ensures arm_counts { NoneFalls (map A.fault_count self.old.arms) (map A.fault_count self.new.arms) }
-        ensures pending { pending_of self.new ≡ pending_of self.old }
-        ensures closures { closures_of self.new ≡ closures_of self.old }
-        ensures seen { store_seen self.new ≡ store_seen self.old }
+        ensures seen { Keeps (store_seen self.old) (store_seen self.new) }
+        ensures sights { ReadSights self.old.settings pair (told_by result) (store_seen self.old) (store_seen self.new) }
         ensures shows { Shows (store_seen self.old) pair result }
         ensures settings { self.new.settings ≡ self.old.settings }
         ensures up { IsUp self.new }
@@ -103,9 +103,8 @@ impl<D: Disk, A: Arm<D::Piece>> Cluster<D, A> {
         ensures fuses { map D.fuse_count (disks_of self.new) ≡ map D.fuse_count (disks_of self.old) }
         ensures contents { D.Tells → KeepsIn self.old.settings AnySlot (contents_in D.files self.old) (contents_in D.files self.new) }
         ensures arm_counts { NoneFalls (map A.fault_count self.old.arms) (map A.fault_count self.new.arms) }
-        ensures pending { pending_of self.new ≡ pending_of self.old }
-        ensures closures { closures_of self.new ≡ closures_of self.old }
-        ensures seen { store_seen self.new ≡ store_seen self.old }
+        ensures seen { Keeps (store_seen self.old) (store_seen self.new) }
+        ensures sights { ReadSights self.old.settings url.now.pair (told_by result) (store_seen self.old) (store_seen self.new) }
         ensures shows { Shows (store_seen self.old) url.now.pair result }
         ensures settings { self.new.settings ≡ self.old.settings }
         ensures up { IsUp self.new }
@@ -153,9 +152,8 @@ impl<D: Disk, A: Arm<D::Piece>> Cluster<D, A> {
         ensures fuses { map D.fuse_count (disks_of self.new) ≡ map D.fuse_count (disks_of self.old) }
         ensures contents { D.Tells → KeepsIn self.old.settings AnySlot (contents_in D.files self.old) (contents_in D.files self.new) }
         ensures arm_counts { NoneFalls (map A.fault_count self.old.arms) (map A.fault_count self.new.arms) }
-        ensures pending { pending_of self.new ≡ pending_of self.old }
-        ensures closures { closures_of self.new ≡ closures_of self.old }
-        ensures seen { store_seen self.new ≡ store_seen self.old }
+        ensures seen { Keeps (store_seen self.old) (store_seen self.new) }
+        ensures sights { ReadSights self.old.settings pair (told_by result) (store_seen self.old) (store_seen self.new) }
         ensures shows { Shows (store_seen self.old) pair result }
         ensures settings { self.new.settings ≡ self.old.settings }
         ensures up { IsUp self.new }
@@ -230,9 +228,9 @@ impl<D: Disk, A: Arm<D::Piece>> Cluster<D, A> {
         ensures fuses { map D.fuse_count (disks_of self.new) ≡ map D.fuse_count (disks_of self.old) }
         ensures contents { D.Tells → KeepsIn self.old.settings AnySlot (contents_in D.files self.old) (contents_in D.files self.new) }
         ensures arm_counts { NoneFalls (map A.fault_count self.old.arms) (map A.fault_count self.new.arms) }
-        ensures pending { pending_of self.new ≡ pending_of self.old }
-        ensures closures { closures_of self.new ≡ closures_of self.old }
-        ensures seen { store_seen self.new ≡ store_seen self.old }
+        ensures seen { Keeps (store_seen self.old) (store_seen self.new) }
+        ensures looks { ChangesPhotos volume (LooksAtPair pair) (store_seen self.old) (store_seen self.new) }
+        ensures sees { FoundSees ((store_seen self.new).places volume pair) result.1 }
         ensures front { VolumeAt volume (λ seen. result.0 ≡ seen.front) (store_seen self.old) }
         ensures settings { self.new.settings ≡ self.old.settings }
         ensures up { IsUp self.new }
@@ -273,6 +271,7 @@ impl<D: Disk, A: Arm<D::Piece>> Cluster<D, A> {
         ensures passes { ReadPasses (IsWhole D.Tells D.files D.Piece.Tells D.fault_count D.fuse_count A.fault_count self.old) self.old.settings lane volume start
             (counts_of D.fault_count A.fault_count self.old) (counts_of D.fault_count A.fault_count self.new) [] result.1 }
         ensures stops { StopsUnseen self.old volume pair result.1 }
+        ensures sees { ReadSees ((store_seen self.new).places volume pair) result.1 }
         ensures sure { (arm : A) → slice_get self.old.arms lane ≡ Some arm → A.is_sure arm ≡ true → ReadNoArm [] result.1 }
         ensures bytes { HasBytes photo.new.items result.1 }
         ensures room { vec_capacity photo.old ≤ vec_capacity photo.new }
@@ -280,8 +279,6 @@ impl<D: Disk, A: Arm<D::Piece>> Cluster<D, A> {
         ensures volumes { self.new.volumes ≡ self.old.volumes }
         ensures disks { disks_of self.new ≡ disks_of self.old }
         ensures arm_counts { NoneFalls (map A.fault_count self.old.arms) (map A.fault_count self.new.arms) }
-        ensures pending { pending_of self.new ≡ pending_of self.old }
-        ensures closures { closures_of self.new ≡ closures_of self.old }
         ensures seen { store_seen self.new ≡ store_seen self.old }
         ensures front { VolumeAt volume (λ seen. result.0 ≡ seen.front) (store_seen self.old) }
         ensures settings { self.new.settings ≡ self.old.settings }
@@ -314,6 +311,7 @@ impl<D: Disk, A: Arm<D::Piece>> Cluster<D, A> {
         requires start { start < self.old.settings.replicas }
         requires first { ComeFirst start self.old.settings.replicas passed }
         requires fewer { length passed ≤ self.old.settings.replicas }
+        requires may_stand { AllByRecursion (λ over. MayStand ((store_seen self.old).places volume pair over.replica)) passed }
         requires needle { ForSome needle (λ bytes. (length passed < self.old.settings.replicas)
             × IsSeenByAt D.Tells D.Piece.Tells self.old volume pair ((start + length passed) % self.old.settings.replicas) bytes.items) }
         requires empty { photo.old.items ≡ [] }
@@ -325,6 +323,7 @@ impl<D: Disk, A: Arm<D::Piece>> Cluster<D, A> {
         ensures passes { ReadPasses (IsWhole D.Tells D.files D.Piece.Tells D.fault_count D.fuse_count A.fault_count self.old) self.old.settings lane volume start
             (counts_of D.fault_count A.fault_count self.old) (counts_of D.fault_count A.fault_count self.new) passed result }
         ensures stops { StopsUnseen self.old volume pair result }
+        ensures sees { ReadSees ((store_seen self.new).places volume pair) result }
         ensures sure { (arm : A) → slice_get self.old.arms lane ≡ Some arm → A.is_sure arm ≡ true → ReadNoArm passed result }
         ensures most { (slice_index (map A.fault_count self.new.arms) lane ≡ slice_index (map A.fault_count self.old.arms) lane)
             ⊎ (slice_index (map A.fault_count self.new.arms) lane < 2 ^ 64) }
@@ -334,8 +333,6 @@ impl<D: Disk, A: Arm<D::Piece>> Cluster<D, A> {
         ensures volumes { self.new.volumes ≡ self.old.volumes }
         ensures disks { disks_of self.new ≡ disks_of self.old }
         ensures arm_counts { NoneFalls (map A.fault_count self.old.arms) (map A.fault_count self.new.arms) }
-        ensures pending { pending_of self.new ≡ pending_of self.old }
-        ensures closures { closures_of self.new ≡ closures_of self.old }
         ensures seen { store_seen self.new ≡ store_seen self.old }
         ensures settings { self.new.settings ≡ self.old.settings }
         ensures up { IsUp self.new }
@@ -375,6 +372,7 @@ impl<D: Disk, A: Arm<D::Piece>> Cluster<D, A> {
         ensures says { D.Tells → (k : Known) → Stands D.files D.Piece.Tells D.fault_count D.fuse_count A.fault_count self.now k →
             ReadSays cookie (outcomes_of self.now.settings (volume_at k volume) pair) photo.new.items result }
         ensures next { ShowsAt ((start + length passed) % self.now.settings.replicas) result }
+        ensures sees { ReadSees ((store_seen self.now).places volume pair) result }
         ensures bytes { HasBytes photo.new.items result }
         ensures room { vec_capacity photo.old ≤ vec_capacity photo.new }
     {
@@ -398,6 +396,7 @@ impl<D: Disk, A: Arm<D::Piece>> Cluster<D, A> {
         requires start { start < self.old.settings.replicas }
         requires first { ComeFirst start self.old.settings.replicas passed }
         requires fewer { length passed ≤ self.old.settings.replicas }
+        requires may_stand { AllByRecursion (λ over. MayStand ((store_seen self.old).places volume pair over.replica)) passed }
         requires empty { photo.old.items ≡ [] }
         requires room { MAX_PHOTO ≤ vec_capacity photo.old }
         requires up { IsUp self.old }
@@ -407,6 +406,7 @@ impl<D: Disk, A: Arm<D::Piece>> Cluster<D, A> {
         ensures passes { ReadPasses (IsWhole D.Tells D.files D.Piece.Tells D.fault_count D.fuse_count A.fault_count self.old) self.old.settings lane volume start
             (counts_of D.fault_count A.fault_count self.old) (counts_of D.fault_count A.fault_count self.new) passed result }
         ensures stops { StopsUnseen self.old volume pair result }
+        ensures sees { ReadSees ((store_seen self.new).places volume pair) result }
         ensures sure { (arm : A) → slice_get self.old.arms lane ≡ Some arm → A.is_sure arm ≡ true → ReadNoArm passed result }
         ensures most { (slice_index (map A.fault_count self.new.arms) lane ≡ slice_index (map A.fault_count self.old.arms) lane)
             ⊎ (slice_index (map A.fault_count self.new.arms) lane < 2 ^ 64) }
@@ -416,8 +416,6 @@ impl<D: Disk, A: Arm<D::Piece>> Cluster<D, A> {
         ensures volumes { self.new.volumes ≡ self.old.volumes }
         ensures disks { disks_of self.new ≡ disks_of self.old }
         ensures arm_counts { NoneFalls (map A.fault_count self.old.arms) (map A.fault_count self.new.arms) }
-        ensures pending { pending_of self.new ≡ pending_of self.old }
-        ensures closures { closures_of self.new ≡ closures_of self.old }
         ensures seen { store_seen self.new ≡ store_seen self.old }
         ensures settings { self.new.settings ≡ self.old.settings }
         ensures up { IsUp self.new }
@@ -445,6 +443,8 @@ impl<D: Disk, A: Arm<D::Piece>> Cluster<D, A> {
         requires volume { volume < self.old.settings.volumes }
         requires replica { replica < self.old.settings.replicas }
         requires few { length causes < 4 }
+        requires apart { AllByRecursion (λ over. over.replica ≡ replica → ⊥) causes }
+        requires may_stand { AllByRecursion (λ over. MayStand ((store_seen self.old).places volume pair over.replica)) causes }
         requires up { IsUp self.old }
         ensures stands { D.Tells → (k : Known) → Stands D.files D.Piece.Tells D.fault_count D.fuse_count A.fault_count self.old k →
             Comes D.files D.Piece.Tells D.fault_count D.fuse_count A.fault_count k k self.new }
@@ -462,9 +462,9 @@ impl<D: Disk, A: Arm<D::Piece>> Cluster<D, A> {
         ensures fuses { map D.fuse_count (disks_of self.new) ≡ map D.fuse_count (disks_of self.old) }
         ensures contents { D.Tells → KeepsIn self.old.settings AnySlot (contents_in D.files self.old) (contents_in D.files self.new) }
         ensures arms { self.new.arms ≡ self.old.arms }
-        ensures pending { pending_of self.new ≡ pending_of self.old }
-        ensures closures { closures_of self.new ≡ closures_of self.old }
-        ensures seen { store_seen self.new ≡ store_seen self.old }
+        ensures seen { Keeps (store_seen self.old) (store_seen self.new) }
+        ensures looks { ChangesPhotos volume (LooksAtPair pair) (store_seen self.old) (store_seen self.new) }
+        ensures may_stand { IfOk result (λ sight. AllByRecursion (λ over. MayStand ((store_seen self.new).places volume pair over.replica)) sight.0) }
         ensures settings { self.new.settings ≡ self.old.settings }
         ensures up { IsUp self.new }
     {
@@ -503,9 +503,9 @@ impl<D: Disk, A: Arm<D::Piece>> Cluster<D, A> {
         ensures fuses { map D.fuse_count (disks_of self.new) ≡ map D.fuse_count (disks_of self.old) }
         ensures contents { D.Tells → KeepsIn self.old.settings AnySlot (contents_in D.files self.old) (contents_in D.files self.new) }
         ensures arms { self.new.arms ≡ self.old.arms }
-        ensures pending { pending_of self.new ≡ pending_of self.old }
-        ensures closures { closures_of self.new ≡ closures_of self.old }
-        ensures unchanged { store_seen self.new ≡ store_seen self.old }
+        ensures unchanged { Keeps (store_seen self.old) (store_seen self.new) }
+        ensures sights { OnOk result (ChangesPhotos volume (SeesPair pair replica) (store_seen self.old) (store_seen self.new)) }
+        ensures refused_sights { OnErr result (KeepsPhotos (store_seen self.old) (store_seen self.new) × ((store_seen self.old).places volume pair replica ≡ Unseen)) }
         ensures settings { self.new.settings ≡ self.old.settings }
         ensures up { IsUp self.new }
     {

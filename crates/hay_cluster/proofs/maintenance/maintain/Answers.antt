@@ -1,14 +1,14 @@
 use Rattle.std.proofs.Common.{◌≡◌, None, Some, refl, sym, ap, subst, ◌∙◌, arith}
-use Rattle.std.specs.Prelude.{Err, IfErr, Ok, OnOk, Result}
+use Rattle.std.specs.Prelude.{Err, IfErr, Ok, OnErr, OnOk, Result}
 use Rattle.hay_physical.specs.Copies.{Copy}
 use Rattle.hay_logical.specs.Volumes.{Volume}
 use Rattle.hay_cluster.specs.declared.maintenance.Maintenance.{Maintenance}
-use Rattle.hay_cluster.specs.Maintenance.{WorkFreezes}
-use Rattle.hay_cluster.proofs.Closures.{frozen_cause, frozen_freezes, frozen_refused}
 use Rattle.std.specs.Prelude.{IfOk}
 use Rattle.hay_logical.specs.Seen.{volume_seen}
-use Rattle.hay_cluster.specs.Seen.{RefusesWork, WorkSeen}
-use Rattle.hay_cluster.proofs.SeenWork.{frozen_refused_seen, on_ok_if, thawed_refused_seen}
+use Rattle.hay_cluster.specs.Seen.{WorkRefusedSeen, WorkSeen}
+use Rattle.hay_cluster.proofs.SeenWork.{frozen_cause, frozen_refused, frozen_refused_seen}
+use Rattle.hay_logical.specs.Sights.{sights_of}
+use Rattle.hay_cluster.specs.Sights.{DoneSights}
 use Rattle.hay_cluster.proofs.maintenance.maintain.Goals as goal
 
 some_none : {X : Type 0} {x : X} → Some x ≡ None → ⊥
@@ -21,9 +21,9 @@ on_ok : {T E : Type 0} (r : Result T E) (Q : Type 0) → Q → OnOk r Q
 on_ok (Ok x) Q q = q
 on_ok (Err e) Q q = tt
 
-if_err : {T E : Type 0} (r : Result T E) (Q : E → Type 0) → ((e : E) → Q e) → IfErr r Q
-if_err (Ok x) Q q = tt
-if_err (Err e) Q q = q e
+on_err : {T E : Type 0} (r : Result T E) (Q : Type 0) → Q → OnErr r Q
+on_err (Ok x) Q q = tt
+on_err (Err e) Q q = q
 
 pub returns-in-Finish-clause-others : goal.returns-in-Finish-clause-others
 returns-in-Finish-clause-others g c = λ j apart r r' was now. (c.finish.ensures.beside j apart r r' was now).disk
@@ -40,15 +40,6 @@ returns-in-Some-clause-causes g c = frozen_cause g.D.Disk.fault_count (c.args.vo
 
 pub returns-in-Some-clause-frozen : goal.returns-in-Some-clause-frozen
 returns-in-Some-clause-frozen g c = λ m so. let same : Some c.in-Some.machine ≡ Some m = sym c.in-Some.is ∙ c.frozen.ensures.is ∙ so in cc
-
-pub returns-in-Some-clause-thawed : goal.returns-in-Some-clause-thawed
-returns-in-Some-clause-thawed g c = λ none m is. absurd (some_none (sym c.in-Some.is ∙ c.frozen.ensures.is ∙ none))
-
-pub returns-in-Some-clause-settled : goal.returns-in-Some-clause-settled
-returns-in-Some-clause-settled g c = λ none. absurd (some_none (sym c.in-Some.is ∙ c.frozen.ensures.is ∙ none))
-
-pub returns-in-Some-clause-freezes : goal.returns-in-Some-clause-freezes
-returns-in-Some-clause-freezes g c = frozen_freezes c.args.work (c.args.volume.now).frozen c.in-Some.machine
 
 pub returns-in-Some-clause-untouched : goal.returns-in-Some-clause-untouched
 returns-in-Some-clause-untouched g c = λ untouched. refl
@@ -69,91 +60,28 @@ returns-in-Some-clause-same g c = record { settings = refl; number = refl; sups 
 pub returns-in-Flush-clause-frozen : goal.returns-in-Flush-clause-frozen
 returns-in-Flush-clause-frozen g c = λ m so. absurd (some_none (sym so ∙ sym c.frozen.ensures.is ∙ c.in_default.is))
 
-pub returns-in-Flush-clause-settled : goal.returns-in-Flush-clause-settled
-returns-in-Flush-clause-settled g c = λ none. (c.in_default.ensures).settled
-
-pub returns-in-Flush-clause-thawed : goal.returns-in-Flush-clause-thawed
-returns-in-Flush-clause-thawed g c = λ none m is. (c.in-Flush.is, (c.flush.ensures.stuck_index none m is).0)
-
-pub returns-in-Flush-clause-done_frozen : goal.returns-in-Flush-clause-done_frozen
-returns-in-Flush-clause-done_frozen g c = on_ok c.flush.result _ (ap (λ (v : Volume g.row.D.Denot g.row.D-Piece.Denot). v.frozen) c.flush.ensures.still)
-
-pub returns-in-Flush-clause-freezes : goal.returns-in-Flush-clause-freezes
-returns-in-Flush-clause-freezes g c =
-    subst (λ (work : Maintenance). IfErr c.flush.result (WorkFreezes work (c.args.volume.now).frozen (c.flush.new.self).frozen)) (sym c.in-Flush.is)
-    (if_err c.flush.result _ (λ fault. ap (λ (v : Volume g.row.D.Denot g.row.D-Piece.Denot). v.frozen) c.flush.ensures.still))
-
 pub returns-in-Begin-clause-frozen : goal.returns-in-Begin-clause-frozen
 returns-in-Begin-clause-frozen g c = λ m so. absurd (some_none (sym so ∙ sym c.frozen.ensures.is ∙ c.in_default.is))
-
-pub returns-in-Begin-clause-settled : goal.returns-in-Begin-clause-settled
-returns-in-Begin-clause-settled g c = λ none. (c.in_default.ensures).settled
-
-pub returns-in-Begin-clause-thawed : goal.returns-in-Begin-clause-thawed
-returns-in-Begin-clause-thawed g c = λ none m is. absurd (c.begin.ensures.thawed none m is)
-
-pub returns-in-Begin-clause-done_frozen : goal.returns-in-Begin-clause-done_frozen
-returns-in-Begin-clause-done_frozen g c = on_ok c.begin.result _ (ap (λ (v : Volume g.row.D.Denot g.row.D-Piece.Denot). v.frozen) c.begin.ensures.still)
-
-pub returns-in-Begin-clause-freezes : goal.returns-in-Begin-clause-freezes
-returns-in-Begin-clause-freezes g c =
-    subst (λ (work : Maintenance). IfErr c.begin.result (WorkFreezes work (c.args.volume.now).frozen (c.begin.new.self).frozen)) (sym c.in-Begin.is)
-    (if_err c.begin.result _ (λ fault. ap (λ (v : Volume g.row.D.Denot g.row.D-Piece.Denot). v.frozen) c.begin.ensures.still))
 
 pub returns-in-Step-clause-frozen : goal.returns-in-Step-clause-frozen
 returns-in-Step-clause-frozen g c = λ m so. absurd (some_none (sym so ∙ sym c.frozen.ensures.is ∙ c.in_default.is))
 
-pub returns-in-Step-clause-settled : goal.returns-in-Step-clause-settled
-returns-in-Step-clause-settled g c = λ none. (c.in_default.ensures).settled
-
-pub returns-in-Step-clause-thawed : goal.returns-in-Step-clause-thawed
-returns-in-Step-clause-thawed g c = λ none m is. absurd (c.step.ensures.thawed none m is)
-
-pub returns-in-Step-clause-done_frozen : goal.returns-in-Step-clause-done_frozen
-returns-in-Step-clause-done_frozen g c = on_ok c.step.result _ (ap (λ (v : Volume g.row.D.Denot g.row.D-Piece.Denot). v.frozen) c.step.ensures.still)
-
-pub returns-in-Step-clause-freezes : goal.returns-in-Step-clause-freezes
-returns-in-Step-clause-freezes g c =
-    subst (λ (work : Maintenance). IfErr c.step.result (WorkFreezes work (c.args.volume.now).frozen (c.step.new.self).frozen)) (sym c.in-Step.is)
-    (if_err c.step.result _ (λ fault. ap (λ (v : Volume g.row.D.Denot g.row.D-Piece.Denot). v.frozen) c.step.ensures.still))
-
 pub returns-in-Finish-clause-frozen : goal.returns-in-Finish-clause-frozen
 returns-in-Finish-clause-frozen g c = λ m so. absurd (some_none (sym so ∙ sym c.frozen.ensures.is ∙ c.in_default.is))
 
-pub returns-in-Finish-clause-settled : goal.returns-in-Finish-clause-settled
-returns-in-Finish-clause-settled g c = λ none. (c.in_default.ensures).settled
-
-pub returns-in-Finish-clause-thawed : goal.returns-in-Finish-clause-thawed
-returns-in-Finish-clause-thawed g c = λ none m is. absurd (c.finish.ensures.thawed none m is)
-
-pub returns-in-Finish-clause-freezes : goal.returns-in-Finish-clause-freezes
-returns-in-Finish-clause-freezes g c =
-    subst (λ (work : Maintenance). IfErr c.finish.result (WorkFreezes work (c.args.volume.now).frozen (c.finish.new.self).frozen)) (sym c.in-Finish.is) c.finish.ensures.freezes
-
 pub returns-in-Compact-clause-frozen : goal.returns-in-Compact-clause-frozen
 returns-in-Compact-clause-frozen g c = λ m so. absurd (some_none (sym so ∙ sym c.frozen.ensures.is ∙ c.in_default.is))
-
-pub returns-in-Compact-clause-settled : goal.returns-in-Compact-clause-settled
-returns-in-Compact-clause-settled g c = λ none. (c.in_default.ensures).settled
-
-pub returns-in-Compact-clause-thawed : goal.returns-in-Compact-clause-thawed
-returns-in-Compact-clause-thawed g c = λ none m is. absurd (c.compact.ensures.thawed none m is)
-
-pub returns-in-Compact-clause-freezes : goal.returns-in-Compact-clause-freezes
-returns-in-Compact-clause-freezes g c =
-    subst (λ (work : Maintenance). IfErr c.compact.result (WorkFreezes work (c.args.volume.now).frozen (c.compact.new.self).frozen)) (sym c.in-Compact.is) c.compact.ensures.freezes
 
 pub returns-in-Some-clause-refused_seen : goal.returns-in-Some-clause-refused_seen
 returns-in-Some-clause-refused_seen g c = frozen_refused_seen (c.args.volume.now).settings c.args.work (c.args.volume.now).number c.args.replica c.in-Some.machine (volume_seen c.args.volume.now) (sym c.frozen.ensures.is ∙ c.in-Some.is)
 
 pub returns-in-Flush-clause-seen : goal.returns-in-Flush-clause-seen
 returns-in-Flush-clause-seen g c =
-    subst (λ (work : Maintenance). IfOk c.flush.result (λ number. WorkSeen work c.args.replica number (volume_seen c.args.volume.now) (volume_seen c.flush.new.self))) (sym c.in-Flush.is) (on_ok_if c.flush.result _ c.flush.ensures.seen)
+    subst (λ (work : Maintenance). IfOk c.flush.result (λ number. WorkSeen work c.args.replica number (volume_seen c.args.volume.now) (volume_seen c.flush.new.self))) (sym c.in-Flush.is) c.flush.ensures.seen
 
 pub returns-in-Flush-clause-refused_seen : goal.returns-in-Flush-clause-refused_seen
 returns-in-Flush-clause-refused_seen g c =
-    thawed_refused_seen (c.args.volume.now).settings c.args.work (c.args.volume.now).number c.args.replica (volume_seen c.args.volume.now) (volume_seen c.flush.new.self) c.flush.result (sym c.frozen.ensures.is ∙ c.in_default.is)
-    (subst (λ (work : Maintenance). IfErr c.flush.result (λ fault. RefusesWork (c.args.volume.now).settings work (c.args.volume.now).number c.args.replica fault (volume_seen c.args.volume.now) (volume_seen c.flush.new.self))) (sym c.in-Flush.is) c.flush.ensures.refused_seen)
+    subst (λ (work : Maintenance). IfErr c.flush.result (λ fault. WorkRefusedSeen (c.args.volume.now).settings work (c.args.volume.now).number c.args.replica fault (volume_seen c.args.volume.now) (volume_seen c.flush.new.self))) (sym c.in-Flush.is) c.flush.ensures.refused_seen
 
 pub returns-in-Begin-clause-seen : goal.returns-in-Begin-clause-seen
 returns-in-Begin-clause-seen g c =
@@ -161,8 +89,7 @@ returns-in-Begin-clause-seen g c =
 
 pub returns-in-Begin-clause-refused_seen : goal.returns-in-Begin-clause-refused_seen
 returns-in-Begin-clause-refused_seen g c =
-    thawed_refused_seen (c.args.volume.now).settings c.args.work (c.args.volume.now).number c.args.replica (volume_seen c.args.volume.now) (volume_seen c.begin.new.self) c.begin.result (sym c.frozen.ensures.is ∙ c.in_default.is)
-    (subst (λ (work : Maintenance). IfErr c.begin.result (λ fault. RefusesWork (c.args.volume.now).settings work (c.args.volume.now).number c.args.replica fault (volume_seen c.args.volume.now) (volume_seen c.begin.new.self))) (sym c.in-Begin.is) c.begin.ensures.refused_seen)
+    subst (λ (work : Maintenance). IfErr c.begin.result (λ fault. WorkRefusedSeen (c.args.volume.now).settings work (c.args.volume.now).number c.args.replica fault (volume_seen c.args.volume.now) (volume_seen c.begin.new.self))) (sym c.in-Begin.is) c.begin.ensures.refused_seen
 
 pub returns-in-Step-clause-seen : goal.returns-in-Step-clause-seen
 returns-in-Step-clause-seen g c =
@@ -170,8 +97,7 @@ returns-in-Step-clause-seen g c =
 
 pub returns-in-Step-clause-refused_seen : goal.returns-in-Step-clause-refused_seen
 returns-in-Step-clause-refused_seen g c =
-    thawed_refused_seen (c.args.volume.now).settings c.args.work (c.args.volume.now).number c.args.replica (volume_seen c.args.volume.now) (volume_seen c.step.new.self) c.step.result (sym c.frozen.ensures.is ∙ c.in_default.is)
-    (subst (λ (work : Maintenance). IfErr c.step.result (λ fault. RefusesWork (c.args.volume.now).settings work (c.args.volume.now).number c.args.replica fault (volume_seen c.args.volume.now) (volume_seen c.step.new.self))) (sym c.in-Step.is) c.step.ensures.refused_seen)
+    subst (λ (work : Maintenance). IfErr c.step.result (λ fault. WorkRefusedSeen (c.args.volume.now).settings work (c.args.volume.now).number c.args.replica fault (volume_seen c.args.volume.now) (volume_seen c.step.new.self))) (sym c.in-Step.is) c.step.ensures.refused_seen
 
 pub returns-in-Finish-clause-seen : goal.returns-in-Finish-clause-seen
 returns-in-Finish-clause-seen g c =
@@ -179,8 +105,7 @@ returns-in-Finish-clause-seen g c =
 
 pub returns-in-Finish-clause-refused_seen : goal.returns-in-Finish-clause-refused_seen
 returns-in-Finish-clause-refused_seen g c =
-    thawed_refused_seen (c.args.volume.now).settings c.args.work (c.args.volume.now).number c.args.replica (volume_seen c.args.volume.now) (volume_seen c.finish.new.self) c.finish.result (sym c.frozen.ensures.is ∙ c.in_default.is)
-    (subst (λ (work : Maintenance). IfErr c.finish.result (λ fault. RefusesWork (c.args.volume.now).settings work (c.args.volume.now).number c.args.replica fault (volume_seen c.args.volume.now) (volume_seen c.finish.new.self))) (sym c.in-Finish.is) c.finish.ensures.refused_seen)
+    subst (λ (work : Maintenance). IfErr c.finish.result (λ fault. WorkRefusedSeen (c.args.volume.now).settings work (c.args.volume.now).number c.args.replica fault (volume_seen c.args.volume.now) (volume_seen c.finish.new.self))) (sym c.in-Finish.is) c.finish.ensures.refused_seen
 
 pub returns-in-Compact-clause-seen : goal.returns-in-Compact-clause-seen
 returns-in-Compact-clause-seen g c =
@@ -188,5 +113,43 @@ returns-in-Compact-clause-seen g c =
 
 pub returns-in-Compact-clause-refused_seen : goal.returns-in-Compact-clause-refused_seen
 returns-in-Compact-clause-refused_seen g c =
-    thawed_refused_seen (c.args.volume.now).settings c.args.work (c.args.volume.now).number c.args.replica (volume_seen c.args.volume.now) (volume_seen c.compact.new.self) c.compact.result (sym c.frozen.ensures.is ∙ c.in_default.is)
-    (subst (λ (work : Maintenance). IfErr c.compact.result (λ fault. RefusesWork (c.args.volume.now).settings work (c.args.volume.now).number c.args.replica fault (volume_seen c.args.volume.now) (volume_seen c.compact.new.self))) (sym c.in-Compact.is) c.compact.ensures.refused_seen)
+    subst (λ (work : Maintenance). IfErr c.compact.result (λ fault. WorkRefusedSeen (c.args.volume.now).settings work (c.args.volume.now).number c.args.replica fault (volume_seen c.args.volume.now) (volume_seen c.compact.new.self))) (sym c.in-Compact.is) c.compact.ensures.refused_seen
+
+pub returns-in-Flush-clause-sights : goal.returns-in-Flush-clause-sights
+returns-in-Flush-clause-sights g c =
+    subst (λ (work : Maintenance). OnOk c.flush.result (DoneSights work c.args.replica (sights_of (c.args.volume.now).rows) (sights_of (c.flush.new.self).rows))) (sym c.in-Flush.is)
+    (on_ok c.flush.result _ (λ pair j. ap (λ (w : Volume g.row.D.Denot g.row.D-Piece.Denot). sights_of w.rows pair j) c.flush.ensures.still))
+
+pub returns-in-Flush-clause-refused_sights : goal.returns-in-Flush-clause-refused_sights
+returns-in-Flush-clause-refused_sights g c =
+    on_err c.flush.result _ (λ pair j. ap (λ (w : Volume g.row.D.Denot g.row.D-Piece.Denot). sights_of w.rows pair j) c.flush.ensures.still)
+
+pub returns-in-Begin-clause-sights : goal.returns-in-Begin-clause-sights
+returns-in-Begin-clause-sights g c =
+    subst (λ (work : Maintenance). OnOk c.begin.result (DoneSights work c.args.replica (sights_of (c.args.volume.now).rows) (sights_of (c.begin.new.self).rows))) (sym c.in-Begin.is)
+    (on_ok c.begin.result _ (λ pair j. ap (λ (w : Volume g.row.D.Denot g.row.D-Piece.Denot). sights_of w.rows pair j) c.begin.ensures.still))
+
+pub returns-in-Begin-clause-refused_sights : goal.returns-in-Begin-clause-refused_sights
+returns-in-Begin-clause-refused_sights g c =
+    on_err c.begin.result _ (λ pair j. ap (λ (w : Volume g.row.D.Denot g.row.D-Piece.Denot). sights_of w.rows pair j) c.begin.ensures.still)
+
+pub returns-in-Step-clause-sights : goal.returns-in-Step-clause-sights
+returns-in-Step-clause-sights g c =
+    subst (λ (work : Maintenance). OnOk c.step.result (DoneSights work c.args.replica (sights_of (c.args.volume.now).rows) (sights_of (c.step.new.self).rows))) (sym c.in-Step.is)
+    (on_ok c.step.result _ (λ pair j. ap (λ (w : Volume g.row.D.Denot g.row.D-Piece.Denot). sights_of w.rows pair j) c.step.ensures.still))
+
+pub returns-in-Step-clause-refused_sights : goal.returns-in-Step-clause-refused_sights
+returns-in-Step-clause-refused_sights g c =
+    on_err c.step.result _ (λ pair j. ap (λ (w : Volume g.row.D.Denot g.row.D-Piece.Denot). sights_of w.rows pair j) c.step.ensures.still)
+
+pub returns-in-Some-clause-refused_sights : goal.returns-in-Some-clause-refused_sights
+returns-in-Some-clause-refused_sights g c =
+    λ pair j. refl
+
+pub returns-in-Finish-clause-sights : goal.returns-in-Finish-clause-sights
+returns-in-Finish-clause-sights g c =
+    subst (λ (work : Maintenance). OnOk c.finish.result (DoneSights work c.args.replica (sights_of (c.args.volume.now).rows) (sights_of (c.finish.new.self).rows))) (sym c.in-Finish.is) c.finish.ensures.sights
+
+pub returns-in-Compact-clause-sights : goal.returns-in-Compact-clause-sights
+returns-in-Compact-clause-sights g c =
+    subst (λ (work : Maintenance). OnOk c.compact.result (DoneSights work c.args.replica (sights_of (c.args.volume.now).rows) (sights_of (c.compact.new.self).rows))) (sym c.in-Compact.is) c.compact.ensures.sights

@@ -18,11 +18,10 @@ returns-in-Ok-clause-opened g c =
       reopened = λ tells known stopped. let found = e.reopened tells known stopped in (found.0, found.1, found.3);
       undamaged = e.undamaged;
       undamaged_now = e.undamaged_now;
+      formatted = e.formatted;
       told = e.told;
       fits = e.fits;
-      serves = e.serves;
-      undrained = e.undrained;
-      seen = (map home_row c.in-Ok.opened.rows.items, e.seen);
+      seen = (map home_row c.in-Ok.opened.rows.items, e.within, e.seen);
     }
 
 pub returns-in-Ok-clause-moves : goal.returns-in-Ok-clause-moves

@@ -50,11 +50,9 @@ returns-in_ok-append-in-Ok-clause-opened g c =
         up = e.«open»;
         first = e.first;
         reopened = e.reopened;
-        undamaged = λ tells j r r' at at'. (e.undamaged tells j r at, e.undamaged_now tells j r r' at at');
+        undamaged = λ tells j r r' at at'. (e.undamaged tells j r at, e.undamaged_now tells j r r' at at', e.formatted tells j r' at');
         told = e.told;
         fits = e.fits;
-        settled = e.settled;
-        thawed = e.thawed;
         seen = e.seen;
         formatted = e.formatted;
       },

@@ -5,7 +5,7 @@ use Rattle.hay_logical.specs.Stands.{IsIdleVolume}
 use Rattle.hay_reply.specs.declared.Note.{Note}
 use Rattle.hay_logical.specs.Volumes.{IsClosed, Volume}
 use Rattle.hay_cluster.specs.Draws.{DrawsVolume}
-use Rattle.hay_cluster.specs.Opening.{MovesVolume, OpensVolume, RefusesVolumes}
+use Rattle.hay_cluster.specs.Opening.{LeavesVolume, OpensVolume, RefusesVolumes}
 use Rattle.hay_cluster.specs.Store.{IsVolumeOf}
 use Rattle.hay_cluster.proofs.Lists.{AllByRecursion-at, InOrder-get}
 use Rattle.hay_cluster.proofs.OpeningDraws.{gathered_less, gathers_less}
@@ -57,7 +57,7 @@ returns-clause-opened g c =
 pub returns-clause-moves : goal.returns-clause-moves
 returns-clause-moves g c =
     let R = λ (old new : Volume g.row.D.Denot g.row.D-Piece.Denot) (notes : List Note). OpensVolume g.D.Disk.Tells g.D.Disk.files g.D.Piece.Piece.Tells g.D.Disk.fault_count g.D.Disk.fuse_count old new notes × (g.D.Disk.Tells → DrawsVolume g.D.Disk.files g.D.Disk.drawn old new) in
-    gathers_zip R (MovesVolume g.D.Disk.Tells g.D.Disk.files g.D.Piece.Piece.Tells g.D.Disk.fault_count g.D.Disk.fuse_count) c.args.volumes.now c.loop-number.volumes c.loop-number.notes.items (λ x y more r. r.0.moves)
+    gathers_zip R (LeavesVolume g.D.Disk.Tells g.D.Disk.files g.D.Piece.Piece.Tells g.D.Disk.fault_count g.D.Disk.fuse_count) c.args.volumes.now c.loop-number.volumes c.loop-number.notes.items (λ x y more r. r.0.moves)
     (gathered_all R c.loop-number.number c.args.volumes.now c.loop-number.volumes c.loop-number.notes.items c.loop-number.invariant (omega arith))
 
 pub open_volume-requires : goal.open_volume-requires

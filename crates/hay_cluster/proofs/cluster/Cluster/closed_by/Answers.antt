@@ -12,13 +12,11 @@ use Rattle.hay_needle.specs.declared.settings.Settings.{Settings}
 use Rattle.hay_cluster.specs.Suiting.{IsOn}
 use Rattle.hay_cluster.proofs.Calls.{machine_on}
 use Rattle.hay_cluster.proofs.Suiting.{drained_on}
-use Rattle.hay_cluster.specs.Closing.{Closes, IsOpenTo, closures_of}
-use Rattle.hay_cluster.specs.Pending.{pending_of}
-use Rattle.hay_cluster.proofs.Closures.{drained_closes, drained_closes_seen, is_frozen_by, is_thawed, undrained_opens, undrained_opens_seen}
 use Rattle.hay_cluster.specs.Seen as seen
 use Rattle.hay_cluster.specs.Seen.{store_seen}
 use Rattle.hay_logical.specs.Seen.{volume_seen}
 use Rattle.hay_cluster.proofs.Seeing.{seen_at}
+use Rattle.hay_cluster.proofs.Drained.{drained_closes, undrained_opens}
 use Rattle.hay_cluster.proofs.cluster.Cluster.closed_by.Goals as goal
 
 pub offset_bounds-as_slice-volume : goal.offset_bounds-as_slice-volume
@@ -55,15 +53,6 @@ returns-in-Some g c = record {
       let at : At store.volumes c.args.volume volume = subst (λ (w : Volume g.row.D.Denot g.row.D-Piece.Denot). At store.volumes c.args.volume w) (sym c.index-as_slice-volume.is)
       (subst (λ (vs : List (Volume g.row.D.Denot g.row.D-Piece.Denot)). At vs c.args.volume (slice_index_or c.as_slice.result.now c.args.volume volume)) c.as_slice.ensures.value
       (at_read c.as_slice.result.now c.args.volume volume (let long = ap length c.as_slice.ensures.value in omega (arith, within, long)))) in
-      inl (is_frozen_by c.args.self.now store c.args.volume volume c.self.view_is at c.in-Some.machine (sym c.frozen.ensures.is ∙ c.in-Some.is));
-  opens_seen = tt;
-  closes_seen =
-      let store : Open g.row.D.Denot g.row.D-Piece.Denot g.row.A.Denot = record { settings = c.self.inside.settings; directory = c.self.inside.directory; volumes = c.self.inside.volumes.items; arms = c.self.inside.seats.items } in
-      let within : c.args.volume < length c.self.inside.volumes.items = let same = ap (λ (st : Open g.row.D.Denot g.row.D-Piece.Denot g.row.A.Denot). (st.settings).volumes) c.self.view_is in omega (arith, c.requires.volume, c.self.invariant.many, same) in
-      let volume = c.index-as_slice-volume.result in
-      let at : At store.volumes c.args.volume volume = subst (λ (w : Volume g.row.D.Denot g.row.D-Piece.Denot). At store.volumes c.args.volume w) (sym c.index-as_slice-volume.is)
-      (subst (λ (vs : List (Volume g.row.D.Denot g.row.D-Piece.Denot)). At vs c.args.volume (slice_index_or c.as_slice.result.now c.args.volume volume)) c.as_slice.ensures.value
-      (at_read c.as_slice.result.now c.args.volume volume (let long = ap length c.as_slice.ensures.value in omega (arith, within, long)))) in
       inl (volume_seen volume, seen_at c.args.self.now store c.self.view_is c.args.volume volume at, sym c.frozen.ensures.is ∙ c.in-Some.is);
 }
 
@@ -91,30 +80,10 @@ returns-in-None g c = record {
       let at : At store.volumes c.args.volume volume = subst (λ (w : Volume g.row.D.Denot g.row.D-Piece.Denot). At store.volumes c.args.volume w) (sym c.index-as_slice-volume.is)
       (subst (λ (vs : List (Volume g.row.D.Denot g.row.D-Piece.Denot)). At vs c.args.volume (slice_index_or c.as_slice.result.now c.args.volume volume)) c.as_slice.ensures.value
       (at_read c.as_slice.result.now c.args.volume volume (let long = ap length c.as_slice.ensures.value in omega (arith, within, long)))) in
-      subst (λ (o : Option ℕ). IfNone o (IsOpenTo (c.args.self.now).settings (closures_of c.args.self.now) (pending_of c.args.self.now) c.args.volume)) (sym c.drained_by.ensures)
-      (undrained_opens (c.args.self.now).settings (closures_of c.args.self.now) (pending_of c.args.self.now) c.args.volume
-      (is_thawed c.args.self.now store c.args.volume volume c.self.view_is at (sym c.frozen.ensures.is ∙ c.in-None.is) (c.in-None.ensures).settled));
-  closes =
-      let store : Open g.row.D.Denot g.row.D-Piece.Denot g.row.A.Denot = record { settings = c.self.inside.settings; directory = c.self.inside.directory; volumes = c.self.inside.volumes.items; arms = c.self.inside.seats.items } in
-      let within : c.args.volume < length c.self.inside.volumes.items = let same = ap (λ (st : Open g.row.D.Denot g.row.D-Piece.Denot g.row.A.Denot). (st.settings).volumes) c.self.view_is in omega (arith, c.requires.volume, c.self.invariant.many, same) in
-      let volume = c.index-as_slice-volume.result in
-      let at : At store.volumes c.args.volume volume = subst (λ (w : Volume g.row.D.Denot g.row.D-Piece.Denot). At store.volumes c.args.volume w) (sym c.index-as_slice-volume.is)
-      (subst (λ (vs : List (Volume g.row.D.Denot g.row.D-Piece.Denot)). At vs c.args.volume (slice_index_or c.as_slice.result.now c.args.volume volume)) c.as_slice.ensures.value
-      (at_read c.as_slice.result.now c.args.volume volume (let long = ap length c.as_slice.ensures.value in omega (arith, within, long)))) in
-      subst (λ (o : Option ℕ). IfSome o (Closes (c.args.self.now).settings (closures_of c.args.self.now) (pending_of c.args.self.now) c.args.volume)) (sym c.drained_by.ensures)
-      (drained_closes (c.args.self.now).settings (closures_of c.args.self.now) (pending_of c.args.self.now) c.args.volume
-      (is_thawed c.args.self.now store c.args.volume volume c.self.view_is at (sym c.frozen.ensures.is ∙ c.in-None.is) (c.in-None.ensures).settled));
-  opens_seen =
-      let store : Open g.row.D.Denot g.row.D-Piece.Denot g.row.A.Denot = record { settings = c.self.inside.settings; directory = c.self.inside.directory; volumes = c.self.inside.volumes.items; arms = c.self.inside.seats.items } in
-      let within : c.args.volume < length c.self.inside.volumes.items = let same = ap (λ (st : Open g.row.D.Denot g.row.D-Piece.Denot g.row.A.Denot). (st.settings).volumes) c.self.view_is in omega (arith, c.requires.volume, c.self.invariant.many, same) in
-      let volume = c.index-as_slice-volume.result in
-      let at : At store.volumes c.args.volume volume = subst (λ (w : Volume g.row.D.Denot g.row.D-Piece.Denot). At store.volumes c.args.volume w) (sym c.index-as_slice-volume.is)
-      (subst (λ (vs : List (Volume g.row.D.Denot g.row.D-Piece.Denot)). At vs c.args.volume (slice_index_or c.as_slice.result.now c.args.volume volume)) c.as_slice.ensures.value
-      (at_read c.as_slice.result.now c.args.volume volume (let long = ap length c.as_slice.ensures.value in omega (arith, within, long)))) in
       let thawed : seen.IsThawed (store_seen c.args.self.now) c.args.volume = (volume_seen volume, seen_at c.args.self.now store c.self.view_is c.args.volume volume at, (sym c.frozen.ensures.is ∙ c.in-None.is, (c.in-None.ensures).settled)) in
       subst (λ (o : Option ℕ). IfNone o (seen.IsOpenTo (c.args.self.now).settings (store_seen c.args.self.now) c.args.volume)) (sym c.drained_by.ensures)
-      (undrained_opens_seen (c.args.self.now).settings (store_seen c.args.self.now) c.args.volume thawed);
-  closes_seen =
+      (undrained_opens (c.args.self.now).settings (store_seen c.args.self.now) c.args.volume thawed);
+  closes =
       let store : Open g.row.D.Denot g.row.D-Piece.Denot g.row.A.Denot = record { settings = c.self.inside.settings; directory = c.self.inside.directory; volumes = c.self.inside.volumes.items; arms = c.self.inside.seats.items } in
       let within : c.args.volume < length c.self.inside.volumes.items = let same = ap (λ (st : Open g.row.D.Denot g.row.D-Piece.Denot g.row.A.Denot). (st.settings).volumes) c.self.view_is in omega (arith, c.requires.volume, c.self.invariant.many, same) in
       let volume = c.index-as_slice-volume.result in
@@ -123,5 +92,5 @@ returns-in-None g c = record {
       (at_read c.as_slice.result.now c.args.volume volume (let long = ap length c.as_slice.ensures.value in omega (arith, within, long)))) in
       let thawed : seen.IsThawed (store_seen c.args.self.now) c.args.volume = (volume_seen volume, seen_at c.args.self.now store c.self.view_is c.args.volume volume at, (sym c.frozen.ensures.is ∙ c.in-None.is, (c.in-None.ensures).settled)) in
       subst (λ (o : Option ℕ). IfSome o (seen.Closes (c.args.self.now).settings (store_seen c.args.self.now) c.args.volume)) (sym c.drained_by.ensures)
-      (drained_closes_seen (c.args.self.now).settings (store_seen c.args.self.now) c.args.volume thawed);
+      (drained_closes (c.args.self.now).settings (store_seen c.args.self.now) c.args.volume thawed);
 }

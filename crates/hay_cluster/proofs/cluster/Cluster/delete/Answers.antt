@@ -1,19 +1,16 @@
-use Rattle.std.proofs.Common.{◌≡◌, None, Some, sym, ap, ◌∙◌, inl, inr, refl}
-use Rattle.std.specs.Prelude.{Err}
+use Rattle.std.proofs.Common.{◌≡◌, None, Some, sym, ◌∙◌, inl, inr, refl, map, subst}
 use Rattle.std.proofs.lemmas.Result.{IfErr-at_err, IfOk-at_ok}
 use Rattle.hay_legal.specs.Known.{closed, home_of, volume_at}
 use Rattle.hay_legal.specs.Plain.{with_del}
 use Rattle.hay_cluster.proofs.Changing.{deleted, not_deleted}
 use Rattle.hay_cluster.proofs.Suiting.{closed_suits_del, del_refusal_suits}
-use Rattle.hay_cluster.proofs.Pending.{delete_pending}
-use Rattle.hay_cluster.specs.Pending.{pending_of}
-use Rattle.hay_cluster.specs.Store.{contents_in}
+use Rattle.hay_cluster.specs.Store.{contents_in, disks_of}
 use Rattle.hay_cluster.specs.Leaving.{AnySlot, IsBeside}
 use Rattle.hay_cluster.proofs.Leaving.{delete_leaves, keeps-all, leaves_contents}
-use Rattle.hay_cluster.specs.Closing.{closures_of}
-use Rattle.hay_cluster.proofs.Closures.{delete_closes, delete_met, read_only_met}
 use Rattle.hay_cluster.specs.Seen.{store_seen}
 use Rattle.hay_cluster.proofs.Seeing.{closed_seen, keeps_all, undeleted_seen}
+use Rattle.hay_cluster.proofs.Sighting.{closed_not_deleted, closed_sights, keeps_photos, refused_not_deleted, undeleted_sights}
+use Rattle.hay_cluster.specs.Causes.{EndsByFaults}
 use Rattle.hay_cluster.proofs.cluster.Cluster.delete.Goals as goal
 
 pub returns-in-Ok-clause-legal : goal.returns-in-Ok-clause-legal
@@ -49,20 +46,6 @@ returns-clause-suits g c =
     del_refusal_suits (c.args.self.now).settings c.in-Some.volume c.rows-in-Err.result _ _ c.in-Err.fault c.delete_refusal.result (c.in-Some.ensures).within
     (IfErr-at_err _ c.in-Err.is c.delete_in.ensures.causes) c.delete_refusal.ensures.is
 
-pub returns-in_default-clause-pending : goal.returns-in_default-clause-pending
-returns-in_default-clause-pending g c = inr refl
-
-pub returns-in-Some-closed_by-clause-pending : goal.returns-in-Some-closed_by-clause-pending
-returns-in-Some-closed_by-clause-pending g c = inr refl
-
-pub returns-in-Ok-clause-pending : goal.returns-in-Ok-clause-pending
-returns-in-Ok-clause-pending g c = inr c.in-Ok.ensures.done_pending
-
-pub returns-clause-pending : goal.returns-clause-pending
-returns-clause-pending g c =
-    delete_pending c.args.tag.line c.in-Some.volume c.rows-in-Err.result (pending_of c.args.self.now) (pending_of c.delete_in.new.self) c.in-Err.fault c.delete_refusal.result c.delete_refusal.ensures.is
-    (IfErr-at_err _ c.in-Err.is c.delete_in.ensures.refused_pending)
-
 pub returns-in_default-clause-contents : goal.returns-in_default-clause-contents
 returns-in_default-clause-contents g c = λ tells. inr (keeps-all (c.args.self.now).settings AnySlot (contents_in g.D.Disk.files c.args.self.now))
 
@@ -79,34 +62,9 @@ returns-in-Ok-clause-contents g c = λ tells.
 
 pub returns-clause-contents : goal.returns-clause-contents
 returns-clause-contents g c = λ tells.
-    delete_leaves (c.args.self.now).settings (pending_of c.args.self.now) (pending_of c.delete_in.new.self) (contents_in g.D.Disk.files c.args.self.now) (contents_in g.D.Disk.files c.delete_in.new.self) c.in-Some.volume c.rows-in-Err.result c.in-Err.fault c.delete_refusal.result c.delete_refusal.ensures.is
+    delete_leaves (c.args.self.now).settings (store_seen c.args.self.now).volumes (store_seen c.delete_in.new.self).volumes (contents_in g.D.Disk.files c.args.self.now) (contents_in g.D.Disk.files c.delete_in.new.self) c.in-Some.volume c.rows-in-Err.result c.in-Err.fault c.delete_refusal.result c.delete_refusal.ensures.is
     (leaves_contents g.D.Disk.files (c.args.self.now).settings (IsBeside (c.args.self.now).settings c.in-Some.volume) c.args.self.now c.delete_in.new.self c.delete_in.ensures.beside)
     (IfErr-at_err _ c.in-Err.is (c.delete_in.ensures.kept tells))
-
-pub returns-in-Some-closed_by-clause-met : goal.returns-in-Some-closed_by-clause-met
-returns-in-Some-closed_by-clause-met g c = read_only_met (c.args.self.now).settings (closures_of c.args.self.now) (pending_of c.args.self.now) c.in-Some.volume c.in-Some-closed_by.machine c.read_only.result c.read_only.ensures.is (c.in-Some-closed_by.ensures).closes
-
-pub returns-in-Ok-clause-met : goal.returns-in-Ok-clause-met
-returns-in-Ok-clause-met g c = (c.in_default-closed_by.ensures).opens
-
-pub returns-clause-met : goal.returns-clause-met
-returns-clause-met g c =
-    delete_met (c.args.self.now).settings (closures_of c.args.self.now) (pending_of c.args.self.now) c.in-Some.volume c.rows-in-Err.result c.in-Err.fault c.delete_refusal.result c.delete_refusal.ensures.is (c.in_default-closed_by.ensures).opens
-    (λ m is. c.delete_in.ensures.thawed (c.in_default-closed_by.ensures).opens.0 m (c.in-Err.is ∙ ap Err is))
-
-pub returns-in_default-clause-closures : goal.returns-in_default-clause-closures
-returns-in_default-clause-closures g c = inr refl
-
-pub returns-in-Some-closed_by-clause-closures : goal.returns-in-Some-closed_by-clause-closures
-returns-in-Some-closed_by-clause-closures g c = inr refl
-
-pub returns-in-Ok-clause-closures : goal.returns-in-Ok-clause-closures
-returns-in-Ok-clause-closures g c = inr c.in-Ok.ensures.done_closures
-
-pub returns-clause-closures : goal.returns-clause-closures
-returns-clause-closures g c =
-    delete_closes c.in-Some.volume c.rows-in-Err.result (closures_of c.args.self.now) (closures_of c.delete_in.new.self) c.in-Err.fault c.delete_refusal.result c.delete_refusal.ensures.is
-    (IfErr-at_err _ c.in-Err.is c.delete_in.ensures.refused_closures)
 
 pub returns-in_default-clause-seen : goal.returns-in_default-clause-seen
 returns-in_default-clause-seen g c = (keeps_all (store_seen c.args.self.now), sym c.home.ensures.seen ∙ c.in_default.is, c.rows.ensures.count)
@@ -114,14 +72,42 @@ returns-in_default-clause-seen g c = (keeps_all (store_seen c.args.self.now), sy
 pub returns-in-Some-closed_by-clause-seen : goal.returns-in-Some-closed_by-clause-seen
 returns-in-Some-closed_by-clause-seen g c =
     closed_seen (c.args.self.now).settings c.args.tag c.args.pair c.in-Some.volume c.in-Some-closed_by.machine c.read_only.result (store_seen c.args.self.now) c.read_only.ensures.is
-    (sym c.home.ensures.seen ∙ c.in-Some.is) (c.in-Some-closed_by.ensures).closes_seen
+    (sym c.home.ensures.seen ∙ c.in-Some.is) (c.in-Some-closed_by.ensures).closes
 
 pub returns-in-Ok-clause-seen : goal.returns-in-Ok-clause-seen
 returns-in-Ok-clause-seen g c =
     let moves = IfOk-at_ok _ c.in-Ok.is c.delete_in.ensures.seen in
-    ((sym c.home.ensures.seen ∙ c.in-Some.is, (c.in_default-closed_by.ensures).opens_seen), moves, c.rows-in-Ok.ensures.count ∙ (moves.directory).rows)
+    ((sym c.home.ensures.seen ∙ c.in-Some.is, (c.in_default-closed_by.ensures).opens), moves, c.rows-in-Ok.ensures.count ∙ (moves.directory).rows)
 
 pub returns-clause-seen : goal.returns-clause-seen
 returns-clause-seen g c =
     undeleted_seen (c.args.self.now).settings c.args.tag c.args.pair c.in-Some.volume c.rows-in-Err.result c.delete_refusal.result (store_seen c.args.self.now) (store_seen c.delete_in.new.self)
-    (sym c.home.ensures.seen ∙ c.in-Some.is, (c.in_default-closed_by.ensures).opens_seen) c.rows-in-Err.ensures.count c.in-Err.fault c.delete_refusal.ensures.is (IfErr-at_err _ c.in-Err.is c.delete_in.ensures.refused_seen)
+    (sym c.home.ensures.seen ∙ c.in-Some.is, (c.in_default-closed_by.ensures).opens) c.rows-in-Err.ensures.count c.in-Err.fault c.delete_refusal.ensures.is (IfErr-at_err _ c.in-Err.is c.delete_in.ensures.refused_seen)
+
+pub returns-in_default-clause-sights : goal.returns-in_default-clause-sights
+returns-in_default-clause-sights g c =
+    keeps_photos (store_seen c.args.self.now)
+
+pub returns-in-Some-closed_by-clause-sights : goal.returns-in-Some-closed_by-clause-sights
+returns-in-Some-closed_by-clause-sights g c =
+    closed_sights (c.args.self.now).settings c.args.pair c.in-Some.volume (store_seen c.args.self.now) (store_seen c.args.self.now) c.in-Some-closed_by.machine c.read_only.result c.read_only.ensures.is (keeps_photos (store_seen c.args.self.now))
+
+pub returns-clause-sights : goal.returns-clause-sights
+returns-clause-sights g c =
+    let refused = IfErr-at_err _ c.in-Err.is c.delete_in.ensures.refused_sights in
+    undeleted_sights (c.args.self.now).settings c.args.pair c.in-Some.volume (store_seen c.args.self.now) (store_seen c.delete_in.new.self) c.rows-in-Err.result c.delete_refusal.result (sym c.home.ensures.seen ∙ c.in-Some.is) refused.0 refused.1
+    c.in-Err.fault c.delete_refusal.ensures.is refused.2
+
+pub returns-in_default-clause-ended : goal.returns-in_default-clause-ended
+returns-in_default-clause-ended g c = λ v p d is. absurd cc
+
+pub returns-in-Some-closed_by-clause-ended : goal.returns-in-Some-closed_by-clause-ended
+returns-in-Some-closed_by-clause-ended g c = λ v p d is. absurd (closed_not_deleted c.in-Some.volume c.in-Some-closed_by.machine c.read_only.result c.read_only.ensures.is v p d is)
+
+pub returns-clause-ended : goal.returns-clause-ended
+returns-clause-ended g c = λ v p d is. absurd (refused_not_deleted c.in-Some.volume c.rows-in-Err.result c.in-Err.fault c.delete_refusal.result c.delete_refusal.ensures.is v p d is)
+
+pub returns-in-Ok-clause-ended : goal.returns-in-Ok-clause-ended
+returns-in-Ok-clause-ended g c = λ v p d is.
+    let same : c.in-Some.volume ≡ v = cc in
+    subst (λ n. EndsByFaults (c.args.self.now).settings n (store_seen c.args.self.now) (store_seen c.delete_in.new.self) (map g.D.Disk.fault_count (disks_of c.args.self.now)) (map g.D.Disk.fault_count (disks_of c.delete_in.new.self))) same c.in-Ok.ensures.ended

@@ -16,18 +16,18 @@ use Rattle.hay_logical.specs.Volumes.{Volume}
 use Rattle.hay_logical.proofs.Lists.{at_read}
 use Rattle.hay_cluster.specs.Store.{Open, contents_in, disks_of}
 use Rattle.hay_cluster.proofs.Calls.{called_open, called_up, delete_cause}
-use Rattle.hay_cluster.proofs.Lists.{length-set}
-use Rattle.hay_cluster.proofs.Moves.{Called, called_fuses, called_later, called_shape, in_volume, with_one}
-use Rattle.hay_cluster.proofs.Pending.{called_kept, delete_left, called_broken}
+use Rattle.hay_cluster.proofs.Lists.{length-set, map-at, slice_get-set}
+use Rattle.hay_cluster.proofs.Moves.{Called, called_fuses, called_later, called_shape, in_volume, with_one, volume_of}
 use Rattle.hay_cluster.specs.Leaving.{AnySlot, DeleteKeeps, IsBeside, KeepsIn, LeavesIn, ComesToPend, KeepsBehind}
 use Rattle.hay_cluster.proofs.Leaving.{called_keeps, called_leaves, delete_keeps, called_behind, comes_to_pend}
-use Rattle.hay_cluster.specs.Pending.{PendingLines, pending_of}
-use Rattle.hay_cluster.proofs.Closures.{closures_kept, delete_froze, was_thawed}
-use Rattle.hay_logical.specs.Seen.{DeleteRefusedSeen, HideSeen}
+use Rattle.hay_logical.specs.Seen.{DeleteRefusedSeen, HideSeen, VolumeSeen, volume_seen}
 use Rattle.hay_cluster.proofs.Seeing.{volume_moves}
+use Rattle.hay_cluster.specs.Seen.{store_seen}
+use Rattle.hay_cluster.proofs.Sighting.{runs_end, volume_photos}
+use Rattle.hay_logical.specs.Sights.{DeletesSights, DeleteRefusedSights, sights_of}
 use Rattle.hay_cluster.proofs.cluster.Cluster.delete_in.Goals as goal
 
-refused_keeps : {T : Type 0} (settings : Settings) (v : ℕ) (pending pending' : PendingLines) (old new : ℕ → Contents) (tag : CoreTag) (before after : Option Unsure) (Kept : Type 0) (r : Result T LogicalFault)
+refused_keeps : {T : Type 0} (settings : Settings) (v : ℕ) (pending pending' : List VolumeSeen) (old new : ℕ → Contents) (tag : CoreTag) (before after : Option Unsure) (Kept : Type 0) (r : Result T LogicalFault)
     → IfErr r (DeleteLeavesUnsure tag before after) → OnErr r (after ≡ before → Kept) → (Kept → KeepsIn settings AnySlot old new) → (IsBrokenOff tag before after → ComesToPend v pending pending')
     → ((m f : ℕ) → r ≡ Err (refusal.Failed m f) → KeepsBehind settings v m old new) → IfErr r (DeleteKeeps settings v pending pending' old new)
 refused_keeps settings v pending pending' old new tag before after Kept (Ok x) left files keeps broke behind = tt
@@ -119,28 +119,6 @@ returns-clause-fuses g c =
     let called : Called g.D.Disk.fault_count g.D.Disk.fuse_count store c.args.volume volume c.delete.new.self = record { at = at; same = c.delete.ensures.same; counts = c.delete.ensures.counts } in
     rw items (called_fuses g.D.Disk.fault_count g.D.Disk.fuse_count c.args.self.now store c.args.volume volume c.delete.new.self c.self.view_is called)
 
-pub returns-clause-done_pending : goal.returns-clause-done_pending
-returns-clause-done_pending g c =
-    let store : Open g.row.D.Denot g.row.D-Piece.Denot g.row.A.Denot = record { settings = c.self.inside.settings; directory = c.self.inside.directory; volumes = c.self.inside.volumes.items; arms = c.self.inside.seats.items } in
-    let within : c.args.volume < length c.self.inside.volumes.items = let same = ap (λ (st : Open g.row.D.Denot g.row.D-Piece.Denot g.row.A.Denot). (st.settings).volumes) c.self.view_is in omega (arith, c.requires.volume, c.self.invariant.many, same) in
-    let volume : Volume g.row.D.Denot g.row.D-Piece.Denot = slice_index_or c.as_mut_slice.result.now c.args.volume c.index-as_mut_slice-volume.result in
-    let at : At store.volumes c.args.volume volume = subst (λ (vs : List (Volume g.row.D.Denot g.row.D-Piece.Denot)). At vs c.args.volume volume) c.as_mut_slice.ensures.value
-    (at_read c.as_mut_slice.result.now c.args.volume c.index-as_mut_slice-volume.result (let long = ap length c.as_mut_slice.ensures.value in omega (arith, within, long))) in
-    let items = with_items_is c.self.inside.volumes (slice_set c.as_mut_slice.result.now c.args.volume c.delete.new.self) (length-set c.as_mut_slice.result.now c.args.volume c.delete.new.self ∙ c.as_mut_slice.ensures.len)
-    ∙ ap (λ (vs : List (Volume g.row.D.Denot g.row.D-Piece.Denot)). slice_set vs c.args.volume c.delete.new.self) c.as_mut_slice.ensures.value in
-    rw items (on_ok_weaker c.delete.result (called_kept c.args.self.now store c.args.volume volume c.delete.new.self c.self.view_is at) c.delete.ensures.deleted_unsure)
-
-pub returns-clause-refused_pending : goal.returns-clause-refused_pending
-returns-clause-refused_pending g c =
-    let store : Open g.row.D.Denot g.row.D-Piece.Denot g.row.A.Denot = record { settings = c.self.inside.settings; directory = c.self.inside.directory; volumes = c.self.inside.volumes.items; arms = c.self.inside.seats.items } in
-    let within : c.args.volume < length c.self.inside.volumes.items = let same = ap (λ (st : Open g.row.D.Denot g.row.D-Piece.Denot g.row.A.Denot). (st.settings).volumes) c.self.view_is in omega (arith, c.requires.volume, c.self.invariant.many, same) in
-    let volume : Volume g.row.D.Denot g.row.D-Piece.Denot = slice_index_or c.as_mut_slice.result.now c.args.volume c.index-as_mut_slice-volume.result in
-    let at : At store.volumes c.args.volume volume = subst (λ (vs : List (Volume g.row.D.Denot g.row.D-Piece.Denot)). At vs c.args.volume volume) c.as_mut_slice.ensures.value
-    (at_read c.as_mut_slice.result.now c.args.volume c.index-as_mut_slice-volume.result (let long = ap length c.as_mut_slice.ensures.value in omega (arith, within, long))) in
-    let items = with_items_is c.self.inside.volumes (slice_set c.as_mut_slice.result.now c.args.volume c.delete.new.self) (length-set c.as_mut_slice.result.now c.args.volume c.delete.new.self ∙ c.as_mut_slice.ensures.len)
-    ∙ ap (λ (vs : List (Volume g.row.D.Denot g.row.D-Piece.Denot)). slice_set vs c.args.volume c.delete.new.self) c.as_mut_slice.ensures.value in
-    rw items (IfErr-weaker c.delete.result _ _ (delete_left c.args.self.now store c.args.volume volume c.delete.new.self c.args.tag c.self.view_is at) c.delete.ensures.refused_unsure)
-
 pub returns-clause-beside : goal.returns-clause-beside
 returns-clause-beside g c =
     let store : Open g.row.D.Denot g.row.D-Piece.Denot g.row.A.Denot = record { settings = c.self.inside.settings; directory = c.self.inside.directory; volumes = c.self.inside.volumes.items; arms = c.self.inside.seats.items } in
@@ -168,41 +146,10 @@ returns-clause-kept g c = λ tells.
     let keeps = λ (files : KeepsFiles g.D.Disk.Tells g.D.Disk.files volume.replicas c.delete.new.self.replicas).
     called_keeps g.D.Disk.files g.D.Disk.Tells settings c.args.self.now store c.args.volume volume c.delete.new.self tells c.self.view_is at (c.delete.ensures.counts).count files in
     subst (λ (vs : List (Volume g.row.D.Denot g.row.D-Piece.Denot)). let next : Open g.row.D.Denot g.row.D-Piece.Denot g.row.A.Denot = record store { volumes = vs } in
-    IfErr c.delete.result (DeleteKeeps settings c.args.volume (pending_of c.args.self.now) (pending_of next) (contents_in g.D.Disk.files c.args.self.now) (contents_in g.D.Disk.files next))) (sym items)
-    (refused_keeps settings c.args.volume (pending_of c.args.self.now) (pending_of (with_one store c.args.volume c.delete.new.self)) (contents_in g.D.Disk.files c.args.self.now) (contents_in g.D.Disk.files (with_one store c.args.volume c.delete.new.self)) c.args.tag volume.unsure c.delete.new.self.unsure _ c.delete.result c.delete.ensures.refused_unsure c.delete.ensures.files keeps
-    (λ broken. comes_to_pend c.args.volume c.args.tag.line (pending_of c.args.self.now) (pending_of (with_one store c.args.volume c.delete.new.self)) (called_broken c.args.self.now store c.args.volume volume c.delete.new.self c.args.tag c.self.view_is at broken))
+    IfErr c.delete.result (DeleteKeeps settings c.args.volume (store_seen c.args.self.now).volumes (store_seen next).volumes (contents_in g.D.Disk.files c.args.self.now) (contents_in g.D.Disk.files next))) (sym items)
+    (refused_keeps settings c.args.volume (store_seen c.args.self.now).volumes (store_seen (with_one store c.args.volume c.delete.new.self)).volumes (contents_in g.D.Disk.files c.args.self.now) (contents_in g.D.Disk.files (with_one store c.args.volume c.delete.new.self)) c.args.tag volume.unsure c.delete.new.self.unsure _ c.delete.result c.delete.ensures.refused_unsure c.delete.ensures.files keeps
+    (λ broken. comes_to_pend c.args.self.now store c.args.volume volume c.delete.new.self c.args.tag c.self.view_is at broken)
     (λ m f is. called_behind g.D.Disk.Tells g.D.Disk.files g.D.Disk.fault_count g.D.Disk.fuse_count tells c.args.self.now store c.args.volume volume c.delete.new.self c.self.view_is c.self.invariant called m (c.delete.ensures.above m f is)))
-
-pub returns-clause-done_closures : goal.returns-clause-done_closures
-returns-clause-done_closures g c =
-    let store : Open g.row.D.Denot g.row.D-Piece.Denot g.row.A.Denot = record { settings = c.self.inside.settings; directory = c.self.inside.directory; volumes = c.self.inside.volumes.items; arms = c.self.inside.seats.items } in
-    let within : c.args.volume < length c.self.inside.volumes.items = let same = ap (λ (st : Open g.row.D.Denot g.row.D-Piece.Denot g.row.A.Denot). (st.settings).volumes) c.self.view_is in omega (arith, c.requires.volume, c.self.invariant.many, same) in
-    let volume : Volume g.row.D.Denot g.row.D-Piece.Denot = slice_index_or c.as_mut_slice.result.now c.args.volume c.index-as_mut_slice-volume.result in
-    let at : At store.volumes c.args.volume volume = subst (λ (vs : List (Volume g.row.D.Denot g.row.D-Piece.Denot)). At vs c.args.volume volume) c.as_mut_slice.ensures.value
-    (at_read c.as_mut_slice.result.now c.args.volume c.index-as_mut_slice-volume.result (let long = ap length c.as_mut_slice.ensures.value in omega (arith, within, long))) in
-    let items = with_items_is c.self.inside.volumes (slice_set c.as_mut_slice.result.now c.args.volume c.delete.new.self) (length-set c.as_mut_slice.result.now c.args.volume c.delete.new.self ∙ c.as_mut_slice.ensures.len)
-    ∙ ap (λ (vs : List (Volume g.row.D.Denot g.row.D-Piece.Denot)). slice_set vs c.args.volume c.delete.new.self) c.as_mut_slice.ensures.value in
-    rw items (on_ok_weaker c.delete.result (closures_kept c.args.self.now store c.args.volume volume c.self.view_is at c.delete.new.self) c.delete.ensures.still)
-
-pub returns-clause-refused_closures : goal.returns-clause-refused_closures
-returns-clause-refused_closures g c =
-    let store : Open g.row.D.Denot g.row.D-Piece.Denot g.row.A.Denot = record { settings = c.self.inside.settings; directory = c.self.inside.directory; volumes = c.self.inside.volumes.items; arms = c.self.inside.seats.items } in
-    let within : c.args.volume < length c.self.inside.volumes.items = let same = ap (λ (st : Open g.row.D.Denot g.row.D-Piece.Denot g.row.A.Denot). (st.settings).volumes) c.self.view_is in omega (arith, c.requires.volume, c.self.invariant.many, same) in
-    let volume : Volume g.row.D.Denot g.row.D-Piece.Denot = slice_index_or c.as_mut_slice.result.now c.args.volume c.index-as_mut_slice-volume.result in
-    let at : At store.volumes c.args.volume volume = subst (λ (vs : List (Volume g.row.D.Denot g.row.D-Piece.Denot)). At vs c.args.volume volume) c.as_mut_slice.ensures.value
-    (at_read c.as_mut_slice.result.now c.args.volume c.index-as_mut_slice-volume.result (let long = ap length c.as_mut_slice.ensures.value in omega (arith, within, long))) in
-    let items = with_items_is c.self.inside.volumes (slice_set c.as_mut_slice.result.now c.args.volume c.delete.new.self) (length-set c.as_mut_slice.result.now c.args.volume c.delete.new.self ∙ c.as_mut_slice.ensures.len)
-    ∙ ap (λ (vs : List (Volume g.row.D.Denot g.row.D-Piece.Denot)). slice_set vs c.args.volume c.delete.new.self) c.as_mut_slice.ensures.value in
-    rw items (IfErr-weaker c.delete.result _ _ (delete_froze c.args.self.now store c.args.volume volume c.self.view_is at c.delete.new.self) c.delete.ensures.freezes)
-
-pub returns-clause-thawed : goal.returns-clause-thawed
-returns-clause-thawed g c = λ thawed m is.
-    let store : Open g.row.D.Denot g.row.D-Piece.Denot g.row.A.Denot = record { settings = c.self.inside.settings; directory = c.self.inside.directory; volumes = c.self.inside.volumes.items; arms = c.self.inside.seats.items } in
-    let within : c.args.volume < length c.self.inside.volumes.items = let same = ap (λ (st : Open g.row.D.Denot g.row.D-Piece.Denot g.row.A.Denot). (st.settings).volumes) c.self.view_is in omega (arith, c.requires.volume, c.self.invariant.many, same) in
-    let volume : Volume g.row.D.Denot g.row.D-Piece.Denot = slice_index_or c.as_mut_slice.result.now c.args.volume c.index-as_mut_slice-volume.result in
-    let at : At store.volumes c.args.volume volume = subst (λ (vs : List (Volume g.row.D.Denot g.row.D-Piece.Denot)). At vs c.args.volume volume) c.as_mut_slice.ensures.value
-    (at_read c.as_mut_slice.result.now c.args.volume c.index-as_mut_slice-volume.result (let long = ap length c.as_mut_slice.ensures.value in omega (arith, within, long))) in
-    c.delete.ensures.thawed (was_thawed c.args.self.now store c.args.volume volume c.self.view_is at thawed) m is
 
 pub returns-clause-seen : goal.returns-clause-seen
 returns-clause-seen g c =
@@ -228,3 +175,51 @@ returns-clause-refused_seen g c =
     rw items
     (IfErr-weaker c.delete.result _ _ (λ fault moves. volume_moves c.args.self.now store c.self.view_is c.args.volume volume c.delete.new.self
     (λ before after. DeleteRefusedSeen c.args.tag c.args.pair before after fault) at moves) c.delete.ensures.refused_seen)
+
+pub returns-clause-sights : goal.returns-clause-sights
+returns-clause-sights g c =
+    let store : Open g.row.D.Denot g.row.D-Piece.Denot g.row.A.Denot = record { settings = c.self.inside.settings; directory = c.self.inside.directory; volumes = c.self.inside.volumes.items; arms = c.self.inside.seats.items } in
+    let within : c.args.volume < length c.self.inside.volumes.items = let same = ap (λ (st : Open g.row.D.Denot g.row.D-Piece.Denot g.row.A.Denot). (st.settings).volumes) c.self.view_is in omega (arith, c.requires.volume, c.self.invariant.many, same) in
+    let volume : Volume g.row.D.Denot g.row.D-Piece.Denot = slice_index_or c.as_mut_slice.result.now c.args.volume c.index-as_mut_slice-volume.result in
+    let at : At store.volumes c.args.volume volume = subst (λ (vs : List (Volume g.row.D.Denot g.row.D-Piece.Denot)). At vs c.args.volume volume) c.as_mut_slice.ensures.value
+    (at_read c.as_mut_slice.result.now c.args.volume c.index-as_mut_slice-volume.result (let long = ap length c.as_mut_slice.ensures.value in omega (arith, within, long))) in
+    let items = with_items_is c.self.inside.volumes (slice_set c.as_mut_slice.result.now c.args.volume c.delete.new.self) (length-set c.as_mut_slice.result.now c.args.volume c.delete.new.self ∙ c.as_mut_slice.ensures.len)
+    ∙ ap (λ (vs : List (Volume g.row.D.Denot g.row.D-Piece.Denot)). slice_set vs c.args.volume c.delete.new.self) c.as_mut_slice.ensures.value in
+    let was = volume_of store c.args.volume volume c.self.invariant at in
+    let same = was.settings_are ∙ ap (λ (st : Open g.row.D.Denot g.row.D-Piece.Denot g.row.A.Denot). st.settings) c.self.view_is in
+    rw items
+    (on_ok_weaker c.delete.result (λ deletes. volume_photos c.args.self.now store c.self.view_is c.args.volume volume c.delete.new.self at (DeletesSights c.args.pair (c.args.self.now).settings.replicas)
+    (subst (λ (s : Settings). DeletesSights c.args.pair s.replicas (sights_of volume.rows) (sights_of (c.delete.new.self).rows)) same deletes)) c.delete.ensures.sights)
+
+pub returns-clause-refused_sights : goal.returns-clause-refused_sights
+returns-clause-refused_sights g c =
+    let store : Open g.row.D.Denot g.row.D-Piece.Denot g.row.A.Denot = record { settings = c.self.inside.settings; directory = c.self.inside.directory; volumes = c.self.inside.volumes.items; arms = c.self.inside.seats.items } in
+    let within : c.args.volume < length c.self.inside.volumes.items = let same = ap (λ (st : Open g.row.D.Denot g.row.D-Piece.Denot g.row.A.Denot). (st.settings).volumes) c.self.view_is in omega (arith, c.requires.volume, c.self.invariant.many, same) in
+    let volume : Volume g.row.D.Denot g.row.D-Piece.Denot = slice_index_or c.as_mut_slice.result.now c.args.volume c.index-as_mut_slice-volume.result in
+    let at : At store.volumes c.args.volume volume = subst (λ (vs : List (Volume g.row.D.Denot g.row.D-Piece.Denot)). At vs c.args.volume volume) c.as_mut_slice.ensures.value
+    (at_read c.as_mut_slice.result.now c.args.volume c.index-as_mut_slice-volume.result (let long = ap length c.as_mut_slice.ensures.value in omega (arith, within, long))) in
+    let items = with_items_is c.self.inside.volumes (slice_set c.as_mut_slice.result.now c.args.volume c.delete.new.self) (length-set c.as_mut_slice.result.now c.args.volume c.delete.new.self ∙ c.as_mut_slice.ensures.len)
+    ∙ ap (λ (vs : List (Volume g.row.D.Denot g.row.D-Piece.Denot)). slice_set vs c.args.volume c.delete.new.self) c.as_mut_slice.ensures.value in
+    let was = volume_of store c.args.volume volume c.self.invariant at in
+    let same = was.settings_are ∙ ap (λ (st : Open g.row.D.Denot g.row.D-Piece.Denot g.row.A.Denot). st.settings) c.self.view_is in
+    let Refused : Settings → ℕ → LogicalFault → Type 0 = λ s n fault. DeleteRefusedSights s n c.args.pair (c.delete.new.self).frozen (sights_of volume.rows) (sights_of (c.delete.new.self).rows) fault in
+    rw items
+    (IfErr-weaker c.delete.result _ _ (λ fault sights. (
+      volume_seen c.delete.new.self,
+      map-at volume_seen (slice_set store.volumes c.args.volume c.delete.new.self) c.args.volume c.delete.new.self (slice_get-set store.volumes c.args.volume volume c.delete.new.self at),
+      volume_photos c.args.self.now store c.self.view_is c.args.volume volume c.delete.new.self at
+          (λ before after. DeleteRefusedSights (c.args.self.now).settings c.args.volume c.args.pair (c.delete.new.self).frozen before after fault)
+          (subst (λ s. Refused s c.args.volume fault) same (subst (λ n. Refused volume.settings n fault) was.number sights)),
+    )) c.delete.ensures.refused_sights)
+
+pub returns-clause-ended : goal.returns-clause-ended
+returns-clause-ended g c =
+    let store : Open g.row.D.Denot g.row.D-Piece.Denot g.row.A.Denot = record { settings = c.self.inside.settings; directory = c.self.inside.directory; volumes = c.self.inside.volumes.items; arms = c.self.inside.seats.items } in
+    let within : c.args.volume < length c.self.inside.volumes.items = let same = ap (λ (st : Open g.row.D.Denot g.row.D-Piece.Denot g.row.A.Denot). (st.settings).volumes) c.self.view_is in omega (arith, c.requires.volume, c.self.invariant.many, same) in
+    let volume : Volume g.row.D.Denot g.row.D-Piece.Denot = slice_index_or c.as_mut_slice.result.now c.args.volume c.index-as_mut_slice-volume.result in
+    let at : At store.volumes c.args.volume volume = subst (λ (vs : List (Volume g.row.D.Denot g.row.D-Piece.Denot)). At vs c.args.volume volume) c.as_mut_slice.ensures.value
+    (at_read c.as_mut_slice.result.now c.args.volume c.index-as_mut_slice-volume.result (let long = ap length c.as_mut_slice.ensures.value in omega (arith, within, long))) in
+    let items = with_items_is c.self.inside.volumes (slice_set c.as_mut_slice.result.now c.args.volume c.delete.new.self) (length-set c.as_mut_slice.result.now c.args.volume c.delete.new.self ∙ c.as_mut_slice.ensures.len)
+    ∙ ap (λ (vs : List (Volume g.row.D.Denot g.row.D-Piece.Denot)). slice_set vs c.args.volume c.delete.new.self) c.as_mut_slice.ensures.value in
+    let called : Called g.D.Disk.fault_count g.D.Disk.fuse_count store c.args.volume volume c.delete.new.self = record { at = at; same = c.delete.ensures.same; counts = c.delete.ensures.counts } in
+    rw items (on_ok_weaker c.delete.result (runs_end g.D.Disk.fault_count g.D.Disk.fuse_count c.args.self.now store c.args.volume volume c.delete.new.self c.self.view_is c.self.invariant called) c.delete.ensures.ended)

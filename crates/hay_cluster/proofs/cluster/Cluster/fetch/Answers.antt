@@ -6,13 +6,19 @@ use Rattle.hay_reader.specs.Causes.{ComeFirst}
 use Rattle.hay_reader.specs.declared.seat.ReadReply.{ReadReply}
 use Rattle.hay_cluster.specs.Causes.{StaySure}
 use Rattle.hay_cluster.specs.Leaving.{AnySlot, KeepsIn}
-use Rattle.hay_cluster.specs.Reads.{IsWhole, PassesFrom, PassesNoArm, PassesTo, ReadNoArm, ReadPasses, IsSeenAt, IsSeenByAt, StopsUnseen, counts_of, outcomes_of}
+use Rattle.hay_cluster.specs.Reads.{IsWhole, PassesFrom, PassesNoArm, PassesTo, ReadNoArm, ReadPasses, IsSeenAt, IsSeenByAt, StopsUnseen, counts_of, outcomes_of, ReadSees}
 use Rattle.hay_cluster.specs.Store.{Open, contents_in, disks_of}
 use Rattle.hay_cluster.proofs.Answering.{same_falls}
 use Rattle.hay_cluster.proofs.Leaving.{keeps-on, same_contents}
 use Rattle.hay_cluster.proofs.Moves.{falls_trans}
 use Rattle.hay_cluster.proofs.Showing.{arm_goes_on, comes_on, found_no_arm, found_passes, found_says, no_arm_round, passes_on, read_on, says_on, sight_goes_on, stops_further, stops_same}
 use Rattle.hay_cluster.proofs.Sure.{no_arm_on, sure_on, sure_trans}
+use Rattle.hay_cluster.proofs.Sighting.{kept_looks, looks_further, photos_kept, same_photos}
+use Rattle.hay_cluster.proofs.ReadSights.{found_sees, next_apart}
+use Rattle.hay_cluster.proofs.Seeing.{keeps_on, keeps_same}
+use Rattle.hay_logical.specs.Sights.{LooksAtPair}
+use Rattle.hay_cluster.specs.Sights.{ChangesPhotos}
+use Rattle.hay_cluster.specs.Seen.{Keeps, StoreSeen, store_seen}
 use Rattle.hay_cluster.proofs.cluster.Cluster.fetch.Goals as goal
 use Rattle.hay_cluster.proofs.cluster.Cluster.fetch.Goals.{else-loop-test, then-loop-test+in_default}
 
@@ -29,9 +35,9 @@ loop-init g c = record {
   counts = same_falls g.D.Disk.fault_count (disks_of c.args.self.now) (disks_of c.read_first-front.new.self) c.read_first-front.ensures.disks;
   fuses = ap (λ (ds : List g.row.D.Denot). map g.D.Disk.fuse_count ds) c.read_first-front.ensures.disks;
   contents = λ tells. same_contents g.D.Disk.files (c.args.self.now).settings c.args.self.now c.read_first-front.new.self c.read_first-front.ensures.disks;
-  pending = c.read_first-front.ensures.pending;
-  closures = c.read_first-front.ensures.closures;
-  seen = c.read_first-front.ensures.seen;
+  seen = keeps_same (store_seen c.args.self.now) (store_seen c.read_first-front.new.self) c.read_first-front.ensures.seen;
+  looks = photos_kept c.args.volume (store_seen c.args.self.now) (store_seen c.read_first-front.new.self) (LooksAtPair c.args.pair) (kept_looks c.args.pair) (same_photos (store_seen c.args.self.now) (store_seen c.read_first-front.new.self) (ap (λ (seen : StoreSeen). seen.places) c.read_first-front.ensures.seen));
+  sees = c.read_first-front.ensures.sees;
   arm_counts = c.read_first-front.ensures.arm_counts;
   settings = c.read_first-front.ensures.settings;
   up = c.read_first-front.ensures.up;
@@ -139,9 +145,10 @@ loop-preserved g c =
           (keeps-on (c.args.self.now).settings AnySlot _ (contents_in g.D.Disk.files c.loop.self) _ (inv.contents tells)
           (subst (λ (s : Settings). KeepsIn s AnySlot (contents_in g.D.Disk.files c.loop.self) (contents_in g.D.Disk.files c.see_or_pass.new.self)) inv.settings (c.see_or_pass.ensures.contents tells)))
           (same_contents g.D.Disk.files (c.args.self.now).settings c.see_or_pass.new.self c.read_more-read.new.self c.read_more-read.ensures.disks);
-      pending = c.read_more-read.ensures.pending ∙ c.see_or_pass.ensures.pending ∙ inv.pending;
-      closures = c.read_more-read.ensures.closures ∙ c.see_or_pass.ensures.closures ∙ inv.closures;
-      seen = c.read_more-read.ensures.seen ∙ c.see_or_pass.ensures.seen ∙ inv.seen;
+      seen = subst (λ (seen : StoreSeen). Keeps (store_seen c.args.self.now) seen) (sym c.read_more-read.ensures.seen) (keeps_on (store_seen c.args.self.now) (store_seen c.loop.self) (store_seen c.see_or_pass.new.self) inv.seen c.see_or_pass.ensures.seen);
+      looks = subst (λ (seen : StoreSeen). ChangesPhotos c.args.volume (LooksAtPair c.args.pair) (store_seen c.args.self.now) seen) (sym c.read_more-read.ensures.seen)
+          (looks_further c.args.volume (store_seen c.args.self.now) (store_seen c.loop.self) (store_seen c.see_or_pass.new.self) c.args.pair inv.looks c.see_or_pass.ensures.looks);
+      sees = c.read_more-read.ensures.sees;
       arm_counts = falls_trans (map g.A.Arm.fault_count (c.args.self.now).arms) (map g.A.Arm.fault_count (c.see_or_pass.new.self).arms) (map g.A.Arm.fault_count (c.read_more-read.new.self).arms) arms c.read_more-read.ensures.arm_counts;
       settings = c.read_more-read.ensures.settings ∙ same;
       up = c.read_more-read.ensures.up;
@@ -176,3 +183,25 @@ pub returns-in_default-see_or_pass-clause-contents : goal.returns-in_default-see
 returns-in_default-see_or_pass-clause-contents g c = λ tells.
     keeps-on (c.args.self.now).settings AnySlot _ (contents_in g.D.Disk.files c.loop.self) _ (c.loop.invariant.contents tells)
     (subst (λ (s : Settings). KeepsIn s AnySlot (contents_in g.D.Disk.files c.loop.self) (contents_in g.D.Disk.files c.see_or_pass.new.self)) c.loop.invariant.settings (c.see_or_pass.ensures.contents tells))
+
+pub see_or_pass-requires-clause-apart : goal.see_or_pass-requires-clause-apart
+see_or_pass-requires-clause-apart g c =
+    let stop : PassesTo (IsWhole g.D.Disk.Tells g.D.Disk.files g.D.Piece.Piece.Tells g.D.Disk.fault_count g.D.Disk.fuse_count g.A.Arm.fault_count c.args.self.now) (c.args.self.now).settings c.args.lane c.args.volume c.args.start (counts_of g.D.Disk.fault_count g.A.Arm.fault_count c.args.self.now) (counts_of g.D.Disk.fault_count g.A.Arm.fault_count c.loop.self) [] c.in-Unseen.causes c.in-Unseen.replica =
+    subst (λ (r : ReadReply). ReadPasses (IsWhole g.D.Disk.Tells g.D.Disk.files g.D.Piece.Piece.Tells g.D.Disk.fault_count g.D.Disk.fuse_count g.A.Arm.fault_count c.args.self.now) (c.args.self.now).settings c.args.lane c.args.volume c.args.start (counts_of g.D.Disk.fault_count g.A.Arm.fault_count c.args.self.now) (counts_of g.D.Disk.fault_count g.A.Arm.fault_count c.loop.self) [] r) c.in-Unseen.is c.loop.invariant.passes in
+    next_apart (c.args.self.now).settings c.args.start c.in-Unseen.causes c.in-Unseen.replica stop.passes.order stop.fewer stop.next
+
+pub see_or_pass-requires-clause-may_stand : goal.see_or_pass-requires-clause-may_stand
+see_or_pass-requires-clause-may_stand g c =
+    (subst (λ (r : ReadReply). ReadSees ((store_seen c.loop.self).places c.args.volume c.args.pair) r) c.in-Unseen.is c.loop.invariant.sees).1
+
+pub returns-in_default-see_or_pass-clause-seen : goal.returns-in_default-see_or_pass-clause-seen
+returns-in_default-see_or_pass-clause-seen g c =
+    keeps_on (store_seen c.args.self.now) (store_seen c.loop.self) (store_seen c.see_or_pass.new.self) c.loop.invariant.seen c.see_or_pass.ensures.seen
+
+pub returns-in_default-see_or_pass-clause-looks : goal.returns-in_default-see_or_pass-clause-looks
+returns-in_default-see_or_pass-clause-looks g c =
+    looks_further c.args.volume (store_seen c.args.self.now) (store_seen c.loop.self) (store_seen c.see_or_pass.new.self) c.args.pair c.loop.invariant.looks c.see_or_pass.ensures.looks
+
+pub returns-clause-sees : goal.returns-clause-sees
+returns-clause-sees g c =
+    found_sees ((store_seen c.loop.self).places c.args.volume c.args.pair) c.loop.read c.found_of.result c.found_of.ensures c.loop.invariant.sees

@@ -8,12 +8,12 @@ use Rattle.hay_reader.specs.Shown.{HasBytes}
 use Rattle.hay_reader.specs.declared.causes.PassedReplica.{PassedReplica}
 use Rattle.hay_reader.specs.declared.seat.ReadReply.TheVariants as read
 use Rattle.hay_cluster.specs.Causes.{StaySure}
-use Rattle.hay_cluster.specs.Reads.{IsWhole, ReadNoArm, ReadPasses, ReadSays, StopsUnseen, counts_of, outcomes_of}
+use Rattle.hay_cluster.specs.Reads.{IsWhole, ReadNoArm, ReadPasses, ReadSays, ReadSees, StopsUnseen, counts_of, outcomes_of}
 use Rattle.hay_cluster.specs.Leaving.{AnySlot, KeepsIn}
 use Rattle.hay_cluster.specs.Parts.{Comes}
-use Rattle.hay_cluster.specs.Closing.{closures_of}
-use Rattle.hay_cluster.specs.Pending.{pending_of}
-use Rattle.hay_cluster.specs.Seen.{store_seen}
+use Rattle.hay_logical.specs.Sights.{LooksAtPair}
+use Rattle.hay_cluster.specs.Seen.{Keeps, store_seen}
+use Rattle.hay_cluster.specs.Sights.{ChangesPhotos}
 use Rattle.hay_cluster.specs.State.{Stands}
 use Rattle.hay_cluster.specs.Store.{IsUp, contents_in, disks_of}
 use Rattle.hay_cluster.proofs.cluster.Cluster.fetch.Given as goal
@@ -33,9 +33,9 @@ invariant-loop g l = record {
   counts : NoneFalls (map g.D.Disk.fault_count (disks_of l.fn.self)) (map g.D.Disk.fault_count (disks_of l.self));
   fuses : map g.D.Disk.fuse_count (disks_of l.self) ≡ map g.D.Disk.fuse_count (disks_of l.fn.self);
   contents : g.D.Disk.Tells → KeepsIn l.fn.self.settings AnySlot (contents_in g.D.Disk.files l.fn.self) (contents_in g.D.Disk.files l.self);
-  pending : pending_of l.self ≡ pending_of l.fn.self;
-  closures : closures_of l.self ≡ closures_of l.fn.self;
-  seen : store_seen l.self ≡ store_seen l.fn.self;
+  seen : Keeps (store_seen l.fn.self) (store_seen l.self);
+  looks : ChangesPhotos l.volume (LooksAtPair l.pair) (store_seen l.fn.self) (store_seen l.self);
+  sees : ReadSees ((store_seen l.self).places l.volume l.pair) l.read;
   arm_counts : NoneFalls (map g.A.Arm.fault_count l.fn.self.arms) (map g.A.Arm.fault_count l.self.arms);
   settings : l.self.settings ≡ l.fn.self.settings;
   up : IsUp l.self;

@@ -6,8 +6,6 @@ use Rattle.hay_legal.specs.Known.{try_at, all_tries}
 use Rattle.std.specs.List.{AllByRecursion, AllZip, range_with_len}
 use Rattle.hay_reply.specs.declared.Refused.{Refused}
 use Rattle.hay_reply.specs.Fits.{FitsRefused}
-use Rattle.hay_cluster.specs.Closing.{IsRefusedAs, closures_of}
-use Rattle.hay_cluster.specs.Pending.{pending_of}
 use Rattle.hay_cluster.specs.Suiting.{Refuses}
 use Rattle.hay_cluster.proofs.Fitting.{all_snoc}
 use Rattle.hay_cluster.proofs.Suiting.{one_more_refuses}
@@ -37,7 +35,6 @@ loop-turn-preserved g c = record {
       (one_more_refuses (Refuses (c.args.self.now).settings) (c.args.self.now).settings c.args.pair c.loop-turn.turn c.tries-volume.result c.loop-turn.refused c.in-Some.refusal
       (c.tries-volume.ensures.is c.args.pair refl ∙ ap (λ (s : Settings). try_at s c.args.pair c.loop-turn.turn) same) (c.in-Some.ensures).refuses c.loop-turn.invariant.refuses);
   fits = subst (λ (rs : List Refused). AllByRecursion FitsRefused rs) (sym (c.in_ok-push-in-Some.ensures).ok) (all_snoc FitsRefused c.loop-turn.refused c.in-Some.refusal c.loop-turn.invariant.fits (c.in-Some.ensures).fits);
-  met = subst (λ (rs : List Refused). AllByRecursion (IsRefusedAs (c.args.self.now).settings (closures_of c.args.self.now) (pending_of c.args.self.now)) rs) (sym (c.in_ok-push-in-Some.ensures).ok) (all_snoc (IsRefusedAs (c.args.self.now).settings (closures_of c.args.self.now) (pending_of c.args.self.now)) c.loop-turn.refused c.in-Some.refusal c.loop-turn.invariant.met (c.in-Some.ensures).met);
   seen =
       let same = ap (λ (st : Open g.row.D.Denot g.row.D-Piece.Denot g.row.A.Denot). st.settings) c.self.view_is in
       let R = RefusesPhoto (c.args.self.now).settings (store_seen c.args.self.now) c.args.size in
@@ -58,11 +55,6 @@ pub returns-clause-fits : goal.returns-clause-fits
 returns-clause-fits g c = λ refused is.
     let these : c.loop-turn.refused ≡ refused = cc in
     subst (λ (rs : List Refused). AllByRecursion FitsRefused rs) these c.loop-turn.invariant.fits
-
-pub returns-clause-met : goal.returns-clause-met
-returns-clause-met g c = λ refused is.
-    let these : c.loop-turn.refused ≡ refused = cc in
-    subst (λ (rs : List Refused). AllByRecursion (IsRefusedAs (c.args.self.now).settings (closures_of c.args.self.now) (pending_of c.args.self.now)) rs) these c.loop-turn.invariant.met
 
 pub returns-in-None-clause-seen : goal.returns-in-None-clause-seen
 returns-in-None-clause-seen g c = λ volume is.

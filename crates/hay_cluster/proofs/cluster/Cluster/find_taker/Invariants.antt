@@ -4,8 +4,6 @@ use Rattle.std.specs.List.{AllByRecursion, AllZip, range_with_len}
 use Rattle.hay_reply.specs.Fits.{FitsRefused}
 use Rattle.hay_legal.specs.declared.known.Known.{Known}
 use Rattle.hay_legal.specs.Known.{refusal_of, try_at}
-use Rattle.hay_cluster.specs.Closing.{IsRefusedAs, closures_of}
-use Rattle.hay_cluster.specs.Pending.{pending_of}
 use Rattle.hay_cluster.specs.Seen.{RefusesPhoto, store_seen}
 use Rattle.hay_cluster.specs.State.{Stands}
 use Rattle.hay_cluster.specs.Suiting.{Refuses}
@@ -18,5 +16,4 @@ invariant-loop-turn g l = record {
   refuses : AllZip (Refuses l.fn.self.settings) (map (try_at l.fn.self.settings l.pair) (range_with_len 0 l.turn)) l.refused;
   fits : AllByRecursion FitsRefused l.refused;
   seen : AllZip (RefusesPhoto l.fn.self.settings (store_seen l.fn.self) l.size) (map (try_at l.fn.self.settings l.pair) (range_with_len 0 l.turn)) l.refused;
-  met : AllByRecursion (IsRefusedAs l.fn.self.settings (closures_of l.fn.self) (pending_of l.fn.self)) l.refused;
 }

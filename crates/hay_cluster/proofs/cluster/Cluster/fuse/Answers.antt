@@ -8,6 +8,7 @@ use Rattle.hay_cluster.proofs.Answering.{answered, sets_on}
 use Rattle.hay_cluster.proofs.Suiting.{fuses_none, fuses_one}
 use Rattle.hay_cluster.specs.Seen.{store_seen}
 use Rattle.hay_cluster.proofs.Seeing.{keeps_all}
+use Rattle.hay_cluster.proofs.Sighting.{keeps_photos}
 use Rattle.hay_cluster.proofs.cluster.Cluster.fuse.Goals as goal
 
 pub returns-clause-legal : goal.returns-clause-legal
@@ -42,3 +43,7 @@ returns-clause-suits g c = λ line.
 
 pub returns-in_default-clause-seen : goal.returns-in_default-clause-seen
 returns-in_default-clause-seen g c = keeps_all (store_seen c.args.self.now)
+
+pub returns-in_default-clause-sights : goal.returns-in_default-clause-sights
+returns-in_default-clause-sights g c =
+    keeps_photos (store_seen c.args.self.now)

@@ -4,11 +4,10 @@ use Rattle.hay_legal.specs.Known.{NoneFalls}
 use Rattle.hay_cluster.specs.Store.{Open, disks_of, volume_disks}
 use Rattle.hay_directory.specs.State.{State}
 use Rattle.hay_cluster.proofs.Moves.{directory_fused, directory_sets, none_falls}
-use Rattle.hay_cluster.proofs.Pending.{directory_kept}
 use Rattle.hay_cluster.proofs.Leaving.{directory_contents}
-use Rattle.hay_cluster.proofs.Closures.{drains_kept}
 use Rattle.hay_directory.specs.Seen.{KeepsSeen}
 use Rattle.hay_cluster.proofs.Seeing.{directory_moves}
+use Rattle.hay_cluster.proofs.Sighting.{directory_photos}
 use Rattle.hay_cluster.proofs.cluster.Cluster.fuse_directory.Goals as goal
 
 pub returns-clause-fused : goal.returns-clause-fused
@@ -30,22 +29,17 @@ returns-clause-fuses g c =
     let store : Open g.row.D.Denot g.row.D-Piece.Denot g.row.A.Denot = record { settings = c.self.inside.settings; directory = c.self.inside.directory; volumes = c.self.inside.volumes.items; arms = c.self.inside.seats.items } in
     directory_sets g.D.Disk.fuse_count c.args.self.now store c.fuse.new.self c.self.view_is c.fuse.ensures.fuses
 
-pub returns-clause-pending : goal.returns-clause-pending
-returns-clause-pending g c =
-    let store : Open g.row.D.Denot g.row.D-Piece.Denot g.row.A.Denot = record { settings = c.self.inside.settings; directory = c.self.inside.directory; volumes = c.self.inside.volumes.items; arms = c.self.inside.seats.items } in
-    directory_kept c.args.self.now store c.fuse.new.self c.self.view_is (ap (λ (d : State g.row.D.Denot). d.mode) c.fuse.ensures.only)
-
 pub returns-clause-contents : goal.returns-clause-contents
 returns-clause-contents g c = λ tells.
     let store : Open g.row.D.Denot g.row.D-Piece.Denot g.row.A.Denot = record { settings = c.self.inside.settings; directory = c.self.inside.directory; volumes = c.self.inside.volumes.items; arms = c.self.inside.seats.items } in
     directory_contents g.D.Disk.files (c.args.self.now).settings c.args.self.now store c.fuse.new.self c.self.view_is (c.fuse.ensures.same tells)
 
-pub returns-clause-closures : goal.returns-clause-closures
-returns-clause-closures g c =
-    let store : Open g.row.D.Denot g.row.D-Piece.Denot g.row.A.Denot = record { settings = c.self.inside.settings; directory = c.self.inside.directory; volumes = c.self.inside.volumes.items; arms = c.self.inside.seats.items } in
-    drains_kept c.args.self.now store c.fuse.new.self c.self.view_is (ap (λ (d : State g.row.D.Denot). d.drained) c.fuse.ensures.only)
-
 pub returns-clause-seen : goal.returns-clause-seen
 returns-clause-seen g c =
     let store : Open g.row.D.Denot g.row.D-Piece.Denot g.row.A.Denot = record { settings = c.self.inside.settings; directory = c.self.inside.directory; volumes = c.self.inside.volumes.items; arms = c.self.inside.seats.items } in
     directory_moves c.args.self.now store c.self.view_is c.fuse.new.self KeepsSeen c.fuse.ensures.seen
+
+pub returns-clause-sights : goal.returns-clause-sights
+returns-clause-sights g c =
+    let store : Open g.row.D.Denot g.row.D-Piece.Denot g.row.A.Denot = record { settings = c.self.inside.settings; directory = c.self.inside.directory; volumes = c.self.inside.volumes.items; arms = c.self.inside.seats.items } in
+    directory_photos c.args.self.now store c.self.view_is c.fuse.new.self

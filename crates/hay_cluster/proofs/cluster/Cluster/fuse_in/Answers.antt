@@ -13,11 +13,11 @@ use Rattle.hay_cluster.specs.Store.{Open, contents_in}
 use Rattle.hay_cluster.proofs.Calls.{called_open, called_up}
 use Rattle.hay_cluster.proofs.Lists.{length-set}
 use Rattle.hay_cluster.proofs.Moves.{fused_counts, fused_fuses, shape_kept, volume_fused, volume_of}
-use Rattle.hay_cluster.proofs.Pending.{called_kept}
 use Rattle.hay_cluster.specs.Leaving.{AnySlot, KeepsIn}
 use Rattle.hay_cluster.proofs.Leaving.{called_reads}
-use Rattle.hay_cluster.proofs.Closures.{closures_kept}
 use Rattle.hay_cluster.proofs.Seeing.{moves_none, volume_moves}
+use Rattle.hay_cluster.proofs.Sighting.{volume_kept_photos}
+use Rattle.hay_logical.specs.Sights.{sights_of}
 use Rattle.hay_cluster.proofs.cluster.Cluster.fuse_in.Goals as goal
 
 -- the fused replica keeps its files, and every other all it had
@@ -115,17 +115,6 @@ returns-clause-fuses g c =
     (fused_fuses g.D.Disk.fault_count g.D.Disk.fuse_count c.args.self.now store c.args.volume c.args.replica volume c.fuse.new.self c.self.view_is c.self.invariant at replica
     (record { same = c.fuse.ensures.same; count = c.fuse.ensures.count; fused = c.fuse.ensures.fused; others = c.fuse.ensures.others }))
 
-pub returns-clause-pending : goal.returns-clause-pending
-returns-clause-pending g c =
-    let store : Open g.row.D.Denot g.row.D-Piece.Denot g.row.A.Denot = record { settings = c.self.inside.settings; directory = c.self.inside.directory; volumes = c.self.inside.volumes.items; arms = c.self.inside.seats.items } in
-    let within : c.args.volume < length c.self.inside.volumes.items = let same = ap (λ (st : Open g.row.D.Denot g.row.D-Piece.Denot g.row.A.Denot). (st.settings).volumes) c.self.view_is in omega (arith, c.requires.volume, c.self.invariant.many, same) in
-    let volume : Volume g.row.D.Denot g.row.D-Piece.Denot = slice_index_or c.as_mut_slice.result.now c.args.volume c.index-as_mut_slice-volume.result in
-    let at : At store.volumes c.args.volume volume = subst (λ (vs : List (Volume g.row.D.Denot g.row.D-Piece.Denot)). At vs c.args.volume volume) c.as_mut_slice.ensures.value
-    (at_read c.as_mut_slice.result.now c.args.volume c.index-as_mut_slice-volume.result (let long = ap length c.as_mut_slice.ensures.value in omega (arith, within, long))) in
-    let items = with_items_is c.self.inside.volumes (slice_set c.as_mut_slice.result.now c.args.volume c.fuse.new.self) (length-set c.as_mut_slice.result.now c.args.volume c.fuse.new.self ∙ c.as_mut_slice.ensures.len)
-    ∙ ap (λ (vs : List (Volume g.row.D.Denot g.row.D-Piece.Denot)). slice_set vs c.args.volume c.fuse.new.self) c.as_mut_slice.ensures.value in
-    rw items (called_kept c.args.self.now store c.args.volume volume c.fuse.new.self c.self.view_is at c.fuse.ensures.unsure)
-
 pub returns-clause-contents : goal.returns-clause-contents
 returns-clause-contents g c = λ tells.
     let store : Open g.row.D.Denot g.row.D-Piece.Denot g.row.A.Denot = record { settings = c.self.inside.settings; directory = c.self.inside.directory; volumes = c.self.inside.volumes.items; arms = c.self.inside.seats.items } in
@@ -139,17 +128,6 @@ returns-clause-contents g c = λ tells.
     (called_reads g.D.Disk.files (c.args.self.now).settings c.args.self.now store c.args.volume volume c.fuse.new.self c.self.view_is at c.fuse.ensures.count
     (fused_reads g.D.Disk.files c.args.replica volume.replicas c.fuse.new.self.replicas (c.fuse.ensures.files tells) c.fuse.ensures.others))
 
-pub returns-clause-closures : goal.returns-clause-closures
-returns-clause-closures g c =
-    let store : Open g.row.D.Denot g.row.D-Piece.Denot g.row.A.Denot = record { settings = c.self.inside.settings; directory = c.self.inside.directory; volumes = c.self.inside.volumes.items; arms = c.self.inside.seats.items } in
-    let within : c.args.volume < length c.self.inside.volumes.items = let same = ap (λ (st : Open g.row.D.Denot g.row.D-Piece.Denot g.row.A.Denot). (st.settings).volumes) c.self.view_is in omega (arith, c.requires.volume, c.self.invariant.many, same) in
-    let volume : Volume g.row.D.Denot g.row.D-Piece.Denot = slice_index_or c.as_mut_slice.result.now c.args.volume c.index-as_mut_slice-volume.result in
-    let at : At store.volumes c.args.volume volume = subst (λ (vs : List (Volume g.row.D.Denot g.row.D-Piece.Denot)). At vs c.args.volume volume) c.as_mut_slice.ensures.value
-    (at_read c.as_mut_slice.result.now c.args.volume c.index-as_mut_slice-volume.result (let long = ap length c.as_mut_slice.ensures.value in omega (arith, within, long))) in
-    let items = with_items_is c.self.inside.volumes (slice_set c.as_mut_slice.result.now c.args.volume c.fuse.new.self) (length-set c.as_mut_slice.result.now c.args.volume c.fuse.new.self ∙ c.as_mut_slice.ensures.len)
-    ∙ ap (λ (vs : List (Volume g.row.D.Denot g.row.D-Piece.Denot)). slice_set vs c.args.volume c.fuse.new.self) c.as_mut_slice.ensures.value in
-    rw items (closures_kept c.args.self.now store c.args.volume volume c.self.view_is at c.fuse.new.self (ap (λ (w : Volume g.row.D.Denot g.row.D-Piece.Denot). w.frozen) c.fuse.ensures.still))
-
 pub returns-clause-seen : goal.returns-clause-seen
 returns-clause-seen g c =
     let store : Open g.row.D.Denot g.row.D-Piece.Denot g.row.A.Denot = record { settings = c.self.inside.settings; directory = c.self.inside.directory; volumes = c.self.inside.volumes.items; arms = c.self.inside.seats.items } in
@@ -160,3 +138,15 @@ returns-clause-seen g c =
     let items = with_items_is c.self.inside.volumes (slice_set c.as_mut_slice.result.now c.args.volume c.fuse.new.self) (length-set c.as_mut_slice.result.now c.args.volume c.fuse.new.self ∙ c.as_mut_slice.ensures.len)
     ∙ ap (λ (vs : List (Volume g.row.D.Denot g.row.D-Piece.Denot)). slice_set vs c.args.volume c.fuse.new.self) c.as_mut_slice.ensures.value in
     rw items (moves_none c.args.volume _ _ (volume_moves c.args.self.now store c.self.view_is c.args.volume volume c.fuse.new.self (λ before after. after ≡ before) at c.fuse.ensures.unchanged))
+
+pub returns-clause-sights : goal.returns-clause-sights
+returns-clause-sights g c =
+    let store : Open g.row.D.Denot g.row.D-Piece.Denot g.row.A.Denot = record { settings = c.self.inside.settings; directory = c.self.inside.directory; volumes = c.self.inside.volumes.items; arms = c.self.inside.seats.items } in
+    let within : c.args.volume < length c.self.inside.volumes.items = let same = ap (λ (st : Open g.row.D.Denot g.row.D-Piece.Denot g.row.A.Denot). (st.settings).volumes) c.self.view_is in omega (arith, c.requires.volume, c.self.invariant.many, same) in
+    let volume : Volume g.row.D.Denot g.row.D-Piece.Denot = slice_index_or c.as_mut_slice.result.now c.args.volume c.index-as_mut_slice-volume.result in
+    let at : At store.volumes c.args.volume volume = subst (λ (vs : List (Volume g.row.D.Denot g.row.D-Piece.Denot)). At vs c.args.volume volume) c.as_mut_slice.ensures.value
+    (at_read c.as_mut_slice.result.now c.args.volume c.index-as_mut_slice-volume.result (let long = ap length c.as_mut_slice.ensures.value in omega (arith, within, long))) in
+    let items = with_items_is c.self.inside.volumes (slice_set c.as_mut_slice.result.now c.args.volume c.fuse.new.self) (length-set c.as_mut_slice.result.now c.args.volume c.fuse.new.self ∙ c.as_mut_slice.ensures.len)
+    ∙ ap (λ (vs : List (Volume g.row.D.Denot g.row.D-Piece.Denot)). slice_set vs c.args.volume c.fuse.new.self) c.as_mut_slice.ensures.value in
+    rw items
+    (volume_kept_photos c.args.self.now store c.self.view_is c.args.volume volume c.fuse.new.self at (λ pair j. ap (λ (w : Volume g.row.D.Denot g.row.D-Piece.Denot). sights_of w.rows pair j) c.fuse.ensures.still))

@@ -10,6 +10,9 @@ use Rattle.hay_cluster.proofs.Showing.{get_command}
 use Rattle.hay_cluster.proofs.Sure.{same_sure}
 use Rattle.hay_cluster.specs.Suiting.{ShowsFrom, SuitsGet}
 use Rattle.hay_cluster.proofs.Suiting.{at_no_memory, at_none, at_replica}
+use Rattle.hay_cluster.proofs.Sighting.{keeps_photos}
+use Rattle.hay_cluster.proofs.Seeing.{keeps_all}
+use Rattle.hay_cluster.specs.Seen.{store_seen}
 use Rattle.hay_cluster.proofs.cluster.Cluster.get.Goals as goal
 
 pub returns-in_default-clause-legal : goal.returns-in_default-clause-legal
@@ -118,3 +121,27 @@ returns-then-volume-url-clause-shows g c = (sym c.home.ensures.seen ∙ c.in-Som
 
 pub show-requires-clause-home : goal.show-requires-clause-home
 show-requires-clause-home g c = sym c.home.ensures.seen ∙ c.in-Some-home.is
+
+pub returns-in_default-clause-seen : goal.returns-in_default-clause-seen
+returns-in_default-clause-seen g c =
+    keeps_all (store_seen c.args.self.now)
+
+pub returns-in_default-clause-sights : goal.returns-in_default-clause-sights
+returns-in_default-clause-sights g c =
+    keeps_photos (store_seen c.args.self.now)
+
+pub returns-in_default-home-clause-seen : goal.returns-in_default-home-clause-seen
+returns-in_default-home-clause-seen g c =
+    keeps_all (store_seen c.args.self.now)
+
+pub returns-in_default-home-clause-sights : goal.returns-in_default-home-clause-sights
+returns-in_default-home-clause-sights g c =
+    keeps_photos (store_seen c.args.self.now)
+
+pub returns-then-volume-url-clause-seen : goal.returns-then-volume-url-clause-seen
+returns-then-volume-url-clause-seen g c =
+    keeps_all (store_seen c.args.self.now)
+
+pub returns-then-volume-url-clause-sights : goal.returns-then-volume-url-clause-sights
+returns-then-volume-url-clause-sights g c =
+    keeps_photos (store_seen c.args.self.now)

@@ -12,11 +12,9 @@ use Rattle.hay_cluster.specs.Causes.{RefusesOn}
 use Rattle.hay_cluster.proofs.Changing.{replica_machine}
 use Rattle.hay_cluster.specs.Leaving.{AnySlot, IsApart, IsApartOn}
 use Rattle.hay_cluster.proofs.Leaving.{done_leaves, keeps-all, leaves-fewer, leaves_contents, refused_leaves}
-use Rattle.hay_cluster.specs.Closing.{closures_of}
-use Rattle.hay_cluster.specs.Pending.{pending_of}
-use Rattle.hay_cluster.proofs.Closures.{done_thawed, refused_met, work_closes, work_done, work_leaves, work_met, work_nowhere}
 use Rattle.hay_cluster.specs.Seen.{store_seen}
 use Rattle.hay_cluster.proofs.Seeing.{keeps_all}
+use Rattle.hay_cluster.proofs.Sighting.{keeps_photos, unworked_sights, worked_sights}
 use Rattle.hay_cluster.proofs.cluster.Cluster.maintain.Goals as goal
 
 pub returns-in_default-clause-legal : goal.returns-in_default-clause-legal
@@ -98,34 +96,6 @@ returns-in-Err-clause-contents g c = λ tells.
     (leaves-fewer (IsApart (c.args.self.now).settings c.args.volume c.in-Some.replica) (IsApartOn (c.args.self.now).settings c.args.volume c.args.machine) (disks_of c.args.self.now) (disks_of c.maintain_in.new.self) (λ slot far. far c.in-Some.replica there) c.maintain_in.ensures.others) in
     refused_leaves (c.args.self.now).settings c.args.volume c.args.machine (contents_in g.D.Disk.files c.args.self.now) (contents_in g.D.Disk.files c.maintain_in.new.self) c.in-Err.fault c.refused.result c.refused.ensures.is apart (IfErr-at_err _ c.in-Err.is (c.maintain_in.ensures.kept tells))
 
-pub returns-in_default-clause-met : goal.returns-in_default-clause-met
-returns-in_default-clause-met g c = work_nowhere (c.args.self.now).settings (closures_of c.args.self.now) (pending_of c.args.self.now) c.args.volume c.args.machine c.args.work
-
-pub returns-in-Ok-clause-met : goal.returns-in-Ok-clause-met
-returns-in-Ok-clause-met g c =
-    work_done (c.args.self.now).settings (closures_of c.args.self.now) (pending_of c.args.self.now) c.args.volume c.args.machine c.in-Ok.number c.args.work c.done.result c.done.ensures.is
-    (done_thawed (closures_of c.args.self.now) (pending_of c.args.self.now) c.args.volume _ c.maintain_in.result c.in-Ok.number c.in-Ok.is c.maintain_in.ensures.met)
-
-pub returns-in-Err-clause-met : goal.returns-in-Err-clause-met
-returns-in-Err-clause-met g c =
-    let same = ap (λ (st : Open g.row.D.Denot g.row.D-Piece.Denot g.row.A.Denot). st.settings) c.self.view_is in
-    let there : replica_on (c.args.self.now).settings c.args.volume c.args.machine ≡ Some c.in-Some.replica =
-    ap (λ (s : Settings). replica_on s c.args.volume c.args.machine) (sym same) ∙ sym c.replica_on.ensures.is ∙ c.in-Some.is in
-    work_met (c.args.self.now).settings (closures_of c.args.self.now) (pending_of c.args.self.now) c.args.volume c.args.machine c.args.work c.in-Err.fault c.refused.result c.refused.ensures.is
-    (refused_met (closures_of c.args.self.now) (pending_of c.args.self.now) c.args.volume c.args.machine _ c.args.work c.maintain_in.result c.in-Err.fault c.in-Err.is
-    (replica_machine (c.args.self.now).settings c.args.volume c.args.machine c.in-Some.replica there) c.maintain_in.ensures.met)
-
-pub returns-in_default-clause-closures : goal.returns-in_default-clause-closures
-returns-in_default-clause-closures g c = work_leaves (c.args.self.now).settings c.args.volume c.args.machine (closures_of c.args.self.now) (closures_of c.args.self.now) c.args.work _ refl
-
-pub returns-in-Ok-clause-closures : goal.returns-in-Ok-clause-closures
-returns-in-Ok-clause-closures g c = work_leaves (c.args.self.now).settings c.args.volume c.args.machine (closures_of c.args.self.now) (closures_of c.maintain_in.new.self) c.args.work c.done.result c.in-Ok.ensures.done_closures
-
-pub returns-in-Err-clause-closures : goal.returns-in-Err-clause-closures
-returns-in-Err-clause-closures g c =
-    work_closes (c.args.self.now).settings c.args.volume c.args.machine (closures_of c.args.self.now) (closures_of c.maintain_in.new.self) c.args.work c.in-Err.fault c.refused.result c.refused.ensures.is
-    (IfErr-at_err _ c.in-Err.is c.maintain_in.ensures.refused_closures)
-
 pub returns-in_default-clause-seen : goal.returns-in_default-clause-seen
 returns-in_default-clause-seen g c =
     let same = ap (λ (st : Open g.row.D.Denot g.row.D-Piece.Denot g.row.A.Denot). st.settings) c.self.view_is in
@@ -144,3 +114,18 @@ returns-in-Err-clause-seen g c =
     let there : replica_on (c.args.self.now).settings c.args.volume c.args.machine ≡ Some c.in-Some.replica =
     ap (λ (s : Settings). replica_on s c.args.volume c.args.machine) (sym same) ∙ sym c.replica_on.ensures.is ∙ c.in-Some.is in
     inr (inr (c.in-Some.replica, c.in-Err.fault, there, c.refused.ensures.is, IfErr-at_err _ c.in-Err.is c.maintain_in.ensures.refused_seen))
+
+pub returns-in_default-clause-sights : goal.returns-in_default-clause-sights
+returns-in_default-clause-sights g c =
+    keeps_photos (store_seen c.args.self.now)
+
+pub returns-in-Ok-clause-sights : goal.returns-in-Ok-clause-sights
+returns-in-Ok-clause-sights g c =
+    let same = ap (λ (st : Open g.row.D.Denot g.row.D-Piece.Denot g.row.A.Denot). st.settings) c.self.view_is in
+    let there : replica_on (c.args.self.now).settings c.args.volume c.args.machine ≡ Some c.in-Some.replica =
+    ap (λ (s : Settings). replica_on s c.args.volume c.args.machine) (sym same) ∙ sym c.replica_on.ensures.is ∙ c.in-Some.is in
+    worked_sights (c.args.self.now).settings c.args.volume c.args.machine (store_seen c.args.self.now) (store_seen c.maintain_in.new.self) c.args.work c.in-Some.replica c.in-Ok.number c.done.result c.done.ensures.is there c.in-Ok.ensures.sights
+
+pub returns-in-Err-clause-sights : goal.returns-in-Err-clause-sights
+returns-in-Err-clause-sights g c =
+    unworked_sights (c.args.self.now).settings c.args.volume c.args.machine (store_seen c.args.self.now) (store_seen c.maintain_in.new.self) c.in-Err.fault c.refused.result c.refused.ensures.is c.in-Err.ensures.refused_sights

@@ -1,4 +1,4 @@
-use Rattle.std.proofs.Common.{◌≡◌, ◌<◌, ◌≤◌, ℕ, inr, map, sym, ap, subst, ◌∙◌, arith}
+use Rattle.std.proofs.Common.{◌≡◌, ◌<◌, ◌≤◌, ℕ, inr, map, sym, ap, subst, ◌∙◌, arith, refl}
 use Rattle.std.proofs.lemmas.Result.{err_from_is_err_and}
 use Rattle.std.specs.Prelude.{slice_index}
 use Rattle.hay_needle.specs.declared.settings.Settings.{Settings}
@@ -8,15 +8,13 @@ use Rattle.hay_legal.specs.Known.{disk_count}
 use Rattle.hay_cluster.specs.declared.fault.ClusterFault.TheVariants.{Shelf, Failed, Damaged, NoMemory}
 use Rattle.hay_cluster.specs.Store.{disks_of}
 use Rattle.hay_cluster.proofs.ClosingStore.{disks_many}
-use Rattle.hay_cluster.proofs.OpeningDamage.{opened_sound, opening_damaged, opening_failed}
+use Rattle.hay_cluster.proofs.OpeningDamage.{opened_sound, opening_damaged, opening_failed, TellsSlot, opening_first}
 use Rattle.hay_cluster.proofs.OpeningDraws.{flushed_drew, opening_drew}
 use Rattle.hay_cluster.proofs.OpeningFound.{found_new}
 use Rattle.hay_cluster.proofs.OpeningLists.{passed_on}
 use Rattle.hay_cluster.proofs.OpeningStore.{MovedParts, opens_up}
 use Rattle.hay_cluster.proofs.OpeningTaken.{IsTakingFault, back_arm, back_counts, back_failed, back_shelf, back_damaged, is_taken, moved_arms, moved_counts, moved_sure, not_memory_damaged, not_memory_failed, one_fault, passed_back, taken_idle, taken_rests, taking_damaged, taking_failed, taking_shelf}
 use Rattle.hay_cluster.proofs.OpeningVoid.{back_contents, back_kept, contents_stay, formats_void}
-use Rattle.hay_cluster.proofs.Pending.{opened_settled}
-use Rattle.hay_cluster.proofs.Closures.{opened_closures}
 use Rattle.hay_cluster.proofs.SeenOpening.{opens_seen}
 use Rattle.hay_cluster.proofs.cluster.Cluster.open.Goals as goal
 
@@ -243,11 +241,6 @@ pub returns-in-Err-clause-counted : goal.returns-in-Err-clause-counted
 returns-in-Err-clause-counted g c =
     omega (arith, c.close.ensures.counted, c.take_parts.ensures.counted)
 
-pub returns-in-Ok-clause-settled : goal.returns-in-Ok-clause-settled
-returns-in-Ok-clause-settled g c =
-    opened_settled g.D.Disk.Tells g.D.Disk.files g.D.Piece.Piece.Tells g.D.Disk.fault_count g.D.Disk.fuse_count g.A.Arm.fault_count c.args.settings c.assemble-cluster.result c.open_parts.new.self c.in-Ok._notes
-    (c.open_parts.ensures.settings ∙ c.assemble-cluster.ensures.settings) c.open_parts.ensures.shape c.in-Ok.ensures.opened
-
 pub returns-in-Ok-clause-drew : goal.returns-in-Ok-clause-drew
 returns-in-Ok-clause-drew g c = λ tells.
     let taken = is_taken g.D.Disk.Tells g.D.Disk.files g.D.Piece.Piece.Tells g.D.Disk.fault_count g.D.Disk.fuse_count g.A.Arm.fault_count g.D.Disk.drawn g.A.Arm.is_sure (g.H.Shelf.disks c.args.shelf.now) (g.H.Shelf.arms c.args.shelf.now) c.assemble-cluster.result c.in_ok-disks.disks.items c.in_ok-disks.seats.items c.assemble-cluster.ensures.shape c.assemble-cluster.ensures.fresh c.assemble-cluster.ensures.closed c.assemble-cluster.ensures.unsure c.assemble-cluster.ensures.disks c.assemble-cluster.ensures.arms c.in_ok-disks.ensures.disks c.in_ok-disks.ensures.arms in
@@ -308,11 +301,6 @@ returns-in-Err-clause-damaged_within g c =
     subst (λ (s : Settings). slot < disk_count s) c.assemble-cluster.ensures.settings
     (back_damaged g.D.Disk.Tells g.D.Disk.files g.D.Piece.Piece.Tells g.D.Disk.fault_count g.D.Disk.fuse_count g.A.Arm.fault_count g.D.Disk.drawn g.A.Arm.is_sure (g.H.Shelf.disks c.args.shelf.now) (g.H.Shelf.arms c.args.shelf.now) c.assemble-cluster.result c.open_parts.new.self c.in-Err.fault taken moved c.in-Err.ensures.refused slot file at told)
 
-pub returns-in-Ok-clause-closures : goal.returns-in-Ok-clause-closures
-returns-in-Ok-clause-closures g c =
-    opened_closures g.D.Disk.Tells g.D.Disk.files g.D.Piece.Piece.Tells g.D.Disk.fault_count g.D.Disk.fuse_count c.args.settings c.assemble-cluster.result c.open_parts.new.self c.in-Ok._notes c.assemble-cluster.ensures.settings
-    (c.open_parts.ensures.settings ∙ c.assemble-cluster.ensures.settings) c.assemble-cluster.ensures.shape c.open_parts.ensures.shape c.in-Ok.ensures.opened
-
 pub returns-in-Ok-clause-formatted : goal.returns-in-Ok-clause-formatted
 returns-in-Ok-clause-formatted g c = λ tells.
     let taken = is_taken g.D.Disk.Tells g.D.Disk.files g.D.Piece.Piece.Tells g.D.Disk.fault_count g.D.Disk.fuse_count g.A.Arm.fault_count g.D.Disk.drawn g.A.Arm.is_sure (g.H.Shelf.disks c.args.shelf.now) (g.H.Shelf.arms c.args.shelf.now) c.assemble-cluster.result c.in_ok-disks.disks.items c.in_ok-disks.seats.items c.assemble-cluster.ensures.shape c.assemble-cluster.ensures.fresh c.assemble-cluster.ensures.closed c.assemble-cluster.ensures.unsure c.assemble-cluster.ensures.disks c.assemble-cluster.ensures.arms c.in_ok-disks.ensures.disks c.in_ok-disks.ensures.arms in
@@ -324,3 +312,47 @@ pub returns-in-Ok-clause-opens : goal.returns-in-Ok-clause-opens
 returns-in-Ok-clause-opens g c =
     opens_seen g.D.Disk.Tells g.D.Disk.files g.D.Piece.Piece.Tells g.D.Disk.fault_count g.D.Disk.fuse_count c.args.settings c.assemble-cluster.result c.open_parts.new.self c.in-Ok._notes c.assemble-cluster.ensures.settings
     (c.open_parts.ensures.settings ∙ c.assemble-cluster.ensures.settings) c.assemble-cluster.ensures.shape c.open_parts.ensures.shape c.in-Ok.ensures.opened
+
+pub returns-in-Err-clause-failed_first : goal.returns-in-Err-clause-failed_first
+returns-in-Err-clause-failed_first g c =
+    let taken = is_taken g.D.Disk.Tells g.D.Disk.files g.D.Piece.Piece.Tells g.D.Disk.fault_count g.D.Disk.fuse_count g.A.Arm.fault_count g.D.Disk.drawn g.A.Arm.is_sure (g.H.Shelf.disks c.args.shelf.now) (g.H.Shelf.arms c.args.shelf.now) c.assemble-cluster.result c.in_ok-disks.disks.items c.in_ok-disks.seats.items c.assemble-cluster.ensures.shape c.assemble-cluster.ensures.fresh c.assemble-cluster.ensures.closed c.assemble-cluster.ensures.unsure c.assemble-cluster.ensures.disks c.assemble-cluster.ensures.arms c.in_ok-disks.ensures.disks c.in_ok-disks.ensures.arms in
+    let moved : MovedParts g.D.Disk.Tells g.D.Disk.files g.D.Piece.Piece.Tells g.D.Disk.fault_count g.D.Disk.fuse_count g.A.Arm.fault_count c.assemble-cluster.result c.open_parts.new.self = record { settings = c.open_parts.ensures.settings; arms = c.open_parts.ensures.arms; directory = c.open_parts.ensures.directory; volumes = c.open_parts.ensures.volumes } in
+    let more : disk_count c.open_parts.new.self.settings ≡ disk_count c.args.settings = ap (λ (s : Settings). disk_count s) (c.open_parts.ensures.settings ∙ c.assemble-cluster.ensures.settings) in
+    λ tells slot faults is.
+    let told : c.in-Err.fault ≡ Failed slot faults = cc in
+    opening_first g.D.Disk.Tells g.D.Disk.files g.D.Piece.Piece.Tells g.D.Disk.fault_count g.D.Disk.fuse_count g.A.Arm.fault_count tells g.D.Disk.drawn g.A.Arm.is_sure (g.H.Shelf.disks c.args.shelf.now) (g.H.Shelf.disks c.close.new.shelf) (g.H.Shelf.arms c.args.shelf.now) c.args.settings c.assemble-cluster.result c.open_parts.new.self c.in-Err.fault c.assemble-cluster.ensures.settings taken moved
+    (λ n below. c.close.ensures.contents tells n (let low : n < disk_count c.open_parts.new.self.settings = omega (arith, more, below) in low)) c.in-Err.ensures.refused slot (subst (λ f. TellsSlot f slot) (sym told) refl)
+
+pub returns-in-Err-clause-damaged_first : goal.returns-in-Err-clause-damaged_first
+returns-in-Err-clause-damaged_first g c =
+    let taken = is_taken g.D.Disk.Tells g.D.Disk.files g.D.Piece.Piece.Tells g.D.Disk.fault_count g.D.Disk.fuse_count g.A.Arm.fault_count g.D.Disk.drawn g.A.Arm.is_sure (g.H.Shelf.disks c.args.shelf.now) (g.H.Shelf.arms c.args.shelf.now) c.assemble-cluster.result c.in_ok-disks.disks.items c.in_ok-disks.seats.items c.assemble-cluster.ensures.shape c.assemble-cluster.ensures.fresh c.assemble-cluster.ensures.closed c.assemble-cluster.ensures.unsure c.assemble-cluster.ensures.disks c.assemble-cluster.ensures.arms c.in_ok-disks.ensures.disks c.in_ok-disks.ensures.arms in
+    let moved : MovedParts g.D.Disk.Tells g.D.Disk.files g.D.Piece.Piece.Tells g.D.Disk.fault_count g.D.Disk.fuse_count g.A.Arm.fault_count c.assemble-cluster.result c.open_parts.new.self = record { settings = c.open_parts.ensures.settings; arms = c.open_parts.ensures.arms; directory = c.open_parts.ensures.directory; volumes = c.open_parts.ensures.volumes } in
+    let more : disk_count c.open_parts.new.self.settings ≡ disk_count c.args.settings = ap (λ (s : Settings). disk_count s) (c.open_parts.ensures.settings ∙ c.assemble-cluster.ensures.settings) in
+    λ tells slot file at is.
+    let told : c.in-Err.fault ≡ Damaged slot file at = cc in
+    opening_first g.D.Disk.Tells g.D.Disk.files g.D.Piece.Piece.Tells g.D.Disk.fault_count g.D.Disk.fuse_count g.A.Arm.fault_count tells g.D.Disk.drawn g.A.Arm.is_sure (g.H.Shelf.disks c.args.shelf.now) (g.H.Shelf.disks c.close.new.shelf) (g.H.Shelf.arms c.args.shelf.now) c.args.settings c.assemble-cluster.result c.open_parts.new.self c.in-Err.fault c.assemble-cluster.ensures.settings taken moved
+    (λ n below. c.close.ensures.contents tells n (let low : n < disk_count c.open_parts.new.self.settings = omega (arith, more, below) in low)) c.in-Err.ensures.refused slot (subst (λ f. TellsSlot f slot) (sym told) refl)
+
+pub returns-in_err-volumes-clause-failed_first : goal.returns-in_err-volumes-clause-failed_first
+returns-in_err-volumes-clause-failed_first g c =
+    let p = err_from_is_err_and c.from_residual.result c.from_residual.ensures.1 in
+    let memory : c.in_err-volumes.field-0.0 ≡ NoMemory = c.in_err-volumes.ensures.no_memory in
+    λ tells slot faults is. absurd (not_memory_failed p.0 slot faults (p.2 ∙ memory) (one_fault c.from_residual.result p.0 (Failed slot faults) p.1 is))
+
+pub returns-in_err-volumes-clause-damaged_first : goal.returns-in_err-volumes-clause-damaged_first
+returns-in_err-volumes-clause-damaged_first g c =
+    let p = err_from_is_err_and c.from_residual.result c.from_residual.ensures.1 in
+    let memory : c.in_err-volumes.field-0.0 ≡ NoMemory = c.in_err-volumes.ensures.no_memory in
+    λ tells slot file at is. absurd (not_memory_damaged p.0 slot file at (p.2 ∙ memory) (one_fault c.from_residual.result p.0 (Damaged slot file at) p.1 is))
+
+pub returns-in_err-disks-clause-failed_first : goal.returns-in_err-disks-clause-failed_first
+returns-in_err-disks-clause-failed_first g c =
+    let p = err_from_is_err_and c.from_residual-in_err-disks.result c.from_residual-in_err-disks.ensures.1 in
+    let cause : IsTakingFault (g.H.Shelf.fault_count c.args.shelf.now) (g.H.Shelf.fault_count c.take_parts.new.shelf) c.in_err-disks.field-0.0 = c.in_err-disks.ensures.cause in
+    λ tells slot faults is. absurd (taking_failed (g.H.Shelf.fault_count c.args.shelf.now) (g.H.Shelf.fault_count c.take_parts.new.shelf) c.in_err-disks.field-0.0 slot faults cause (sym p.2 ∙ one_fault c.from_residual-in_err-disks.result p.0 (Failed slot faults) p.1 is))
+
+pub returns-in_err-disks-clause-damaged_first : goal.returns-in_err-disks-clause-damaged_first
+returns-in_err-disks-clause-damaged_first g c =
+    let p = err_from_is_err_and c.from_residual-in_err-disks.result c.from_residual-in_err-disks.ensures.1 in
+    let cause : IsTakingFault (g.H.Shelf.fault_count c.args.shelf.now) (g.H.Shelf.fault_count c.take_parts.new.shelf) c.in_err-disks.field-0.0 = c.in_err-disks.ensures.cause in
+    λ tells slot file at is. absurd (taking_damaged (g.H.Shelf.fault_count c.args.shelf.now) (g.H.Shelf.fault_count c.take_parts.new.shelf) c.in_err-disks.field-0.0 slot file at cause (sym p.2 ∙ one_fault c.from_residual-in_err-disks.result p.0 (Damaged slot file at) p.1 is))

@@ -7,7 +7,7 @@ use Rattle.hay_logical.specs.Stands.{IsIdleVolume}
 use Rattle.hay_logical.specs.Volumes.{Volume, IsClosed}
 use Rattle.hay_mount.specs.Mounts.{InOrder}
 use Rattle.hay_cluster.specs.Draws.{DrawsVolume}
-use Rattle.hay_cluster.specs.Opening.{MovesVolume, Gathers, OpensDirectory, OpensVolume, RefusesParts, RefusesVolumes}
+use Rattle.hay_cluster.specs.Opening.{LeavesVolume, Gathers, OpensDirectory, OpensVolume, RefusesParts, RefusesVolumes}
 use Rattle.hay_cluster.specs.Store.{IsShaped, Open, IsVolumeOf}
 use Rattle.hay_cluster.proofs.OpeningLists.{AllZip-still, each_told, passed_on}
 use Rattle.hay_cluster.proofs.OpeningStore.{MovedParts, shape_moved}
@@ -17,8 +17,8 @@ use Rattle.hay_cluster.proofs.cluster.Cluster.open_parts.Goals as goal
 pub returns-in_err-row_notes-clause-volumes : goal.returns-in_err-row_notes-clause-volumes
 returns-in_err-row_notes-clause-volumes g c =
     let items = c.self.inside.volumes.items in
-    subst (λ (st : Open g.row.D.Denot g.row.D-Piece.Denot g.row.A.Denot). AllZip (MovesVolume g.D.Disk.Tells g.D.Disk.files g.D.Piece.Piece.Tells g.D.Disk.fault_count g.D.Disk.fuse_count) st.volumes items) c.self.view_is
-    (AllZip-still (MovesVolume g.D.Disk.Tells g.D.Disk.files g.D.Piece.Piece.Tells g.D.Disk.fault_count g.D.Disk.fuse_count) (λ (v : Volume g.row.D.Denot g.row.D-Piece.Denot). g.D.Disk.Tells → IsIdleVolume g.D.Disk.files v) items (λ v idle. moves_still g.D.Disk.Tells g.D.Disk.files g.D.Piece.Piece.Tells g.D.Disk.fault_count g.D.Disk.fuse_count v idle)
+    subst (λ (st : Open g.row.D.Denot g.row.D-Piece.Denot g.row.A.Denot). AllZip (LeavesVolume g.D.Disk.Tells g.D.Disk.files g.D.Piece.Piece.Tells g.D.Disk.fault_count g.D.Disk.fuse_count) st.volumes items) c.self.view_is
+    (AllZip-still (LeavesVolume g.D.Disk.Tells g.D.Disk.files g.D.Piece.Piece.Tells g.D.Disk.fault_count g.D.Disk.fuse_count) (λ (v : Volume g.row.D.Denot g.row.D-Piece.Denot). g.D.Disk.Tells → IsIdleVolume g.D.Disk.files v) items (λ v idle. moves_still g.D.Disk.Tells g.D.Disk.files g.D.Piece.Piece.Tells g.D.Disk.fault_count g.D.Disk.fuse_count v idle)
     (each_told g.D.Disk.Tells (IsIdleVolume g.D.Disk.files) items (λ tells. subst (λ (st : Open g.row.D.Denot g.row.D-Piece.Denot g.row.A.Denot). AllByRecursion (IsIdleVolume g.D.Disk.files) st.volumes) (sym c.self.view_is) (c.requires.idle tells))))
 
 pub invariant_of-self-in_err-notes : goal.invariant_of-self-in_err-notes
@@ -29,7 +29,7 @@ invariant_of-self-in_err-notes g c =
     let whole : take c.self.inside.volumes.len (vs ++ drop (length vs) items) ≡ vs = take_at vs (drop (length vs) items) c.self.inside.volumes.len (let here : length vs ≡ c.self.inside.volumes.len = omega (arith, long, c.self.inside.volumes.ok.0) in here) in
     let old : Open g.row.D.Denot g.row.D-Piece.Denot g.row.A.Denot = record { settings = c.self.inside.settings; directory = c.self.inside.directory; volumes = items; arms = c.self.inside.seats.items } in
     let new : Open g.row.D.Denot g.row.D-Piece.Denot g.row.A.Denot = record { settings = c.self.inside.settings; directory = c.open_directory.new.directory; volumes = vs; arms = c.self.inside.seats.items } in
-    let zipped : AllZip (MovesVolume g.D.Disk.Tells g.D.Disk.files g.D.Piece.Piece.Tells g.D.Disk.fault_count g.D.Disk.fuse_count) items vs = subst (λ (l : List (Volume g.row.D.Denot g.row.D-Piece.Denot)). AllZip (MovesVolume g.D.Disk.Tells g.D.Disk.files g.D.Piece.Piece.Tells g.D.Disk.fault_count g.D.Disk.fuse_count) l vs) c.as_mut_slice.ensures.value c.open_volumes.ensures.moves in
+    let zipped : AllZip (LeavesVolume g.D.Disk.Tells g.D.Disk.files g.D.Piece.Piece.Tells g.D.Disk.fault_count g.D.Disk.fuse_count) items vs = subst (λ (l : List (Volume g.row.D.Denot g.row.D-Piece.Denot)). AllZip (LeavesVolume g.D.Disk.Tells g.D.Disk.files g.D.Piece.Piece.Tells g.D.Disk.fault_count g.D.Disk.fuse_count) l vs) c.as_mut_slice.ensures.value c.open_volumes.ensures.moves in
     let parts : MovedParts g.D.Disk.Tells g.D.Disk.files g.D.Piece.Piece.Tells g.D.Disk.fault_count g.D.Disk.fuse_count g.A.Arm.fault_count old new = record { settings = refl; arms = refl; directory = c.open_directory.ensures.moves; volumes = zipped } in
     subst (λ (l : List (Volume g.row.D.Denot g.row.D-Piece.Denot)). let store : Open g.row.D.Denot g.row.D-Piece.Denot g.row.A.Denot = record { settings = c.self.inside.settings; directory = c.open_directory.new.directory; volumes = l; arms = c.self.inside.seats.items } in IsShaped store) (sym whole)
     (shape_moved g.D.Disk.Tells g.D.Disk.files g.D.Piece.Piece.Tells g.D.Disk.fault_count g.D.Disk.fuse_count g.A.Arm.fault_count old new c.self.invariant parts)
@@ -42,7 +42,7 @@ returns-in_err-notes-clause-shape g c =
     let whole : take c.self.inside.volumes.len (vs ++ drop (length vs) items) ≡ vs = take_at vs (drop (length vs) items) c.self.inside.volumes.len (let here : length vs ≡ c.self.inside.volumes.len = omega (arith, long, c.self.inside.volumes.ok.0) in here) in
     let old : Open g.row.D.Denot g.row.D-Piece.Denot g.row.A.Denot = record { settings = c.self.inside.settings; directory = c.self.inside.directory; volumes = items; arms = c.self.inside.seats.items } in
     let new : Open g.row.D.Denot g.row.D-Piece.Denot g.row.A.Denot = record { settings = c.self.inside.settings; directory = c.open_directory.new.directory; volumes = vs; arms = c.self.inside.seats.items } in
-    let zipped : AllZip (MovesVolume g.D.Disk.Tells g.D.Disk.files g.D.Piece.Piece.Tells g.D.Disk.fault_count g.D.Disk.fuse_count) items vs = subst (λ (l : List (Volume g.row.D.Denot g.row.D-Piece.Denot)). AllZip (MovesVolume g.D.Disk.Tells g.D.Disk.files g.D.Piece.Piece.Tells g.D.Disk.fault_count g.D.Disk.fuse_count) l vs) c.as_mut_slice.ensures.value c.open_volumes.ensures.moves in
+    let zipped : AllZip (LeavesVolume g.D.Disk.Tells g.D.Disk.files g.D.Piece.Piece.Tells g.D.Disk.fault_count g.D.Disk.fuse_count) items vs = subst (λ (l : List (Volume g.row.D.Denot g.row.D-Piece.Denot)). AllZip (LeavesVolume g.D.Disk.Tells g.D.Disk.files g.D.Piece.Piece.Tells g.D.Disk.fault_count g.D.Disk.fuse_count) l vs) c.as_mut_slice.ensures.value c.open_volumes.ensures.moves in
     let parts : MovedParts g.D.Disk.Tells g.D.Disk.files g.D.Piece.Piece.Tells g.D.Disk.fault_count g.D.Disk.fuse_count g.A.Arm.fault_count old new = record { settings = refl; arms = refl; directory = c.open_directory.ensures.moves; volumes = zipped } in
     subst (λ (l : List (Volume g.row.D.Denot g.row.D-Piece.Denot)). let store : Open g.row.D.Denot g.row.D-Piece.Denot g.row.A.Denot = record { settings = c.self.inside.settings; directory = c.open_directory.new.directory; volumes = l; arms = c.self.inside.seats.items } in IsShaped store) (sym whole)
     (shape_moved g.D.Disk.Tells g.D.Disk.files g.D.Piece.Piece.Tells g.D.Disk.fault_count g.D.Disk.fuse_count g.A.Arm.fault_count old new c.self.invariant parts)
@@ -55,7 +55,7 @@ invariant_of-self-in_err-append g c =
     let whole : take c.self.inside.volumes.len (vs ++ drop (length vs) items) ≡ vs = take_at vs (drop (length vs) items) c.self.inside.volumes.len (let here : length vs ≡ c.self.inside.volumes.len = omega (arith, long, c.self.inside.volumes.ok.0) in here) in
     let old : Open g.row.D.Denot g.row.D-Piece.Denot g.row.A.Denot = record { settings = c.self.inside.settings; directory = c.self.inside.directory; volumes = items; arms = c.self.inside.seats.items } in
     let new : Open g.row.D.Denot g.row.D-Piece.Denot g.row.A.Denot = record { settings = c.self.inside.settings; directory = c.open_directory.new.directory; volumes = vs; arms = c.self.inside.seats.items } in
-    let zipped : AllZip (MovesVolume g.D.Disk.Tells g.D.Disk.files g.D.Piece.Piece.Tells g.D.Disk.fault_count g.D.Disk.fuse_count) items vs = subst (λ (l : List (Volume g.row.D.Denot g.row.D-Piece.Denot)). AllZip (MovesVolume g.D.Disk.Tells g.D.Disk.files g.D.Piece.Piece.Tells g.D.Disk.fault_count g.D.Disk.fuse_count) l vs) c.as_mut_slice.ensures.value c.open_volumes.ensures.moves in
+    let zipped : AllZip (LeavesVolume g.D.Disk.Tells g.D.Disk.files g.D.Piece.Piece.Tells g.D.Disk.fault_count g.D.Disk.fuse_count) items vs = subst (λ (l : List (Volume g.row.D.Denot g.row.D-Piece.Denot)). AllZip (LeavesVolume g.D.Disk.Tells g.D.Disk.files g.D.Piece.Piece.Tells g.D.Disk.fault_count g.D.Disk.fuse_count) l vs) c.as_mut_slice.ensures.value c.open_volumes.ensures.moves in
     let parts : MovedParts g.D.Disk.Tells g.D.Disk.files g.D.Piece.Piece.Tells g.D.Disk.fault_count g.D.Disk.fuse_count g.A.Arm.fault_count old new = record { settings = refl; arms = refl; directory = c.open_directory.ensures.moves; volumes = zipped } in
     subst (λ (l : List (Volume g.row.D.Denot g.row.D-Piece.Denot)). let store : Open g.row.D.Denot g.row.D-Piece.Denot g.row.A.Denot = record { settings = c.self.inside.settings; directory = c.open_directory.new.directory; volumes = l; arms = c.self.inside.seats.items } in IsShaped store) (sym whole)
     (shape_moved g.D.Disk.Tells g.D.Disk.files g.D.Piece.Piece.Tells g.D.Disk.fault_count g.D.Disk.fuse_count g.A.Arm.fault_count old new c.self.invariant parts)
@@ -68,7 +68,7 @@ returns-in_err-append-clause-shape g c =
     let whole : take c.self.inside.volumes.len (vs ++ drop (length vs) items) ≡ vs = take_at vs (drop (length vs) items) c.self.inside.volumes.len (let here : length vs ≡ c.self.inside.volumes.len = omega (arith, long, c.self.inside.volumes.ok.0) in here) in
     let old : Open g.row.D.Denot g.row.D-Piece.Denot g.row.A.Denot = record { settings = c.self.inside.settings; directory = c.self.inside.directory; volumes = items; arms = c.self.inside.seats.items } in
     let new : Open g.row.D.Denot g.row.D-Piece.Denot g.row.A.Denot = record { settings = c.self.inside.settings; directory = c.open_directory.new.directory; volumes = vs; arms = c.self.inside.seats.items } in
-    let zipped : AllZip (MovesVolume g.D.Disk.Tells g.D.Disk.files g.D.Piece.Piece.Tells g.D.Disk.fault_count g.D.Disk.fuse_count) items vs = subst (λ (l : List (Volume g.row.D.Denot g.row.D-Piece.Denot)). AllZip (MovesVolume g.D.Disk.Tells g.D.Disk.files g.D.Piece.Piece.Tells g.D.Disk.fault_count g.D.Disk.fuse_count) l vs) c.as_mut_slice.ensures.value c.open_volumes.ensures.moves in
+    let zipped : AllZip (LeavesVolume g.D.Disk.Tells g.D.Disk.files g.D.Piece.Piece.Tells g.D.Disk.fault_count g.D.Disk.fuse_count) items vs = subst (λ (l : List (Volume g.row.D.Denot g.row.D-Piece.Denot)). AllZip (LeavesVolume g.D.Disk.Tells g.D.Disk.files g.D.Piece.Piece.Tells g.D.Disk.fault_count g.D.Disk.fuse_count) l vs) c.as_mut_slice.ensures.value c.open_volumes.ensures.moves in
     let parts : MovedParts g.D.Disk.Tells g.D.Disk.files g.D.Piece.Piece.Tells g.D.Disk.fault_count g.D.Disk.fuse_count g.A.Arm.fault_count old new = record { settings = refl; arms = refl; directory = c.open_directory.ensures.moves; volumes = zipped } in
     subst (λ (l : List (Volume g.row.D.Denot g.row.D-Piece.Denot)). let store : Open g.row.D.Denot g.row.D-Piece.Denot g.row.A.Denot = record { settings = c.self.inside.settings; directory = c.open_directory.new.directory; volumes = l; arms = c.self.inside.seats.items } in IsShaped store) (sym whole)
     (shape_moved g.D.Disk.Tells g.D.Disk.files g.D.Piece.Piece.Tells g.D.Disk.fault_count g.D.Disk.fuse_count g.A.Arm.fault_count old new c.self.invariant parts)
@@ -81,7 +81,7 @@ invariant_of-self-2 g c =
     let whole : take c.self.inside.volumes.len (vs ++ drop (length vs) items) ≡ vs = take_at vs (drop (length vs) items) c.self.inside.volumes.len (let here : length vs ≡ c.self.inside.volumes.len = omega (arith, long, c.self.inside.volumes.ok.0) in here) in
     let old : Open g.row.D.Denot g.row.D-Piece.Denot g.row.A.Denot = record { settings = c.self.inside.settings; directory = c.self.inside.directory; volumes = items; arms = c.self.inside.seats.items } in
     let new : Open g.row.D.Denot g.row.D-Piece.Denot g.row.A.Denot = record { settings = c.self.inside.settings; directory = c.open_directory.new.directory; volumes = vs; arms = c.self.inside.seats.items } in
-    let zipped : AllZip (MovesVolume g.D.Disk.Tells g.D.Disk.files g.D.Piece.Piece.Tells g.D.Disk.fault_count g.D.Disk.fuse_count) items vs = subst (λ (l : List (Volume g.row.D.Denot g.row.D-Piece.Denot)). AllZip (MovesVolume g.D.Disk.Tells g.D.Disk.files g.D.Piece.Piece.Tells g.D.Disk.fault_count g.D.Disk.fuse_count) l vs) c.as_mut_slice.ensures.value c.open_volumes.ensures.moves in
+    let zipped : AllZip (LeavesVolume g.D.Disk.Tells g.D.Disk.files g.D.Piece.Piece.Tells g.D.Disk.fault_count g.D.Disk.fuse_count) items vs = subst (λ (l : List (Volume g.row.D.Denot g.row.D-Piece.Denot)). AllZip (LeavesVolume g.D.Disk.Tells g.D.Disk.files g.D.Piece.Piece.Tells g.D.Disk.fault_count g.D.Disk.fuse_count) l vs) c.as_mut_slice.ensures.value c.open_volumes.ensures.moves in
     let parts : MovedParts g.D.Disk.Tells g.D.Disk.files g.D.Piece.Piece.Tells g.D.Disk.fault_count g.D.Disk.fuse_count g.A.Arm.fault_count old new = record { settings = refl; arms = refl; directory = c.open_directory.ensures.moves; volumes = zipped } in
     subst (λ (l : List (Volume g.row.D.Denot g.row.D-Piece.Denot)). let store : Open g.row.D.Denot g.row.D-Piece.Denot g.row.A.Denot = record { settings = c.self.inside.settings; directory = c.open_directory.new.directory; volumes = l; arms = c.self.inside.seats.items } in IsShaped store) (sym whole)
     (shape_moved g.D.Disk.Tells g.D.Disk.files g.D.Piece.Piece.Tells g.D.Disk.fault_count g.D.Disk.fuse_count g.A.Arm.fault_count old new c.self.invariant parts)
@@ -94,7 +94,7 @@ returns-clause-shape g c =
     let whole : take c.self.inside.volumes.len (vs ++ drop (length vs) items) ≡ vs = take_at vs (drop (length vs) items) c.self.inside.volumes.len (let here : length vs ≡ c.self.inside.volumes.len = omega (arith, long, c.self.inside.volumes.ok.0) in here) in
     let old : Open g.row.D.Denot g.row.D-Piece.Denot g.row.A.Denot = record { settings = c.self.inside.settings; directory = c.self.inside.directory; volumes = items; arms = c.self.inside.seats.items } in
     let new : Open g.row.D.Denot g.row.D-Piece.Denot g.row.A.Denot = record { settings = c.self.inside.settings; directory = c.open_directory.new.directory; volumes = vs; arms = c.self.inside.seats.items } in
-    let zipped : AllZip (MovesVolume g.D.Disk.Tells g.D.Disk.files g.D.Piece.Piece.Tells g.D.Disk.fault_count g.D.Disk.fuse_count) items vs = subst (λ (l : List (Volume g.row.D.Denot g.row.D-Piece.Denot)). AllZip (MovesVolume g.D.Disk.Tells g.D.Disk.files g.D.Piece.Piece.Tells g.D.Disk.fault_count g.D.Disk.fuse_count) l vs) c.as_mut_slice.ensures.value c.open_volumes.ensures.moves in
+    let zipped : AllZip (LeavesVolume g.D.Disk.Tells g.D.Disk.files g.D.Piece.Piece.Tells g.D.Disk.fault_count g.D.Disk.fuse_count) items vs = subst (λ (l : List (Volume g.row.D.Denot g.row.D-Piece.Denot)). AllZip (LeavesVolume g.D.Disk.Tells g.D.Disk.files g.D.Piece.Piece.Tells g.D.Disk.fault_count g.D.Disk.fuse_count) l vs) c.as_mut_slice.ensures.value c.open_volumes.ensures.moves in
     let parts : MovedParts g.D.Disk.Tells g.D.Disk.files g.D.Piece.Piece.Tells g.D.Disk.fault_count g.D.Disk.fuse_count g.A.Arm.fault_count old new = record { settings = refl; arms = refl; directory = c.open_directory.ensures.moves; volumes = zipped } in
     subst (λ (l : List (Volume g.row.D.Denot g.row.D-Piece.Denot)). let store : Open g.row.D.Denot g.row.D-Piece.Denot g.row.A.Denot = record { settings = c.self.inside.settings; directory = c.open_directory.new.directory; volumes = l; arms = c.self.inside.seats.items } in IsShaped store) (sym whole)
     (shape_moved g.D.Disk.Tells g.D.Disk.files g.D.Piece.Piece.Tells g.D.Disk.fault_count g.D.Disk.fuse_count g.A.Arm.fault_count old new c.self.invariant parts)
@@ -105,9 +105,9 @@ returns-in_err-notes-clause-volumes g c =
     let vs = c.open_volumes.new.volumes in
     let long : length vs ≡ length items = (let same = c.open_volumes.auto.volumes in omega (arith, same, c.as_mut_slice.ensures.len, c.self.inside.volumes.ok.0)) in
     let whole : take c.self.inside.volumes.len (vs ++ drop (length vs) items) ≡ vs = take_at vs (drop (length vs) items) c.self.inside.volumes.len (let here : length vs ≡ c.self.inside.volumes.len = omega (arith, long, c.self.inside.volumes.ok.0) in here) in
-    let zipped : AllZip (MovesVolume g.D.Disk.Tells g.D.Disk.files g.D.Piece.Piece.Tells g.D.Disk.fault_count g.D.Disk.fuse_count) items vs = subst (λ (l : List (Volume g.row.D.Denot g.row.D-Piece.Denot)). AllZip (MovesVolume g.D.Disk.Tells g.D.Disk.files g.D.Piece.Piece.Tells g.D.Disk.fault_count g.D.Disk.fuse_count) l vs) c.as_mut_slice.ensures.value c.open_volumes.ensures.moves in
-    subst (λ (st : Open g.row.D.Denot g.row.D-Piece.Denot g.row.A.Denot). AllZip (MovesVolume g.D.Disk.Tells g.D.Disk.files g.D.Piece.Piece.Tells g.D.Disk.fault_count g.D.Disk.fuse_count) st.volumes (take c.self.inside.volumes.len (vs ++ drop (length vs) items))) c.self.view_is
-    (subst (λ (l : List (Volume g.row.D.Denot g.row.D-Piece.Denot)). AllZip (MovesVolume g.D.Disk.Tells g.D.Disk.files g.D.Piece.Piece.Tells g.D.Disk.fault_count g.D.Disk.fuse_count) items l) (sym whole) zipped)
+    let zipped : AllZip (LeavesVolume g.D.Disk.Tells g.D.Disk.files g.D.Piece.Piece.Tells g.D.Disk.fault_count g.D.Disk.fuse_count) items vs = subst (λ (l : List (Volume g.row.D.Denot g.row.D-Piece.Denot)). AllZip (LeavesVolume g.D.Disk.Tells g.D.Disk.files g.D.Piece.Piece.Tells g.D.Disk.fault_count g.D.Disk.fuse_count) l vs) c.as_mut_slice.ensures.value c.open_volumes.ensures.moves in
+    subst (λ (st : Open g.row.D.Denot g.row.D-Piece.Denot g.row.A.Denot). AllZip (LeavesVolume g.D.Disk.Tells g.D.Disk.files g.D.Piece.Piece.Tells g.D.Disk.fault_count g.D.Disk.fuse_count) st.volumes (take c.self.inside.volumes.len (vs ++ drop (length vs) items))) c.self.view_is
+    (subst (λ (l : List (Volume g.row.D.Denot g.row.D-Piece.Denot)). AllZip (LeavesVolume g.D.Disk.Tells g.D.Disk.files g.D.Piece.Piece.Tells g.D.Disk.fault_count g.D.Disk.fuse_count) items l) (sym whole) zipped)
 
 pub returns-in_err-append-clause-volumes : goal.returns-in_err-append-clause-volumes
 returns-in_err-append-clause-volumes g c =
@@ -115,9 +115,9 @@ returns-in_err-append-clause-volumes g c =
     let vs = c.open_volumes.new.volumes in
     let long : length vs ≡ length items = (let same = c.open_volumes.auto.volumes in omega (arith, same, c.as_mut_slice.ensures.len, c.self.inside.volumes.ok.0)) in
     let whole : take c.self.inside.volumes.len (vs ++ drop (length vs) items) ≡ vs = take_at vs (drop (length vs) items) c.self.inside.volumes.len (let here : length vs ≡ c.self.inside.volumes.len = omega (arith, long, c.self.inside.volumes.ok.0) in here) in
-    let zipped : AllZip (MovesVolume g.D.Disk.Tells g.D.Disk.files g.D.Piece.Piece.Tells g.D.Disk.fault_count g.D.Disk.fuse_count) items vs = subst (λ (l : List (Volume g.row.D.Denot g.row.D-Piece.Denot)). AllZip (MovesVolume g.D.Disk.Tells g.D.Disk.files g.D.Piece.Piece.Tells g.D.Disk.fault_count g.D.Disk.fuse_count) l vs) c.as_mut_slice.ensures.value c.open_volumes.ensures.moves in
-    subst (λ (st : Open g.row.D.Denot g.row.D-Piece.Denot g.row.A.Denot). AllZip (MovesVolume g.D.Disk.Tells g.D.Disk.files g.D.Piece.Piece.Tells g.D.Disk.fault_count g.D.Disk.fuse_count) st.volumes (take c.self.inside.volumes.len (vs ++ drop (length vs) items))) c.self.view_is
-    (subst (λ (l : List (Volume g.row.D.Denot g.row.D-Piece.Denot)). AllZip (MovesVolume g.D.Disk.Tells g.D.Disk.files g.D.Piece.Piece.Tells g.D.Disk.fault_count g.D.Disk.fuse_count) items l) (sym whole) zipped)
+    let zipped : AllZip (LeavesVolume g.D.Disk.Tells g.D.Disk.files g.D.Piece.Piece.Tells g.D.Disk.fault_count g.D.Disk.fuse_count) items vs = subst (λ (l : List (Volume g.row.D.Denot g.row.D-Piece.Denot)). AllZip (LeavesVolume g.D.Disk.Tells g.D.Disk.files g.D.Piece.Piece.Tells g.D.Disk.fault_count g.D.Disk.fuse_count) l vs) c.as_mut_slice.ensures.value c.open_volumes.ensures.moves in
+    subst (λ (st : Open g.row.D.Denot g.row.D-Piece.Denot g.row.A.Denot). AllZip (LeavesVolume g.D.Disk.Tells g.D.Disk.files g.D.Piece.Piece.Tells g.D.Disk.fault_count g.D.Disk.fuse_count) st.volumes (take c.self.inside.volumes.len (vs ++ drop (length vs) items))) c.self.view_is
+    (subst (λ (l : List (Volume g.row.D.Denot g.row.D-Piece.Denot)). AllZip (LeavesVolume g.D.Disk.Tells g.D.Disk.files g.D.Piece.Piece.Tells g.D.Disk.fault_count g.D.Disk.fuse_count) items l) (sym whole) zipped)
 
 pub returns-clause-volumes : goal.returns-clause-volumes
 returns-clause-volumes g c =
@@ -125,9 +125,9 @@ returns-clause-volumes g c =
     let vs = c.open_volumes.new.volumes in
     let long : length vs ≡ length items = (let same = c.open_volumes.auto.volumes in omega (arith, same, c.as_mut_slice.ensures.len, c.self.inside.volumes.ok.0)) in
     let whole : take c.self.inside.volumes.len (vs ++ drop (length vs) items) ≡ vs = take_at vs (drop (length vs) items) c.self.inside.volumes.len (let here : length vs ≡ c.self.inside.volumes.len = omega (arith, long, c.self.inside.volumes.ok.0) in here) in
-    let zipped : AllZip (MovesVolume g.D.Disk.Tells g.D.Disk.files g.D.Piece.Piece.Tells g.D.Disk.fault_count g.D.Disk.fuse_count) items vs = subst (λ (l : List (Volume g.row.D.Denot g.row.D-Piece.Denot)). AllZip (MovesVolume g.D.Disk.Tells g.D.Disk.files g.D.Piece.Piece.Tells g.D.Disk.fault_count g.D.Disk.fuse_count) l vs) c.as_mut_slice.ensures.value c.open_volumes.ensures.moves in
-    subst (λ (st : Open g.row.D.Denot g.row.D-Piece.Denot g.row.A.Denot). AllZip (MovesVolume g.D.Disk.Tells g.D.Disk.files g.D.Piece.Piece.Tells g.D.Disk.fault_count g.D.Disk.fuse_count) st.volumes (take c.self.inside.volumes.len (vs ++ drop (length vs) items))) c.self.view_is
-    (subst (λ (l : List (Volume g.row.D.Denot g.row.D-Piece.Denot)). AllZip (MovesVolume g.D.Disk.Tells g.D.Disk.files g.D.Piece.Piece.Tells g.D.Disk.fault_count g.D.Disk.fuse_count) items l) (sym whole) zipped)
+    let zipped : AllZip (LeavesVolume g.D.Disk.Tells g.D.Disk.files g.D.Piece.Piece.Tells g.D.Disk.fault_count g.D.Disk.fuse_count) items vs = subst (λ (l : List (Volume g.row.D.Denot g.row.D-Piece.Denot)). AllZip (LeavesVolume g.D.Disk.Tells g.D.Disk.files g.D.Piece.Piece.Tells g.D.Disk.fault_count g.D.Disk.fuse_count) l vs) c.as_mut_slice.ensures.value c.open_volumes.ensures.moves in
+    subst (λ (st : Open g.row.D.Denot g.row.D-Piece.Denot g.row.A.Denot). AllZip (LeavesVolume g.D.Disk.Tells g.D.Disk.files g.D.Piece.Piece.Tells g.D.Disk.fault_count g.D.Disk.fuse_count) st.volumes (take c.self.inside.volumes.len (vs ++ drop (length vs) items))) c.self.view_is
+    (subst (λ (l : List (Volume g.row.D.Denot g.row.D-Piece.Denot)). AllZip (LeavesVolume g.D.Disk.Tells g.D.Disk.files g.D.Piece.Piece.Tells g.D.Disk.fault_count g.D.Disk.fuse_count) items l) (sym whole) zipped)
 
 pub returns-in_err-notes-clause-refused : goal.returns-in_err-notes-clause-refused
 returns-in_err-notes-clause-refused g c =

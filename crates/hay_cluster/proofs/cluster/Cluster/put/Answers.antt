@@ -6,13 +6,10 @@ use Rattle.hay_cluster.proofs.Answering.{answered, stays}
 use Rattle.hay_cluster.proofs.Moves.{none_falls}
 use Rattle.hay_cluster.proofs.Puts.{home_refused}
 use Rattle.hay_cluster.proofs.Suiting.{one_refuses, refusal_suits}
-use Rattle.hay_cluster.specs.Pending.{pending_of}
-use Rattle.hay_cluster.proofs.Pending.{refusal_no_failure}
-use Rattle.hay_cluster.specs.Closing.{closures_of}
-use Rattle.hay_cluster.proofs.Closures.{refusal_met}
 use Rattle.hay_cluster.proofs.Leaving.{first_contents, nothing_put}
 use Rattle.hay_cluster.specs.Seen.{IsTurnedAside, RefusesPhoto, store_seen}
 use Rattle.hay_cluster.proofs.Seeing.{keeps_all, put_seen, turned_seen}
+use Rattle.hay_cluster.proofs.Sighting.{keeps_photos, turned_sights}
 use Rattle.hay_cluster.proofs.cluster.Cluster.put.Goals as goal
 
 pub returns-in-Err-clause-legal : goal.returns-in-Err-clause-legal
@@ -43,39 +40,20 @@ returns-in-Some-refusal-clause-suits g c =
     refusal_suits settings c.args.pair (c.in-Some-refusal.refused ∷ []) c.refuse_one.result
     (one_refuses settings c.args.pair c.in-Some.volume c.in-Some-refusal.refused (c.in-Some.ensures).within (c.in-Some-refusal.ensures).refuses) c.refuse_one.ensures.is
 
-pub returns-in-Err-clause-pending : goal.returns-in-Err-clause-pending
-returns-in-Err-clause-pending g c = inr (inr (inr ((λ v m n is. cc, λ n is. cc), refl)))
-
-pub returns-in-Some-refusal-clause-pending : goal.returns-in-Some-refusal-clause-pending
-returns-in-Some-refusal-clause-pending g c = inr (inr (inr (refusal_no_failure _ c.refuse_one.result c.refuse_one.ensures.is, refl)))
-
 pub put_tried-requires-clause-takes : goal.put_tried-requires-clause-takes
 put_tried-requires-clause-takes g c = λ volume is. c.find_taker.ensures.takes volume (c.in-Ok.is ∙ ap Ok is)
 
 pub returns-in-Err-clause-contents : goal.returns-in-Err-clause-contents
-returns-in-Err-clause-contents g c = λ tells. nothing_put (c.args.self.now).settings c.args.pair _ (pending_of c.args.self.now) (pending_of c.args.self.now) (contents_in g.D.Disk.files c.args.self.now)
+returns-in-Err-clause-contents g c = λ tells. nothing_put (c.args.self.now).settings c.args.pair _ (store_seen c.args.self.now).volumes (store_seen c.args.self.now).volumes (contents_in g.D.Disk.files c.args.self.now)
 
 pub returns-in-Some-refusal-clause-contents : goal.returns-in-Some-refusal-clause-contents
-returns-in-Some-refusal-clause-contents g c = λ tells. nothing_put (c.args.self.now).settings c.args.pair _ (pending_of c.args.self.now) (pending_of c.args.self.now) (contents_in g.D.Disk.files c.args.self.now)
-
-pub returns-in-Err-clause-closures : goal.returns-in-Err-clause-closures
-returns-in-Err-clause-closures g c = inr (inr ((λ v m n is. cc), refl))
-
-pub returns-in-Some-refusal-clause-closures : goal.returns-in-Some-refusal-clause-closures
-returns-in-Some-refusal-clause-closures g c = inr (inr ((refusal_no_failure _ c.refuse_one.result c.refuse_one.ensures.is).0, refl))
-
-pub returns-in-Some-refusal-clause-met : goal.returns-in-Some-refusal-clause-met
-returns-in-Some-refusal-clause-met g c =
-    refusal_met (c.args.self.now).settings (closures_of c.args.self.now) (pending_of c.args.self.now) (c.in-Some-refusal.refused ∷ []) c.refuse_one.result c.refuse_one.ensures.is ((c.in-Some-refusal.ensures).met, tt)
+returns-in-Some-refusal-clause-contents g c = λ tells. nothing_put (c.args.self.now).settings c.args.pair _ (store_seen c.args.self.now).volumes (store_seen c.args.self.now).volumes (contents_in g.D.Disk.files c.args.self.now)
 
 pub returns-in-None-clause-contents : goal.returns-in-None-clause-contents
 returns-in-None-clause-contents g c = λ tells. record {
   replicas = c.put_at.ensures.replicas tells;
   rows = inr (first_contents g.D.Disk.files (c.args.self.now).settings c.in-Some.volume c.args.self.now c.put_at.new.self c.put_at.ensures.beside);
 }
-
-pub put_tried-requires-clause-opens : goal.put_tried-requires-clause-opens
-put_tried-requires-clause-opens g c = λ volume is. c.find_taker.ensures.opens volume (c.in-Ok.is ∙ ap Ok is)
 
 pub put_tried-requires-clause-seen : goal.put_tried-requires-clause-seen
 put_tried-requires-clause-seen g c = λ volume is. c.find_taker.ensures.seen volume (c.in-Ok.is ∙ ap Ok is)
@@ -101,3 +79,11 @@ returns-in-None-clause-seen g c =
     let seen = store_seen c.args.self.now in
     put_seen (c.args.self.now).settings c.args.tag c.args.pair (length c.args.bytes.now) c.in-Some.volume c.put_at.result seen seen (store_seen c.put_at.new.self)
     (inl (sym c.home.ensures.seen ∙ c.in-Some.is, (c.in-None.ensures).takes_seen, keeps_all seen)) c.put_at.ensures.seen
+
+pub returns-in-Err-clause-sights : goal.returns-in-Err-clause-sights
+returns-in-Err-clause-sights g c =
+    keeps_photos (store_seen c.args.self.now)
+
+pub returns-in-Some-refusal-clause-sights : goal.returns-in-Some-refusal-clause-sights
+returns-in-Some-refusal-clause-sights g c =
+    turned_sights (c.args.self.now).settings c.args.pair (store_seen c.args.self.now) (store_seen c.args.self.now) (keeps_photos (store_seen c.args.self.now)) (c.in-Some-refusal.refused ∷ []) c.refuse_one.result c.refuse_one.ensures.is

@@ -1,4 +1,4 @@
-use Rattle.std.proofs.Common.{length, map, refl, ap, ◌∙◌, inl, inr}
+use Rattle.std.proofs.Common.{length, map, refl, ap, ◌∙◌, inl}
 use Rattle.std.proofs.lemmas.Result.{IfErr-at_err, IfOk-at_ok}
 use Rattle.hay_url.specs.Url.{cookie_of}
 use Rattle.hay_cluster.specs.Store.{Open, contents_in, disks_of}
@@ -7,14 +7,11 @@ use Rattle.hay_legal.specs.Plain.{with_put}
 use Rattle.hay_cluster.proofs.Puts.{put_caused, put_done, put_refused}
 use Rattle.hay_reply.specs.declared.Reply.TheVariants.{Stored}
 use Rattle.hay_cluster.proofs.Suiting.{put_refusal_suits}
-use Rattle.hay_cluster.proofs.Pending.{put_pending}
-use Rattle.hay_cluster.specs.Pending.{pending_of}
 use Rattle.hay_cluster.specs.Leaving.{IsBeside, IsReplicaBeside}
 use Rattle.hay_cluster.proofs.Leaving.{leaves-fewer, leaves_contents, put_adds, put_leaves}
-use Rattle.hay_cluster.specs.Closing.{closures_of}
-use Rattle.hay_cluster.proofs.Closures.{put_closes, put_met}
 use Rattle.hay_cluster.specs.Seen.{store_seen}
 use Rattle.hay_cluster.proofs.Seeing.{unstored_seen}
+use Rattle.hay_cluster.proofs.Sighting.{unstored_sights}
 use Rattle.hay_cluster.proofs.cluster.Cluster.put_at.Goals as goal
 
 pub returns-in-Err-clause-stored : goal.returns-in-Err-clause-stored
@@ -45,21 +42,13 @@ pub returns-in-Err-clause-suits : goal.returns-in-Err-clause-suits
 returns-in-Err-clause-suits g c =
     put_refusal_suits (c.args.self.now).settings c.args.pair c.args.volume _ _ c.in-Err.fault c.put_refusal.result c.requires.volume (IfErr-at_err _ c.in-Err.is c.put_in.ensures.causes) c.put_refusal.ensures.is
 
-pub returns-in-Ok-clause-pending : goal.returns-in-Ok-clause-pending
-returns-in-Ok-clause-pending g c = inr (inr (inr ((λ v m n is. cc, λ n is. cc), c.in-Ok.ensures.done_pending)))
-
-pub returns-in-Err-clause-pending : goal.returns-in-Err-clause-pending
-returns-in-Err-clause-pending g c =
-    put_pending (c.args.self.now).settings c.args.tag.line c.args.volume (pending_of c.args.self.now) (pending_of c.put_in.new.self) c.in-Err.fault c.put_refusal.result c.requires.volume c.put_refusal.ensures.is
-    (IfErr-at_err _ c.in-Err.is c.put_in.ensures.refused_pending)
-
 pub returns-in-Ok-clause-replicas : goal.returns-in-Ok-clause-replicas
 returns-in-Ok-clause-replicas g c = λ tells.
     inl (c.args.volume, inl (c.in-Ok.position, c.rows.result, c.cookie_of-cookie.result, refl), (leaves_contents g.D.Disk.files (c.args.self.now).settings (IsReplicaBeside (c.args.self.now).settings c.args.volume) c.args.self.now c.put_in.new.self (leaves-fewer (IsBeside (c.args.self.now).settings c.args.volume) (IsReplicaBeside (c.args.self.now).settings c.args.volume) (disks_of c.args.self.now) (disks_of c.put_in.new.self) (λ slot far. far.1) c.put_in.ensures.beside)))
 
 pub returns-in-Err-clause-replicas : goal.returns-in-Err-clause-replicas
 returns-in-Err-clause-replicas g c = λ tells.
-    put_leaves (c.args.self.now).settings (pending_of c.args.self.now) (pending_of c.put_in.new.self) (contents_in g.D.Disk.files c.args.self.now) (contents_in g.D.Disk.files c.put_in.new.self) c.args.volume c.in-Err.fault c.put_refusal.result c.put_refusal.ensures.is
+    put_leaves (c.args.self.now).settings (store_seen c.args.self.now).volumes (store_seen c.put_in.new.self).volumes (contents_in g.D.Disk.files c.args.self.now) (contents_in g.D.Disk.files c.put_in.new.self) c.args.volume c.in-Err.fault c.put_refusal.result c.put_refusal.ensures.is
     (leaves_contents g.D.Disk.files (c.args.self.now).settings (IsReplicaBeside (c.args.self.now).settings c.args.volume) c.args.self.now c.put_in.new.self (leaves-fewer (IsBeside (c.args.self.now).settings c.args.volume) (IsReplicaBeside (c.args.self.now).settings c.args.volume) (disks_of c.args.self.now) (disks_of c.put_in.new.self) (λ slot far. far.1) c.put_in.ensures.beside))
     (IfErr-at_err _ c.in-Err.is (c.put_in.ensures.kept tells))
 
@@ -69,17 +58,6 @@ returns-in-Ok-clause-adds g c = inl (c.args.volume, c.in-Ok.position, c.rows.res
 pub returns-in-Err-clause-adds : goal.returns-in-Err-clause-adds
 returns-in-Err-clause-adds g c = put_adds c.args.volume c.in-Err.fault c.put_refusal.result c.put_refusal.ensures.is (IfErr-at_err _ c.in-Err.is (c.put_in.ensures.takes c.requires.takes))
 
-pub returns-in-Err-clause-met : goal.returns-in-Err-clause-met
-returns-in-Err-clause-met g c = put_met (c.args.self.now).settings (closures_of c.args.self.now) (pending_of c.args.self.now) c.args.volume c.in-Err.fault c.put_refusal.result c.put_refusal.ensures.is (IfErr-at_err _ c.in-Err.is (c.put_in.ensures.takes c.requires.takes)) c.requires.opens
-
-pub returns-in-Ok-clause-closures : goal.returns-in-Ok-clause-closures
-returns-in-Ok-clause-closures g c = inr (inr ((λ v m n is. cc), c.in-Ok.ensures.done_closures))
-
-pub returns-in-Err-clause-closures : goal.returns-in-Err-clause-closures
-returns-in-Err-clause-closures g c =
-    put_closes (c.args.self.now).settings c.args.volume (closures_of c.args.self.now) (closures_of c.put_in.new.self) c.in-Err.fault c.put_refusal.result c.requires.volume c.put_refusal.ensures.is
-    (IfErr-at_err _ c.in-Err.is c.put_in.ensures.refused_closures)
-
 pub returns-in-Ok-clause-seen : goal.returns-in-Ok-clause-seen
 returns-in-Ok-clause-seen g c = inl (c.in-Ok.position, c.rows.result, c.cookie_of-cookie.result, refl, IfOk-at_ok _ c.in-Ok.is c.put_in.ensures.seen, c.rows.ensures.count)
 
@@ -87,3 +65,8 @@ pub returns-in-Err-clause-seen : goal.returns-in-Err-clause-seen
 returns-in-Err-clause-seen g c =
     unstored_seen (c.args.self.now).settings c.args.tag c.args.pair (length c.args.bytes.now) c.args.volume c.in-Err.fault c.put_refusal.result (store_seen c.args.self.now) (store_seen c.put_in.new.self)
     c.put_refusal.ensures.is (IfErr-at_err _ c.in-Err.is (c.put_in.ensures.takes c.requires.takes)) (IfErr-at_err _ c.in-Err.is c.put_in.ensures.refused_seen)
+
+pub returns-in-Err-clause-sights : goal.returns-in-Err-clause-sights
+returns-in-Err-clause-sights g c =
+    unstored_sights (c.args.self.now).settings c.args.pair (store_seen c.args.self.now) (store_seen c.put_in.new.self) c.in-Err.ensures.refused_sights c.args.volume c.in-Err.fault c.put_refusal.result c.put_refusal.ensures.is
+    (IfErr-at_err _ c.in-Err.is (c.put_in.ensures.takes c.requires.takes))

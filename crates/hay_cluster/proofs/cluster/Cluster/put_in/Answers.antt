@@ -1,7 +1,7 @@
 use Rattle.std.proofs.Common.{◌≡◌, ◌<◌, List, ap, length, sym, subst, ◌∙◌, arith, ℕ, Option}
 use Rattle.std.specs.Prelude.{Result, Ok, Err, IfErr, slice_index_or, slice_set, OnErr}
 use Rattle.std.proofs.lemmas.List.{with_items_is}
-use Rattle.std.proofs.lemmas.Result.{IfErr-weaker, IfOk-weaker, on_ok_weaker}
+use Rattle.std.proofs.lemmas.Result.{IfErr-weaker, IfOk-weaker, on_ok_weaker, on_err_weaker}
 use borrow.Author.Rules.{scaled_Fits}
 use Rattle.hay_logical.specs.Fits.{At}
 use Rattle.hay_logical.specs.Volumes.{Volume}
@@ -10,7 +10,6 @@ use Rattle.hay_cluster.specs.Store.{Open, contents_in, disks_of}
 use Rattle.hay_cluster.proofs.Calls.{called_open, called_up, put_cause}
 use Rattle.hay_cluster.proofs.Lists.{length-set}
 use Rattle.hay_cluster.proofs.Moves.{Called, called_fuses, called_later, called_shape, in_volume, with_one}
-use Rattle.hay_cluster.proofs.Pending.{called_kept, put_left, called_broken}
 use Rattle.hay_cluster.specs.Leaving.{IsBeside, LeavesIn, PutKeeps, AnySlot, ComesToPend, KeepsBehind, KeepsIn}
 use Rattle.hay_cluster.proofs.Leaving.{called_leaves, put_keeps, called_behind, called_keeps, comes_to_pend}
 use Rattle.hay_core.specs.declared.entry.CoreTag.{CoreTag}
@@ -21,14 +20,15 @@ use Rattle.hay_logical.specs.declared.fault.LogicalFault.TheVariants as refusal
 use Rattle.hay_logical.specs.declared.unsure.Unsure.{Unsure}
 use Rattle.hay_logical.specs.Notes.{IsBrokenOff, PutLeavesUnsure}
 use Rattle.hay_logical.specs.Steps.{KeepsFiles}
-use Rattle.hay_cluster.specs.Pending.{PendingLines, pending_of}
-use Rattle.hay_cluster.proofs.Closures.{closures_kept, put_froze}
-use Rattle.hay_logical.specs.Seen.{PutRefusedSeen, StoreSeen as PhotoSeen, volume_seen}
+use Rattle.hay_logical.specs.Seen.{PutRefusedSeen, PutSeen, volume_seen, VolumeSeen}
 use Rattle.hay_cluster.proofs.Moves.{volume_of}
 use Rattle.hay_cluster.proofs.Seeing.{volume_moves}
+use Rattle.hay_cluster.specs.Seen.{store_seen}
+use Rattle.hay_cluster.proofs.Sighting.{volume_kept_photos, volume_photos}
+use Rattle.hay_logical.specs.Sights.{StoresSights, sights_of}
 use Rattle.hay_cluster.proofs.cluster.Cluster.put_in.Goals as goal
 
-refused_keeps : {T : Type 0} (settings : Settings) (v : ℕ) (pending pending' : PendingLines) (old new : ℕ → Contents) (tag : CoreTag) (before after : Option Unsure) (Kept : Type 0) (r : Result T LogicalFault)
+refused_keeps : {T : Type 0} (settings : Settings) (v : ℕ) (pending pending' : List VolumeSeen) (old new : ℕ → Contents) (tag : CoreTag) (before after : Option Unsure) (Kept : Type 0) (r : Result T LogicalFault)
     → IfErr r (PutLeavesUnsure tag before after) → OnErr r (after ≡ before → Kept) → (Kept → KeepsIn settings AnySlot old new) → (IsBrokenOff tag before after → ComesToPend v pending pending')
     → ((m f : ℕ) → r ≡ Err (refusal.Failed m f) → KeepsBehind settings v m old new) → IfErr r (PutKeeps settings v pending pending' old new)
 refused_keeps settings v pending pending' old new tag before after Kept (Ok x) left files keeps broke behind = tt
@@ -120,28 +120,6 @@ returns-clause-fuses g c =
     let called : Called g.D.Disk.fault_count g.D.Disk.fuse_count store c.args.volume volume c.put.new.self = record { at = at; same = c.put.ensures.same; counts = c.put.ensures.counts } in
     rw items (called_fuses g.D.Disk.fault_count g.D.Disk.fuse_count c.args.self.now store c.args.volume volume c.put.new.self c.self.view_is called)
 
-pub returns-clause-done_pending : goal.returns-clause-done_pending
-returns-clause-done_pending g c =
-    let store : Open g.row.D.Denot g.row.D-Piece.Denot g.row.A.Denot = record { settings = c.self.inside.settings; directory = c.self.inside.directory; volumes = c.self.inside.volumes.items; arms = c.self.inside.seats.items } in
-    let within : c.args.volume < length c.self.inside.volumes.items = let same = ap (λ (st : Open g.row.D.Denot g.row.D-Piece.Denot g.row.A.Denot). (st.settings).volumes) c.self.view_is in omega (arith, c.requires.volume, c.self.invariant.many, same) in
-    let volume : Volume g.row.D.Denot g.row.D-Piece.Denot = slice_index_or c.as_mut_slice.result.now c.args.volume c.index-as_mut_slice-volume.result in
-    let at : At store.volumes c.args.volume volume = subst (λ (vs : List (Volume g.row.D.Denot g.row.D-Piece.Denot)). At vs c.args.volume volume) c.as_mut_slice.ensures.value
-    (at_read c.as_mut_slice.result.now c.args.volume c.index-as_mut_slice-volume.result (let long = ap length c.as_mut_slice.ensures.value in omega (arith, within, long))) in
-    let items = with_items_is c.self.inside.volumes (slice_set c.as_mut_slice.result.now c.args.volume c.put.new.self) (length-set c.as_mut_slice.result.now c.args.volume c.put.new.self ∙ c.as_mut_slice.ensures.len)
-    ∙ ap (λ (vs : List (Volume g.row.D.Denot g.row.D-Piece.Denot)). slice_set vs c.args.volume c.put.new.self) c.as_mut_slice.ensures.value in
-    rw items (on_ok_weaker c.put.result (called_kept c.args.self.now store c.args.volume volume c.put.new.self c.self.view_is at) c.put.ensures.stored_unsure)
-
-pub returns-clause-refused_pending : goal.returns-clause-refused_pending
-returns-clause-refused_pending g c =
-    let store : Open g.row.D.Denot g.row.D-Piece.Denot g.row.A.Denot = record { settings = c.self.inside.settings; directory = c.self.inside.directory; volumes = c.self.inside.volumes.items; arms = c.self.inside.seats.items } in
-    let within : c.args.volume < length c.self.inside.volumes.items = let same = ap (λ (st : Open g.row.D.Denot g.row.D-Piece.Denot g.row.A.Denot). (st.settings).volumes) c.self.view_is in omega (arith, c.requires.volume, c.self.invariant.many, same) in
-    let volume : Volume g.row.D.Denot g.row.D-Piece.Denot = slice_index_or c.as_mut_slice.result.now c.args.volume c.index-as_mut_slice-volume.result in
-    let at : At store.volumes c.args.volume volume = subst (λ (vs : List (Volume g.row.D.Denot g.row.D-Piece.Denot)). At vs c.args.volume volume) c.as_mut_slice.ensures.value
-    (at_read c.as_mut_slice.result.now c.args.volume c.index-as_mut_slice-volume.result (let long = ap length c.as_mut_slice.ensures.value in omega (arith, within, long))) in
-    let items = with_items_is c.self.inside.volumes (slice_set c.as_mut_slice.result.now c.args.volume c.put.new.self) (length-set c.as_mut_slice.result.now c.args.volume c.put.new.self ∙ c.as_mut_slice.ensures.len)
-    ∙ ap (λ (vs : List (Volume g.row.D.Denot g.row.D-Piece.Denot)). slice_set vs c.args.volume c.put.new.self) c.as_mut_slice.ensures.value in
-    rw items (IfErr-weaker c.put.result _ _ (put_left c.args.self.now store c.args.volume volume c.put.new.self c.args.tag c.self.view_is at) c.put.ensures.refused_unsure)
-
 pub returns-clause-beside : goal.returns-clause-beside
 returns-clause-beside g c =
     let store : Open g.row.D.Denot g.row.D-Piece.Denot g.row.A.Denot = record { settings = c.self.inside.settings; directory = c.self.inside.directory; volumes = c.self.inside.volumes.items; arms = c.self.inside.seats.items } in
@@ -179,32 +157,10 @@ returns-clause-kept g c = λ tells.
     let keeps = λ (files : KeepsFiles g.D.Disk.Tells g.D.Disk.files volume.replicas c.put.new.self.replicas).
     called_keeps g.D.Disk.files g.D.Disk.Tells settings c.args.self.now store c.args.volume volume c.put.new.self tells c.self.view_is at (c.put.ensures.counts).count files in
     subst (λ (vs : List (Volume g.row.D.Denot g.row.D-Piece.Denot)). let next : Open g.row.D.Denot g.row.D-Piece.Denot g.row.A.Denot = record store { volumes = vs } in
-    IfErr c.put.result (PutKeeps settings c.args.volume (pending_of c.args.self.now) (pending_of next) (contents_in g.D.Disk.files c.args.self.now) (contents_in g.D.Disk.files next))) (sym items)
-    (refused_keeps settings c.args.volume (pending_of c.args.self.now) (pending_of (with_one store c.args.volume c.put.new.self)) (contents_in g.D.Disk.files c.args.self.now) (contents_in g.D.Disk.files (with_one store c.args.volume c.put.new.self)) c.args.tag volume.unsure c.put.new.self.unsure _ c.put.result c.put.ensures.refused_unsure c.put.ensures.files keeps
-    (λ broken. comes_to_pend c.args.volume c.args.tag.line (pending_of c.args.self.now) (pending_of (with_one store c.args.volume c.put.new.self)) (called_broken c.args.self.now store c.args.volume volume c.put.new.self c.args.tag c.self.view_is at broken))
+    IfErr c.put.result (PutKeeps settings c.args.volume (store_seen c.args.self.now).volumes (store_seen next).volumes (contents_in g.D.Disk.files c.args.self.now) (contents_in g.D.Disk.files next))) (sym items)
+    (refused_keeps settings c.args.volume (store_seen c.args.self.now).volumes (store_seen (with_one store c.args.volume c.put.new.self)).volumes (contents_in g.D.Disk.files c.args.self.now) (contents_in g.D.Disk.files (with_one store c.args.volume c.put.new.self)) c.args.tag volume.unsure c.put.new.self.unsure _ c.put.result c.put.ensures.refused_unsure c.put.ensures.files keeps
+    (λ broken. comes_to_pend c.args.self.now store c.args.volume volume c.put.new.self c.args.tag c.self.view_is at broken)
     (λ m f is. called_behind g.D.Disk.Tells g.D.Disk.files g.D.Disk.fault_count g.D.Disk.fuse_count tells c.args.self.now store c.args.volume volume c.put.new.self c.self.view_is c.self.invariant called m (c.put.ensures.above m f is)))
-
-pub returns-clause-done_closures : goal.returns-clause-done_closures
-returns-clause-done_closures g c =
-    let store : Open g.row.D.Denot g.row.D-Piece.Denot g.row.A.Denot = record { settings = c.self.inside.settings; directory = c.self.inside.directory; volumes = c.self.inside.volumes.items; arms = c.self.inside.seats.items } in
-    let within : c.args.volume < length c.self.inside.volumes.items = let same = ap (λ (st : Open g.row.D.Denot g.row.D-Piece.Denot g.row.A.Denot). (st.settings).volumes) c.self.view_is in omega (arith, c.requires.volume, c.self.invariant.many, same) in
-    let volume : Volume g.row.D.Denot g.row.D-Piece.Denot = slice_index_or c.as_mut_slice.result.now c.args.volume c.index-as_mut_slice-volume.result in
-    let at : At store.volumes c.args.volume volume = subst (λ (vs : List (Volume g.row.D.Denot g.row.D-Piece.Denot)). At vs c.args.volume volume) c.as_mut_slice.ensures.value
-    (at_read c.as_mut_slice.result.now c.args.volume c.index-as_mut_slice-volume.result (let long = ap length c.as_mut_slice.ensures.value in omega (arith, within, long))) in
-    let items = with_items_is c.self.inside.volumes (slice_set c.as_mut_slice.result.now c.args.volume c.put.new.self) (length-set c.as_mut_slice.result.now c.args.volume c.put.new.self ∙ c.as_mut_slice.ensures.len)
-    ∙ ap (λ (vs : List (Volume g.row.D.Denot g.row.D-Piece.Denot)). slice_set vs c.args.volume c.put.new.self) c.as_mut_slice.ensures.value in
-    rw items (on_ok_weaker c.put.result (closures_kept c.args.self.now store c.args.volume volume c.self.view_is at c.put.new.self) c.put.ensures.still)
-
-pub returns-clause-refused_closures : goal.returns-clause-refused_closures
-returns-clause-refused_closures g c =
-    let store : Open g.row.D.Denot g.row.D-Piece.Denot g.row.A.Denot = record { settings = c.self.inside.settings; directory = c.self.inside.directory; volumes = c.self.inside.volumes.items; arms = c.self.inside.seats.items } in
-    let within : c.args.volume < length c.self.inside.volumes.items = let same = ap (λ (st : Open g.row.D.Denot g.row.D-Piece.Denot g.row.A.Denot). (st.settings).volumes) c.self.view_is in omega (arith, c.requires.volume, c.self.invariant.many, same) in
-    let volume : Volume g.row.D.Denot g.row.D-Piece.Denot = slice_index_or c.as_mut_slice.result.now c.args.volume c.index-as_mut_slice-volume.result in
-    let at : At store.volumes c.args.volume volume = subst (λ (vs : List (Volume g.row.D.Denot g.row.D-Piece.Denot)). At vs c.args.volume volume) c.as_mut_slice.ensures.value
-    (at_read c.as_mut_slice.result.now c.args.volume c.index-as_mut_slice-volume.result (let long = ap length c.as_mut_slice.ensures.value in omega (arith, within, long))) in
-    let items = with_items_is c.self.inside.volumes (slice_set c.as_mut_slice.result.now c.args.volume c.put.new.self) (length-set c.as_mut_slice.result.now c.args.volume c.put.new.self ∙ c.as_mut_slice.ensures.len)
-    ∙ ap (λ (vs : List (Volume g.row.D.Denot g.row.D-Piece.Denot)). slice_set vs c.args.volume c.put.new.self) c.as_mut_slice.ensures.value in
-    rw items (IfErr-weaker c.put.result _ _ (put_froze c.args.self.now store c.args.volume volume c.self.view_is at c.self.invariant c.put.new.self) c.put.ensures.freezes)
 
 pub returns-clause-seen : goal.returns-clause-seen
 returns-clause-seen g c =
@@ -216,7 +172,7 @@ returns-clause-seen g c =
     let items = with_items_is c.self.inside.volumes (slice_set c.as_mut_slice.result.now c.args.volume c.put.new.self) (length-set c.as_mut_slice.result.now c.args.volume c.put.new.self ∙ c.as_mut_slice.ensures.len)
     ∙ ap (λ (vs : List (Volume g.row.D.Denot g.row.D-Piece.Denot)). slice_set vs c.args.volume c.put.new.self) c.as_mut_slice.ensures.value in
     rw items
-    (IfOk-weaker c.put.result _ _ (λ position moves. volume_moves c.args.self.now store c.self.view_is c.args.volume volume c.put.new.self (PhotoSeen (length c.args.bytes.now) position) at moves) c.put.ensures.seen)
+    (IfOk-weaker c.put.result _ _ (λ position moves. volume_moves c.args.self.now store c.self.view_is c.args.volume volume c.put.new.self (PutSeen (length c.args.bytes.now) position) at moves) c.put.ensures.seen)
 
 pub returns-clause-refused_seen : goal.returns-clause-refused_seen
 returns-clause-refused_seen g c =
@@ -234,3 +190,29 @@ returns-clause-refused_seen g c =
     (IfErr-weaker c.put.result _ _ (λ fault moves. volume_moves c.args.self.now store c.self.view_is c.args.volume volume c.put.new.self
     (λ before after. PutRefusedSeen (c.args.self.now).settings c.args.volume c.args.tag (length c.args.bytes.now) before after fault) at
     (subst (λ s. Refused s c.args.volume fault) same (subst (λ n. Refused volume.settings n fault) was.number moves))) c.put.ensures.refused_seen)
+
+pub returns-clause-sights : goal.returns-clause-sights
+returns-clause-sights g c =
+    let store : Open g.row.D.Denot g.row.D-Piece.Denot g.row.A.Denot = record { settings = c.self.inside.settings; directory = c.self.inside.directory; volumes = c.self.inside.volumes.items; arms = c.self.inside.seats.items } in
+    let within : c.args.volume < length c.self.inside.volumes.items = let same = ap (λ (st : Open g.row.D.Denot g.row.D-Piece.Denot g.row.A.Denot). (st.settings).volumes) c.self.view_is in omega (arith, c.requires.volume, c.self.invariant.many, same) in
+    let volume : Volume g.row.D.Denot g.row.D-Piece.Denot = slice_index_or c.as_mut_slice.result.now c.args.volume c.index-as_mut_slice-volume.result in
+    let at : At store.volumes c.args.volume volume = subst (λ (vs : List (Volume g.row.D.Denot g.row.D-Piece.Denot)). At vs c.args.volume volume) c.as_mut_slice.ensures.value
+    (at_read c.as_mut_slice.result.now c.args.volume c.index-as_mut_slice-volume.result (let long = ap length c.as_mut_slice.ensures.value in omega (arith, within, long))) in
+    let items = with_items_is c.self.inside.volumes (slice_set c.as_mut_slice.result.now c.args.volume c.put.new.self) (length-set c.as_mut_slice.result.now c.args.volume c.put.new.self ∙ c.as_mut_slice.ensures.len)
+    ∙ ap (λ (vs : List (Volume g.row.D.Denot g.row.D-Piece.Denot)). slice_set vs c.args.volume c.put.new.self) c.as_mut_slice.ensures.value in
+    let was = volume_of store c.args.volume volume c.self.invariant at in
+    let same = was.settings_are ∙ ap (λ (st : Open g.row.D.Denot g.row.D-Piece.Denot g.row.A.Denot). st.settings) c.self.view_is in
+    rw items
+    (on_ok_weaker c.put.result (λ stores. volume_photos c.args.self.now store c.self.view_is c.args.volume volume c.put.new.self at (StoresSights c.args.pair (c.args.self.now).settings.replicas)
+    (subst (λ (s : Settings). StoresSights c.args.pair s.replicas (sights_of volume.rows) (sights_of (c.put.new.self).rows)) same stores)) c.put.ensures.sights)
+
+pub returns-clause-refused_sights : goal.returns-clause-refused_sights
+returns-clause-refused_sights g c =
+    let store : Open g.row.D.Denot g.row.D-Piece.Denot g.row.A.Denot = record { settings = c.self.inside.settings; directory = c.self.inside.directory; volumes = c.self.inside.volumes.items; arms = c.self.inside.seats.items } in
+    let within : c.args.volume < length c.self.inside.volumes.items = let same = ap (λ (st : Open g.row.D.Denot g.row.D-Piece.Denot g.row.A.Denot). (st.settings).volumes) c.self.view_is in omega (arith, c.requires.volume, c.self.invariant.many, same) in
+    let volume : Volume g.row.D.Denot g.row.D-Piece.Denot = slice_index_or c.as_mut_slice.result.now c.args.volume c.index-as_mut_slice-volume.result in
+    let at : At store.volumes c.args.volume volume = subst (λ (vs : List (Volume g.row.D.Denot g.row.D-Piece.Denot)). At vs c.args.volume volume) c.as_mut_slice.ensures.value
+    (at_read c.as_mut_slice.result.now c.args.volume c.index-as_mut_slice-volume.result (let long = ap length c.as_mut_slice.ensures.value in omega (arith, within, long))) in
+    let items = with_items_is c.self.inside.volumes (slice_set c.as_mut_slice.result.now c.args.volume c.put.new.self) (length-set c.as_mut_slice.result.now c.args.volume c.put.new.self ∙ c.as_mut_slice.ensures.len)
+    ∙ ap (λ (vs : List (Volume g.row.D.Denot g.row.D-Piece.Denot)). slice_set vs c.args.volume c.put.new.self) c.as_mut_slice.ensures.value in
+    rw items (on_err_weaker c.put.result (volume_kept_photos c.args.self.now store c.self.view_is c.args.volume volume c.put.new.self at) c.put.ensures.refused_sights)

@@ -16,16 +16,15 @@ use Rattle.hay_cluster.proofs.Moves.{falls_trans}
 use Rattle.hay_cluster.proofs.Puts.{put_legal}
 use Rattle.hay_cluster.specs.Suiting.{SuitsPut}
 use Rattle.hay_cluster.proofs.Suiting.{settle_suits}
-use Rattle.hay_cluster.proofs.Pending.{settle_pending}
-use Rattle.hay_cluster.specs.Pending.{LeavesPut, PendingLines, pending_of}
 use Rattle.std.proofs.lemmas.Result.{IfErr-at_err}
 use Rattle.hay_cluster.specs.Leaving.{AddsRow, IsBeside, IsReplicaSlot, LeavesIn, LeavesReplicas}
 use Rattle.hay_cluster.proofs.Leaving.{first_contents, leaves_contents, leaves_reads, replicas_after, same_first, unsettled_leaves}
 use Rattle.hay_legal.specs.Stands.{Contents}
-use Rattle.hay_cluster.specs.Closing.{Closures, IsOpenTo, MetByChange, PutCloses, closures_of}
-use Rattle.hay_cluster.proofs.Closures.{settle_closes, settle_met}
-use Rattle.hay_cluster.specs.Seen.{PutsAt, store_seen}
+use Rattle.hay_cluster.specs.Seen.{PutsAt, store_seen, places_of}
 use Rattle.hay_cluster.proofs.Seeing.{put_seen, unsettled_seen}
+use Rattle.hay_cluster.proofs.Sighting.{put_from, same_photos, unsettled_sights}
+use Rattle.hay_cluster.specs.Sights.{PutSights, told_by}
+use Rattle.hay_logical.specs.Seen.{VolumeSeen, volume_seen}
 use Rattle.hay_cluster.proofs.cluster.Cluster.put_new.Goals as goal
 
 ok_not_err : {T E : Type 0} (x : T) (y : E) → Ok x ≡ Err y → ⊥
@@ -67,28 +66,18 @@ returns-in-Ok-clause-suits g c = subst (λ (s : Settings). SuitsPut s c.args.pai
 pub returns-in-Err-clause-suits : goal.returns-in-Err-clause-suits
 returns-in-Err-clause-suits g c = subst (λ (r : Reply). SuitsPut (c.args.self.now).settings c.args.pair r) (sym c.settle_refusal.ensures.is) (settle_suits (c.args.self.now).settings c.args.pair c.in-Err.fault)
 
-pub returns-in-Ok-clause-pending : goal.returns-in-Ok-clause-pending
-returns-in-Ok-clause-pending g c =
-    subst (λ (s : Settings). LeavesPut s c.args.tag.line c.put_at.result (pending_of c.args.self.now) (pending_of c.put_at.new.self)) c.settle.ensures.settings
-    (subst (λ (p : PendingLines). LeavesPut (c.settle.new.self).settings c.args.tag.line c.put_at.result p (pending_of c.put_at.new.self)) c.in-Ok.ensures.settled_pending c.put_at.ensures.pending)
-
-pub returns-in-Err-clause-pending : goal.returns-in-Err-clause-pending
-returns-in-Err-clause-pending g c =
-    settle_pending (c.args.self.now).settings c.args.tag.line (pending_of c.args.self.now) (pending_of c.settle.new.self) c.in-Err.fault c.settle_refusal.result c.settle_refusal.ensures.is
-    (IfErr-at_err _ c.in-Err.is c.settle.ensures.refused_pending)
-
 taken : {D P A : Type 0} (old mid : Open D P A) (v size : ℕ) → mid.volumes ≡ old.volumes → TakesPhoto old v size → TakesPhoto mid v size
 taken {D} {P} {A} old mid v size same takes = λ volume at. takes volume (subst (λ (vs : List (Volume D P)). At vs v volume) same at)
 
 pub returns-in-Ok-clause-contents : goal.returns-in-Ok-clause-contents
 returns-in-Ok-clause-contents g c = λ tells.
     let settings = (c.args.self.now).settings in
-    let replicas : LeavesReplicas settings c.put_at.result (pending_of c.args.self.now) (pending_of c.put_at.new.self) (contents_in g.D.Disk.files c.settle.new.self) (contents_in g.D.Disk.files c.put_at.new.self) =
-    subst (λ (p : PendingLines). LeavesReplicas settings c.put_at.result p (pending_of c.put_at.new.self) (contents_in g.D.Disk.files c.settle.new.self) (contents_in g.D.Disk.files c.put_at.new.self)) c.in-Ok.ensures.settled_pending
-    (subst (λ (s : Settings). LeavesReplicas s c.put_at.result (pending_of c.settle.new.self) (pending_of c.put_at.new.self) (contents_in g.D.Disk.files c.settle.new.self) (contents_in g.D.Disk.files c.put_at.new.self)) c.settle.ensures.settings (c.put_at.ensures.replicas tells)) in
+    let replicas : LeavesReplicas settings c.put_at.result (store_seen c.args.self.now).volumes (store_seen c.put_at.new.self).volumes (contents_in g.D.Disk.files c.settle.new.self) (contents_in g.D.Disk.files c.put_at.new.self) =
+    subst (λ (p : List VolumeSeen). LeavesReplicas settings c.put_at.result p (store_seen c.put_at.new.self).volumes (contents_in g.D.Disk.files c.settle.new.self) (contents_in g.D.Disk.files c.put_at.new.self)) (ap (λ (vs : List (Volume g.row.D.Denot g.row.D-Piece.Denot)). map volume_seen vs) c.settle.ensures.volumes)
+    (subst (λ (s : Settings). LeavesReplicas s c.put_at.result (store_seen c.settle.new.self).volumes (store_seen c.put_at.new.self).volumes (contents_in g.D.Disk.files c.settle.new.self) (contents_in g.D.Disk.files c.put_at.new.self)) c.settle.ensures.settings (c.put_at.ensures.replicas tells)) in
     let beside = subst (λ (s : Settings). LeavesIn (IsBeside s c.args.volume) (disks_of c.settle.new.self) (disks_of c.put_at.new.self)) c.settle.ensures.settings c.put_at.ensures.beside in
     record {
-      replicas = replicas_after settings (pending_of c.args.self.now) (pending_of c.put_at.new.self) (contents_in g.D.Disk.files c.args.self.now) (contents_in g.D.Disk.files c.settle.new.self) (contents_in g.D.Disk.files c.put_at.new.self) c.put_at.result
+      replicas = replicas_after settings (store_seen c.args.self.now).volumes (store_seen c.put_at.new.self).volumes (contents_in g.D.Disk.files c.args.self.now) (contents_in g.D.Disk.files c.settle.new.self) (contents_in g.D.Disk.files c.put_at.new.self) c.put_at.result
           (leaves_reads g.D.Disk.files IsReplicaSlot c.args.self.now c.settle.new.self c.settle.ensures.replicas) replicas;
       rows = inl (
         c.put_at.ensures.adds,
@@ -98,37 +87,12 @@ returns-in-Ok-clause-contents g c = λ tells.
 
 pub returns-in-Err-clause-contents : goal.returns-in-Err-clause-contents
 returns-in-Err-clause-contents g c = λ tells.
-    unsettled_leaves (c.args.self.now).settings (pending_of c.args.self.now) (pending_of c.settle.new.self) (contents_in g.D.Disk.files c.args.self.now) (contents_in g.D.Disk.files c.settle.new.self) c.args.pair c.in-Err.fault c.settle_refusal.result c.settle_refusal.ensures.is
+    unsettled_leaves (c.args.self.now).settings (store_seen c.args.self.now).volumes (store_seen c.settle.new.self).volumes (contents_in g.D.Disk.files c.args.self.now) (contents_in g.D.Disk.files c.settle.new.self) c.args.pair c.in-Err.fault c.settle_refusal.result c.settle_refusal.ensures.is
     (leaves_contents g.D.Disk.files (c.args.self.now).settings IsReplicaSlot c.args.self.now c.settle.new.self c.settle.ensures.replicas) (c.settle.ensures.rows tells)
     (λ frozen. same_first g.D.Disk.files c.args.self.now c.settle.new.self (c.settle.ensures.refused_frozen (c.in-Err.is ∙ ap Err frozen)))
 
-pub put_at-requires-clause-opens : goal.put_at-requires-clause-opens
-put_at-requires-clause-opens g c =
-    subst (λ (p : PendingLines). IsOpenTo (c.settle.new.self).settings (closures_of c.settle.new.self) p c.args.volume) (sym c.in-Ok.ensures.settled_pending)
-    (subst (λ (k : Closures). IsOpenTo (c.settle.new.self).settings k (pending_of c.args.self.now) c.args.volume) (sym c.settle.ensures.closures)
-    (subst (λ (s : Settings). IsOpenTo s (closures_of c.args.self.now) (pending_of c.args.self.now) c.args.volume) (sym c.settle.ensures.settings) c.requires.opens))
-
 pub put_at-requires-clause-takes : goal.put_at-requires-clause-takes
 put_at-requires-clause-takes g c = taken c.args.self.now c.settle.new.self c.args.volume (length c.args.bytes.now) c.settle.ensures.volumes c.requires.takes
-
-pub returns-in-Ok-clause-met : goal.returns-in-Ok-clause-met
-returns-in-Ok-clause-met g c =
-    subst (λ (s : Settings). MetByChange s (closures_of c.args.self.now) (pending_of c.args.self.now) c.put_at.result) c.settle.ensures.settings
-    (subst (λ (k : Closures). MetByChange (c.settle.new.self).settings k (pending_of c.args.self.now) c.put_at.result) c.settle.ensures.closures
-    (subst (λ (p : PendingLines). MetByChange (c.settle.new.self).settings (closures_of c.settle.new.self) p c.put_at.result) c.in-Ok.ensures.settled_pending c.put_at.ensures.met))
-
-pub returns-in-Err-clause-met : goal.returns-in-Err-clause-met
-returns-in-Err-clause-met g c =
-    settle_met (c.args.self.now).settings (closures_of c.args.self.now) (pending_of c.args.self.now) c.args.tag.line (pending_of c.settle.new.self) c.in-Err.fault c.settle_refusal.result c.settle_refusal.ensures.is
-    (λ frozen. c.settle.ensures.frozen_pending (c.in-Err.is ∙ ap Err frozen)) (IfErr-at_err _ c.in-Err.is c.settle.ensures.refused_pending)
-
-pub returns-in-Ok-clause-closures : goal.returns-in-Ok-clause-closures
-returns-in-Ok-clause-closures g c =
-    subst (λ (s : Settings). PutCloses s c.put_at.result (closures_of c.args.self.now) (closures_of c.put_at.new.self)) c.settle.ensures.settings
-    (subst (λ (k : Closures). PutCloses (c.settle.new.self).settings c.put_at.result k (closures_of c.put_at.new.self)) c.settle.ensures.closures c.put_at.ensures.closures)
-
-pub returns-in-Err-clause-closures : goal.returns-in-Err-clause-closures
-returns-in-Err-clause-closures g c = settle_closes (c.args.self.now).settings (closures_of c.args.self.now) (closures_of c.settle.new.self) c.in-Err.fault c.settle_refusal.result c.settle_refusal.ensures.is c.settle.ensures.closures
 
 pub returns-in-Ok-clause-seen : goal.returns-in-Ok-clause-seen
 returns-in-Ok-clause-seen g c =
@@ -141,3 +105,14 @@ pub returns-in-Err-clause-seen : goal.returns-in-Err-clause-seen
 returns-in-Err-clause-seen g c =
     unsettled_seen (c.args.self.now).settings c.args.tag c.args.pair (length c.args.bytes.now) c.args.volume c.in-Err.fault c.settle_refusal.result (store_seen c.args.self.now) (store_seen c.settle.new.self)
     c.settle_refusal.ensures.is (c.requires.homeless, c.requires.seen) (IfErr-at_err _ c.in-Err.is c.settle.ensures.refused_seen)
+
+pub returns-in-Ok-clause-sights : goal.returns-in-Ok-clause-sights
+returns-in-Ok-clause-sights g c =
+    let places = ap (λ (vs : List (Volume g.row.D.Denot g.row.D-Piece.Denot)). places_of vs) c.settle.ensures.volumes in
+    put_from c.args.pair (store_seen c.args.self.now) (store_seen c.settle.new.self) (store_seen c.put_at.new.self) (c.args.self.now).settings (told_by c.put_at.result) places
+    (subst (λ (s : Settings). PutSights s c.args.pair (told_by c.put_at.result) (store_seen c.settle.new.self) (store_seen c.put_at.new.self)) c.settle.ensures.settings c.put_at.ensures.sights)
+
+pub returns-in-Err-clause-sights : goal.returns-in-Err-clause-sights
+returns-in-Err-clause-sights g c =
+    let places = ap (λ (vs : List (Volume g.row.D.Denot g.row.D-Piece.Denot)). places_of vs) c.settle.ensures.volumes in
+    unsettled_sights (c.args.self.now).settings c.args.pair (store_seen c.args.self.now) (store_seen c.settle.new.self) (same_photos (store_seen c.args.self.now) (store_seen c.settle.new.self) places) c.in-Err.fault c.settle_refusal.result c.settle_refusal.ensures.is

@@ -1,4 +1,4 @@
-use Rattle.std.proofs.Common.{ℕ, Option, length, map, sym, ap, subst, ◌∙◌, refl, inr}
+use Rattle.std.proofs.Common.{ℕ, Option, length, map, sym, ap, subst, ◌∙◌, refl}
 use Rattle.std.specs.List.{AllZip}
 use Rattle.std.specs.Prelude.{find, is_none}
 use Rattle.hay_legal.specs.Known.{refusal_of, tries_by}
@@ -9,13 +9,10 @@ use Rattle.hay_cluster.specs.Store.{contents_in, disks_of}
 use Rattle.hay_cluster.proofs.Moves.{none_falls}
 use Rattle.hay_cluster.proofs.Puts.{all_refused}
 use Rattle.hay_cluster.proofs.Suiting.{all_refuse, refusal_suits}
-use Rattle.hay_cluster.specs.Pending.{pending_of}
-use Rattle.hay_cluster.proofs.Pending.{refusal_no_failure}
-use Rattle.hay_cluster.specs.Closing.{closures_of}
-use Rattle.hay_cluster.proofs.Closures.{refusal_met}
 use Rattle.hay_cluster.proofs.Leaving.{nothing_put}
 use Rattle.hay_cluster.specs.Seen.{RefusesPhoto, store_seen}
 use Rattle.hay_cluster.proofs.Seeing.{turned_seen}
+use Rattle.hay_cluster.proofs.Sighting.{keeps_photos, turned_sights}
 use Rattle.hay_cluster.proofs.cluster.Cluster.put_tried.Goals as goal
 
 pub returns-in-Taker-clause-legal : goal.returns-in-Taker-clause-legal
@@ -40,20 +37,8 @@ returns-in-Nobody-clause-suits g c =
     let settings = (c.args.self.now).settings in
     refusal_suits settings c.args.pair c.in-Nobody.refused c.refuse.result (all_refuse settings c.args.pair c.in-Nobody.refused (c.requires.refused c.in-Nobody.refused c.in-Nobody.is)) c.refuse.ensures.is
 
-pub returns-in-Nobody-clause-pending : goal.returns-in-Nobody-clause-pending
-returns-in-Nobody-clause-pending g c = inr (inr (inr (refusal_no_failure _ c.refuse.result c.refuse.ensures.is, refl)))
-
 pub returns-in-Nobody-clause-contents : goal.returns-in-Nobody-clause-contents
-returns-in-Nobody-clause-contents g c = λ tells. nothing_put (c.args.self.now).settings c.args.pair _ (pending_of c.args.self.now) (pending_of c.args.self.now) (contents_in g.D.Disk.files c.args.self.now)
-
-pub returns-in-Nobody-clause-closures : goal.returns-in-Nobody-clause-closures
-returns-in-Nobody-clause-closures g c = inr (inr ((refusal_no_failure _ c.refuse.result c.refuse.ensures.is).0, refl))
-
-pub returns-in-Nobody-clause-met : goal.returns-in-Nobody-clause-met
-returns-in-Nobody-clause-met g c = refusal_met (c.args.self.now).settings (closures_of c.args.self.now) (pending_of c.args.self.now) c.in-Nobody.refused c.refuse.result c.refuse.ensures.is (c.requires.met c.in-Nobody.refused c.in-Nobody.is)
-
-pub put_new-requires-clause-opens : goal.put_new-requires-clause-opens
-put_new-requires-clause-opens g c = c.requires.opens c.in-Taker.volume c.in-Taker.is
+returns-in-Nobody-clause-contents g c = λ tells. nothing_put (c.args.self.now).settings c.args.pair _ (store_seen c.args.self.now).volumes (store_seen c.args.self.now).volumes (contents_in g.D.Disk.files c.args.self.now)
 
 pub put_new-requires-clause-seen : goal.put_new-requires-clause-seen
 put_new-requires-clause-seen g c = c.requires.seen c.in-Taker.volume c.in-Taker.is
@@ -65,3 +50,7 @@ returns-in-Nobody-clause-seen g c =
     let size = length c.args.bytes.now in
     turned_seen settings c.args.tag c.args.pair size c.in-Nobody.refused c.refuse.result seen c.refuse.ensures.is
     (subst (λ (o : Option ℕ). AllZip (RefusesPhoto settings seen size) (tries_by settings c.args.pair o) c.in-Nobody.refused) (sym c.requires.homeless) (c.requires.refused_seen c.in-Nobody.refused c.in-Nobody.is))
+
+pub returns-in-Nobody-clause-sights : goal.returns-in-Nobody-clause-sights
+returns-in-Nobody-clause-sights g c =
+    turned_sights (c.args.self.now).settings c.args.pair (store_seen c.args.self.now) (store_seen c.args.self.now) (keeps_photos (store_seen c.args.self.now)) _ c.refuse.result c.refuse.ensures.is

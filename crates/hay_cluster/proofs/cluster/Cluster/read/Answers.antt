@@ -4,6 +4,9 @@ use Rattle.hay_legal.specs.Plain.{LegalShow}
 use Rattle.hay_cluster.proofs.Answering.{answered}
 use Rattle.hay_cluster.proofs.Sure.{same_sure}
 use Rattle.hay_cluster.specs.Suiting.{ShowsFrom}
+use Rattle.hay_cluster.proofs.Sighting.{keeps_photos}
+use Rattle.hay_cluster.proofs.Seeing.{keeps_all}
+use Rattle.hay_cluster.specs.Seen.{store_seen}
 use Rattle.hay_cluster.proofs.cluster.Cluster.read.Goals as goal
 
 pub returns-clause-legal : goal.returns-clause-legal
@@ -31,3 +34,11 @@ returns-in_default-clause-shows g c = (sym c.home.ensures.seen ∙ c.in_default.
 
 pub show-requires-clause-home : goal.show-requires-clause-home
 show-requires-clause-home g c = sym c.home.ensures.seen ∙ c.in-Some.is
+
+pub returns-in_default-clause-seen : goal.returns-in_default-clause-seen
+returns-in_default-clause-seen g c =
+    keeps_all (store_seen c.args.self.now)
+
+pub returns-in_default-clause-sights : goal.returns-in_default-clause-sights
+returns-in_default-clause-sights g c =
+    keeps_photos (store_seen c.args.self.now)

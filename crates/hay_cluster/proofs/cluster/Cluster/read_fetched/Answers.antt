@@ -1,4 +1,4 @@
-use Rattle.std.proofs.Common.{◌≡◌, ◌<◌, ◌≤◌, ◌⊎◌, ◌^◌, List, length, map, sym, ap, subst, ◌∙◌, arith}
+use Rattle.std.proofs.Common.{◌≡◌, ◌<◌, ◌≤◌, ◌⊎◌, ◌^◌, List, length, map, sym, ap, subst, ◌∙◌, arith, refl}
 use Rattle.std.specs.Prelude.{slice_get, slice_index_or, slice_set}
 use Rattle.std.proofs.lemmas.Option.{same_Some}
 use Rattle.std.proofs.lemmas.List.{with_items_is}
@@ -19,9 +19,13 @@ use Rattle.hay_cluster.proofs.Lists.{length-set}
 use Rattle.hay_cluster.proofs.Moves.{volume_of, volume_stood}
 use Rattle.hay_cluster.proofs.Showing.{answers_say, counts_at, later_set, row_may_mean, row_read, row_stops, seat_comes}
 use Rattle.hay_cluster.proofs.Sure.{read_no_arm, used_sure}
-use Rattle.hay_cluster.specs.Pending.{pending_of}
-use Rattle.hay_cluster.specs.Closing.{closures_of}
 use Rattle.hay_cluster.specs.Seen.{store_seen}
+use Rattle.hay_cluster.proofs.Sighting.{photos_at}
+use Rattle.hay_cluster.proofs.ReadSights.{may_stand_as, row_sees, sees_in}
+use Rattle.hay_logical.specs.Sights.{Sights, sight}
+use Rattle.hay_map.specs.Rows.{row_at}
+use Rattle.hay_map.specs.Places.{place_in}
+use Rattle.hay_map.specs.declared.place.Place.{Place}
 use Rattle.hay_cluster.proofs.cluster.Cluster.read_fetched.Goals as goal
 
 pub offset_bounds-as_slice-volume : goal.offset_bounds-as_slice-volume
@@ -178,14 +182,22 @@ returns-clause-most g c =
     rw items
     (counts_at g.A.Arm.fault_count (λ before after. (after ≡ before) ⊎ (after < 2 ^ 64)) (c.args.self.now).arms store.arms c.args.lane arm c.show_more.new.self (ap (λ (st : Open g.row.D.Denot g.row.D-Piece.Denot g.row.A.Denot). st.arms) c.self.view_is) seat c.show_more.ensures.most)
 
-pub returns-clause-pending : goal.returns-clause-pending
-returns-clause-pending g c = ap (λ (st : Open g.row.D.Denot g.row.D-Piece.Denot g.row.A.Denot). pending_of st) c.self.view_is
-
 pub returns-clause-volumes : goal.returns-clause-volumes
 returns-clause-volumes g c = ap (λ (st : Open g.row.D.Denot g.row.D-Piece.Denot g.row.A.Denot). st.volumes) c.self.view_is
 
-pub returns-clause-closures : goal.returns-clause-closures
-returns-clause-closures g c = ap (λ (st : Open g.row.D.Denot g.row.D-Piece.Denot g.row.A.Denot). closures_of st) c.self.view_is
-
 pub returns-clause-seen : goal.returns-clause-seen
 returns-clause-seen g c = ap (λ (st : Open g.row.D.Denot g.row.D-Piece.Denot g.row.A.Denot). store_seen st) c.self.view_is
+
+pub returns-clause-sees : goal.returns-clause-sees
+returns-clause-sees g c =
+    let store : Open g.row.D.Denot g.row.D-Piece.Denot g.row.A.Denot = record { settings = c.self.inside.settings; directory = c.self.inside.directory; volumes = c.self.inside.volumes.items; arms = c.self.inside.seats.items } in
+    let within : c.args.volume < length c.self.inside.volumes.items = let same = ap (λ (st : Open g.row.D.Denot g.row.D-Piece.Denot g.row.A.Denot). (st.settings).volumes) c.self.view_is in omega (arith, c.requires.volume, c.self.invariant.many, same) in
+    let volume = c.index-as_slice-volume.result in
+    let at : At store.volumes c.args.volume volume = subst (λ (w : Volume g.row.D.Denot g.row.D-Piece.Denot). At store.volumes c.args.volume w) (sym c.index-as_slice-volume.is)
+    (subst (λ (vs : List (Volume g.row.D.Denot g.row.D-Piece.Denot)). At vs c.args.volume (slice_index_or c.as_slice.result.now c.args.volume volume)) c.as_slice.ensures.value
+    (at_read c.as_slice.result.now c.args.volume volume (let long = ap length c.as_slice.ensures.value in omega (arith, within, long)))) in
+    let before = may_stand_as ((store_seen c.args.self.now).places c.args.volume c.args.pair) (λ j. sight (place_in c.look-row.result.row j)) c.args.passed
+    (λ j. ap (λ (l : List (Place g.row.D-Piece.Denot)). sight (place_in l j)) c.look-row.ensures.row ∙ sym (ap (λ (seen : Sights). seen c.args.pair j) (photos_at c.args.self.now store c.self.view_is c.args.volume volume at))) c.requires.may_stand in
+    sees_in c.look-row.result.row (row_at volume.rows c.args.pair) ((store_seen store).places c.args.volume c.args.pair) c.show_more.result c.look-row.ensures.row
+    (λ j. ap (λ (seen : Sights). seen c.args.pair j) (photos_at store store refl c.args.volume volume at))
+    (row_sees g.D.Piece.Piece.Tells _ c.args.start c.look-row.result.row c.args.cookie c.args.passed c.show_more.new.out.items c.show_more.result before c.show_more.ensures.reads)

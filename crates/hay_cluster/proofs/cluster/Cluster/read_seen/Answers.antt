@@ -16,6 +16,11 @@ use Rattle.hay_cluster.specs.State.{Stands}
 use Rattle.hay_cluster.specs.Store.{Open}
 use Rattle.hay_cluster.proofs.Moves.{volume_of, volume_stood}
 use Rattle.hay_cluster.proofs.Showing.{answers_say, can_show, its_photo, row_may_mean}
+use Rattle.hay_cluster.proofs.Sighting.{photos_at}
+use Rattle.hay_cluster.proofs.ReadSights.{shown_sees, sees_in}
+use Rattle.hay_logical.specs.Sights.{Sights}
+use Rattle.hay_map.specs.Rows.{row_at}
+use Rattle.hay_cluster.specs.Seen.{store_seen}
 use Rattle.hay_cluster.proofs.cluster.Cluster.read_seen.Goals as goal
 
 pub offset_bounds-as_slice-volume : goal.offset_bounds-as_slice-volume
@@ -82,3 +87,15 @@ returns-clause-next g c =
     let same = was.settings_are ∙ ap (λ (st : Open g.row.D.Denot g.row.D-Piece.Denot g.row.A.Denot). st.settings) c.self.view_is in
     let row : length c.look-row.result.row ≡ ((c.args.self.now).settings).replicas = c.look-row.ensures.long ∙ ap (λ (s : Settings). s.replicas) same in
     subst (λ (n : ℕ). ShowsAt ((c.args.start + length c.args.passed) % n) c.show_seen.result) row c.show_seen.ensures.next
+
+pub returns-clause-sees : goal.returns-clause-sees
+returns-clause-sees g c =
+    let store : Open g.row.D.Denot g.row.D-Piece.Denot g.row.A.Denot = record { settings = c.self.inside.settings; directory = c.self.inside.directory; volumes = c.self.inside.volumes.items; arms = c.self.inside.seats.items } in
+    let within : c.args.volume < length c.self.inside.volumes.items = let same = ap (λ (st : Open g.row.D.Denot g.row.D-Piece.Denot g.row.A.Denot). (st.settings).volumes) c.self.view_is in omega (arith, c.requires.volume, c.self.invariant.many, same) in
+    let volume = c.index-as_slice-volume.result in
+    let at : At store.volumes c.args.volume volume = subst (λ (w : Volume g.row.D.Denot g.row.D-Piece.Denot). At store.volumes c.args.volume w) (sym c.index-as_slice-volume.is)
+    (subst (λ (vs : List (Volume g.row.D.Denot g.row.D-Piece.Denot)). At vs c.args.volume (slice_index_or c.as_slice.result.now c.args.volume volume)) c.as_slice.ensures.value
+    (at_read c.as_slice.result.now c.args.volume volume (let long = ap length c.as_slice.ensures.value in omega (arith, within, long)))) in
+    sees_in c.look-row.result.row (row_at volume.rows c.args.pair) ((store_seen c.args.self.now).places c.args.volume c.args.pair) c.show_seen.result c.look-row.ensures.row
+    (λ j. ap (λ (seen : Sights). seen c.args.pair j) (photos_at c.args.self.now store c.self.view_is c.args.volume volume at))
+    (shown_sees c.look-row.result.row c.args.cookie c.args.passed c.show_seen.new.out.items c.args.needle.now ((c.args.start + length c.args.passed) % length c.look-row.result.row) c.show_seen.result c.show_seen.ensures.shows)

@@ -1,5 +1,5 @@
 use Rattle.std.proofs.Common.{◌≡◌, ℕ, ◌<◌, List, Option, Some, None, length, sym, ap, subst, ◌∙◌, arith, refl}
-use Rattle.std.specs.Prelude.{Err, IfSome, slice_index_or}
+use Rattle.std.specs.Prelude.{IfSome, slice_index_or}
 use Rattle.std.proofs.lemmas.Result.{IfErr-at_err, IfOk-at_ok}
 use Rattle.hay_needle.specs.declared.settings.Settings.{Settings}
 use Rattle.hay_legal.specs.Known.{closed, refusal_of, room_refusal_of, volume_at}
@@ -18,9 +18,6 @@ use Rattle.hay_cluster.proofs.Moves.{volume_of, volume_stood}
 use Rattle.hay_cluster.proofs.Calls.{called_open}
 use Rattle.hay_cluster.proofs.Refusals.{refused_for, taken_for}
 use Rattle.hay_cluster.proofs.Suiting.{lack_refuses, room_lack}
-use Rattle.hay_cluster.specs.Pending.{pending_of}
-use Rattle.hay_cluster.specs.Closing.{closures_of}
-use Rattle.hay_cluster.proofs.Closures.{lack_met, was_thawed}
 use Rattle.hay_cluster.specs.Seen.{store_seen}
 use Rattle.hay_logical.specs.Seen.{RoomRefusedSeen, RoomSeen, volume_seen}
 use Rattle.hay_cluster.proofs.Seeing.{lack_seen, seen_at}
@@ -72,9 +69,7 @@ returns-in-Ok g c = record {
       let one : Some volume ≡ Some other = sym here ∙ there in
       let same : volume ≡ other = cc in
       subst (λ (w : Volume g.row.D.Denot g.row.D-Piece.Denot). (w.frozen ≡ None) × ((j : ℕ) (r : Copy g.row.D.Denot) → At w.replicas j r → RoomFor c.args.size r)) same c.in-Ok.ensures.fits;
-  opens = (c.in_default.ensures).opens;
   refuses = tt;
-  met = tt;
   fits = tt;
   takes_seen =
       let store : Open g.row.D.Denot g.row.D-Piece.Denot g.row.A.Denot = record { settings = c.self.inside.settings; directory = c.self.inside.directory; volumes = c.self.inside.volumes.items; arms = c.self.inside.seats.items } in
@@ -86,7 +81,7 @@ returns-in-Ok g c = record {
       let was = volume_of store c.args.volume volume c.self.invariant at in
       let room = IfOk-at_ok _ c.in-Ok.is c.room.ensures.seen in
       let same = was.settings_are ∙ ap (λ (st : Open g.row.D.Denot g.row.D-Piece.Denot g.row.A.Denot). st.settings) c.self.view_is in (
-        (c.in_default.ensures).opens_seen,
+        (c.in_default.ensures).opens,
         (
           volume_seen volume,
           seen_at c.args.self.now store c.self.view_is c.args.volume volume at,
@@ -116,16 +111,6 @@ returns-in-Err g c = record {
       sym c.lack_of.ensures.is ∙ subst (λ (st : Open g.row.D.Denot g.row.D-Piece.Denot g.row.A.Denot). lack_of c.args.volume c.in-Err.fault ≡ refusal_of st.settings k c.args.size c.args.volume) c.self.view_is
       (refused_for store.settings k c.args.volume c.args.size c.in-Err.fault thawed (said ∙ c.in-Err.is));
   takes = tt;
-  opens = tt;
-  met =
-      let store : Open g.row.D.Denot g.row.D-Piece.Denot g.row.A.Denot = record { settings = c.self.inside.settings; directory = c.self.inside.directory; volumes = c.self.inside.volumes.items; arms = c.self.inside.seats.items } in
-      let within : c.args.volume < length c.self.inside.volumes.items = let same = ap (λ (st : Open g.row.D.Denot g.row.D-Piece.Denot g.row.A.Denot). (st.settings).volumes) c.self.view_is in omega (arith, c.requires.volume, c.self.invariant.many, same) in
-      let volume = c.index-as_slice-volume.result in
-      let at : At store.volumes c.args.volume volume = subst (λ (w : Volume g.row.D.Denot g.row.D-Piece.Denot). At store.volumes c.args.volume w) (sym c.index-as_slice-volume.is)
-      (subst (λ (vs : List (Volume g.row.D.Denot g.row.D-Piece.Denot)). At vs c.args.volume (slice_index_or c.as_slice.result.now c.args.volume volume)) c.as_slice.ensures.value
-      (at_read c.as_slice.result.now c.args.volume volume (let long = ap length c.as_slice.ensures.value in omega (arith, within, long)))) in
-      lack_met (c.args.self.now).settings (closures_of c.args.self.now) (pending_of c.args.self.now) c.args.volume c.in-Err.fault c.lack_of.result c.lack_of.ensures.is (c.in_default.ensures).opens
-      (λ m is. c.room.ensures.thawed (was_thawed c.args.self.now store c.args.volume volume c.self.view_is at (c.in_default.ensures).opens.0) m (c.in-Err.is ∙ ap Err is));
   refuses =
       let store : Open g.row.D.Denot g.row.D-Piece.Denot g.row.A.Denot = record { settings = c.self.inside.settings; directory = c.self.inside.directory; volumes = c.self.inside.volumes.items; arms = c.self.inside.seats.items } in
       let volume = c.index-as_slice-volume.result in
@@ -159,7 +144,7 @@ returns-in-Err g c = record {
       let full = subst (λ n. RoomRefusedSeen settings n c.args.size (volume_seen volume) c.in-Err.fault) was.number
       (subst (λ (s : Settings). RoomRefusedSeen s volume.number c.args.size (volume_seen volume) c.in-Err.fault) (was.settings_are ∙ same) room) in (
         lacks,
-        lack_seen settings (store_seen c.args.self.now) c.args.size c.args.volume (volume_seen volume) c.in-Err.fault c.lack_of.result c.lack_of.ensures.is (c.in_default.ensures).opens_seen
+        lack_seen settings (store_seen c.args.self.now) c.args.size c.args.volume (volume_seen volume) c.in-Err.fault c.lack_of.result c.lack_of.ensures.is (c.in_default.ensures).opens
             (seen_at c.args.self.now store c.self.view_is c.args.volume volume at) full,
       );
 }
@@ -171,4 +156,4 @@ pub lack_of-requires : goal.lack_of-requires
 lack_of-requires g c = room_lack (c.index-as_slice-volume.result).settings (c.index-as_slice-volume.result).number c.in-Err.fault (IfErr-at_err _ c.in-Err.is c.room.ensures.causes)
 
 pub returns-in-Some-clause-refuses_seen : goal.returns-in-Some-clause-refuses_seen
-returns-in-Some-clause-refuses_seen g c = ((refl, (c.in-Some.ensures).on), (c.in-Some.ensures).closes_seen)
+returns-in-Some-clause-refuses_seen g c = ((refl, (c.in-Some.ensures).on), (c.in-Some.ensures).closes)

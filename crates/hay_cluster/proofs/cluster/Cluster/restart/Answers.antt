@@ -1,15 +1,13 @@
-use Rattle.std.proofs.Common.{◌≡◌, ℕ, refl, ◌∙◌}
+use Rattle.std.proofs.Common.{◌≡◌, ℕ, refl, ◌∙◌, sym, subst}
 use Rattle.std.proofs.lemmas.Result.{IfErr-at_err, IfErr-weaker, IfOk-weaker, on_ok_weaker}
 use Rattle.hay_cluster.specs.declared.fault.ClusterFault.TheVariants.{Damaged, Failed}
-use Rattle.hay_cluster.specs.Outside.{IsDamagedDisk, IsUndamagedBelow}
+use Rattle.hay_cluster.specs.Outside.{AreSoundBelow, IsDamagedDisk}
 use Rattle.hay_cluster.specs.Store.{contents_in}
 use Rattle.hay_cluster.proofs.Formatted.{refused_formatted}
-use Rattle.hay_cluster.proofs.OpeningDamage.{restart_damaged, restart_failed, restart_sound}
+use Rattle.hay_cluster.proofs.OpeningDamage.{TellsSlot, restart_damaged, restart_first, restart_sound}
 use Rattle.hay_cluster.proofs.OpeningDraws.{restart_drew}
 use Rattle.hay_cluster.proofs.OpeningStore.{MovedParts, StoppedParts, opens_up, restart_cause, restart_fuses, restart_later, restart_left, restart_opened, restart_whole, stops_closed, stops_idle}
-use Rattle.hay_cluster.proofs.Pending.{restart_tells, opened_fit, opened_settled}
-use Rattle.hay_cluster.proofs.Closures.{opened_closures}
-use Rattle.hay_cluster.proofs.SeenOpening.{opens_seen, tells_seen}
+use Rattle.hay_cluster.proofs.SeenOpening.{opened_fit, opens_seen, tells_seen}
 use Rattle.hay_cluster.proofs.cluster.Cluster.restart.Goals as goal
 
 pub open_parts-requires-clause-closed : goal.open_parts-requires-clause-closed
@@ -77,15 +75,6 @@ returns-clause-damaged g c = λ tells slot file at is.
     (λ fault refused. restart_damaged g.D.Disk.Tells g.D.Disk.files g.D.Piece.Piece.Tells g.D.Disk.fault_count g.D.Disk.fuse_count g.A.Arm.fault_count tells c.args.self.now c.stop.new.self c.open_parts.new.self fault c.stop.ensures.shape stopped moved refused) c.open_parts.ensures.refused)
     slot file at refl
 
-pub returns-clause-failed_lowest : goal.returns-clause-failed_lowest
-returns-clause-failed_lowest g c = λ tells slot faults is.
-    let stopped : StoppedParts g.D.Disk.Tells g.D.Disk.files g.D.Piece.Piece.Tells g.D.Disk.fault_count g.D.Disk.fuse_count g.A.Arm.fault_count c.args.self.now c.stop.new.self = record { settings = c.stop.ensures.settings; arms = c.stop.ensures.arms; directory = c.stop.ensures.directory; volumes = c.stop.ensures.volumes } in
-    let moved : MovedParts g.D.Disk.Tells g.D.Disk.files g.D.Piece.Piece.Tells g.D.Disk.fault_count g.D.Disk.fuse_count g.A.Arm.fault_count c.stop.new.self c.open_parts.new.self = record { settings = c.open_parts.ensures.settings; arms = c.open_parts.ensures.arms; directory = c.open_parts.ensures.directory; volumes = c.open_parts.ensures.volumes } in
-    IfErr-at_err (λ fault. (n f : ℕ) → fault ≡ Failed n f → IsUndamagedBelow (c.args.self.now).settings n (contents_in g.D.Disk.files c.open_parts.new.self)) is
-    (IfErr-weaker c.open_parts.result _ _
-    (λ fault refused. restart_failed g.D.Disk.Tells g.D.Disk.files g.D.Piece.Piece.Tells g.D.Disk.fault_count g.D.Disk.fuse_count g.A.Arm.fault_count tells c.args.self.now c.stop.new.self c.open_parts.new.self fault c.stop.ensures.shape stopped moved refused) c.open_parts.ensures.refused)
-    slot faults refl
-
 pub returns-clause-counts : goal.returns-clause-counts
 returns-clause-counts g c =
     let stopped : StoppedParts g.D.Disk.Tells g.D.Disk.files g.D.Piece.Piece.Tells g.D.Disk.fault_count g.D.Disk.fuse_count g.A.Arm.fault_count c.args.self.now c.stop.new.self = record { settings = c.stop.ensures.settings; arms = c.stop.ensures.arms; directory = c.stop.ensures.directory; volumes = c.stop.ensures.volumes } in
@@ -98,33 +87,15 @@ returns-clause-fuses g c =
     let moved : MovedParts g.D.Disk.Tells g.D.Disk.files g.D.Piece.Piece.Tells g.D.Disk.fault_count g.D.Disk.fuse_count g.A.Arm.fault_count c.stop.new.self c.open_parts.new.self = record { settings = c.open_parts.ensures.settings; arms = c.open_parts.ensures.arms; directory = c.open_parts.ensures.directory; volumes = c.open_parts.ensures.volumes } in
     restart_fuses g.D.Disk.Tells g.D.Disk.files g.D.Piece.Piece.Tells g.D.Disk.fault_count g.D.Disk.fuse_count g.A.Arm.fault_count c.args.self.now c.stop.new.self c.open_parts.new.self stopped moved
 
-pub returns-clause-told : goal.returns-clause-told
-returns-clause-told g c =
-    let stopped : StoppedParts g.D.Disk.Tells g.D.Disk.files g.D.Piece.Piece.Tells g.D.Disk.fault_count g.D.Disk.fuse_count g.A.Arm.fault_count c.args.self.now c.stop.new.self = record { settings = c.stop.ensures.settings; arms = c.stop.ensures.arms; directory = c.stop.ensures.directory; volumes = c.stop.ensures.volumes } in
-    IfOk-weaker c.open_parts.result _ _
-    (λ notes opens. restart_tells g.D.Disk.Tells g.D.Disk.files g.D.Piece.Piece.Tells g.D.Disk.fault_count g.D.Disk.fuse_count g.A.Arm.fault_count c.args.self.now c.stop.new.self c.open_parts.new.self notes c.stop.ensures.shape stopped opens) c.open_parts.ensures.opened
-
 pub returns-clause-fits : goal.returns-clause-fits
 returns-clause-fits g c =
     IfOk-weaker c.open_parts.result _ _
-    (λ notes opens. opened_fit g.D.Disk.Tells g.D.Disk.files g.D.Piece.Piece.Tells g.D.Disk.fault_count g.D.Disk.fuse_count g.A.Arm.fault_count c.stop.new.self c.open_parts.new.self notes opens) c.open_parts.ensures.opened
-
-pub returns-clause-settled : goal.returns-clause-settled
-returns-clause-settled g c =
-    IfOk-weaker c.open_parts.result _ _
-    (λ notes opens. opened_settled g.D.Disk.Tells g.D.Disk.files g.D.Piece.Piece.Tells g.D.Disk.fault_count g.D.Disk.fuse_count g.A.Arm.fault_count (c.args.self.now).settings c.stop.new.self c.open_parts.new.self notes
-    (c.open_parts.ensures.settings ∙ c.stop.ensures.settings) c.open_parts.ensures.shape opens) c.open_parts.ensures.opened
+    (λ notes opens. opened_fit g.D.Disk.Tells g.D.Disk.files g.D.Piece.Piece.Tells g.D.Disk.fault_count g.D.Disk.fuse_count c.stop.new.self c.open_parts.new.self notes opens) c.open_parts.ensures.opened
 
 pub returns-clause-drew : goal.returns-clause-drew
 returns-clause-drew g c = λ tells.
     on_ok_weaker c.open_parts.result
     (λ all. restart_drew g.D.Disk.files g.D.Disk.drawn c.args.self.now c.stop.new.self c.open_parts.new.self c.stop.ensures.shape c.open_parts.ensures.shape c.stop.ensures.settings c.open_parts.ensures.settings (c.stop.ensures.drawn tells) all) (c.open_parts.ensures.drew tells)
-
-pub returns-clause-closures : goal.returns-clause-closures
-returns-clause-closures g c =
-    IfOk-weaker c.open_parts.result _ _
-    (λ notes opens. opened_closures g.D.Disk.Tells g.D.Disk.files g.D.Piece.Piece.Tells g.D.Disk.fault_count g.D.Disk.fuse_count (c.args.self.now).settings c.stop.new.self c.open_parts.new.self notes c.stop.ensures.settings
-    (c.open_parts.ensures.settings ∙ c.stop.ensures.settings) c.stop.ensures.shape c.open_parts.ensures.shape opens) c.open_parts.ensures.opened
 
 pub returns-clause-opens : goal.returns-clause-opens
 returns-clause-opens g c =
@@ -133,4 +104,25 @@ returns-clause-opens g c =
     (c.open_parts.ensures.settings ∙ c.stop.ensures.settings) c.stop.ensures.shape c.open_parts.ensures.shape opens) c.open_parts.ensures.opened
 
 pub returns-clause-tells : goal.returns-clause-tells
-returns-clause-tells g c = IfOk-weaker c.open_parts.result _ _ (λ notes told. tells_seen c.args.self.now notes told) (returns-clause-told g c)
+returns-clause-tells g c =
+    let stopped : StoppedParts g.D.Disk.Tells g.D.Disk.files g.D.Piece.Piece.Tells g.D.Disk.fault_count g.D.Disk.fuse_count g.A.Arm.fault_count c.args.self.now c.stop.new.self = record { settings = c.stop.ensures.settings; arms = c.stop.ensures.arms; directory = c.stop.ensures.directory; volumes = c.stop.ensures.volumes } in
+    IfOk-weaker c.open_parts.result _ _
+    (λ notes opens. tells_seen g.D.Disk.Tells g.D.Disk.files g.D.Piece.Piece.Tells g.D.Disk.fault_count g.D.Disk.fuse_count g.A.Arm.fault_count c.args.self.now c.stop.new.self c.open_parts.new.self notes c.stop.ensures.shape stopped opens) c.open_parts.ensures.opened
+
+pub returns-clause-failed_first : goal.returns-clause-failed_first
+returns-clause-failed_first g c = λ tells slot faults is.
+    let stopped : StoppedParts g.D.Disk.Tells g.D.Disk.files g.D.Piece.Piece.Tells g.D.Disk.fault_count g.D.Disk.fuse_count g.A.Arm.fault_count c.args.self.now c.stop.new.self = record { settings = c.stop.ensures.settings; arms = c.stop.ensures.arms; directory = c.stop.ensures.directory; volumes = c.stop.ensures.volumes } in
+    let moved : MovedParts g.D.Disk.Tells g.D.Disk.files g.D.Piece.Piece.Tells g.D.Disk.fault_count g.D.Disk.fuse_count g.A.Arm.fault_count c.stop.new.self c.open_parts.new.self = record { settings = c.open_parts.ensures.settings; arms = c.open_parts.ensures.arms; directory = c.open_parts.ensures.directory; volumes = c.open_parts.ensures.volumes } in
+    IfErr-at_err (λ fault. (n f : ℕ) → fault ≡ Failed n f → AreSoundBelow (c.args.self.now).settings n (contents_in g.D.Disk.files c.open_parts.new.self)) is
+    (IfErr-weaker c.open_parts.result _ _
+    (λ fault refused n f told. restart_first g.D.Disk.Tells g.D.Disk.files g.D.Piece.Piece.Tells g.D.Disk.fault_count g.D.Disk.fuse_count g.A.Arm.fault_count tells c.args.self.now c.stop.new.self c.open_parts.new.self fault c.stop.ensures.shape stopped moved refused n (subst (λ x. TellsSlot x n) (sym told) refl)) c.open_parts.ensures.refused)
+    slot faults refl
+
+pub returns-clause-damaged_first : goal.returns-clause-damaged_first
+returns-clause-damaged_first g c = λ tells slot file at is.
+    let stopped : StoppedParts g.D.Disk.Tells g.D.Disk.files g.D.Piece.Piece.Tells g.D.Disk.fault_count g.D.Disk.fuse_count g.A.Arm.fault_count c.args.self.now c.stop.new.self = record { settings = c.stop.ensures.settings; arms = c.stop.ensures.arms; directory = c.stop.ensures.directory; volumes = c.stop.ensures.volumes } in
+    let moved : MovedParts g.D.Disk.Tells g.D.Disk.files g.D.Piece.Piece.Tells g.D.Disk.fault_count g.D.Disk.fuse_count g.A.Arm.fault_count c.stop.new.self c.open_parts.new.self = record { settings = c.open_parts.ensures.settings; arms = c.open_parts.ensures.arms; directory = c.open_parts.ensures.directory; volumes = c.open_parts.ensures.volumes } in
+    IfErr-at_err (λ fault. (n f a : ℕ) → fault ≡ Damaged n f a → AreSoundBelow (c.args.self.now).settings n (contents_in g.D.Disk.files c.open_parts.new.self)) is
+    (IfErr-weaker c.open_parts.result _ _
+    (λ fault refused n f a told. restart_first g.D.Disk.Tells g.D.Disk.files g.D.Piece.Piece.Tells g.D.Disk.fault_count g.D.Disk.fuse_count g.A.Arm.fault_count tells c.args.self.now c.stop.new.self c.open_parts.new.self fault c.stop.ensures.shape stopped moved refused n (subst (λ x. TellsSlot x n) (sym told) refl)) c.open_parts.ensures.refused)
+    slot file at refl

@@ -1,4 +1,4 @@
-use Rattle.std.proofs.Common.{◌<◌, List, ap, sym, length, subst, ◌∙◌, arith}
+use Rattle.std.proofs.Common.{◌≡◌, ◌<◌, List, ap, sym, length, subst, ◌∙◌, arith}
 use Rattle.std.specs.Prelude.{Err, slice_index_or, slice_set}
 use Rattle.std.proofs.lemmas.List.{with_items_is}
 use borrow.Author.Rules.{scaled_Fits}
@@ -19,11 +19,11 @@ use Rattle.hay_cluster.proofs.Calls.{called_open, called_up}
 use Rattle.hay_cluster.proofs.Lists.{length-set}
 use Rattle.hay_cluster.proofs.Moves.{Called, called_fuses, called_later, called_shape, volume_of, volume_stood}
 use Rattle.hay_cluster.proofs.Showing.{seen_by_in, seen_in, seen_there, sight_comes, sight_fault, sight_others}
-use Rattle.hay_cluster.proofs.Pending.{called_kept}
 use Rattle.hay_cluster.specs.Leaving.{AnySlot, KeepsIn}
 use Rattle.hay_cluster.proofs.Leaving.{called_keeps}
-use Rattle.hay_cluster.proofs.Closures.{closures_kept}
-use Rattle.hay_cluster.proofs.SeenWork.{volume_kept}
+use Rattle.hay_cluster.proofs.Seeing.{moves_none, volume_moves}
+use Rattle.hay_cluster.proofs.Sighting.{photos_at, volume_kept_photos, volume_photos}
+use Rattle.hay_logical.specs.Sights.{SeesPair, Sights}
 use Rattle.hay_cluster.proofs.cluster.Cluster.see_in.Goals as goal
 use Rattle.hay_cluster.proofs.cluster.Cluster.see_in.Goals.{in-Ok, in-Err}
 
@@ -167,17 +167,6 @@ returns-clause-fuses g c =
     let called : Called g.D.Disk.fault_count g.D.Disk.fuse_count store c.args.volume volume c.see.new.self = record { at = at; same = c.see.ensures.same; counts = c.see.ensures.counts } in
     rw items (called_fuses g.D.Disk.fault_count g.D.Disk.fuse_count c.args.self.now store c.args.volume volume c.see.new.self c.self.view_is called)
 
-pub returns-clause-pending : goal.returns-clause-pending
-returns-clause-pending g c =
-    let store : Open g.row.D.Denot g.row.D-Piece.Denot g.row.A.Denot = record { settings = c.self.inside.settings; directory = c.self.inside.directory; volumes = c.self.inside.volumes.items; arms = c.self.inside.seats.items } in
-    let within : c.args.volume < length c.self.inside.volumes.items = let same = ap (λ (st : Open g.row.D.Denot g.row.D-Piece.Denot g.row.A.Denot). (st.settings).volumes) c.self.view_is in omega (arith, c.requires.volume, c.self.invariant.many, same) in
-    let volume : Volume g.row.D.Denot g.row.D-Piece.Denot = slice_index_or c.as_mut_slice.result.now c.args.volume c.index-as_mut_slice-volume.result in
-    let at : At store.volumes c.args.volume volume = subst (λ (vs : List (Volume g.row.D.Denot g.row.D-Piece.Denot)). At vs c.args.volume volume) c.as_mut_slice.ensures.value
-    (at_read c.as_mut_slice.result.now c.args.volume c.index-as_mut_slice-volume.result (let long = ap length c.as_mut_slice.ensures.value in omega (arith, within, long))) in
-    let items = with_items_is c.self.inside.volumes (slice_set c.as_mut_slice.result.now c.args.volume c.see.new.self) (length-set c.as_mut_slice.result.now c.args.volume c.see.new.self ∙ c.as_mut_slice.ensures.len)
-    ∙ ap (λ (vs : List (Volume g.row.D.Denot g.row.D-Piece.Denot)). slice_set vs c.args.volume c.see.new.self) c.as_mut_slice.ensures.value in
-    rw items (called_kept c.args.self.now store c.args.volume volume c.see.new.self c.self.view_is at c.see.ensures.still.2)
-
 pub returns-clause-needle : goal.returns-clause-needle
 returns-clause-needle g c = λ unseen.
     let store : Open g.row.D.Denot g.row.D-Piece.Denot g.row.A.Denot = record { settings = c.self.inside.settings; directory = c.self.inside.directory; volumes = c.self.inside.volumes.items; arms = c.self.inside.seats.items } in
@@ -208,17 +197,6 @@ returns-clause-contents g c = λ tells.
     subst (λ (vs : List (Volume g.row.D.Denot g.row.D-Piece.Denot)). KeepsIn (c.args.self.now).settings AnySlot (contents_in g.D.Disk.files c.args.self.now) (contents_in g.D.Disk.files (let next : Open g.row.D.Denot g.row.D-Piece.Denot g.row.A.Denot = record store { volumes = vs } in next))) (sym items)
     (called_keeps g.D.Disk.files g.D.Disk.Tells (c.args.self.now).settings c.args.self.now store c.args.volume volume c.see.new.self tells c.self.view_is at (c.see.ensures.counts).count c.see.ensures.files)
 
-pub returns-clause-closures : goal.returns-clause-closures
-returns-clause-closures g c =
-    let store : Open g.row.D.Denot g.row.D-Piece.Denot g.row.A.Denot = record { settings = c.self.inside.settings; directory = c.self.inside.directory; volumes = c.self.inside.volumes.items; arms = c.self.inside.seats.items } in
-    let within : c.args.volume < length c.self.inside.volumes.items = let same = ap (λ (st : Open g.row.D.Denot g.row.D-Piece.Denot g.row.A.Denot). (st.settings).volumes) c.self.view_is in omega (arith, c.requires.volume, c.self.invariant.many, same) in
-    let volume : Volume g.row.D.Denot g.row.D-Piece.Denot = slice_index_or c.as_mut_slice.result.now c.args.volume c.index-as_mut_slice-volume.result in
-    let at : At store.volumes c.args.volume volume = subst (λ (vs : List (Volume g.row.D.Denot g.row.D-Piece.Denot)). At vs c.args.volume volume) c.as_mut_slice.ensures.value
-    (at_read c.as_mut_slice.result.now c.args.volume c.index-as_mut_slice-volume.result (let long = ap length c.as_mut_slice.ensures.value in omega (arith, within, long))) in
-    let items = with_items_is c.self.inside.volumes (slice_set c.as_mut_slice.result.now c.args.volume c.see.new.self) (length-set c.as_mut_slice.result.now c.args.volume c.see.new.self ∙ c.as_mut_slice.ensures.len)
-    ∙ ap (λ (vs : List (Volume g.row.D.Denot g.row.D-Piece.Denot)). slice_set vs c.args.volume c.see.new.self) c.as_mut_slice.ensures.value in
-    rw items (closures_kept c.args.self.now store c.args.volume volume c.self.view_is at c.see.new.self (c.see.ensures.still).0)
-
 pub returns-clause-unchanged : goal.returns-clause-unchanged
 returns-clause-unchanged g c =
     let store : Open g.row.D.Denot g.row.D-Piece.Denot g.row.A.Denot = record { settings = c.self.inside.settings; directory = c.self.inside.directory; volumes = c.self.inside.volumes.items; arms = c.self.inside.seats.items } in
@@ -228,4 +206,36 @@ returns-clause-unchanged g c =
     (at_read c.as_mut_slice.result.now c.args.volume c.index-as_mut_slice-volume.result (let long = ap length c.as_mut_slice.ensures.value in omega (arith, within, long))) in
     let items = with_items_is c.self.inside.volumes (slice_set c.as_mut_slice.result.now c.args.volume c.see.new.self) (length-set c.as_mut_slice.result.now c.args.volume c.see.new.self ∙ c.as_mut_slice.ensures.len)
     ∙ ap (λ (vs : List (Volume g.row.D.Denot g.row.D-Piece.Denot)). slice_set vs c.args.volume c.see.new.self) c.as_mut_slice.ensures.value in
-    rw items (volume_kept c.args.self.now store c.args.volume volume c.see.new.self c.self.view_is at c.see.ensures.unchanged)
+    rw items (moves_none c.args.volume _ _ (volume_moves c.args.self.now store c.self.view_is c.args.volume volume c.see.new.self (λ before after. after ≡ before) at c.see.ensures.unchanged))
+
+pub returns-clause-sights : goal.returns-clause-sights
+returns-clause-sights g c =
+    let store : Open g.row.D.Denot g.row.D-Piece.Denot g.row.A.Denot = record { settings = c.self.inside.settings; directory = c.self.inside.directory; volumes = c.self.inside.volumes.items; arms = c.self.inside.seats.items } in
+    let within : c.args.volume < length c.self.inside.volumes.items = let same = ap (λ (st : Open g.row.D.Denot g.row.D-Piece.Denot g.row.A.Denot). (st.settings).volumes) c.self.view_is in omega (arith, c.requires.volume, c.self.invariant.many, same) in
+    let volume : Volume g.row.D.Denot g.row.D-Piece.Denot = slice_index_or c.as_mut_slice.result.now c.args.volume c.index-as_mut_slice-volume.result in
+    let at : At store.volumes c.args.volume volume = subst (λ (vs : List (Volume g.row.D.Denot g.row.D-Piece.Denot)). At vs c.args.volume volume) c.as_mut_slice.ensures.value
+    (at_read c.as_mut_slice.result.now c.args.volume c.index-as_mut_slice-volume.result (let long = ap length c.as_mut_slice.ensures.value in omega (arith, within, long))) in
+    let items = with_items_is c.self.inside.volumes (slice_set c.as_mut_slice.result.now c.args.volume c.see.new.self) (length-set c.as_mut_slice.result.now c.args.volume c.see.new.self ∙ c.as_mut_slice.ensures.len)
+    ∙ ap (λ (vs : List (Volume g.row.D.Denot g.row.D-Piece.Denot)). slice_set vs c.args.volume c.see.new.self) c.as_mut_slice.ensures.value in
+    elim c.match-see.branch [
+      | in-Ok w ↦ rw w.result-is (rw items (volume_photos c.args.self.now store c.self.view_is c.args.volume volume c.see.new.self at (SeesPair c.args.pair c.args.replica) w.in-Ok.ensures.sights))
+      | in-Err w ↦ rw w.result-is tt
+    ]
+
+pub returns-clause-refused_sights : goal.returns-clause-refused_sights
+returns-clause-refused_sights g c =
+    let store : Open g.row.D.Denot g.row.D-Piece.Denot g.row.A.Denot = record { settings = c.self.inside.settings; directory = c.self.inside.directory; volumes = c.self.inside.volumes.items; arms = c.self.inside.seats.items } in
+    let within : c.args.volume < length c.self.inside.volumes.items = let same = ap (λ (st : Open g.row.D.Denot g.row.D-Piece.Denot g.row.A.Denot). (st.settings).volumes) c.self.view_is in omega (arith, c.requires.volume, c.self.invariant.many, same) in
+    let volume : Volume g.row.D.Denot g.row.D-Piece.Denot = slice_index_or c.as_mut_slice.result.now c.args.volume c.index-as_mut_slice-volume.result in
+    let at : At store.volumes c.args.volume volume = subst (λ (vs : List (Volume g.row.D.Denot g.row.D-Piece.Denot)). At vs c.args.volume volume) c.as_mut_slice.ensures.value
+    (at_read c.as_mut_slice.result.now c.args.volume c.index-as_mut_slice-volume.result (let long = ap length c.as_mut_slice.ensures.value in omega (arith, within, long))) in
+    let items = with_items_is c.self.inside.volumes (slice_set c.as_mut_slice.result.now c.args.volume c.see.new.self) (length-set c.as_mut_slice.result.now c.args.volume c.see.new.self ∙ c.as_mut_slice.ensures.len)
+    ∙ ap (λ (vs : List (Volume g.row.D.Denot g.row.D-Piece.Denot)). slice_set vs c.args.volume c.see.new.self) c.as_mut_slice.ensures.value in
+    elim c.match-see.branch [
+      | in-Ok w ↦ rw w.result-is tt
+      | in-Err w ↦ rw w.result-is
+          (rw items (
+            volume_kept_photos c.args.self.now store c.self.view_is c.args.volume volume c.see.new.self at w.in-Err.ensures.refused_sights.0,
+            ap (λ (seen : Sights). seen c.args.pair c.args.replica) (photos_at c.args.self.now store c.self.view_is c.args.volume volume at) ∙ w.in-Err.ensures.refused_sights.1,
+          ))
+    ]

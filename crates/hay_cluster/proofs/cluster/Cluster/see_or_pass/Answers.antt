@@ -4,6 +4,10 @@ use Rattle.hay_logical.specs.declared.fault.LogicalFault.{LogicalFault}
 use Rattle.hay_reader.specs.declared.causes.PassedReplica.{PassedReplica}
 use Rattle.hay_cluster.specs.Reads.{IsWhole, counts_of}
 use Rattle.hay_cluster.proofs.Showing.{passes_none, passes_one, sight_passed}
+use Rattle.hay_cluster.proofs.Sighting.{kept_looks, photos_as, photos_kept}
+use Rattle.hay_cluster.proofs.ReadSights.{may_stand_as, may_stand_more, may_stand_still}
+use Rattle.hay_logical.specs.Sights.{LooksAtPair, SeesPair}
+use Rattle.hay_cluster.specs.Seen.{store_seen}
 use Rattle.hay_cluster.proofs.cluster.Cluster.see_or_pass.Goals as goal
 
 pub returns-in-Ok-clause-passes : goal.returns-in-Ok-clause-passes
@@ -25,3 +29,27 @@ returns-in_ok-cause-in-Err-clause-passes g c = λ lane start order next.
 
 pub returns-in-Ok-clause-needle : goal.returns-in-Ok-clause-needle
 returns-in-Ok-clause-needle g c = λ unseen. (refl, c.in-Ok.ensures.needle unseen)
+
+pub returns-in-Ok-clause-looks : goal.returns-in-Ok-clause-looks
+returns-in-Ok-clause-looks g c =
+    photos_as c.args.volume (store_seen c.args.self.now) (store_seen c.see_in.new.self) (SeesPair c.args.pair c.args.replica) (LooksAtPair c.args.pair) (λ before after sees. sees.looks) c.in-Ok.ensures.sights
+
+pub returns-in-Ok-clause-may_stand : goal.returns-in-Ok-clause-may_stand
+returns-in-Ok-clause-may_stand g c =
+    may_stand_still c.args.pair c.args.replica ((store_seen c.args.self.now).places c.args.volume) ((store_seen c.see_in.new.self).places c.args.volume) c.args.causes (c.in-Ok.ensures.sights).changes c.requires.apart c.requires.may_stand
+
+pub returns-in_ok-cause-in-Err-clause-looks : goal.returns-in_ok-cause-in-Err-clause-looks
+returns-in_ok-cause-in-Err-clause-looks g c =
+    photos_kept c.args.volume (store_seen c.args.self.now) (store_seen c.see_in.new.self) (LooksAtPair c.args.pair) (kept_looks c.args.pair) c.in-Err.ensures.refused_sights.0
+
+pub returns-in_err-cause-in-Err-clause-looks : goal.returns-in_err-cause-in-Err-clause-looks
+returns-in_err-cause-in-Err-clause-looks g c =
+    photos_kept c.args.volume (store_seen c.args.self.now) (store_seen c.see_in.new.self) (LooksAtPair c.args.pair) (kept_looks c.args.pair) c.in-Err.ensures.refused_sights.0
+
+pub returns-in_ok-cause-in-Err-clause-may_stand : goal.returns-in_ok-cause-in-Err-clause-may_stand
+returns-in_ok-cause-in-Err-clause-may_stand g c =
+    let over : PassedReplica = record { replica = c.args.replica; cause = c.in_ok-cause-in-Err.cause } in
+    let kept = c.in-Err.ensures.refused_sights in
+    rw c.push.ensures
+    (may_stand_more (((store_seen c.see_in.new.self).places c.args.volume) c.args.pair) c.args.causes over (kept.0 c.args.volume c.args.pair c.args.replica ∙ kept.1)
+    (may_stand_as (((store_seen c.args.self.now).places c.args.volume) c.args.pair) (((store_seen c.see_in.new.self).places c.args.volume) c.args.pair) c.args.causes (kept.0 c.args.volume c.args.pair) c.requires.may_stand))

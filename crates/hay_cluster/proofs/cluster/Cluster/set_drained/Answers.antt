@@ -1,4 +1,4 @@
-use Rattle.std.proofs.Common.{◌≡◌, ◌≤◌, map, true, false, sym, ap, subst, arith, ◌∙◌}
+use Rattle.std.proofs.Common.{◌≡◌, ◌≤◌, map, true, false, sym, ap, subst, arith}
 use Rattle.std.specs.List.{flat_map}
 use Rattle.hay_legal.specs.Known.{NoneFalls}
 use Rattle.hay_cluster.specs.Store.{Open, disks_of, volume_disks}
@@ -7,11 +7,10 @@ use Rattle.std.specs.Prelude.{slice_set}
 use Rattle.hay_legal.specs.Plain.{with_drain}
 use Rattle.hay_cluster.specs.Parts.{Comes}
 use Rattle.hay_cluster.proofs.Moves.{directory_fuses, in_directory, none_falls}
-use Rattle.hay_cluster.proofs.Pending.{directory_kept}
 use Rattle.hay_cluster.proofs.Leaving.{directory_same}
-use Rattle.hay_cluster.proofs.Closures.{drains_set}
 use Rattle.hay_directory.specs.Seen.{DrainSeen, directory_seen}
 use Rattle.hay_cluster.proofs.Seeing.{directory_moves}
+use Rattle.hay_cluster.proofs.Sighting.{directory_photos}
 use Rattle.hay_cluster.proofs.cluster.Cluster.set_drained.Goals as goal
 
 pub returns-then-is_drained-clause-set : goal.returns-then-is_drained-clause-set
@@ -60,16 +59,6 @@ returns-else-is_drained-clause-fuses g c =
     let store : Open g.row.D.Denot g.row.D-Piece.Denot g.row.A.Denot = record { settings = c.self.inside.settings; directory = c.self.inside.directory; volumes = c.self.inside.volumes.items; arms = c.self.inside.seats.items } in
     directory_fuses g.D.Disk.fuse_count c.args.self.now store c.undrain.new.self c.self.view_is (ap (λ (d : State g.row.D.Denot). g.D.Disk.fuse_count d.disk) c.undrain.ensures.only)
 
-pub returns-then-is_drained-clause-pending : goal.returns-then-is_drained-clause-pending
-returns-then-is_drained-clause-pending g c =
-    let store : Open g.row.D.Denot g.row.D-Piece.Denot g.row.A.Denot = record { settings = c.self.inside.settings; directory = c.self.inside.directory; volumes = c.self.inside.volumes.items; arms = c.self.inside.seats.items } in
-    directory_kept c.args.self.now store c.drain.new.self c.self.view_is (ap (λ (d : State g.row.D.Denot). d.mode) c.drain.ensures.only)
-
-pub returns-else-is_drained-clause-pending : goal.returns-else-is_drained-clause-pending
-returns-else-is_drained-clause-pending g c =
-    let store : Open g.row.D.Denot g.row.D-Piece.Denot g.row.A.Denot = record { settings = c.self.inside.settings; directory = c.self.inside.directory; volumes = c.self.inside.volumes.items; arms = c.self.inside.seats.items } in
-    directory_kept c.args.self.now store c.undrain.new.self c.self.view_is (ap (λ (d : State g.row.D.Denot). d.mode) c.undrain.ensures.only)
-
 pub returns-then-is_drained-clause-disks : goal.returns-then-is_drained-clause-disks
 returns-then-is_drained-clause-disks g c =
     let store : Open g.row.D.Denot g.row.D-Piece.Denot g.row.A.Denot = record { settings = c.self.inside.settings; directory = c.self.inside.directory; volumes = c.self.inside.volumes.items; arms = c.self.inside.seats.items } in
@@ -79,18 +68,6 @@ pub returns-else-is_drained-clause-disks : goal.returns-else-is_drained-clause-d
 returns-else-is_drained-clause-disks g c =
     let store : Open g.row.D.Denot g.row.D-Piece.Denot g.row.A.Denot = record { settings = c.self.inside.settings; directory = c.self.inside.directory; volumes = c.self.inside.volumes.items; arms = c.self.inside.seats.items } in
     directory_same c.args.self.now store c.undrain.new.self c.self.view_is (ap (λ (d : State g.row.D.Denot). d.disk) c.undrain.ensures.only)
-
-pub returns-then-is_drained-clause-closures : goal.returns-then-is_drained-clause-closures
-returns-then-is_drained-clause-closures g c =
-    let store : Open g.row.D.Denot g.row.D-Piece.Denot g.row.A.Denot = record { settings = c.self.inside.settings; directory = c.self.inside.directory; volumes = c.self.inside.volumes.items; arms = c.self.inside.seats.items } in
-    drains_set c.args.self.now store c.drain.new.self c.self.view_is c.args.machine c.args.is_drained
-    (ap (λ (d : State g.row.D.Denot). d.drained) c.drain.ensures.only ∙ ap (λ b. slice_set (store.directory).drained c.args.machine b) (sym c.if-is_drained.true))
-
-pub returns-else-is_drained-clause-closures : goal.returns-else-is_drained-clause-closures
-returns-else-is_drained-clause-closures g c =
-    let store : Open g.row.D.Denot g.row.D-Piece.Denot g.row.A.Denot = record { settings = c.self.inside.settings; directory = c.self.inside.directory; volumes = c.self.inside.volumes.items; arms = c.self.inside.seats.items } in
-    drains_set c.args.self.now store c.undrain.new.self c.self.view_is c.args.machine c.args.is_drained
-    (ap (λ (d : State g.row.D.Denot). d.drained) c.undrain.ensures.only ∙ ap (λ b. slice_set (store.directory).drained c.args.machine b) (sym c.if-is_drained.false))
 
 pub returns-then-is_drained-clause-seen : goal.returns-then-is_drained-clause-seen
 returns-then-is_drained-clause-seen g c =
@@ -103,3 +80,13 @@ returns-else-is_drained-clause-seen g c =
     let store : Open g.row.D.Denot g.row.D-Piece.Denot g.row.A.Denot = record { settings = c.self.inside.settings; directory = c.self.inside.directory; volumes = c.self.inside.volumes.items; arms = c.self.inside.seats.items } in
     directory_moves c.args.self.now store c.self.view_is c.undrain.new.self (DrainSeen c.args.machine c.args.is_drained)
     (subst (λ b. DrainSeen c.args.machine b (directory_seen store.directory) (directory_seen c.undrain.new.self)) (sym c.if-is_drained.false) c.undrain.ensures.seen)
+
+pub returns-then-is_drained-clause-sights : goal.returns-then-is_drained-clause-sights
+returns-then-is_drained-clause-sights g c =
+    let store : Open g.row.D.Denot g.row.D-Piece.Denot g.row.A.Denot = record { settings = c.self.inside.settings; directory = c.self.inside.directory; volumes = c.self.inside.volumes.items; arms = c.self.inside.seats.items } in
+    directory_photos c.args.self.now store c.self.view_is c.drain.new.self
+
+pub returns-else-is_drained-clause-sights : goal.returns-else-is_drained-clause-sights
+returns-else-is_drained-clause-sights g c =
+    let store : Open g.row.D.Denot g.row.D-Piece.Denot g.row.A.Denot = record { settings = c.self.inside.settings; directory = c.self.inside.directory; volumes = c.self.inside.volumes.items; arms = c.self.inside.seats.items } in
+    directory_photos c.args.self.now store c.self.view_is c.undrain.new.self

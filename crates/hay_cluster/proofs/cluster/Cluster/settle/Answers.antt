@@ -1,4 +1,4 @@
-use Rattle.std.proofs.Common.{◌≡◌, ◌++◌, ◌∷◌, [], None, Bool, List, map, sym, ap, subst, ◌∙◌, inl, inr, ◌≢◌, ◌≤◌, ◌^◌, true, arith}
+use Rattle.std.proofs.Common.{◌≡◌, ◌++◌, ◌∷◌, [], None, Bool, List, map, sym, ap, subst, ◌∙◌, inl, inr, ◌≤◌, ◌^◌, arith}
 use Rattle.std.proofs.lemmas.Result.{IfErr-weaker, on_ok_weaker}
 use Rattle.std.proofs.lemmas.Bool.{cases_Bool}
 use Rattle.std.specs.List.{flat_map}
@@ -8,48 +8,17 @@ use Rattle.hay_cluster.specs.Store.{Open, disks_of, volume_disks}
 use Rattle.hay_legal.specs.Known.{home_in, settled, settled_by}
 use Rattle.hay_disk.specs.Disk.{Files}
 use Rattle.hay_legal.specs.declared.known.HomeRow.{HomeRow}
-use Rattle.hay_directory.specs.State.{IsFrozen, IsUp, LeavesMode, State, Stands as DirectoryStands, home_of, is_frozen, unsure_of}
+use Rattle.hay_directory.specs.State.{State, Stands as DirectoryStands, home_of, is_frozen}
 use Rattle.hay_directory.proofs.Standing.{stands_frozen, stands_home}
-use Rattle.std.specs.Prelude.{Result, Ok, Err, IfErr, IsErrOf}
-use Rattle.hay_directory.specs.declared.fault.DirFault.{DirFault}
-use Rattle.hay_directory.specs.declared.fault.DirFault.TheVariants as settling
-use Rattle.hay_directory.specs.declared.mode.Unsure.{Unsure as UnsureRow}
 use Rattle.hay_cluster.specs.Causes.{RoseIn}
-use Rattle.hay_cluster.specs.Pending.{RowLeft, pending_of, line_of_row}
 use Rattle.hay_cluster.specs.State.{Stands}
-use Rattle.hay_cluster.proofs.Moves.{directory_fuses, directory_stood, in_directory, none_falls, with_directory}
-use Rattle.hay_cluster.proofs.Pending.{directory_kept, row_left}
+use Rattle.hay_cluster.proofs.Moves.{directory_fuses, directory_stood, in_directory, none_falls}
 use Rattle.hay_cluster.proofs.Leaving.{directory_leaves, directory_same, directory_adds}
 use Rattle.hay_needle.specs.declared.settings.Settings.{Settings}
-use Rattle.hay_directory.specs.declared.mode.Mode.{Mode}
-use Rattle.hay_directory.specs.declared.mode.Mode.TheVariants.{Closed, Frozen, Open as Serving}
-use Rattle.hay_cluster.proofs.Closures.{drains_kept}
 use Rattle.hay_cluster.proofs.Settling.{AddsOne, row_adds}
 use Rattle.hay_directory.specs.Seen.{SettleRefusedSeen, SettleSeen}
 use Rattle.hay_cluster.proofs.Seeing.{directory_moves}
 use Rattle.hay_cluster.proofs.cluster.Cluster.settle.Goals as goal
-
-refused_row : {D P A T : Type 0} (old store : Open D P A) (after : State D) (row : UnsureRow) (r : Result T DirFault) → store ≡ old → IsUp old.directory
-    → (IsFrozen store.directory → IsErrOf r settling.Frozen) → IfErr r (LeavesMode row (store.directory).mode after.mode) → IfErr r (RowLeft (row.tag).line (pending_of old) (pending_of (with_directory store after)))
-refused_row old store after row (Ok x) is up frozen left = tt
-refused_row old store after row (Err fault) is up frozen left = row_left old store after row fault is up (λ f. let same = frozen f in cc) left
-
-frozen_sure : (mode : Mode) → is_frozen mode ≡ true → line_of_row (unsure_of mode) ≢ None
-frozen_sure (Closed unsure) frozen none = absurd cc
-frozen_sure Serving frozen none = absurd cc
-frozen_sure (Frozen unsure) frozen none = cc
-
-pub returns-clause-settled : goal.returns-clause-settled
-returns-clause-settled g c = λ tells k stands.
-    let store : Open g.row.D.Denot g.row.D-Piece.Denot g.row.A.Denot = record { settings = c.self.inside.settings; directory = c.self.inside.directory; volumes = c.self.inside.volumes.items; arms = c.self.inside.seats.items } in
-    let here = subst (λ (st : Open g.row.D.Denot g.row.D-Piece.Denot g.row.A.Denot). Stands g.D.Disk.files g.D.Piece.Piece.Tells g.D.Disk.fault_count g.D.Disk.fuse_count g.A.Arm.fault_count st k) (sym c.self.view_is) stands in
-    let stood = directory_stood g.D.Disk.files g.D.Piece.Piece.Tells g.D.Disk.fault_count g.D.Disk.fuse_count g.A.Arm.fault_count store k here in
-    let none : home_in k.directory.rows c.args.pair ≡ None = sym (stands_home g.D.Disk.files store.directory k.directory k.drained c.args.pair stood) ∙ ap (λ (st : Open g.row.D.Denot g.row.D-Piece.Denot g.row.A.Denot). home_of st.directory c.args.pair) c.self.view_is ∙ c.requires.homeless in
-    let rows : k.directory.rows ++ record { pair = c.args.pair; volume = c.args.volume } ∷ [] ≡ settled k.directory.rows c.args.pair c.args.volume = ap (settled_by k.directory.rows c.args.pair c.args.volume) (sym none) in
-    on_ok_weaker c.settle.result (λ more.
-    in_directory g.D.Disk.files g.D.Piece.Piece.Tells g.D.Disk.fault_count g.D.Disk.fuse_count g.A.Arm.fault_count c.args.self.now store k c.settle.new.self (record k.directory { rows = settled k.directory.rows c.args.pair c.args.volume }) k.drained c.self.view_is stands c.settle.ensures.settings c.settle.ensures.later c.settle.ensures.fuses
-    (λ _. subst (λ (all : List HomeRow). DirectoryStands g.D.Disk.files c.settle.new.self (record k.directory { rows = all }) k.drained) rows more))
-    (c.settle.ensures.settled tells k.directory k.drained stood)
 
 pub returns-clause-no_memory : goal.returns-clause-no_memory
 returns-clause-no_memory g c = λ tells k stands is.
@@ -103,16 +72,6 @@ returns-clause-fuses g c =
     let store : Open g.row.D.Denot g.row.D-Piece.Denot g.row.A.Denot = record { settings = c.self.inside.settings; directory = c.self.inside.directory; volumes = c.self.inside.volumes.items; arms = c.self.inside.seats.items } in
     directory_fuses g.D.Disk.fuse_count c.args.self.now store c.settle.new.self c.self.view_is c.settle.ensures.fuses
 
-pub returns-clause-settled_pending : goal.returns-clause-settled_pending
-returns-clause-settled_pending g c =
-    let store : Open g.row.D.Denot g.row.D-Piece.Denot g.row.A.Denot = record { settings = c.self.inside.settings; directory = c.self.inside.directory; volumes = c.self.inside.volumes.items; arms = c.self.inside.seats.items } in
-    on_ok_weaker c.settle.result (directory_kept c.args.self.now store c.settle.new.self c.self.view_is) c.settle.ensures.mode
-
-pub returns-clause-refused_pending : goal.returns-clause-refused_pending
-returns-clause-refused_pending g c =
-    let store : Open g.row.D.Denot g.row.D-Piece.Denot g.row.A.Denot = record { settings = c.self.inside.settings; directory = c.self.inside.directory; volumes = c.self.inside.volumes.items; arms = c.self.inside.seats.items } in
-    refused_row c.args.self.now store c.settle.new.self _ c.settle.result c.self.view_is c.requires.up.directory c.settle.ensures.frozen c.settle.ensures.refused_mode
-
 pub returns-clause-replicas : goal.returns-clause-replicas
 returns-clause-replicas g c =
     let store : Open g.row.D.Denot g.row.D-Piece.Denot g.row.A.Denot = record { settings = c.self.inside.settings; directory = c.self.inside.directory; volumes = c.self.inside.volumes.items; arms = c.self.inside.seats.items } in
@@ -125,16 +84,6 @@ returns-clause-refused_frozen g c = λ refused.
 
 pub returns-clause-volumes : goal.returns-clause-volumes
 returns-clause-volumes g c = ap (λ (st : Open g.row.D.Denot g.row.D-Piece.Denot g.row.A.Denot). st.volumes) c.self.view_is
-
-pub returns-clause-closures : goal.returns-clause-closures
-returns-clause-closures g c =
-    let store : Open g.row.D.Denot g.row.D-Piece.Denot g.row.A.Denot = record { settings = c.self.inside.settings; directory = c.self.inside.directory; volumes = c.self.inside.volumes.items; arms = c.self.inside.seats.items } in
-    drains_kept c.args.self.now store c.settle.new.self c.self.view_is c.settle.ensures.drained
-
-pub returns-clause-frozen_pending : goal.returns-clause-frozen_pending
-returns-clause-frozen_pending g c = λ refused.
-    let store : Open g.row.D.Denot g.row.D-Piece.Denot g.row.A.Denot = record { settings = c.self.inside.settings; directory = c.self.inside.directory; volumes = c.self.inside.volumes.items; arms = c.self.inside.seats.items } in
-    subst (λ (st : Open g.row.D.Denot g.row.D-Piece.Denot g.row.A.Denot). (pending_of st).row ≢ None) c.self.view_is (frozen_sure (store.directory).mode (c.settle.ensures.only_frozen refused).0)
 
 pub returns-clause-rows : goal.returns-clause-rows
 returns-clause-rows g c = λ tells.
@@ -159,3 +108,15 @@ returns-clause-refused_seen g c =
     let store : Open g.row.D.Denot g.row.D-Piece.Denot g.row.A.Denot = record { settings = c.self.inside.settings; directory = c.self.inside.directory; volumes = c.self.inside.volumes.items; arms = c.self.inside.seats.items } in
     IfErr-weaker c.settle.result _ _ (λ fault. directory_moves c.args.self.now store c.self.view_is c.settle.new.self
     (λ before after. SettleRefusedSeen c.args.tag c.args.pair c.args.volume before after fault)) c.settle.ensures.refused_seen
+
+pub returns-clause-settled : goal.returns-clause-settled
+returns-clause-settled g c = λ tells k stands.
+    let store : Open g.row.D.Denot g.row.D-Piece.Denot g.row.A.Denot = record { settings = c.self.inside.settings; directory = c.self.inside.directory; volumes = c.self.inside.volumes.items; arms = c.self.inside.seats.items } in
+    let here = subst (λ (st : Open g.row.D.Denot g.row.D-Piece.Denot g.row.A.Denot). Stands g.D.Disk.files g.D.Piece.Piece.Tells g.D.Disk.fault_count g.D.Disk.fuse_count g.A.Arm.fault_count st k) (sym c.self.view_is) stands in
+    let stood = directory_stood g.D.Disk.files g.D.Piece.Piece.Tells g.D.Disk.fault_count g.D.Disk.fuse_count g.A.Arm.fault_count store k here in
+    let none : home_in k.directory.rows c.args.pair ≡ None = sym (stands_home g.D.Disk.files store.directory k.directory k.drained c.args.pair stood) ∙ ap (λ (st : Open g.row.D.Denot g.row.D-Piece.Denot g.row.A.Denot). home_of st.directory c.args.pair) c.self.view_is ∙ c.requires.homeless in
+    let rows : k.directory.rows ++ record { pair = c.args.pair; volume = c.args.volume } ∷ [] ≡ settled k.directory.rows c.args.pair c.args.volume = ap (settled_by k.directory.rows c.args.pair c.args.volume) (sym none) in
+    on_ok_weaker c.settle.result (λ more.
+    in_directory g.D.Disk.files g.D.Piece.Piece.Tells g.D.Disk.fault_count g.D.Disk.fuse_count g.A.Arm.fault_count c.args.self.now store k c.settle.new.self (record k.directory { rows = settled k.directory.rows c.args.pair c.args.volume }) k.drained c.self.view_is stands c.settle.ensures.settings c.settle.ensures.later c.settle.ensures.fuses
+    (λ _. subst (λ (all : List HomeRow). DirectoryStands g.D.Disk.files c.settle.new.self (record k.directory { rows = all }) k.drained) rows more))
+    (c.settle.ensures.settled tells k.directory k.drained stood)

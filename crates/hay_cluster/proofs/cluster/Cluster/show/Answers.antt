@@ -7,13 +7,20 @@ use Rattle.hay_reply.specs.declared.Passed.{Passed}
 use Rattle.hay_reader.specs.declared.causes.PassedReplica.{PassedReplica}
 use Rattle.hay_cluster.specs.declared.reading.Found.{Found}
 use Rattle.hay_cluster.specs.Causes.{Counts, PassedOver}
-use Rattle.hay_cluster.specs.Reads.{FoundNoArm, FoundPasses, FoundSays, IsWhole, PassesNoArm, counts_of, outcomes_of, passed_at}
+use Rattle.hay_cluster.specs.Reads.{FoundNoArm, FoundPasses, FoundSays, IsWhole, PassesNoArm, counts_of, outcomes_of, passed_at, FoundSees}
 use Rattle.hay_cluster.specs.Store.{IsBuilt, Open, disks_of}
 use Rattle.hay_cluster.proofs.Answering.{stays}
 use Rattle.hay_cluster.proofs.Moves.{none_falls}
 use Rattle.hay_cluster.proofs.Showing.{passed_in_order, passed_over, read_shown, read_unreadable, to_below}
 use Rattle.hay_cluster.proofs.Sure.{same_sure, unreadable_told}
 use Rattle.hay_cluster.proofs.Suiting.{on_machine}
+use Rattle.hay_cluster.proofs.Sighting.{keeps_photos, kept_home, looks_home}
+use Rattle.hay_cluster.proofs.ReadSights.{sees_on, told_over}
+use Rattle.hay_cluster.specs.Seen.{home_seen, store_seen}
+use Rattle.hay_cluster.proofs.Seeing.{keeps_all}
+use Rattle.hay_cluster.specs.Sights.{IsAbsent, MayStand, SeesOn}
+use Rattle.hay_logical.specs.Sights.Sight.{Live}
+use Rattle.std.specs.List.{AllByRecursion}
 use Rattle.hay_cluster.proofs.cluster.Cluster.show.Goals as goal
 
 pub returns-in_default-clause-shown : goal.returns-in_default-clause-shown
@@ -183,3 +190,65 @@ returns-in-WrongCookie-clause-shows g c = ((c.requires.home, c.rows-rows.ensures
 
 pub returns-in-Ok-passed_of-clause-shows : goal.returns-in-Ok-passed_of-clause-shows
 returns-in-Ok-passed_of-clause-shows g c = ((c.requires.home, c.rows-rows.ensures.count), c.fetch-front.ensures.front)
+
+pub returns-in_default-clause-seen : goal.returns-in_default-clause-seen
+returns-in_default-clause-seen g c =
+    keeps_all (store_seen c.args.self.now)
+
+pub returns-in_default-clause-sights : goal.returns-in_default-clause-sights
+returns-in_default-clause-sights g c =
+    kept_home c.args.pair (home_seen (store_seen c.args.self.now) c.args.pair) (store_seen c.args.self.now) (store_seen c.args.self.now) (keeps_photos (store_seen c.args.self.now))
+
+pub returns-in-Photo-clause-sights : goal.returns-in-Photo-clause-sights
+returns-in-Photo-clause-sights g c =
+    let same : c.self.inside.settings ≡ (c.args.self.now).settings = ap (λ (st : Open g.row.D.Denot g.row.D-Piece.Denot g.row.A.Denot). st.settings) c.self.view_is ∙ c.fetch-front.ensures.settings in
+    let passes = subst (λ (f : Found). FoundPasses (IsWhole g.D.Disk.Tells g.D.Disk.files g.D.Piece.Piece.Tells g.D.Disk.fault_count g.D.Disk.fuse_count g.A.Arm.fault_count c.args.self.now) (c.args.self.now).settings c.args.tag.lane c.args.volume c.args.start (counts_of g.D.Disk.fault_count g.A.Arm.fault_count c.args.self.now) (counts_of g.D.Disk.fault_count g.A.Arm.fault_count c.fetch-front.new.self) f) c.in-Photo.is c.fetch-front.ensures.passes in
+    let below = to_below (IsWhole g.D.Disk.Tells g.D.Disk.files g.D.Piece.Piece.Tells g.D.Disk.fault_count g.D.Disk.fuse_count g.A.Arm.fault_count c.args.self.now) (c.args.self.now).settings c.args.tag.lane c.args.volume c.args.start (counts_of g.D.Disk.fault_count g.A.Arm.fault_count c.args.self.now) (counts_of g.D.Disk.fault_count g.A.Arm.fault_count c.fetch-front.new.self) [] passes.0 c.in-Photo.replica passes.1 in
+    let seen = subst (λ (f : Found). FoundSees ((store_seen c.fetch-front.new.self).places c.args.volume c.args.pair) f) c.in-Photo.is c.fetch-front.ensures.sees in (
+      c.fetch-front.ensures.looks,
+      sees_on (c.args.self.now).settings c.args.volume c.args.pair (store_seen c.fetch-front.new.self) (subst (λ (s : Settings). IsBuilt s) same c.self.invariant.built) c.requires.volume (λ seen. seen ≡ Live) c.in-Photo.replica c.machine_of.result below
+          (c.machine_of.ensures.is ∙ ap (λ (s : Settings). machine_of s c.args.volume c.in-Photo.replica) same) seen,
+    )
+
+pub returns-in-Gone-clause-sights : goal.returns-in-Gone-clause-sights
+returns-in-Gone-clause-sights g c =
+    let same : c.self.inside.settings ≡ (c.args.self.now).settings = ap (λ (st : Open g.row.D.Denot g.row.D-Piece.Denot g.row.A.Denot). st.settings) c.self.view_is ∙ c.fetch-front.ensures.settings in
+    let passes = subst (λ (f : Found). FoundPasses (IsWhole g.D.Disk.Tells g.D.Disk.files g.D.Piece.Piece.Tells g.D.Disk.fault_count g.D.Disk.fuse_count g.A.Arm.fault_count c.args.self.now) (c.args.self.now).settings c.args.tag.lane c.args.volume c.args.start (counts_of g.D.Disk.fault_count g.A.Arm.fault_count c.args.self.now) (counts_of g.D.Disk.fault_count g.A.Arm.fault_count c.fetch-front.new.self) f) c.in-Gone.is c.fetch-front.ensures.passes in
+    let below = to_below (IsWhole g.D.Disk.Tells g.D.Disk.files g.D.Piece.Piece.Tells g.D.Disk.fault_count g.D.Disk.fuse_count g.A.Arm.fault_count c.args.self.now) (c.args.self.now).settings c.args.tag.lane c.args.volume c.args.start (counts_of g.D.Disk.fault_count g.A.Arm.fault_count c.args.self.now) (counts_of g.D.Disk.fault_count g.A.Arm.fault_count c.fetch-front.new.self) [] passes.0 c.in-Gone.replica passes.1 in
+    let seen = subst (λ (f : Found). FoundSees ((store_seen c.fetch-front.new.self).places c.args.volume c.args.pair) f) c.in-Gone.is c.fetch-front.ensures.sees in (
+      c.fetch-front.ensures.looks,
+      sees_on (c.args.self.now).settings c.args.volume c.args.pair (store_seen c.fetch-front.new.self) (subst (λ (s : Settings). IsBuilt s) same c.self.invariant.built) c.requires.volume IsAbsent c.in-Gone.replica c.machine_of-in-Gone.result below
+          (c.machine_of-in-Gone.ensures.is ∙ ap (λ (s : Settings). machine_of s c.args.volume c.in-Gone.replica) same) seen,
+    )
+
+pub returns-in-WrongCookie-clause-sights : goal.returns-in-WrongCookie-clause-sights
+returns-in-WrongCookie-clause-sights g c =
+    let same : c.self.inside.settings ≡ (c.args.self.now).settings = ap (λ (st : Open g.row.D.Denot g.row.D-Piece.Denot g.row.A.Denot). st.settings) c.self.view_is ∙ c.fetch-front.ensures.settings in
+    let passes = subst (λ (f : Found). FoundPasses (IsWhole g.D.Disk.Tells g.D.Disk.files g.D.Piece.Piece.Tells g.D.Disk.fault_count g.D.Disk.fuse_count g.A.Arm.fault_count c.args.self.now) (c.args.self.now).settings c.args.tag.lane c.args.volume c.args.start (counts_of g.D.Disk.fault_count g.A.Arm.fault_count c.args.self.now) (counts_of g.D.Disk.fault_count g.A.Arm.fault_count c.fetch-front.new.self) f) c.in-WrongCookie.is c.fetch-front.ensures.passes in
+    let below = to_below (IsWhole g.D.Disk.Tells g.D.Disk.files g.D.Piece.Piece.Tells g.D.Disk.fault_count g.D.Disk.fuse_count g.A.Arm.fault_count c.args.self.now) (c.args.self.now).settings c.args.tag.lane c.args.volume c.args.start (counts_of g.D.Disk.fault_count g.A.Arm.fault_count c.args.self.now) (counts_of g.D.Disk.fault_count g.A.Arm.fault_count c.fetch-front.new.self) [] passes.0 c.in-WrongCookie.replica passes.1 in
+    let seen = subst (λ (f : Found). FoundSees ((store_seen c.fetch-front.new.self).places c.args.volume c.args.pair) f) c.in-WrongCookie.is c.fetch-front.ensures.sees in (
+      c.fetch-front.ensures.looks,
+      sees_on (c.args.self.now).settings c.args.volume c.args.pair (store_seen c.fetch-front.new.self) (subst (λ (s : Settings). IsBuilt s) same c.self.invariant.built) c.requires.volume (λ seen. seen ≡ Live) c.in-WrongCookie.replica c.machine_of-in-WrongCookie.result below
+          (c.machine_of-in-WrongCookie.ensures.is ∙ ap (λ (s : Settings). machine_of s c.args.volume c.in-WrongCookie.replica) same) seen,
+    )
+
+pub returns-in-Ok-passed_of-clause-sights : goal.returns-in-Ok-passed_of-clause-sights
+returns-in-Ok-passed_of-clause-sights g c =
+    let same : c.self.inside.settings ≡ (c.args.self.now).settings = ap (λ (st : Open g.row.D.Denot g.row.D-Piece.Denot g.row.A.Denot). st.settings) c.self.view_is ∙ c.fetch-front.ensures.settings in
+    let passes = subst (λ (f : Found). FoundPasses (IsWhole g.D.Disk.Tells g.D.Disk.files g.D.Piece.Piece.Tells g.D.Disk.fault_count g.D.Disk.fuse_count g.A.Arm.fault_count c.args.self.now) (c.args.self.now).settings c.args.tag.lane c.args.volume c.args.start (counts_of g.D.Disk.fault_count g.A.Arm.fault_count c.args.self.now) (counts_of g.D.Disk.fault_count g.A.Arm.fault_count c.fetch-front.new.self) f) c.in-Unreadable.is c.fetch-front.ensures.passes in
+    let is : c.in-Ok-passed_of.causes ≡ map (passed_at (c.args.self.now).settings c.args.volume) c.in-Unreadable.causes =
+    c.in-Ok-passed_of.ensures.is ∙ ap (λ (over : List PassedReplica). map (passed_at c.self.inside.settings c.args.volume) over) c.as_slice.ensures.is
+    ∙ ap (λ (s : Settings). map (passed_at s c.args.volume) c.in-Unreadable.causes) same in
+    let seen = subst (λ (f : Found). FoundSees ((store_seen c.fetch-front.new.self).places c.args.volume c.args.pair) f) c.in-Unreadable.is c.fetch-front.ensures.sees in (
+      c.fetch-front.ensures.looks,
+      subst (λ (all : List Passed). AllByRecursion (λ (passed : Passed). SeesOn (c.args.self.now).settings c.args.volume c.args.pair MayStand (store_seen c.fetch-front.new.self) passed.machine) all) (sym is)
+          (told_over (c.args.self.now).settings c.args.volume c.args.pair (store_seen c.fetch-front.new.self) (subst (λ (s : Settings). IsBuilt s) same c.self.invariant.built) c.requires.volume c.args.start c.in-Unreadable.causes (passes.0).order seen),
+    )
+
+pub returns-in-Unreadable-clause-sights : goal.returns-in-Unreadable-clause-sights
+returns-in-Unreadable-clause-sights g c =
+    looks_home c.args.pair c.args.volume (store_seen c.args.self.now) (store_seen c.fetch-front.new.self) c.requires.home c.fetch-front.ensures.looks
+
+pub returns-clause-sights : goal.returns-clause-sights
+returns-clause-sights g c =
+    looks_home c.args.pair c.args.volume (store_seen c.args.self.now) (store_seen c.fetch-front.new.self) c.requires.home c.fetch-front.ensures.looks

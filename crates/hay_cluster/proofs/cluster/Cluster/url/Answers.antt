@@ -8,6 +8,7 @@ use Rattle.hay_cluster.proofs.Answering.{answered, stays}
 use Rattle.hay_needle.specs.declared.needle.Cookie.{Cookie}
 use Rattle.hay_cluster.specs.Seen.{store_seen}
 use Rattle.hay_cluster.proofs.Seeing.{keeps_all}
+use Rattle.hay_cluster.proofs.Sighting.{keeps_photos}
 use Rattle.hay_cluster.proofs.cluster.Cluster.url.Goals as goal
 
 pub returns-clause-legal : goal.returns-clause-legal
@@ -45,3 +46,11 @@ returns-in_default-clause-seen g c = (keeps_all (store_seen c.args.self.now), (s
 
 pub returns-clause-seen : goal.returns-clause-seen
 returns-clause-seen g c = (keeps_all (store_seen c.args.self.now), (sym c.home.ensures.seen ∙ c.in-Some.is, c.rows-rows.ensures.count))
+
+pub returns-in_default-clause-sights : goal.returns-in_default-clause-sights
+returns-in_default-clause-sights g c =
+    keeps_photos (store_seen c.args.self.now)
+
+pub returns-clause-sights : goal.returns-clause-sights
+returns-clause-sights g c =
+    keeps_photos (store_seen c.args.self.now)

@@ -1,0 +1,170 @@
+-- What a read sees of the photo of a pair.
+use Rattle.std.proofs.Common.{◌≡◌, Bool, ℕ, ◌+◌, ◌%◌, ◌<◌, List, [], ◌∷◌, ◌++◌, length, map, refl, sym, ap, subst, ◌∙◌, arith}
+use Rattle.std.specs.Prelude.{Err, Ok}
+use Rattle.std.specs.List.{AllByRecursion}
+use Rattle.std.proofs.Math.Nat.{mod-lt}
+use Rattle.std.proofs.lemmas.List.{take-append-drop}
+use Rattle.hay_needle.specs.declared.needle.Cookie.{Cookie}
+use Rattle.hay_needle.specs.declared.needle.Pair.{Pair}
+use Rattle.hay_needle.specs.declared.settings.Settings.{Settings}
+use Rattle.hay_map.specs.declared.place.Place.{Place}
+use Rattle.hay_map.specs.declared.place.Place.TheVariants as place
+use Rattle.hay_map.specs.Places.{place_in}
+use Rattle.hay_reply.specs.declared.Cause.{Cause}
+use Rattle.hay_reply.specs.declared.Passed.{Passed}
+use Rattle.hay_legal.specs.Known.{machine_of, replica_on}
+use Rattle.hay_reader.specs.Causes.{ArmUse, ComeFirst, PassesRow, passed_now}
+use Rattle.hay_reader.specs.Shown.{ReadsRow, ShowsRead, reply_at}
+use Rattle.hay_reader.specs.Tried.{IsRead, PlaceGives, ShowsSeen}
+use Rattle.hay_reader.specs.declared.causes.PassedReplica.{PassedReplica}
+use Rattle.hay_reader.specs.declared.seat.ReadReply.{ReadReply}
+use Rattle.hay_reader.specs.declared.seat.ReadReply.TheVariants as read
+use Rattle.hay_reader.specs.declared.trial.Shown.{Shown}
+use Rattle.hay_reader.specs.declared.trial.Shown.TheVariants as shown
+use Rattle.hay_reader.proofs.Passing.{all_weaken}
+use Rattle.hay_logical.specs.Sights.{SeesPair, Sight, Sights, sight}
+use Rattle.hay_logical.specs.Sights.Sight.{Live, Unseen}
+use Rattle.hay_cluster.specs.declared.reading.Found.{Found}
+use Rattle.hay_cluster.specs.Reads.{FoundSees, IsFoundAs, ReadSees, passed_at}
+use Rattle.hay_cluster.specs.Seen.{StoreSeen}
+use Rattle.hay_cluster.specs.Sights.{IsAbsent, MayStand, SeesOn}
+use Rattle.hay_cluster.specs.Store.{IsBuilt}
+use Rattle.hay_cluster.proofs.Machines.{replica_found, same_machine}
+use Rattle.hay_cluster.proofs.Showing.{all_append, all_tried}
+
+-- PLACES
+
+module _ {P : Type 0} (Tells : Type 0) (sure : Bool) (cookie : Cookie) (put : List ℕ) where
+  -- a photo that is shown stands there
+  gives_live : (there : Place P) (what : Shown) → IsRead what → PlaceGives Tells sure cookie put there (Ok what) → sight there ≡ Live
+  gives_live (place.Live needle) what is gives = refl
+  gives_live place.None what is gives = let same : what ≡ shown.Gone = cc in absurd (subst IsRead same is)
+  gives_live place.Gone what is gives = let same : what ≡ shown.Gone = cc in absurd (subst IsRead same is)
+  gives_live (place.Unseen at size) what is gives = let same : what ≡ shown.Unseen = cc in absurd (subst IsRead same is)
+
+  gives_none : (there : Place P) → PlaceGives Tells sure cookie put there (Ok shown.Gone) → IsAbsent (sight there)
+  gives_none (place.Live needle) gives = gives.0
+  gives_none place.None gives = tt
+  gives_none place.Gone gives = tt
+  gives_none (place.Unseen at size) gives = absurd cc
+
+  gives_unseen : (there : Place P) → PlaceGives Tells sure cookie put there (Ok shown.Unseen) → sight there ≡ Unseen
+  gives_unseen (place.Live needle) gives = absurd gives.0
+  gives_unseen place.None gives = absurd cc
+  gives_unseen place.Gone gives = absurd cc
+  gives_unseen (place.Unseen at size) gives = refl
+
+  -- and one that was passed over may
+  gives_cause : (there : Place P) (cause : Cause) → PlaceGives Tells sure cookie put there (Err cause) → MayStand (sight there)
+  gives_cause (place.Live needle) cause gives = tt
+  gives_cause place.None cause gives = absurd cc
+  gives_cause place.Gone cause gives = absurd cc
+  gives_cause (place.Unseen at size) cause gives = absurd cc
+
+-- ROWS
+
+module _ {P : Type 0} (Tells : Type 0) (arm : ArmUse) (start : ℕ) (row : List (Place P)) (cookie : Cookie) (passed : List PassedReplica) where
+  abbrev Stands : PassedReplica → Type 0
+  Stands over = MayStand (sight (place_in row over.replica))
+
+  row_over : (causes : List PassedReplica) → AllByRecursion Stands passed → PassesRow Tells arm start row cookie passed causes → AllByRecursion Stands causes
+  row_over causes before h =
+      let now : List PassedReplica = passed_now passed causes in
+      let parts : causes ≡ passed ++ now = sym (take-append-drop (length passed) causes) ∙ ap (λ (xs : List PassedReplica). xs ++ now) (h.passes).begins in
+      subst (λ (xs : List PassedReplica). AllByRecursion Stands xs) (sym parts)
+      (all_append Stands passed now before
+      (all_weaken (λ over. PlaceGives Tells arm.sure cookie [] (place_in row over.replica) (Err over.cause)) Stands
+      (λ over gives. gives_cause Tells arm.sure cookie [] (place_in row over.replica) over.cause gives) now h.places))
+
+  pub row_sees : (put : List ℕ) (reply : ReadReply) → AllByRecursion Stands passed → ReadsRow Tells arm start row cookie passed put reply → ReadSees (λ j. sight (place_in row j)) reply
+  row_sees put (read.Photo j) before h = gives_live Tells arm.sure cookie put (place_in row j) shown.Photo tt h.1.gives
+  row_sees put (read.Gone j) before h = gives_none Tells arm.sure cookie put (place_in row j) h.1.gives
+  row_sees put (read.WrongCookie j) before h = gives_live Tells arm.sure cookie put (place_in row j) shown.WrongCookie tt h.1.gives
+  row_sees put (read.Unseen j causes) before h = (gives_unseen Tells arm.sure cookie put (place_in row j) h.gives, row_over causes before h.before)
+  row_sees put (read.Unreadable causes) before h = row_over causes before h.0
+
+module _ {P : Type 0} (row : List (Place P)) (cookie : Cookie) (passed : List PassedReplica) where
+  -- what was read to see the place of the next replica shows it
+  shown_at : (put bytes : List ℕ) (j : ℕ) (there : Place P) (what : Shown) → sight (place_in row j) ≡ sight there → ShowsSeen cookie put bytes there what
+      → ReadSees (λ i. sight (place_in row i)) (reply_at j passed what)
+  shown_at put bytes j (place.Live needle) shown.Photo same h = same
+  shown_at put bytes j (place.Live needle) shown.WrongCookie same h = same
+  shown_at put bytes j (place.Live needle) shown.Gone same h = absurd h
+  shown_at put bytes j (place.Live needle) shown.Unseen same h = absurd h
+  shown_at put bytes j place.None what same h =
+      subst (λ (w : Shown). ReadSees (λ i. sight (place_in row i)) (reply_at j passed w)) (sym h) (subst IsAbsent (sym same) tt)
+  shown_at put bytes j place.Gone what same h =
+      subst (λ (w : Shown). ReadSees (λ i. sight (place_in row i)) (reply_at j passed w)) (sym h) (subst IsAbsent (sym same) tt)
+  shown_at put bytes j (place.Unseen at size) what same h = absurd h
+
+  pub shown_sees : (put bytes : List ℕ) (j : ℕ) (reply : ReadReply) → ShowsRead cookie put bytes passed j (place_in row j) reply → ReadSees (λ i. sight (place_in row i)) reply
+  shown_sees put bytes j reply h =
+      subst (λ (r : ReadReply). ReadSees (λ i. sight (place_in row i)) r) (sym h.2) (shown_at put bytes j (place_in row j) h.0 refl h.1)
+
+-- by what is seen of the volume that has the row
+pub sees_in : {P : Type 0} (row now : List (Place P)) (seen : ℕ → Sight) (reply : ReadReply) → row ≡ now → ((j : ℕ) → seen j ≡ sight (place_in now j)) → ReadSees (λ j. sight (place_in row j)) reply
+    → ReadSees seen reply
+sees_in {P} row now seen reply is same sees = go reply sees
+  where
+    here : (j : ℕ) → sight (place_in row j) ≡ seen j
+    here j = ap (λ (l : List (Place P)). sight (place_in l j)) is ∙ sym (same j)
+
+    over : (causes : List PassedReplica) → AllByRecursion (λ p. MayStand (sight (place_in row p.replica))) causes → AllByRecursion (λ p. MayStand (seen p.replica)) causes
+    over causes all = all_weaken (λ p. MayStand (sight (place_in row p.replica))) (λ p. MayStand (seen p.replica)) (λ p may. subst MayStand (here p.replica) may) causes all
+
+    go : (r : ReadReply) → ReadSees (λ j. sight (place_in row j)) r → ReadSees seen r
+    go (read.Photo j) s = sym (here j) ∙ s
+    go (read.Gone j) s = subst IsAbsent (here j) s
+    go (read.WrongCookie j) s = sym (here j) ∙ s
+    go (read.Unseen j causes) s = (sym (here j) ∙ s.0, over causes s.1)
+    go (read.Unreadable causes) s = over causes s
+
+-- REPLICAS THAT WERE PASSED OVER
+
+pub may_stand_as : (seen now : ℕ → Sight) (causes : List PassedReplica) → ((j : ℕ) → now j ≡ seen j) → AllByRecursion (λ over. MayStand (seen over.replica)) causes
+    → AllByRecursion (λ over. MayStand (now over.replica)) causes
+may_stand_as seen now causes same all =
+    all_weaken (λ over. MayStand (seen over.replica)) (λ over. MayStand (now over.replica)) (λ over may. subst MayStand (sym (same over.replica)) may) causes all
+
+-- the place of another replica was looked at
+pub may_stand_still : (pair : Pair) (replica : ℕ) (old new : Sights) (causes : List PassedReplica) → SeesPair pair replica old new → AllByRecursion (λ over. over.replica ≡ replica → ⊥) causes
+    → AllByRecursion (λ over. MayStand (old pair over.replica)) causes → AllByRecursion (λ over. MayStand (new pair over.replica)) causes
+may_stand_still pair replica old new [] sees apart all = tt
+may_stand_still pair replica old new (over ∷ causes) sees apart all =
+    (subst MayStand (sym (sees.others over.replica apart.0)) all.0, may_stand_still pair replica old new causes sees apart.1 all.1)
+
+-- one more, which was not seen
+pub may_stand_more : (seen : ℕ → Sight) (causes : List PassedReplica) (over : PassedReplica) → seen over.replica ≡ Unseen → AllByRecursion (λ p. MayStand (seen p.replica)) causes
+    → AllByRecursion (λ p. MayStand (seen p.replica)) (causes ++ over ∷ [])
+may_stand_more seen causes over unseen all = all_append (λ p. MayStand (seen p.replica)) causes (over ∷ []) all (subst MayStand (sym unseen) tt, tt)
+
+-- the next replica is none of those before it
+pub next_apart : (settings : Settings) (start : ℕ) (causes : List PassedReplica) (replica : ℕ) → ComeFirst start settings.replicas causes → length causes < settings.replicas
+    → replica ≡ (start + length causes) % settings.replicas → AllByRecursion (λ over. over.replica ≡ replica → ⊥) causes
+next_apart settings start causes replica order fewer next =
+    all_tried (λ j. j ≡ replica → ⊥) (λ i. (start + i) % settings.replicas) (length causes) 0
+    (λ i low high eq. let e : i ≡ length causes = same_machine settings.replicas start i (length causes) (omega (arith, high, fewer)) fewer (eq ∙ next) in omega (arith, e, high)) causes order
+
+-- WHAT IS TOLD
+
+pub found_sees : (seen : ℕ → Sight) (r : ReadReply) (f : Found) → IsFoundAs r f → ReadSees seen r → FoundSees seen f
+found_sees seen (read.Photo j) f is sees = subst (λ (x : Found). FoundSees seen x) (sym is) sees
+found_sees seen (read.Gone j) f is sees = subst (λ (x : Found). FoundSees seen x) (sym is) sees
+found_sees seen (read.WrongCookie j) f is sees = subst (λ (x : Found). FoundSees seen x) (sym is) sees
+found_sees seen (read.Unseen j causes) f is sees = absurd is
+found_sees seen (read.Unreadable causes) f is sees = subst (λ (x : Found). FoundSees seen x) (sym is) sees
+
+module _ (settings : Settings) (v : ℕ) (pair : Pair) (seen : StoreSeen) (built : IsBuilt settings) (volume : v < settings.volumes) where
+  pub sees_on : (Is : Sight → Type 0) (j m : ℕ) → j < settings.replicas → m ≡ machine_of settings v j → Is (seen.places v pair j) → SeesOn settings v pair Is seen m
+  sees_on Is j m below machine is = (j, ap (λ n. replica_on settings v n) machine ∙ replica_found settings v j volume below built.no_more_replicas, is)
+
+  told_each : (over : List PassedReplica) → AllByRecursion (λ p. p.replica < settings.replicas) over → AllByRecursion (λ p. MayStand (seen.places v pair p.replica)) over
+      → AllByRecursion (λ (passed : Passed). SeesOn settings v pair MayStand seen passed.machine) (map (passed_at settings v) over)
+  told_each [] below all = tt
+  told_each (p ∷ over) below all = (sees_on MayStand p.replica (machine_of settings v p.replica) below.0 refl all.0, told_each over below.1 all.1)
+
+  -- each that was passed over, by its machine
+  pub told_over : (start : ℕ) (over : List PassedReplica) → ComeFirst start settings.replicas over → AllByRecursion (λ p. MayStand (seen.places v pair p.replica)) over
+      → AllByRecursion (λ (passed : Passed). SeesOn settings v pair MayStand seen passed.machine) (map (passed_at settings v) over)
+  told_over start over order all =
+      told_each over (all_tried (λ j. j < settings.replicas) (λ i. (start + i) % settings.replicas) (length over) 0 (λ i low high. let some = built.some_replicas in mod-lt (start + i) (omega (arith, some))) over order) all
