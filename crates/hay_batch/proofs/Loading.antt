@@ -22,7 +22,7 @@ use Rattle.hay_batch.specs.Batches.{batch_total, new_cells, new_row}
 use Rattle.hay_batch.specs.Directories as directories
 use Rattle.hay_batch.specs.Directories.{HoldsRows}
 use Rattle.hay_batch.specs.Replicas.{Adds, At, HasWithOrWithout, Holds, MayAdd, file_of, IsReady}
-use Rattle.hay_batch.specs.Stores.{AreContents, AreWithoutRows, Contents, FailsReplica, Images, IsReadyStore, IsShaped, KeepsFiles, MayLeaveStore, ReplicaAt, Stands, with_batch}
+use Rattle.hay_batch.specs.Stores.{AreContents, AreWithoutRows, Contents, FailsReplica, Images, IsReadyStore, IsShaped, KeepsFiles, LeavesWithOrWithout, MayLeaveStore, ReplicaAt, Stands, with_batch}
 use Rattle.hay_batch.proofs.Lists.{at_below, at_same, at_there}
 use Rattle.hay_batch.proofs.RowRuns.{journal_kept}
 
@@ -109,10 +109,9 @@ module _ {D : Type 0} (files : D → Files) (v : ℕ) (photos : List NewPhoto) (
         subst (λ n. IsVolume (k.superblocks u j) (left.volumes u j) (k.cells u j) n) has.1 (held_image files (k.superblocks u j) (k.cells u j) is.0 (left.volumes u j) has.0 (leaves u j is.0 is.1))
 
     -- where the batch may have been added to some
-    pub left_without_rows : ((j : ℕ) (r r' : LoadReplica D) → ReplicaAt old v j r → ReplicaAt new v j r' → MayAdd files photos r r') → IsJournal k.superblock old.settings.volumes left.journal k.rows → AreWithoutRows old.settings photos k left
+    pub left_without_rows : ((j : ℕ) (r r' : LoadReplica D) → ReplicaAt old v j r → ReplicaAt new v j r' → MayAdd files photos r r') → IsJournal k.superblock old.settings.volumes left.journal k.rows → AreWithoutRows old.settings v photos k left
     unfolding before after image_other
     left_without_rows may rows = record {
-      volume = v;
       rows = rows;
       others = λ u j apart below within. image_other u j apart below within;
       cells = λ u j below within. elim (eqb_tells u v) [
@@ -167,10 +166,9 @@ module _ {D : Type 0} (files : D → Files) (v : ℕ) (photos : List NewPhoto) (
 
       -- whatever a stop leaves has all of it, or no row of it
       pub left_all_or_no_rows : (IsJournal k.superblock old.settings.volumes left.journal k.rows ⊎ IsJournal k.superblock old.settings.volumes left.journal (k.rows ++ map (new_row v) photos))
-          → AreWithoutRows old.settings photos k left ⊎ AreContents old.settings (with_batch v photos k) left
+          → LeavesWithOrWithout old.settings v photos k left
       unfolding image_other image_added cells_here cells_there ends_here ends_there
       left_all_or_no_rows (inl rows) = inl (record {
-        volume = v;
         rows = rows;
         others = λ u j apart below within. image_other left leaves u j apart below within;
         cells = λ u j below within. elim (eqb_tells u v) [
@@ -209,18 +207,15 @@ pub rows_kept : {D : Type 0} (files : D → Files) (superblock : List ℕ) (volu
 rows_kept files superblock volumes rows d image has leaves = journal_kept superblock volumes (files d.disk 0) image rows d.journal.end has.end has.ready has.is (λ k from to. has.solid.places k) leaves
 
 -- where nothing was changed, a stop leaves what there was
-pub left_same : {D : Type 0} (files : D → Files) (photos : List NewPhoto) (k : Contents) (store : LoadStore D) (left : Images) → IsShaped store → Stands files store k → MayLeaveStore files store left → AreWithoutRows store.settings photos k left
-left_same files photos k store left shape stands leaves =
-    let has : (u j : ℕ) → u < store.settings.volumes → j < store.settings.replicas → IsVolume (k.superblocks u j) (left.volumes u j) (k.cells u j) (k.ends u j) = λ u j below within.
-    let is = replica_there store u j shape below within in
-    subst (λ n. IsVolume (k.superblocks u j) (left.volumes u j) (k.cells u j) n) (stands.ends u j is.0 is.1)
-    (held_image files (k.superblocks u j) (k.cells u j) is.0 (left.volumes u j) (stands.replicas u j is.0 is.1) (leaves.volumes u j is.0 is.1)) in
-    record {
-      volume = 0;
-      rows = rows_kept files k.superblock store.settings.volumes k.rows store.directory left.journal stands.directory leaves.journal;
-      cells = λ u j below within. inl (has u j below within);
-      others = λ u j apart below within. has u j below within;
-    }
+pub left_same : {D : Type 0} (files : D → Files) (k : Contents) (store : LoadStore D) (left : Images) → IsShaped store → Stands files store k → MayLeaveStore files store left
+    → AreContents store.settings k left
+left_same files k store left shape stands leaves = record {
+  rows = rows_kept files k.superblock store.settings.volumes k.rows store.directory left.journal stands.directory leaves.journal;
+  cells = λ u j below within.
+      let is = replica_there store u j shape below within in
+      subst (λ n. IsVolume (k.superblocks u j) (left.volumes u j) (k.cells u j) n) (stands.ends u j is.0 is.1)
+      (held_image files (k.superblocks u j) (k.cells u j) is.0 (left.volumes u j) (stands.replicas u j is.0 is.1) (leaves.volumes u j is.0 is.1));
+}
 
 -- OTHER FILES
 
@@ -269,9 +264,9 @@ refused_is AppendFault.NoMemory answer slot faults base failed wanting is = let 
 
 pub fails_replica : {D : Type 0} (fault_count : D → ℕ) (v j slot faults : ℕ) (old new : LoadStore D) → Touches v old new → v < old.settings.volumes → slot ≡ 1 + v * old.settings.replicas + j
     → (j < old.settings.replicas) × ((r r' : LoadReplica D) → ReplicaAt old v j r → ReplicaAt new v j r' → Rose (fault_count r.disk) (fault_count r'.disk) × (faults ≡ fault_count r'.disk))
-    → FailsReplica fault_count old new slot faults
+    → FailsReplica fault_count v old new slot faults
 fails_replica fault_count v j slot faults old new touched below place failed =
     let was = replica_there old v j touched.was below failed.0 in
     let is = replica_there new v j touched.is (subst (λ (s : Settings). v < s.volumes) (sym touched.settings) below) (subst (λ (s : Settings). j < s.replicas) (sym touched.settings) failed.0) in
     let rose = failed.1 was.0 is.0 was.1 is.1 in
-    record { v = v; j = j; before = was.0; after = is.0; was = was.1; is = is.1; place = place; rose = rose.0; count = rose.1 }
+    record { j = j; before = was.0; after = is.0; was = was.1; is = is.1; place = place; rose = rose.0; count = rose.1 }

@@ -31,7 +31,7 @@ use Rattle.hay_batch.specs.Homes.{AreHomes}
 use Rattle.hay_batch.specs.Faults.{not_opened, of_journal}
 use Rattle.hay_batch.specs.Openings.{directory_of, journal_super}
 use Rattle.hay_batch.specs.Replicas.{At, Holds, IsReady}
-use Rattle.hay_batch.specs.Shelves.{EachDisk, IsDamagedDisk, IsLeft, IsLimited, IsOpenAs, IsUndamagedBelow, OpensRows, OpensSlot, OpensStore, StandsAs, StoredStore, contents_of, disk_count, place_super, reads_of, replica_super, slot_of}
+use Rattle.hay_batch.specs.Shelves.{AreSoundBelow, EachDisk, IsDamagedDisk, IsLeft, IsLimited, IsOpenAs, IsUndamagedBelow, OpensRows, OpensSlot, OpensStore, StandsAs, StoredStore, contents_of, disk_count, place_super, reads_of, replica_super, slot_of}
 use Rattle.hay_batch.specs.Slots.{IsAtRest, IsSound, IsSoundJournal, MovesDisks, OpensDisks, OpensFile, OpensJournal, RefusesBehind, RefusesDisks, RefusesFirst}
 use Rattle.hay_batch.specs.Stores.{IsReadyStore, IsShaped, ReplicaAt, Stands}
 use Rattle.hay_batch.proofs.Lists.{at_below, at_there}
@@ -295,24 +295,42 @@ module _ {D : Type 0} (Tells : Type 0) (files : D → Files) (drawn : D → ℕ 
               (others i d.0 d'.0 (omega (arith, below)) d.1 d'.1).behind file at (subst (λ (c : ℕ → List ℕ). IsOpeningDamage (place_super settings i) c file at) (sym (gives_at tells (i + 1) d'.0 d'.1)) damage)),
         )
 
+    -- and they are formatted
+    lower_formatted : (place : ℕ) → Tells → place + 1 < disk_count settings → ((d d' : D) → At old 0 d → At new 0 d' → IsSoundJournal files settings d d')
+        → ((i : ℕ) (d d' : D) → i < place → At old (i + 1) d → At new (i + 1) d' → IsSound files (place_super settings i) d d')
+        → (slot : ℕ) → slot < place + 1 → IsVoid (reads_of given slot) → ⊥
+    unfolding gives_at is_at
+    lower_formatted place tells most first others zero below void =
+        let d = at_there old 0 (omega (arith, count)) in
+        let d' = is_at 0 (omega arith) in
+        (first d.0 d'.0 d.1 d'.1).formatted (ap (λ (c : ℕ → List ℕ). c 0) (gives_at tells 0 d'.0 d'.1) ∙ void)
+    lower_formatted place tells most first others (suc i) below void =
+        let low : i + 1 < disk_count settings = omega (arith, below, most) in
+        let next : suc i ≡ i + 1 = omega arith in
+        let d = at_there old (i + 1) (omega (arith, low, count)) in
+        let d' = is_at (i + 1) low in
+        (others i d.0 d'.0 (omega (arith, below)) d.1 d'.1).formatted (ap (λ (c : ℕ → List ℕ). c 0) (gives_at tells (i + 1) d'.0 d'.1) ∙ subst (λ (n : ℕ). IsVoid (reads_of given n)) next void)
+
     -- what is told of a disk that failed
     pub record FailedIn (slot n : ℕ) : Type 0 where
       pub within : slot < disk_count settings
       pub rose : Rose (held slot).fault_count (given slot).fault_count
       pub is : n ≡ (given slot).fault_count
       pub lowest : Tells → IsUndamagedBelow settings slot (reads_of held)
+      pub sound : Tells → AreSoundBelow settings slot (reads_of given)
 
     -- and of one that is damaged
     pub record DamagedIn (slot file at : ℕ) : Type 0 where
       pub within : slot < disk_count settings
       pub before : Tells → IsDamagedDisk settings (reads_of held) slot file at
       pub behind : Tells → IsDamagedDisk settings (reads_of given) slot file at
+      pub sound : Tells → AreSoundBelow settings slot (reads_of given)
 
     behind_within : (place : ℕ) (d : D) → At old (place + 1) d → place + 1 < disk_count settings
     behind_within place d at = let below = at_below old (place + 1) d at in omega (arith, below, count)
 
     failed_behind : (told : LoadOpenFault) (place n : ℕ) → RefusesBehind Tells files faults fuses settings old new told → told ≡ Open place (opening.Failed n) → FailedIn place n
-    unfolding rose_at lower_sound behind_within
+    unfolding rose_at lower_sound lower_formatted behind_within
     failed_behind told slot n b is =
         let one = b.one in
         let e = file_failed (one.place + 1) slot n one.fault (sym one.tells ∙ is) in
@@ -323,6 +341,10 @@ module _ {D : Type 0} (Tells : Type 0) (files : D → Files) (drawn : D → ℕ 
           rose = rises.0;
           is = rises.1;
           lowest = λ tells. (lower_sound one.place tells low (b.first tells) (one.earlier tells)).0;
+          sound = λ tells. record {
+            formatted = lower_formatted one.place tells low (b.first tells) (one.earlier tells);
+            undamaged = (lower_sound one.place tells low (b.first tells) (one.earlier tells)).1;
+          };
         })
 
     failed_first : (told : LoadOpenFault) (slot n : ℕ) → RefusesFirst Tells files faults fuses settings old new told → told ≡ Open slot (opening.Failed n) → FailedIn slot n
@@ -330,7 +352,16 @@ module _ {D : Type 0} (Tells : Type 0) (files : D → Files) (drawn : D → ℕ 
     failed_first told slot n f is =
         let e = file_failed 0 slot n (of_journal f.fault) (sym f.tells ∙ is) in
         let rises = rose_at 0 n f.before f.after f.was f.is (f.refused.failed n (journal_failed n f.fault e.1)) in
-        subst (λ k. FailedIn k n) e.0 (record { within = omega arith; rose = rises.0; is = rises.1; lowest = λ tells slot' file at below. absurd (omega (arith, below)) })
+        subst (λ k. FailedIn k n) e.0 (record {
+          within = omega arith;
+          rose = rises.0;
+          is = rises.1;
+          lowest = λ tells slot' file at below. absurd (omega (arith, below));
+          sound = λ tells. record {
+            formatted = λ slot' below. absurd (omega (arith, below));
+            undamaged = λ slot' file' at' below. absurd (omega (arith, below));
+          };
+        })
 
     pub refused_failed : (told : LoadOpenFault) (slot n : ℕ) → RefusesDisks Tells files faults fuses settings old new told → told ≡ Open slot (opening.Failed n) → FailedIn slot n
     unfolding failed_behind failed_first
@@ -339,7 +370,7 @@ module _ {D : Type 0} (Tells : Type 0) (files : D → Files) (drawn : D → ℕ 
     refused_failed told slot n (inr (inr b)) is = failed_behind told slot n b is
 
     damaged_behind : (told : LoadOpenFault) (slot file at : ℕ) → RefusesBehind Tells files faults fuses settings old new told → told ≡ Open slot (opening.Damaged file at) → DamagedIn slot file at
-    unfolding reads_at gives_at lower_sound behind_within
+    unfolding reads_at gives_at lower_sound lower_formatted behind_within
     damaged_behind told slot file at b is =
         let one = b.one in
         let e = file_damaged (one.place + 1) slot file at one.fault (sym one.tells ∙ is) in
@@ -359,6 +390,10 @@ module _ {D : Type 0} (Tells : Type 0) (files : D → Files) (drawn : D → ℕ 
               (subst (λ (c : ℕ → List ℕ). IsOpeningDamage (place_super settings one.place) c file at) same damage)
               (λ s opens. one.refused.only tells file at e.1 s (subst (λ (c : ℕ → List ℕ). OpensAs (place_super settings one.place) c s) (sym same) opens))
               (lower_sound one.place tells low (b.first tells) (one.earlier tells)).1;
+          sound = λ tells. record {
+            formatted = lower_formatted one.place tells low (b.first tells) (one.earlier tells);
+            undamaged = (lower_sound one.place tells low (b.first tells) (one.earlier tells)).1;
+          };
         })
 
     damaged_front : (told : LoadOpenFault) (slot file at : ℕ) → RefusesFirst Tells files faults fuses settings old new told → told ≡ Open slot (opening.Damaged file at) → DamagedIn slot file at
@@ -378,6 +413,10 @@ module _ {D : Type 0} (Tells : Type 0) (files : D → Files) (drawn : D → ℕ 
               let same : (files f.before 0).now ≡ reads_of given 0 0 = sym (ap (λ (x : Files). (x 0).now) (f.refused.disk.same tells damage.1)) ∙ ap (λ (c : ℕ → List ℕ). c 0) (gives_at tells 0 f.after f.is) in
               damaged_first settings (reads_of given) file at damage.0 (subst (λ (l : List ℕ). IsDamagedJournal (journal_super settings) l at) same damage.2)
               (λ rows opens. f.refused.only tells file at fault rows (subst (λ (l : List ℕ). OpensRows settings l rows) (sym same) opens));
+          sound = λ tells. record {
+            formatted = λ slot' below. absurd (omega (arith, below));
+            undamaged = λ slot' file' at' below. absurd (omega (arith, below));
+          };
         })
 
     pub refused_damaged : (told : LoadOpenFault) (slot file at : ℕ) → RefusesDisks Tells files faults fuses settings old new told → told ≡ Open slot (opening.Damaged file at) → DamagedIn slot file at

@@ -1,5 +1,5 @@
 -- What was opened, as what a store holds.
-use Rattle.std.proofs.Common.{◌≡◌, List, [], ℕ, length, ap, subst, ◌∙◌}
+use Rattle.std.proofs.Common.{◌≡◌, inl, List, [], ◌∷◌, ℕ, length, refl, sym, ap, subst, ◌∙◌}
 use Rattle.std.specs.Option.{option_or}
 use Rattle.hay_needle.specs.declared.needle.Pair.{Pair}
 use Rattle.hay_needle.specs.declared.settings.Settings.{Settings}
@@ -10,7 +10,8 @@ use Rattle.hay_dirfile.specs.Journal.{IsJournal, journal_end}
 use Rattle.hay_dirfile.specs.declared.row.DirRow.{DirRow}
 use Rattle.hay_open.specs.declared.opened.Opened.{Opened}
 use Rattle.hay_open.specs.Finds.{OpenedAs}
-use Rattle.hay_open.specs.Stored.{Stored}
+use Rattle.hay_open.specs.Stored.{IsVoid, OpensAs, Stored, fresh_stored}
+use Rattle.hay_open.proofs.Standing.{stored_not_void}
 use Rattle.hay_batch.specs.declared.opening.OpenJournal.{OpenJournal}
 use Rattle.hay_batch.specs.Directories.{HoldsRows}
 use Rattle.hay_batch.specs.Directories as directories
@@ -29,6 +30,20 @@ opened_as {D} files disk sup s opened has = record {
   };
   volume = has.volume;
 }
+
+-- and its disk is formatted
+module _ {D P : Type 0} (files : D → Files) (old new : D) (sup : Super) (opened : Opened P) (kept : (IsVoid (λ n. (files old n).now) → ⊥) → (n : ℕ) → (files new n).now ≡ (files old n).now)
+    (opens : (s : Stored) → OpensAs sup (λ n. (files old n).now) s → OpenedAs sup (files new) opened s) (void : IsVoid (λ n. (files new n).now)) where
+  void_by : (head : List ℕ) → (files old 0).now ≡ head → ⊥
+  unfolding OpensAs
+  void_by [] is = stored_not_void sup (λ n. (files new n).now) fresh_stored (opened_as files new sup fresh_stored opened (opens fresh_stored (inl (is, refl)))).rests.is void
+  void_by (byte ∷ bytes) is =
+      let some : IsVoid (λ n. (files old n).now) → ⊥ = λ none. (let both : byte ∷ bytes ≡ [] = sym is ∙ none in absurd cc) in
+      some (sym (kept some 0) ∙ void)
+
+  pub opened_formatted : ⊥
+  unfolding void_by
+  opened_formatted = void_by (files old 0).now refl
 
 pub homes_are : (old new : List ((ℕ × ℕ) × ℕ)) (rows : List DirRow) → old ≡ [] → ((pair : Pair) → home_among new pair ≡ option_or (home_among old pair) (home_in rows pair)) → AreHomes new rows
 homes_are old new rows none adds = record { are = λ pair. adds pair ∙ ap (λ (l : List ((ℕ × ℕ) × ℕ)). option_or (home_among l pair) (home_in rows pair)) none }

@@ -1,16 +1,18 @@
 -- A store that a batch is loaded to.
-use Rattle.std.proofs.Common.{◌≡◌, ◌≢◌, inl, inr, ◌<◌, ◌≤◌, ◌+◌, ◌%◌, ℕ, List, [], ◌∷◌, ◌++◌, Result, Ok, Err, length, get_or, take, drop, refl, sym, ap, subst, ◌∙◌, arith, length-append, append-nil}
+use Rattle.std.proofs.Common.{◌≡◌, ◌≢◌, inl, inr, ◌<◌, ◌≤◌, ◌+◌, ◌%◌, ℕ, List, [], ◌∷◌, ◌++◌, Result, Ok, Err, All, length, get_or, take, drop, refl, sym, ap, subst, ◌∙◌, arith, length-append, append-nil}
 use Rattle.std.specs.Prelude.{IfErr, IfOk, OnOk, slice_set}
 use Rattle.std.specs.Vec.{with_item, with_items}
 use Rattle.std.proofs.lemmas.Bool.{cases_eq}
 use Rattle.std.proofs.lemmas.List.{drop_all, take_all}
 use Rattle.hay_needle.specs.declared.settings.Settings.{Settings}
 use Rattle.hay_batch.specs.declared.fault.FullTry.{FullTry}
+use Rattle.hay_batch.specs.declared.photo.NewPhoto.{NewPhoto}
 use Rattle.hay_batch.specs.declared.replica.LoadReplica.{LoadReplica}
 use Rattle.hay_batch.specs.declared.store.LoadStore.{LoadStore}
 use Rattle.hay_batch.specs.declared.store.LoadVolume.{LoadVolume}
+use Rattle.hay_batch.specs.Batches.{batch_total}
 use Rattle.hay_batch.specs.Replicas.{At, HasRoom, IsFirstFull}
-use Rattle.hay_batch.specs.Stores.{AreTries, IsFirstRoom, IsShaped, IsTry, KeepsCounts, ReplicaAt, try_at}
+use Rattle.hay_batch.specs.Stores.{AreTries, IsFirstRoom, IsShaped, IsTargetOf, IsTry, KeepsCounts, ReplicaAt, try_at}
 use Rattle.hay_batch.proofs.Lists.{at_below, at_either, at_read, at_same, at_set_other, at_set_same, length-slice_set}
 
 -- TRIES
@@ -52,6 +54,12 @@ first_room store key other need total volume same much first room = record {
   before = same_tries store key other need total first.0 first.2 same much first.3;
   room = λ j r there. subst (λ n. HasRoom n r) much (room there.0 there.1 j r there.2);
 }
+
+-- so it is of a batch, by the key of its first photo
+pub target_of : {D : Type 0} (store : LoadStore D) (photos : List NewPhoto) (key need volume : ℕ) → ((other : ℕ) → All (λ (photo : NewPhoto). photo.pair.key ≡ other) photos → key ≡ other)
+    → need ≡ batch_total photos → (turn : ℕ) × (volume ≡ try_at store.settings key turn) × (tries : List FullTry) × AreTries store key need turn tries
+    → ((w : LoadVolume D) → At store.volumes.items volume w → (j : ℕ) (r : LoadReplica D) → At w.replicas.items j r → HasRoom need r) → IsTargetOf store photos volume
+target_of store photos key need volume same much first room = λ other all. first_room store key other need (batch_total photos) volume (same other all) much first room
 
 -- ONE VOLUME IS CHANGED
 

@@ -1,5 +1,5 @@
 -- What is stored on the disks of a store, with a batch behind it.
-use Rattle.std.proofs.Common.{◌≡◌, ◌⊎◌, inl, inr, ◌<◌, ◌≤◌, ◌+◌, ℕ, zero, suc, Bool, true, false, List, [], ◌∷◌, ◌++◌, length, map, take, refl, sym, ap, subst, ◌∙◌, arith, length-append}
+use Rattle.std.proofs.Common.{◌≡◌, inl, inr, ◌<◌, ◌≤◌, ◌+◌, ℕ, zero, suc, Bool, true, false, List, [], ◌∷◌, ◌++◌, length, map, take, refl, sym, ap, subst, ◌∙◌, arith, length-append}
 use Rattle.std.specs.Prelude.{if◌then◌else◌, nat_eq}
 use Rattle.hay_needle.specs.declared.needle.Cell.{Cell}
 use Rattle.hay_needle.specs.declared.settings.Settings.{Settings}
@@ -20,7 +20,7 @@ use Rattle.hay_batch.specs.Batches.{batch_total, new_cells}
 use Rattle.hay_batch.specs.Openings.{journal_super}
 use Rattle.hay_batch.specs.Replicas.{Holds, file_of}
 use Rattle.hay_batch.specs.Shelves.{IsOpenAs, LeavesBatch, MayLeaveDisks, OpensStore, StandsAs, StoredStore, contents_of, replica_super, slot_of, with_needles, with_stored}
-use Rattle.hay_batch.specs.Stores.{AreContents, AreWithoutRows, Contents, Images, IsShaped, KeepsFiles, MayLeaveStore, ReplicaAt, Stands, with_batch}
+use Rattle.hay_batch.specs.Stores.{Contents, Images, IsShaped, KeepsFiles, LeavesWithOrWithout, MayLeaveStore, ReplicaAt, Stands, with_batch}
 use Rattle.hay_batch.proofs.Lists.{at_below}
 use Rattle.hay_batch.proofs.Loading.{replica_there, rows_kept}
 
@@ -249,12 +249,11 @@ module _ {D : Type 0} (files : D → Files) (photos : List NewPhoto) (s : Stored
     opens_by false u j volume replica is = opens_same u j volume replica is
 
     -- what a stop leaves, as an opening finds it
-    pub leaves_stored : ((k : Contents) (left : Images) → Stands files old k → MayLeaveStore files new left
-        → AreWithoutRows old.settings photos k left ⊎ ((v : ℕ) × (v < old.settings.volumes) × AreContents old.settings (with_batch v photos k) left)) → LeavesBatch old.settings photos image s
+    pub leaves_stored : (v : ℕ) → ((k : Contents) (left : Images) → Stands files old k → MayLeaveStore files new left → LeavesWithOrWithout old.settings v photos k left)
+        → LeavesBatch old.settings v photos image s
     unfolding left_images
-    leaves_stored left = elim (left (contents_of old.settings s) left_images was.contents may_leave) [
+    leaves_stored v left = elim (left (contents_of old.settings s) left_images was.contents may_leave) [
       | inl w ↦ inl (record {
-        volume = w.volume;
         rows = inr w.rows;
         replicas = λ u j volume replica. elim (w.cells u j volume replica) [
           | inl is ↦ inl (opens_same u j volume replica is)
@@ -262,14 +261,10 @@ module _ {D : Type 0} (files : D → Files) (photos : List NewPhoto) (s : Stored
         ];
         others = λ u j apart volume replica. opens_same u j volume replica (w.others u j apart volume replica);
       })
-      | inr w ↦ inr (
-        w.0,
-        w.1,
-        record {
-          rows = inr w.2.rows;
-          replicas = λ u j volume replica. opens_by (nat_eq u w.0) u j volume replica (w.2.cells u j volume replica);
-        },
-      )
+      | inr w ↦ inr (record {
+        rows = inr w.rows;
+        replicas = λ u j volume replica. opens_by (nat_eq u v) u j volume replica (w.cells u j volume replica);
+      })
     ]
 
 -- what a stop leaves of a store at which nothing is under way

@@ -112,18 +112,17 @@ with_stored v photos s = record {
 abbrev pub MayLeaveDisks : {D : Type 0} → (D → Files) → LoadStore D → (ℕ → ℕ → List ℕ) → Type 0
 MayLeaveDisks files store image = EachDisk (λ slot disk. MayLeave (files disk) (image slot)) store
 
--- An opening finds no row of the batch. On the replicas of one volume its needles may stand behind the others, and on no other replica.
-pub record OpensWithout (settings : Settings) (photos : List NewPhoto) (contents : ℕ → ℕ → List ℕ) (s : StoredStore) : Type 0 where
-  pub volume : ℕ
+-- An opening finds no row of the batch. On the replicas of this volume its needles may stand behind the others, and on no other replica.
+pub record OpensWithout (settings : Settings) (volume : ℕ) (photos : List NewPhoto) (contents : ℕ → ℕ → List ℕ) (s : StoredStore) : Type 0 where
   pub rows : OpensRows settings (contents 0 0) s.rows
   pub replicas : (v j : ℕ) → v < settings.volumes → j < settings.replicas →
       OpensAs (replica_super settings v j) (contents (slot_of settings v j)) (s.replicas v j)
       ⊎ OpensAs (replica_super settings v j) (contents (slot_of settings v j)) (with_needles photos (s.replicas v j))
   pub others : (v j : ℕ) → v ≢ volume → v < settings.volumes → j < settings.replicas → OpensAs (replica_super settings v j) (contents (slot_of settings v j)) (s.replicas v j)
 
--- An opening finds no row of the batch, or the whole batch in one volume.
-abbrev pub LeavesBatch : Settings → List NewPhoto → (ℕ → ℕ → List ℕ) → StoredStore → Type 0
-LeavesBatch settings photos contents s = OpensWithout settings photos contents s ⊎ ((v : ℕ) × (v < settings.volumes) × OpensStore settings contents (with_stored v photos s))
+-- An opening finds no row of the batch, or the whole batch in this volume.
+abbrev pub LeavesBatch : Settings → ℕ → List NewPhoto → (ℕ → ℕ → List ℕ) → StoredStore → Type 0
+LeavesBatch settings volume photos contents s = OpensWithout settings volume photos contents s ⊎ OpensStore settings contents (with_stored volume photos s)
 
 -- WHAT BECOMES OF A DISK
 
@@ -161,6 +160,11 @@ pub record IsNotWhole (settings : Settings) (slot : ℕ) (contents : ℕ → Lis
 abbrev pub IsUndamagedBelow : Settings → ℕ → (ℕ → ℕ → List ℕ) → Type 0
 IsUndamagedBelow settings end contents =
     (slot file at : ℕ) → slot < end → (IsVoid (contents slot) → ⊥) → IsFirstDamage settings slot file at (contents slot) → ⊥
+
+-- The disks in lower slots are formatted, and nothing that an opening reads of them is damaged.
+pub record AreSoundBelow (settings : Settings) (end : ℕ) (contents : ℕ → ℕ → List ℕ) : Type 0 where
+  pub formatted : (slot : ℕ) → slot < end → IsVoid (contents slot) → ⊥
+  pub undamaged : IsUndamagedBelow settings end contents
 
 -- Of the disk in this slot, which is neither void nor of these settings, this is the first place that is not of the format.
 -- It is the lowest such slot.

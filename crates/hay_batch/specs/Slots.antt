@@ -13,7 +13,7 @@ use Rattle.hay_volume.specs.declared.volume.VolumeFile.{VolumeFile}
 use Rattle.hay_open.specs.declared.fault.OpenFault.{OpenFault}
 use Rattle.hay_open.specs.declared.fault.OpenFault.TheVariants.{Damaged, Failed}
 use Rattle.hay_open.specs.Damage.{IsOpeningDamage}
-use Rattle.hay_open.specs.Stored.{OpensAs, Stored}
+use Rattle.hay_open.specs.Stored.{IsVoid, OpensAs, Stored}
 use Rattle.hay_batch.specs.declared.fault.LoadOpenFault.{LoadOpenFault}
 use Rattle.hay_batch.specs.declared.fault.LoadOpenFault.TheVariants.{NoMemory}
 use Rattle.hay_batch.specs.declared.opening.OpenJournal.{OpenJournal}
@@ -28,10 +28,11 @@ use Rattle.hay_batch.specs.Shelves.{IsOpenAs, OpensRows, place_super}
 
 -- THE DISK OF THE DIRECTORY
 
--- nothing that an opening reads of a journal is damaged, before it or behind it
+-- nothing that an opening reads of a journal is damaged, before it or behind it, and it is formatted then
 pub record IsSoundJournal {D : Type 0} (files : D → Files) (settings : Settings) (old new : D) : Type 0 where
   pub before : 0 < length (files old 0).now → (at : ℕ) → IsDamagedJournal (journal_super settings) (files old 0).now at → ⊥
   pub behind : (at : ℕ) → IsDamagedJournal (journal_super settings) (files new 0).now at → ⊥
+  pub formatted : IsVoid (λ n. (files new n).now) → ⊥
 
 -- The Directory's disk was opened, and this is kept of it. Whatever it tells, what is kept in memory is right of the rows that were read.
 pub record OpensJournal {D : Type 0} (Tells : Type 0) (files : D → Files) (fault_count fuse_count : D → ℕ) (settings : Settings) (old new : D) (kept : OpenJournal) : Type 0 where
@@ -55,10 +56,11 @@ pub record IsAtRest {D : Type 0} (Tells : Type 0) (files : D → Files) (disk : 
   pub solid : Tells → (n : ℕ) → IsSolid (files disk n)
   pub free : Tells → (n : ℕ) → IsFree (files disk n)
 
--- nothing that an opening reads of the disk is damaged, before it or behind it
+-- nothing that an opening reads of the disk is damaged, before it or behind it, and it is formatted then
 pub record IsSound {D : Type 0} (files : D → Files) (sup : Super) (old new : D) : Type 0 where
   pub before : (file at : ℕ) → IsOpeningDamage sup (λ n. (files old n).now) file at → ⊥
   pub behind : (file at : ℕ) → IsOpeningDamage sup (λ n. (files new n).now) file at → ⊥
+  pub formatted : IsVoid (λ n. (files new n).now) → ⊥
 
 -- a replica of this disk and volume file
 abbrev pub replica_of : {D : Type 0} → D → VolumeFile → LoadReplica D

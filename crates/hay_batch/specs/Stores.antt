@@ -1,5 +1,5 @@
 -- What a store holds to which batches are loaded, and what loading one does to it.
-use Rattle.std.specs.Prelude.{◌≡◌, ◌≢◌, ◌⊎◌, ◌<◌, ◌≤◌, ◌+◌, ◌*◌, ◌%◌, ℕ, List, ◌++◌, length, map, nat_eq, if◌then◌else◌}
+use Rattle.std.specs.Prelude.{◌≡◌, ◌≢◌, ◌⊎◌, ◌<◌, ◌≤◌, ◌+◌, ◌*◌, ◌%◌, ℕ, List, ◌++◌, length, map, nat_eq, if◌then◌else◌, All}
 use Rattle.hay_needle.specs.declared.needle.Cell.{Cell}
 use Rattle.hay_needle.specs.declared.settings.Settings.{Settings}
 use Rattle.hay_disk.specs.Counts.{Rose}
@@ -62,6 +62,10 @@ pub record IsFirstRoom {D : Type 0} (store : LoadStore D) (key need volume : ℕ
   pub before : AreTries store key need turn tries
   pub room : (j : ℕ) (r : LoadReplica D) → ReplicaAt store volume j r → HasRoom need r
 
+-- The same of a batch, by the key of its photos.
+abbrev pub IsTargetOf : {D : Type 0} → LoadStore D → List NewPhoto → ℕ → Type 0
+IsTargetOf store photos volume = (key : ℕ) → All (λ (photo : NewPhoto). photo.pair.key ≡ key) photos → IsFirstRoom store key (batch_total photos) volume
+
 -- WHAT THE DISKS HOLD
 
 -- The rows of the journal behind its superblock, and of each replica of each volume the cells behind its superblock, and where they end.
@@ -109,12 +113,15 @@ pub record AreContents (settings : Settings) (k : Contents) (left : Images) : Ty
   pub rows : IsJournal k.superblock settings.volumes left.journal k.rows
   pub cells : (v j : ℕ) → v < settings.volumes → j < settings.replicas → IsVolume (k.superblocks v j) (left.volumes v j) (k.cells v j) (k.ends v j)
 
--- The bytes have no row of the batch. On the replicas of one volume its cells may stand behind the others, and on no other replica.
-pub record AreWithoutRows (settings : Settings) (photos : List NewPhoto) (k : Contents) (left : Images) : Type 0 where
-  pub volume : ℕ
+-- The bytes have no row of the batch. On the replicas of this volume its cells may stand behind the others, and on no other replica.
+pub record AreWithoutRows (settings : Settings) (volume : ℕ) (photos : List NewPhoto) (k : Contents) (left : Images) : Type 0 where
   pub rows : IsJournal k.superblock settings.volumes left.journal k.rows
   pub cells : (v j : ℕ) → v < settings.volumes → j < settings.replicas → HasWithOrWithout (k.superblocks v j) (k.cells v j) (k.ends v j) photos (left.volumes v j)
   pub others : (v j : ℕ) → v ≢ volume → v < settings.volumes → j < settings.replicas → IsVolume (k.superblocks v j) (left.volumes v j) (k.cells v j) (k.ends v j)
+
+-- They are the contents without a row of the batch, or with the whole of it in this volume.
+abbrev pub LeavesWithOrWithout : Settings → ℕ → List NewPhoto → Contents → Images → Type 0
+LeavesWithOrWithout settings volume photos k left = AreWithoutRows settings volume photos k left ⊎ AreContents settings (with_batch volume photos k) left
 
 -- OTHER FILES
 
@@ -140,20 +147,19 @@ pub record KeepsCounts {D : Type 0} (fault_count fuse_count : D → ℕ) (old ne
   pub replicas : (v j : ℕ) (r r' : LoadReplica D) → ReplicaAt old v j r → ReplicaAt new v j r' → fault_count r.disk ≤ fault_count r'.disk
   pub fuses : (v j : ℕ) (r r' : LoadReplica D) → ReplicaAt old v j r → ReplicaAt new v j r' → fuse_count r'.disk ≡ fuse_count r.disk
 
--- The count of the disk of this replica rose to this.
-pub record FailsReplica {D : Type 0} (fault_count : D → ℕ) (old new : LoadStore D) (slot faults : ℕ) : Type 0 where
-  pub v : ℕ
+-- The count of the disk of this replica, which is one of this volume, rose to this.
+pub record FailsReplica {D : Type 0} (fault_count : D → ℕ) (volume : ℕ) (old new : LoadStore D) (slot faults : ℕ) : Type 0 where
   pub j : ℕ
   pub before : LoadReplica D
   pub after : LoadReplica D
-  pub was : ReplicaAt old v j before
-  pub is : ReplicaAt new v j after
-  pub place : slot ≡ 1 + v * old.settings.replicas + j
+  pub was : ReplicaAt old volume j before
+  pub is : ReplicaAt new volume j after
+  pub place : slot ≡ 1 + volume * old.settings.replicas + j
   pub rose : Rose (fault_count before.disk) (fault_count after.disk)
   pub count : faults ≡ fault_count after.disk
 
--- The count of the disk of this slot rose to this.
-abbrev pub FailsAt : {D : Type 0} → (D → ℕ) → LoadStore D → LoadStore D → ℕ → ℕ → Type 0
-FailsAt fault_count old new slot faults =
+-- The count of the disk of this slot rose to this: that of the Directory, or that of a replica of this volume.
+abbrev pub FailsAt : {D : Type 0} → (D → ℕ) → ℕ → LoadStore D → LoadStore D → ℕ → ℕ → Type 0
+FailsAt fault_count volume old new slot faults =
     ((slot ≡ 0) × Rose (fault_count old.directory.disk) (fault_count new.directory.disk) × (faults ≡ fault_count new.directory.disk))
-    ⊎ FailsReplica fault_count old new slot faults
+    ⊎ FailsReplica fault_count volume old new slot faults

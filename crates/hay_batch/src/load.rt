@@ -16,8 +16,8 @@ ghost use Rattle.hay_batch.specs.Directories.{HoldsRows, IsFirstHome, MaySettle}
 ghost use Rattle.hay_batch.specs.Directories as directories;
 ghost use Rattle.hay_batch.specs.Homes.{AddsHomes, home_among};
 ghost use Rattle.hay_batch.specs.Replicas.{Adds, At, HasRoom, IsReady, MayAdd};
-ghost use Rattle.hay_batch.specs.Shelves.{LeavesBatch, MayLeaveDisks, StandsAs, StoredStore, with_stored};
-ghost use Rattle.hay_batch.specs.Stores.{AreContents, AreTries, AreWithoutRows, Contents, FailsAt, Images, IsDiskFault, IsFirstRoom, IsReadyStore, IsShaped, KeepsCounts, KeepsFiles, MayLeaveStore, ReplicaAt, Stands, with_batch};
+ghost use Rattle.hay_batch.specs.Shelves.{LeavesBatch, MayLeaveDisks, OpensStore, StandsAs, StoredStore, with_stored};
+ghost use Rattle.hay_batch.specs.Stores.{AreContents, AreTries, Contents, FailsAt, Images, IsDiskFault, IsReadyStore, IsShaped, IsTargetOf, KeepsCounts, KeepsFiles, LeavesWithOrWithout, MayLeaveStore, ReplicaAt, Stands, with_batch};
 
 use crate::directory::LoadDirectory;
 use crate::fault::LoadFault;
@@ -127,10 +127,10 @@ impl<D: Disk> LoadStore<D> {
         ensures homes { OnOk result (AddsHomes (map (new_row volume) photos.now) self.old.directory.homes self.new.directory.homes) }
         ensures rows { OnOk result (self.new.directory.rows ≡ min (self.old.directory.rows + length photos.now) (2 ^ 64 - 1)) }
         ensures left { D.Tells → (k : Contents) (left : Images) → Stands D.files self.old k → MayLeaveStore D.files self.new left →
-            AreWithoutRows self.old.settings photos.now k left ⊎ AreContents self.old.settings (with_batch volume photos.now k) left }
+            LeavesWithOrWithout self.old.settings volume photos.now k left }
         ensures files { D.Tells → KeepsFiles D.files self.old self.new }
         ensures counts { KeepsCounts D.fault_count D.fuse_count self.old self.new }
-        ensures failed { IfErr result (λ fault. (slot faults : ℕ) → fault ≡ LoadFault.Failed slot faults → FailsAt D.fault_count self.old self.new slot faults) }
+        ensures failed { IfErr result (λ fault. (slot faults : ℕ) → fault ≡ LoadFault.Failed slot faults → FailsAt D.fault_count volume self.old self.new slot faults) }
         ensures faults { IfErr result IsDiskFault }
     {
         match self.append(alloc, photos, volume) {
@@ -158,7 +158,7 @@ impl<D: Disk> LoadStore<D> {
         ensures kept { IfErr result (λ fault. (IsDiskFault fault → ⊥) → self.new ≡ self.old) }
 
         // The volume is the first try with room.
-        ensures room { IfOk result (λ loaded. (key : ℕ) → All (λ (photo : NewPhoto). photo.pair.key ≡ key) photos.now → IsFirstRoom self.old key (batch_total photos.now) loaded.volume) }
+        ensures room { IfOk result (λ loaded. IsTargetOf self.old photos.now loaded.volume) }
         ensures rows { IfOk result (λ loaded. loaded.rows ≡ self.new.directory.rows) }
 
         // Whatever the disks tell, the pairs of a batch that was loaded are known then, and its rows are counted.
@@ -172,19 +172,22 @@ impl<D: Disk> LoadStore<D> {
         // Wherever the cells of the batch come last, each of its pairs has its photo.
         ensures shows { (cells : List Cell) (at i : ℕ) (photo : NewPhoto) → At photos.now i photo → look (rows_of (needles_of (cells ++ new_cells at photos.now))) photo.pair ≡ shown_of photo }
 
-        // Whatever a stop leaves, then or after any refusal, has no row of the batch, or the whole batch, and nothing else.
+        // Whatever a stop leaves, then or after any refusal, is what there was; or has no row of the batch, or the whole batch in the first try with room.
         ensures left { D.Tells → (k : Contents) (left : Images) → Stands D.files self.old k → MayLeaveStore D.files self.new left →
-            AreWithoutRows self.old.settings photos.now k left ⊎ ((volume : ℕ) × (volume < self.old.settings.volumes) × AreContents self.old.settings (with_batch volume photos.now k) left) }
+            AreContents self.old.settings k left ⊎ ((volume : ℕ) × IsTargetOf self.old photos.now volume × LeavesWithOrWithout self.old.settings volume photos.now k left) }
 
         // The same of what an opening finds: at `Ok`, and in whatever a stop leaves.
         ensures stored { D.Tells → (s : StoredStore) → StandsAs D.files self.old s → IfOk result (λ loaded. StandsAs D.files self.new (with_stored loaded.volume photos.now s)) }
         ensures left_stored { D.Tells → (s : StoredStore) (image : ℕ → ℕ → List ℕ) → StandsAs D.files self.old s → MayLeaveDisks D.files self.new image →
-            LeavesBatch self.old.settings photos.now image s }
+            OpensStore self.old.settings image s ⊎ ((volume : ℕ) × IsTargetOf self.old photos.now volume × LeavesBatch self.old.settings volume photos.now image s) }
 
         ensures files { D.Tells → KeepsFiles D.files self.old self.new }
         ensures shape { (self.new.settings ≡ self.old.settings) × IsShaped self.new }
         ensures counts { KeepsCounts D.fault_count D.fuse_count self.old self.new }
-        ensures failed { IfErr result (λ fault. (slot faults : ℕ) → fault ≡ LoadFault.Failed slot faults → FailsAt D.fault_count self.old self.new slot faults) }
+
+        // The disk that failed is that of the Directory, or that of a replica of the first try with room.
+        ensures failed { IfErr result (λ fault. (slot faults : ℕ) → fault ≡ LoadFault.Failed slot faults →
+            (volume : ℕ) × IsTargetOf self.old photos.now volume × FailsAt D.fault_count volume self.old self.new slot faults) }
     {
         if let Some(volume) = self.directory.first_home(photos) {
             return Err(LoadFault::Known { volume });

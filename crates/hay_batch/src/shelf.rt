@@ -10,7 +10,7 @@ ghost use Rattle.hay_batch.specs.declared.replica.LoadReplica.{LoadReplica};
 ghost use Rattle.hay_batch.specs.declared.store.LoadVolume.{LoadVolume};
 ghost use Rattle.hay_batch.specs.Homes.{AreHomes};
 ghost use Rattle.hay_batch.specs.Replicas.{At};
-ghost use Rattle.hay_batch.specs.Shelves.{EachDisk, IsDamagedDisk, IsLeft, IsLimited, IsUndamagedBelow, OpensSlot, OpensStore, StandsAs, StoredStore, disk_count, reads_of, slot_of};
+ghost use Rattle.hay_batch.specs.Shelves.{AreSoundBelow, EachDisk, IsDamagedDisk, IsLeft, IsLimited, IsUndamagedBelow, OpensSlot, OpensStore, StandsAs, StoredStore, disk_count, reads_of, slot_of};
 ghost use Rattle.hay_batch.specs.Stores.{IsReadyStore, IsShaped};
 
 use crate::disks::open_disks;
@@ -53,9 +53,10 @@ impl<D: Disk> LoadStore<D> {
             Rose (H.fault_count shelf.old) (H.fault_count shelf.new) × (faults ≡ H.fault_count shelf.new)) }
         ensures failed { IfErr result (λ fault. (slot faults : ℕ) → fault ≡ LoadOpenFault.Open slot (OpenFault.Failed faults) → (slot < disk_count settings)
             × Rose (H.disks shelf.old slot).fault_count (H.disks shelf.new slot).fault_count × (faults ≡ (H.disks shelf.new slot).fault_count)
-            × (D.Tells → IsUndamagedBelow settings slot (reads_of (H.disks shelf.old)))) }
+            × (D.Tells → IsUndamagedBelow settings slot (reads_of (H.disks shelf.old)) × AreSoundBelow settings slot (reads_of (H.disks shelf.new)))) }
         ensures damaged { IfErr result (λ fault. (slot file at : ℕ) → fault ≡ LoadOpenFault.Open slot (OpenFault.Damaged file at) → (slot < disk_count settings)
-            × (D.Tells → IsDamagedDisk settings (reads_of (H.disks shelf.old)) slot file at × IsDamagedDisk settings (reads_of (H.disks shelf.new)) slot file at)) }
+            × (D.Tells → IsDamagedDisk settings (reads_of (H.disks shelf.old)) slot file at × IsDamagedDisk settings (reads_of (H.disks shelf.new)) slot file at
+            × AreSoundBelow settings slot (reads_of (H.disks shelf.new)))) }
         ensures memory { IfErr result (λ fault. (slot : ℕ) → fault ≡ LoadOpenFault.Open slot OpenFault.NoMemory → ⊥) }
 
         ensures others { SameFrom (disk_count settings) (H.disks shelf.old) (H.disks shelf.new) }

@@ -1,11 +1,12 @@
 -- What a load told of the lines that it took.
-use Rattle.std.proofs.Common.{◌≡◌, inl, inr, ℕ, List, [], ◌∷◌, ◌++◌, length, Bool, true, false, Option, Some, None, Result, Err, refl, sym, ap, subst, ◌∙◌, arith, append_assoc, length-append}
+use Rattle.std.proofs.Common.{◌≡◌, inl, inr, ℕ, List, [], ◌∷◌, ◌++◌, length, Bool, true, false, Some, Result, Err, refl, sym, ap, subst, ◌∙◌, arith, append_assoc, length-append}
 use Rattle.std.proofs.lemmas.List.{append-nil}
 use Rattle.std.proofs.lemmas.Result.{IfErr-at_err}
 use Rattle.std.specs.Prelude.{if◌then◌else◌, IfErr}
 use Rattle.hay_needle.specs.declared.settings.Settings.{Settings}
 use Rattle.hay_disk.specs.Disk.{Files}
 use Rattle.hay_reply.specs.declared.Reply.TheVariants.{BadLine}
+use Rattle.hay_dirfile.specs.declared.row.DirRow.{DirRow}
 use Rattle.hay_batch.specs.declared.fault.FullTry.{FullTry}
 use Rattle.hay_batch.specs.declared.fault.LoadFault.{LoadFault}
 use Rattle.hay_batch.specs.declared.photo.NewPhoto.{NewPhoto}
@@ -15,9 +16,9 @@ use Rattle.hay_batch.specs.Stores.{IsDiskFault, IsShaped}
 use Rattle.hay_batch.proofs.StoredLaws.{stands_left}
 use Rattle.hay_load.specs.declared.reply.LoadReply.{LoadReply}
 use Rattle.hay_load.specs.declared.reply.LoadReply.TheVariants.{Other}
-use Rattle.hay_load.specs.Answers.{AnswersAll, reply_lines}
+use Rattle.hay_load.specs.Answers.{AnswersAll, SuitAll, reply_lines}
 use Rattle.hay_load.specs.Gathering.{Bad, Batch, Group, OpenBatch, Step, closed, joins, put_step}
-use Rattle.hay_load.specs.Loads.{Answered, FailsFirst, LeavesFirst, Loads}
+use Rattle.hay_load.specs.Loads.{Answered, FailsFirst, LeavesFirst, Loads, Remembers, Suited}
 use Rattle.hay_load.specs.Replies.{load_line}
 
 -- MORE GROUPS
@@ -44,11 +45,21 @@ lines_more (Batch line photos ∷ groups) more (reply ∷ replies) others many =
     ap (λ (l : List ℕ). load_line line reply ++ l) (lines_more groups more replies others (let less : length replies ≡ length groups = omega (arith, many) in less))
     ∙ sym (append_assoc (load_line line reply) (reply_lines groups replies) (reply_lines more others))
 
+pub suit_more : (settings : Settings) (rows mid new : List DirRow) (groups more : List Group) (replies others : List LoadReply) → SuitAll settings rows groups replies mid
+    → SuitAll settings mid more others new → SuitAll settings rows (groups ++ more) (replies ++ others) new
+suit_more settings rows mid new [] more [] others first second = subst (λ (l : List DirRow). SuitAll settings l more others new) first second
+suit_more settings rows mid new [] more (reply ∷ replies) others first second = absurd first
+suit_more settings rows mid new (group ∷ groups) more [] others first second = absurd first
+suit_more settings rows mid new (Bad line ∷ groups) more (reply ∷ replies) others first second = (first.0, suit_more settings rows mid new groups more replies others first.1 second)
+suit_more settings rows mid new (Batch line photos ∷ groups) more (reply ∷ replies) others first second =
+    (first.0, first.1, suit_more settings first.0 mid new groups more replies others first.2 second)
+
 module _ {D : Type 0} (Tells : Type 0) (files : D → Files) where
   pub loads_none : (old new : LoadStore D) (before after : List ℕ) → new ≡ old → after ≡ before → Loads Tells files [] old new before after
   loads_none old new before after same told = record {
     replies = [];
     many = refl;
+    suited = λ rows was. record { known = rows; suit = refl; remembers = subst (λ (store : LoadStore D). Remembers store rows) (sym same) was };
     told = told ∙ sym (append-nil before);
     answers = λ tells s stands. record { stored = s; answers = refl; stands = subst (λ (store : LoadStore D). StandsAs files store s) (sym same) stands };
   }
@@ -57,15 +68,20 @@ module _ {D : Type 0} (Tells : Type 0) (files : D → Files) where
   loads_bad line old new before after same told = record {
     replies = Other BadLine ∷ [];
     many = refl;
+    suited = λ rows was. record { known = rows; suit = (refl, refl); remembers = subst (λ (store : LoadStore D). Remembers store rows) (sym same) was };
     told = told ∙ ap (λ (l : List ℕ). before ++ l) (sym (append-nil (load_line line (Other BadLine))));
     answers = λ tells s stands. record { stored = s; answers = (refl, refl); stands = subst (λ (store : LoadStore D). StandsAs files store s) (sym same) stands };
   }
 
-  pub loads_batch : (line : ℕ) (photos : List NewPhoto) (reply : LoadReply) (old new : LoadStore D) (before after : List ℕ) → after ≡ before ++ load_line line reply
+  pub loads_batch : (line : ℕ) (photos : List NewPhoto) (reply : LoadReply) (old new : LoadStore D) (before after : List ℕ)
+      → ((rows : List DirRow) → Remembers old rows → Suited old.settings rows photos reply new) → after ≡ before ++ load_line line reply
       → (Tells → (s : StoredStore) → StandsAs files old s → Answered files old.settings s photos reply new) → Loads Tells files (Batch line photos ∷ []) old new before after
-  loads_batch line photos reply old new before after told answered = record {
+  loads_batch line photos reply old new before after suited told answered = record {
     replies = reply ∷ [];
     many = refl;
+    suited = λ rows was.
+        let a = suited rows was in
+        record { known = a.known; suit = (a.known, a.suits, refl); remembers = a.remembers };
     told = told ∙ ap (λ (l : List ℕ). before ++ l) (sym (append-nil (load_line line reply)));
     answers = λ tells s stands.
         let a = answered tells s stands in
@@ -77,6 +93,15 @@ module _ {D : Type 0} (Tells : Type 0) (files : D → Files) where
   loads_more groups more old mid new before middle after same first second = record {
     replies = first.replies ++ second.replies;
     many = (let a = length-append first.replies second.replies in let b = length-append groups more in let m = first.many in let n = second.many in omega (arith, a, b, m, n));
+    suited = λ rows was.
+        let a = first.suited rows was in
+        let b = second.suited a.known a.remembers in
+        record {
+          known = b.known;
+          suit = suit_more old.settings rows a.known b.known groups more first.replies second.replies a.suit
+              (subst (λ (x : Settings). SuitAll x a.known more second.replies b.known) same b.suit);
+          remembers = b.remembers;
+        };
     told = second.told ∙ ap (λ (l : List ℕ). l ++ reply_lines more second.replies) first.told ∙ append_assoc before (reply_lines groups first.replies) (reply_lines more second.replies)
         ∙ ap (λ (l : List ℕ). before ++ l) (sym (lines_more groups more first.replies second.replies first.many));
     answers = λ tells s stands.

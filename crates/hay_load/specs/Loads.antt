@@ -1,19 +1,22 @@
 -- A load that has taken some lines: its store, the batch that is open, and what it told.
-use Rattle.std.specs.Prelude.{◌≡◌, ◌⊎◌, ◌<◌, ◌+◌, ◌%◌, ◌++◌, ℕ, List, [], ◌∷◌, length, Option, Some, option_map}
+use Rattle.std.specs.Prelude.{◌≡◌, ◌⊎◌, ◌<◌, ◌+◌, ◌%◌, ◌++◌, ℕ, List, [], ◌∷◌, length, Option, Some, None, All, option_map}
 use Rattle.hay_needle.specs.declared.settings.Settings.{Settings}
 use Rattle.hay_disk.specs.Disk.{Files}
+use Rattle.hay_dirfile.specs.declared.row.DirRow.{DirRow}
 use Rattle.hay_reply.specs.declared.Reply.{Reply}
 use Rattle.hay_reply.specs.declared.Reply.TheVariants.{Failed, FailedDir}
 use Rattle.hay_batch.specs.declared.photo.NewPhoto.{NewPhoto}
 use Rattle.hay_batch.specs.declared.store.LoadStore.{LoadStore}
+use Rattle.hay_batch.specs.Batches.{batch_total}
+use Rattle.hay_batch.specs.Homes.{AreHomes, home_among}
 use Rattle.hay_batch.specs.Shelves.{LeavesBatch, OpensStore, StandsAs, StoredStore, slot_of}
-use Rattle.hay_batch.specs.Stores.{FailsAt, IsReadyStore, IsShaped}
+use Rattle.hay_batch.specs.Stores.{FailsAt, IsFirstRoom, IsReadyStore, IsShaped}
 use Rattle.hay_load.specs.declared.batch.Gathered.{Gathered}
 use Rattle.hay_load.specs.declared.loading.Loading.{Loading}
 use Rattle.hay_load.specs.declared.reply.LoadReply.{LoadReply}
 use Rattle.hay_load.specs.declared.reply.LoadReply.TheVariants.{Other}
-use Rattle.hay_load.specs.Answers.{AnswersAll, AnswersBatch, AreHomeless, reply_lines}
-use Rattle.hay_load.specs.Gathering.{Group, Batch, Bad, IsGathered, OpenBatch}
+use Rattle.hay_load.specs.Answers.{AnswersAll, AnswersBatch, MayLoad, SuitAll, SuitsBatch, counted, reply_lines}
+use Rattle.hay_load.specs.Gathering.{Group, Batch, Bad, IsGathered, OpenBatch, key_of}
 use Rattle.hay_load.specs.Replies.{load_line}
 
 -- THE OPEN BATCH
@@ -45,10 +48,28 @@ pub record AnsweredAll {D : Type 0} (files : D → Files) (settings : Settings) 
   pub answers : AnswersAll settings s groups replies stored
   pub stands : StandsAs files store stored
 
+-- what the store keeps in memory is right of these rows
+pub record Remembers {D : Type 0} (store : LoadStore D) (rows : List DirRow) : Type 0 where
+  pub homes : AreHomes store.directory.homes rows
+  pub count : counted store.directory.rows ≡ counted (length rows)
+
+-- A batch was answered by a reply that suits it, and the store remembers the rows then.
+pub record Suited {D : Type 0} (settings : Settings) (rows : List DirRow) (photos : List NewPhoto) (reply : LoadReply) (store : LoadStore D) : Type 0 where
+  pub known : List DirRow
+  pub suits : SuitsBatch settings rows photos reply known
+  pub remembers : Remembers store known
+
+-- so were these groups
+pub record SuitedAll {D : Type 0} (settings : Settings) (rows : List DirRow) (groups : List Group) (replies : List LoadReply) (store : LoadStore D) : Type 0 where
+  pub known : List DirRow
+  pub suit : SuitAll settings rows groups replies known
+  pub remembers : Remembers store known
+
 -- These groups were answered, and the lines of their replies were added.
 pub record Loads {D : Type 0} (Tells : Type 0) (files : D → Files) (groups : List Group) (old new : LoadStore D) (before after : List ℕ) : Type 0 where
   pub replies : List LoadReply
   pub many : length replies ≡ length groups
+  pub suited : (rows : List DirRow) → Remembers old rows → SuitedAll old.settings rows groups replies new
   pub told : after ≡ before ++ reply_lines groups replies
   pub answers : Tells → (s : StoredStore) → StandsAs files old s → AnsweredAll files old.settings s groups replies new
 
@@ -59,6 +80,14 @@ pub record IsFailed (settings : Settings) (slot faults : ℕ) (reply : Reply) : 
   pub directory : slot ≡ 0 → reply ≡ FailedDir faults
   pub replica : (v j : ℕ) → j < settings.replicas → slot ≡ slot_of settings v j → reply ≡ Failed v ((v + j) % settings.machines) faults
 
+-- A disk failed while a batch was loaded. No photo of it had a home, and the disk is that of the Directory, or that of a replica of the
+-- first try with room.
+pub record FailsBatch {D : Type 0} (fault_count : D → ℕ) (photos : List NewPhoto) (old new : LoadStore D) (slot faults : ℕ) : Type 0 where
+  pub homeless : All (λ (photo : NewPhoto). home_among old.directory.homes photo.pair ≡ None) photos
+  pub volume : ℕ
+  pub room : IsFirstRoom old (key_of photos) (batch_total photos) volume
+  pub fails : FailsAt fault_count volume old new slot faults
+
 -- A disk failed while the first of these groups, a batch, was loaded, and the line of this was added.
 pub record FailsFirst {D : Type 0} (fault_count : D → ℕ) (groups : List Group) (old new : LoadStore D) (before after : List ℕ) : Type 0 where
   pub batch : OpenBatch
@@ -66,7 +95,7 @@ pub record FailsFirst {D : Type 0} (fault_count : D → ℕ) (groups : List Grou
   pub is : groups ≡ Batch batch.line batch.photos ∷ behind
   pub slot : ℕ
   pub faults : ℕ
-  pub fails : FailsAt fault_count old new slot faults
+  pub fails : FailsBatch fault_count batch.photos old new slot faults
   pub reply : Reply
   pub failed : IsFailed old.settings slot faults reply
   pub told : after ≡ before ++ load_line batch.line (Other reply)
@@ -74,9 +103,10 @@ pub record FailsFirst {D : Type 0} (fault_count : D → ℕ) (groups : List Grou
 -- WHAT A STOP LEAVES
 
 -- what an opening finds: what was stored; or, where no photo of the batch has a home by that, the same with no row of the batch,
--- or with the whole of it
+-- or with the whole of it in the first try with room
 abbrev pub LeavesNew : Settings → List NewPhoto → (ℕ → ℕ → List ℕ) → StoredStore → Type 0
-LeavesNew settings photos image s = OpensStore settings image s ⊎ (AreHomeless s.rows photos × LeavesBatch settings photos image s)
+LeavesNew settings photos image s =
+    OpensStore settings image s ⊎ ((volume : ℕ) × MayLoad settings s photos volume × LeavesBatch settings volume photos image s)
 
 -- the same where the first of these groups may be such a batch
 abbrev pub LeavesFirst : Settings → List Group → (ℕ → ℕ → List ℕ) → StoredStore → Type 0

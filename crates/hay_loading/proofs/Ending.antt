@@ -1,5 +1,5 @@
 -- How a load ends, by what was answered and by what the shelf has then.
-use Rattle.std.proofs.Common.{◌≡◌, inl, inr, ℕ, ◌≤◌, ◌<◌, List, [], ◌∷◌, ◌++◌, Option, Some, Result, Ok, Err, refl, sym, ap, subst, ◌∙◌, append_assoc, length-append, arith}
+use Rattle.std.proofs.Common.{◌≡◌, ◌⊎◌, inl, inr, ℕ, ◌≤◌, ◌<◌, List, [], ◌∷◌, ◌++◌, length, Option, Some, Result, Ok, Err, refl, sym, ap, subst, ◌∙◌, append_assoc, arith}
 use Rattle.std.proofs.lemmas.List.{append-nil}
 use Rattle.hay_needle.specs.declared.settings.Settings.{Settings}
 use Rattle.hay_disk.specs.Counts.{Rose}
@@ -8,8 +8,10 @@ use Rattle.hay_disk.specs.Shelf.{HeldDisk}
 use Rattle.hay_disk.specs.Streams.{Wrote, WrotePart}
 use Rattle.hay_mount.specs.Mounts.{IsGivenDisk}
 use Rattle.hay_reply.specs.Replies.{header_line}
+use Rattle.hay_dirfile.specs.declared.row.DirRow.{DirRow}
 use Rattle.hay_batch.specs.declared.replica.LoadReplica.{LoadReplica}
 use Rattle.hay_batch.specs.declared.store.LoadStore.{LoadStore}
+use Rattle.hay_batch.specs.Homes.{AreHomes}
 use Rattle.hay_batch.specs.Shelves.{EachDisk, MayLeaveDisks, OpensSlot, OpensStore, StandsAs, StoredStore, disk_count, reads_of, slot_of}
 use Rattle.hay_batch.specs.Stores.{FailsAt, FailsReplica, IsShaped, ReplicaAt}
 use Rattle.hay_batch.proofs.Lists.{at_below}
@@ -18,17 +20,18 @@ use Rattle.hay_batch.proofs.ShelfLaws.{slot_within}
 use Rattle.hay_batch.proofs.StoredLaws.{stands_left}
 use Rattle.hay_load.specs.declared.reply.LoadReply.{LoadReply}
 use Rattle.hay_load.specs.declared.reply.LoadReply.TheVariants.{Other}
-use Rattle.hay_load.specs.Answers.{AnswersAll, reply_lines}
+use Rattle.hay_load.specs.Answers.{AnswersAll, MayLoad, SuitAll, counted, reply_lines}
 use Rattle.hay_load.specs.Gathering.{Batch, Group}
-use Rattle.hay_load.specs.Loads.{IsFailed, LeavesFirst, Loads}
+use Rattle.hay_load.specs.Loads.{IsFailed, LeavesFirst, Loads, Remembers}
 use Rattle.hay_load.specs.Replies.{load_line}
-use Rattle.hay_load.proofs.Taking.{answers_more}
+use Rattle.hay_load.proofs.Answering.{homeless_in, may_load}
+use Rattle.hay_load.proofs.Taking.{answers_more, suit_more}
 use Rattle.hay_loading.specs.declared.stops.Stop.{Stop}
 use Rattle.hay_loading.specs.declared.stops.Stop.TheVariants as stop
-use Rattle.hay_loading.specs.Endings.{AllStandIn, Answers, Breaks, CutsShort, Ends, Halts, HaltsAt, HaltsBehind, ReadFront, ReadOver, groups_before, IsFront, LoadsAll, MayLeaveSlots, Wants, WroteBoth, WroteThen, load_text, script_groups}
+use Rattle.hay_loading.specs.Endings.{AllStandIn, Answers, Breaks, CutsShort, Ends, Halts, HaltsAt, HaltsBehind, MayFailAt, ReadFront, ReadOver, groups_before, IsFront, LoadsAll, MayLeaveSlots, Wants, WroteBoth, WroteThen, load_text, script_groups}
 use Rattle.hay_loading.specs.Lines.{FailsTold, Leaves, ServesAll, ServesUntil, Told}
 use Rattle.hay_loading.proofs.Apart.{front_apart}
-use Rattle.hay_loading.proofs.Showing.{all_stand}
+use Rattle.hay_loading.proofs.Showing.{all_stand, answers_same}
 use Rattle.hay_loading.proofs.Sinks.{part_more, rose_since, wrote_more}
 
 -- FRONTS
@@ -57,6 +60,12 @@ lines_behind Tells files settings groups old new text before mid after loads fir
     let P : List ℕ → Type 0 = λ l. Wrote before (header_line settings ++ l) after in
     subst P loads.told (wrote_more before mid after (header_line settings) text first second)
 
+-- ROWS
+
+-- a store that was opened remembers the rows that were read
+pub remembered : {D : Type 0} (store : LoadStore D) (rows : List DirRow) → AreHomes store.directory.homes rows → store.directory.rows ≡ length rows → Remembers store rows
+remembered store rows homes count = record { homes = homes; count = ap (λ (n : ℕ). counted n) count }
+
 -- WHAT IS GIVEN BACK
 
 module _ {D : Type 0} (Tells : Type 0) (files : D → Files) (drawn : D → ℕ → ℕ) (faults fuses : D → ℕ) (settings : Settings) (new : ℕ → HeldDisk) (store' : LoadStore D)
@@ -82,7 +91,7 @@ module _ {D : Type 0} (Tells : Type 0) (files : D → Files) (drawn : D → ℕ 
   module _ (script : List ℕ) (old : ℕ → HeldDisk) (shelf shelf' : ℕ) (before begun after : Option (List ℕ)) (store : LoadStore D) (same : store.settings ≡ settings) (shape : IsShaped store)
       (opened : Tells → (s : StoredStore) → OpensStore settings (reads_of old) s → StandsAs files store s)
       (disks : EachDisk (λ slot disk. OpensSlot Tells slot (old slot) (files disk) (faults disk) (fuses disk)) store) (header : Wrote before (header_line settings) begun)
-      (some : 0 < settings.volumes) where
+      (some : 0 < settings.volumes) (rows : List DirRow) (was : Remembers store rows) where
     both_by : (groups next : List Group) (replies : List LoadReply) (s t : StoredStore) (image : ℕ → ℕ → List ℕ) → IsFront (groups ++ next) (script_groups settings script)
         → AnswersAll settings s groups replies t → LeavesFirst settings next image t
         → LeavesFirst settings next image t × AllStandIn settings groups replies image
@@ -93,7 +102,7 @@ module _ {D : Type 0} (Tells : Type 0) (files : D → Files) (drawn : D → ℕ 
         → Leaves Tells files next mid store' → Answers Tells settings script old new shelf shelf' before after groups loads.replies next
     answers_by groups next mid text loads kept front leaves = record {
       front = front;
-      many = loads.many;
+      suited = (let a = loads.suited rows was in (rows, a.known, subst (λ (x : Settings). SuitAll x rows groups loads.replies a.known) same a.suit));
       answers = λ tells s opens.
           let a = loads.answers tells s (opened tells s opens) in (
             a.stored,
@@ -171,7 +180,13 @@ module _ {D : Type 0} (Tells : Type 0) (files : D → Files) (drawn : D → ℕ 
             one = until.one;
             answers = record {
               front = front_both until.groups until.next (script_groups settings script) front_of;
-              many = (let a = length-append first.replies loads.replies in let b = length-append until.groups until.next in let m = first.many in let n = loads.many in omega (arith, a, b, m, n));
+              suited =
+                  (let a = first.suited rows was in
+                  let b = loads.suited a.known a.remembers in
+                  let front : SuitAll settings rows until.groups first.replies a.known = subst (λ (x : Settings). SuitAll x rows until.groups first.replies a.known) same a.suit in
+                  let behind : SuitAll settings a.known until.next loads.replies b.known =
+                  subst (λ (x : Settings). SuitAll x a.known until.next loads.replies b.known) (until.settings ∙ same) b.suit in
+                  (rows, b.known, suit_more settings rows a.known b.known until.groups until.next first.replies loads.replies front behind));
               answers = λ tells s opens.
                   let a = first.answers tells s (opened tells s opens) in
                   let b = loads.answers tells a.stored a.stands in
@@ -190,51 +205,54 @@ module _ {D : Type 0} (Tells : Type 0) (files : D → Files) (drawn : D → ℕ 
                 (subst (λ (l : List ℕ). WrotePart until.middle l after) loads.told last.wrote);
           }
 
-      -- the count of a disk rose
-      record Fell (slot count : ℕ) : Type 0 where
+      -- the count of a disk rose, that of the Directory or of a replica of the volume
+      record Fell (volume slot count : ℕ) : Type 0 where
         is_within : slot < disk_count settings
+        is_place : (slot ≡ 0) ⊎ ((j : ℕ) × (j < settings.replicas) × (slot ≡ slot_of settings volume j))
         is_rise : Rose (old slot).fault_count (new slot).fault_count
         is_count : count ≡ (new slot).fault_count
 
-      fell_first : (slot count : ℕ) → slot ≡ 0 → Rose (faults until.mid.directory.disk) (faults store'.directory.disk) → count ≡ faults store'.directory.disk → Fell slot count
-      fell_first slot count first rose is =
-          let at : Fell 0 count = record {
+      fell_first : (volume slot count : ℕ) → slot ≡ 0 → Rose (faults until.mid.directory.disk) (faults store'.directory.disk) → count ≡ faults store'.directory.disk → Fell volume slot count
+      fell_first volume slot count first rose is =
+          let at : Fell volume 0 count = record {
             is_within = omega arith;
+            is_place = inl refl;
             is_rise = (let opening = disks.directory.later in let later = until.counts.directory in
                 subst (λ n. Rose (old 0).fault_count n) (sym given.directory.fault_count) (rose_since (old 0).fault_count (faults until.mid.directory.disk)
                 (faults store'.directory.disk) (omega (arith, opening, later)) rose));
             is_count = is ∙ sym given.directory.fault_count;
           } in
-          subst (λ n. Fell n count) (sym first) at
+          subst (λ n. Fell volume n count) (sym first) at
 
-      fell_replica : (slot count : ℕ) → FailsReplica faults until.mid store' slot count → Fell slot count
-      fell_replica slot count f =
+      fell_replica : (v slot count : ℕ) → FailsReplica faults v until.mid store' slot count → Fell v slot count
+      fell_replica v slot count f =
           let volumes : until.mid.settings.volumes ≡ store.settings.volumes = ap (λ (x : Settings). x.volumes) until.settings in
           let replicas : until.mid.settings.replicas ≡ store.settings.replicas = ap (λ (x : Settings). x.replicas) until.settings in
-          let volume : f.v < store.settings.volumes = (let below = at_below until.mid.volumes.items f.v f.was.0 f.was.1 in let many = until.shape.volumes in omega (arith, below, many, volumes)) in
-          let replica : f.j < store.settings.replicas = (let below = at_below f.was.0.replicas.items f.j f.before f.was.2 in let many = until.shape.replicas f.v f.was.0 f.was.1 in
+          let volume : v < store.settings.volumes = (let below = at_below until.mid.volumes.items v f.was.0 f.was.1 in let many = until.shape.volumes in omega (arith, below, many, volumes)) in
+          let replica : f.j < store.settings.replicas = (let below = at_below f.was.0.replicas.items f.j f.before f.was.2 in let many = until.shape.replicas v f.was.0 f.was.1 in
           omega (arith, below, many, replicas)) in
-          let r = replica_there store f.v f.j shape volume replica in
-          let back = given.replicas f.v f.j f.after f.is in
-          let opening = (disks.replicas f.v f.j r.0 r.1).later in
-          let later = until.counts.replicas f.v f.j r.0 f.before r.1 f.was in
-          let at : ℕ = slot_of settings f.v f.j in
-          let here : slot_of store.settings f.v f.j ≡ at = ap (λ (x : Settings). slot_of x f.v f.j) same in
-          let there : slot_of store'.settings f.v f.j ≡ at = ap (λ (x : Settings). slot_of x f.v f.j) same' in
-          let place : at ≡ slot = sym (f.place ∙ ap (λ (x : Settings). slot_of x f.v f.j) (until.settings ∙ same)) in
+          let r = replica_there store v f.j shape volume replica in
+          let back = given.replicas v f.j f.after f.is in
+          let opening = (disks.replicas v f.j r.0 r.1).later in
+          let later = until.counts.replicas v f.j r.0 f.before r.1 f.was in
+          let at : ℕ = slot_of settings v f.j in
+          let here : slot_of store.settings v f.j ≡ at = ap (λ (x : Settings). slot_of x v f.j) same in
+          let there : slot_of store'.settings v f.j ≡ at = ap (λ (x : Settings). slot_of x v f.j) same' in
+          let place : at ≡ slot = sym (f.place ∙ ap (λ (x : Settings). slot_of x v f.j) (until.settings ∙ same)) in
           let opening_here : (old at).fault_count ≤ faults r.0.disk = subst (λ n. (old n).fault_count ≤ faults r.0.disk) here opening in
           let back_here : (new at).fault_count ≡ faults f.after.disk = subst (λ n. (new n).fault_count ≡ faults f.after.disk) there back.fault_count in
-          let fell : Fell at count = record {
-            is_within = subst (λ n. n < disk_count settings) there (within_slots f.v f.j f.after f.is);
+          let fell : Fell v at count = record {
+            is_within = subst (λ n. n < disk_count settings) there (within_slots v f.j f.after f.is);
+            is_place = inr (f.j, subst (λ (x : Settings). f.j < x.replicas) same replica, refl);
             is_rise = subst (λ n. Rose (old at).fault_count n) (sym back_here) (rose_since (old at).fault_count (faults f.before.disk) (faults f.after.disk)
                 (omega (arith, opening_here, later)) f.rose);
             is_count = f.count ∙ sym back_here;
           } in
-          subst (λ n. Fell n count) place fell
+          subst (λ n. Fell v n count) place fell
 
-      fell : (slot count : ℕ) → FailsAt faults until.mid store' slot count → Fell slot count
-      fell slot count (inl first) = fell_first slot count first.0 first.1 first.2
-      fell slot count (inr f) = fell_replica slot count f
+      fell : (volume slot count : ℕ) → FailsAt faults volume until.mid store' slot count → Fell volume slot count
+      fell volume slot count (inl first) = fell_first volume slot count first.0 first.1 first.2
+      fell volume slot count (inr f) = fell_replica volume slot count f
 
       breaks : (Behind : Option (List ℕ) → List ℕ → List ℕ → Option (List ℕ) → Type 0) (Writes : Option (List ℕ) → List ℕ → Option (List ℕ) → Type 0)
           → ((whole more : List ℕ) → Wrote before whole until.middle → Writes until.middle more after → Behind before whole more after)
@@ -242,7 +260,8 @@ module _ {D : Type 0} (Tells : Type 0) (files : D → Files) (drawn : D → ℕ 
       breaks Behind Writes join f =
           let x = f.fails in
           let one = Batch x.batch.line x.batch.photos in
-          let count = fell x.slot x.faults x.fails in
+          let count = fell x.fails.volume x.slot x.faults x.fails.fails in
+          let first = until.told.loads in
           let leaves : Leaves Tells files (one ∷ []) until.mid store' = λ tells s image stands may.
           subst (λ (l : List Group). LeavesFirst until.mid.settings l image s) x.is (f.leaves tells s image stands may) in
           record {
@@ -255,6 +274,22 @@ module _ {D : Type 0} (Tells : Type 0) (files : D → Files) (drawn : D → ℕ 
             slot = x.slot;
             faults = x.faults;
             within = count.is_within;
+            may = λ tells s t opens answers.
+                let a = first.answers tells s (opened tells s opens) in
+                let told : AnswersAll settings s until.groups first.replies a.stored = subst (λ (y : Settings). AnswersAll y s until.groups first.replies a.stored) same a.answers in
+                subst (λ (u : StoredStore). MayFailAt settings u x.batch.photos x.slot) (answers_same settings s a.stored t until.groups first.replies told answers) (record {
+                  volume = x.fails.volume;
+                  loads = subst (λ (y : Settings). MayLoad y a.stored x.batch.photos x.fails.volume) (until.settings ∙ same)
+                      (may_load files a.stored x.batch.photos until.mid until.shape a.stands x.fails.volume x.fails.homeless x.fails.room);
+                  disk = count.is_place;
+                });
+            homeless =
+                (let a = first.suited rows was in (
+                  rows,
+                  a.known,
+                  subst (λ (y : Settings). SuitAll y rows until.groups first.replies a.known) same a.suit,
+                  homeless_in until.mid.directory.homes a.known x.batch.photos a.remembers.homes x.fails.homeless,
+                ));
             rose = count.is_rise;
             count = count.is_count;
             reply = x.reply;

@@ -1,5 +1,6 @@
 -- How a load ends whose store was not opened.
-use Rattle.std.proofs.Common.{◌≡◌, ◌⊎◌, inl, inr, ℕ, ◌<◌, List, Option, Some, Result, Err, refl, sym, subst}
+use Rattle.std.proofs.Common.{◌≡◌, ◌⊎◌, inl, inr, ℕ, ◌<◌, List, Option, Some, Err, refl, sym, subst}
+use Rattle.std.specs.Prelude.{IsErrOf, IsOk}
 use Rattle.hay_needle.specs.declared.settings.Settings.{Settings}
 use Rattle.hay_disk.specs.Counts.{Rose}
 use Rattle.hay_disk.specs.Shelf.{HeldDisk}
@@ -9,21 +10,22 @@ use Rattle.hay_open.specs.declared.fault.OpenFault.{OpenFault}
 use Rattle.hay_reply.specs.declared.Note.{Note}
 use Rattle.hay_reply.specs.Replies.{header_line, note_line}
 use Rattle.hay_batch.specs.declared.fault.LoadOpenFault.{LoadOpenFault}
-use Rattle.hay_batch.specs.Shelves.{IsDamagedDisk, IsUndamagedBelow, disk_count, reads_of}
+use Rattle.hay_batch.specs.Shelves.{AreSoundBelow, IsDamagedDisk, IsUndamagedBelow, disk_count, reads_of}
 use Rattle.hay_loading.specs.declared.stops.Stop.{Stop}
 use Rattle.hay_loading.specs.declared.stops.Stop.TheVariants as stop
 use Rattle.hay_loading.specs.Endings.{AreLeft, Ends, IsRefusal, Unopened}
 use Rattle.hay_loading.specs.Stops.{note_of}
 use Rattle.hay_loading.proofs.Sinks.{part_more, wrote_more, wrote_part}
+use Rattle.hay_loading.proofs.Statuses.{stopped}
 
 module _ (Tells : Type 0) (settings : Settings) (script : List ℕ) (old new : ℕ → HeldDisk) (shelf shelf' : ℕ) (before begun after : Option (List ℕ)) (fault : LoadOpenFault)
     (left : AreLeft Tells settings script old new shelf shelf' before after)
     (by_shelf : (faults : ℕ) → fault ≡ LoadOpenFault.Shelf faults → Rose shelf shelf' × (faults ≡ shelf'))
     (failed : (slot faults : ℕ) → fault ≡ LoadOpenFault.Open slot (OpenFault.Failed faults)
     → (slot < disk_count settings) × Rose (old slot).fault_count (new slot).fault_count × (faults ≡ (new slot).fault_count)
-    × (Tells → IsUndamagedBelow settings slot (reads_of old)))
+    × (Tells → IsUndamagedBelow settings slot (reads_of old) × AreSoundBelow settings slot (reads_of new)))
     (damaged : (slot file at : ℕ) → fault ≡ LoadOpenFault.Open slot (OpenFault.Damaged file at) → (slot < disk_count settings)
-    × (Tells → IsDamagedDisk settings (reads_of old) slot file at × IsDamagedDisk settings (reads_of new) slot file at))
+    × (Tells → IsDamagedDisk settings (reads_of old) slot file at × IsDamagedDisk settings (reads_of new) slot file at × AreSoundBelow settings slot (reads_of new)))
     (header : Wrote before (header_line settings) begun) where
   why_by : (x : LoadOpenFault) (note : Note) → fault ≡ x → note_of x ≡ Some note → IsRefusal Tells settings script old new shelf shelf' before after note
   why_by (LoadOpenFault.Shelf faults) note is told = let f = by_shelf faults is in inl (faults, cc, f.0, f.1)
@@ -76,10 +78,18 @@ module _ (Tells : Type 0) (settings : Settings) (script : List ℕ) (old : ℕ �
   ends_unbegun stop.TooLong (inl is) = absurd cc
   ends_unbegun stop.TooLong (inr is) = absurd cc
 
--- one of two stops
-abbrev stopped : Stop → Result (Unit {0}) Stop
-stopped why = Err why
+-- a load with one of these stops read no script as far as it could be
+pub not_read : (why : Stop) → (why ≡ stop.Output) ⊎ (why ≡ stop.NoMemory) ⊎ (why ≡ stop.Store)
+    → IsOk (stopped why) ⊎ IsErrOf (stopped why) stop.Input ⊎ IsErrOf (stopped why) stop.TooLong → ⊥
+not_read why stops (inl done) = absurd cc
+not_read why (inl is) (inr (inl input)) = absurd cc
+not_read why (inr (inl is)) (inr (inl input)) = absurd cc
+not_read why (inr (inr is)) (inr (inl input)) = absurd cc
+not_read why (inl is) (inr (inr long)) = absurd cc
+not_read why (inr (inl is)) (inr (inr long)) = absurd cc
+not_read why (inr (inr is)) (inr (inr long)) = absurd cc
 
+-- one of two stops
 pub same_stop : (why a b : Stop) → (stopped why ≡ stopped a) ⊎ (stopped why ≡ stopped b) → (why ≡ a) ⊎ (why ≡ b)
 same_stop why a b (inl is) = inl cc
 same_stop why a b (inr is) = inr cc

@@ -28,6 +28,7 @@ use Rattle.hay_load.specs.declared.reply.LoadReply.TheVariants.{Known, Loaded}
 use Rattle.hay_load.specs.Answers.{AnswersAll, AnswersBatch, AreHomeless}
 use Rattle.hay_load.specs.Gathering.{Bad, Batch, Group}
 use Rattle.hay_load.specs.Loads.{LeavesFirst}
+use Rattle.hay_load.specs.Replies.{full_reply}
 use Rattle.hay_loading.specs.Endings.{AllStandIn, StandsIn}
 
 -- LISTS
@@ -131,7 +132,7 @@ keeps_batch : (settings : Settings) (s new : StoredStore) (photos : List NewPhot
 keeps_batch settings s new photos reply volume photo (inl known) keeps = subst (λ (x : StoredStore). Keeps x volume photo) (sym known.same) keeps
 keeps_batch settings s new photos reply volume photo (inr (inl full)) keeps = subst (λ (x : StoredStore). Keeps x volume photo) (sym full.same) keeps
 keeps_batch settings s new photos reply volume photo (inr (inr loaded)) keeps = subst (λ (x : StoredStore). Keeps x volume photo) (sym loaded.stored)
-    (keeps_more s volume loaded.volume photo photos loaded.homeless keeps)
+    (keeps_more s volume loaded.volume photo photos loaded.may.homeless keeps)
 
 keeps_all : (settings : Settings) (s new : StoredStore) (groups : List Group) (replies : List LoadReply) (volume : ℕ) (photo : NewPhoto) → AnswersAll settings s groups replies new
     → Keeps s volume photo → Keeps new volume photo
@@ -154,9 +155,40 @@ keeps_told settings s new photos reply volume count rows k photo (inr (inl full)
 keeps_told settings s new photos reply volume count rows k photo (inr (inr loaded)) is distinct at =
     let same : loaded.volume ≡ volume = loaded_volume loaded.volume volume (length photos) count (length new.rows) rows (sym loaded.told ∙ is) in (
       subst (λ n. Keeps new n photo) same
-          (subst (λ (x : StoredStore). Keeps x loaded.volume photo) (sym loaded.stored) (keeps_new s loaded.volume k photo photos loaded.homeless distinct at)),
-      λ some. (let turn = loaded.room.is in omega (arith, turn, some, same)),
+          (subst (λ (x : StoredStore). Keeps x loaded.volume photo) (sym loaded.stored) (keeps_new s loaded.volume k photo photos loaded.may.homeless distinct at)),
+      λ some. (let turn = loaded.may.room.is in omega (arith, turn, some, same)),
     )
+
+-- WHAT IS STORED THEN
+
+stored_same : (settings : Settings) (s t u : StoredStore) (photos : List NewPhoto) (reply : LoadReply) → AnswersBatch settings s photos reply t → AnswersBatch settings s photos reply u → t ≡ u
+stored_same settings s t u photos reply (inl first) (inl second) = first.same ∙ sym second.same
+stored_same settings s t u photos reply (inl first) (inr (inl second)) = first.same ∙ sym second.same
+stored_same settings s t u photos reply (inl first) (inr (inr second)) =
+    let both : Known first.volume ≡ Loaded second.volume (length photos) (length u.rows) = sym first.told ∙ second.told in absurd cc
+stored_same settings s t u photos reply (inr (inl first)) (inl second) = first.same ∙ sym second.same
+stored_same settings s t u photos reply (inr (inl first)) (inr (inl second)) = first.same ∙ sym second.same
+stored_same settings s t u photos reply (inr (inl first)) (inr (inr second)) =
+    let both : full_reply first.tries ≡ Loaded second.volume (length photos) (length u.rows) = sym first.told ∙ second.told in absurd cc
+stored_same settings s t u photos reply (inr (inr first)) (inl second) =
+    let both : Loaded first.volume (length photos) (length t.rows) ≡ Known second.volume = sym first.told ∙ second.told in absurd cc
+stored_same settings s t u photos reply (inr (inr first)) (inr (inl second)) =
+    let both : Loaded first.volume (length photos) (length t.rows) ≡ full_reply second.tries = sym first.told ∙ second.told in absurd cc
+stored_same settings s t u photos reply (inr (inr first)) (inr (inr second)) =
+    let same : first.volume ≡ second.volume = loaded_volume first.volume second.volume (length photos) (length photos) (length t.rows) (length u.rows) (sym first.told ∙ second.told) in
+    first.stored ∙ ap (λ (v : ℕ). with_stored v photos s) same ∙ sym second.stored
+
+-- the replies tell what is stored
+pub answers_same : (settings : Settings) (s t u : StoredStore) (groups : List Group) (replies : List LoadReply) → AnswersAll settings s groups replies t → AnswersAll settings s groups replies u → t ≡ u
+answers_same settings s t u [] [] first second = first ∙ sym second
+answers_same settings s t u [] (reply ∷ replies) first second = absurd first
+answers_same settings s t u (group ∷ groups) [] first second = absurd first
+answers_same settings s t u (Bad line ∷ groups) (reply ∷ replies) first second = answers_same settings s t u groups replies first.1 second.1
+answers_same settings s t u (Batch line photos ∷ groups) (reply ∷ replies) first second =
+    let same : second.0 ≡ first.0 = stored_same settings s second.0 first.0 photos reply second.1 first.1 in
+    answers_same settings first.0 t u groups replies first.2 (subst (λ (x : StoredStore). AnswersAll settings x groups replies u) same second.2)
+
+-- WHAT STANDS
 
 -- the batches of these groups are of distinct pairs
 abbrev pub AreApart : List Group → Type 0
@@ -197,8 +229,8 @@ module _ (settings : Settings) (image : ℕ → ℕ → List ℕ) (t : StoredSto
     replicas = λ j low. (t.replicas volume j, opens.replicas volume j within low, keeps.last j);
   }
 
-  in_part : (photos : List NewPhoto) → AreHomeless t.rows photos → OpensWithout settings photos image t → StandsIn settings image volume photo
-  in_part photos none opens = record {
+  in_part : (other : ℕ) (photos : List NewPhoto) → AreHomeless t.rows photos → OpensWithout settings other photos image t → StandsIn settings image volume photo
+  in_part other photos none opens = record {
     rows = t.rows;
     opens = opens.rows;
     home = keeps.at_home;
@@ -224,8 +256,9 @@ in_first : (settings : Settings) (next : List Group) (image : ℕ → ℕ → Li
 in_first settings [] image t volume photo keeps within left = in_store settings image t volume photo keeps within left
 in_first settings (Bad line ∷ next) image t volume photo keeps within left = in_store settings image t volume photo keeps within left
 in_first settings (Batch line photos ∷ next) image t volume photo keeps within (inl same) = in_store settings image t volume photo keeps within same
-in_first settings (Batch line photos ∷ next) image t volume photo keeps within (inr (none, inl part)) = in_part settings image t volume photo keeps within photos none part
-in_first settings (Batch line photos ∷ next) image t volume photo keeps within (inr (none, inr whole)) = in_whole settings image t volume whole.0 photo photos keeps within none whole.2
+in_first settings (Batch line photos ∷ next) image t volume photo keeps within (inr (other, may, inl part)) = in_part settings image t volume photo keeps within other photos may.homeless part
+in_first settings (Batch line photos ∷ next) image t volume photo keeps within (inr (other, may, inr whole)) =
+    in_whole settings image t volume other photo photos keeps within may.homeless whole
 
 pub all_stand : (settings : Settings) (s t : StoredStore) (groups next : List Group) (replies : List LoadReply) (image : ℕ → ℕ → List ℕ) → 0 < settings.volumes → AreApart groups
     → AnswersAll settings s groups replies t → LeavesFirst settings next image t

@@ -1,5 +1,6 @@
 -- What was done at each status, by why the load stopped.
-use Rattle.std.proofs.Common.{◌≡◌, inl, inr, ℕ, List, Option, Ok, Err, refl, arith}
+use Rattle.std.proofs.Common.{◌≡◌, ◌⊎◌, inl, inr, ℕ, List, Option, Result, Ok, Err, refl, sym, ap, ◌∙◌, arith}
+use Rattle.std.specs.Prelude.{IsErrOf}
 use Rattle.hay_needle.specs.declared.settings.Settings.{Settings}
 use Rattle.hay_disk.specs.Shelf.{HeldDisk}
 use Rattle.hay_loading.specs.declared.stops.Stop.{Stop}
@@ -28,6 +29,22 @@ long_by stop.Input is = absurd (omega (arith, is))
 long_by stop.NoMemory is = absurd (omega (arith, is))
 long_by stop.Store is = absurd (omega (arith, is))
 long_by stop.TooLong is = refl
+
+never_zero : (why : Stop) → status_of why ≡ 0 → ⊥
+never_zero stop.Output is = omega (arith, is)
+never_zero stop.Input is = omega (arith, is)
+never_zero stop.NoMemory is = omega (arith, is)
+never_zero stop.Store is = omega (arith, is)
+never_zero stop.TooLong is = omega (arith, is)
+
+abbrev pub stopped : Stop → Result (Unit {0}) Stop
+stopped why = Err why
+
+-- and of the statuses at which a script was read as far as it could be
+pub read_by : (why : Stop) (status : ℕ) → status ≡ status_of why → (status ≡ 0) ⊎ (status ≡ 4) ⊎ (status ≡ 7) → IsErrOf (stopped why) stop.Input ⊎ IsErrOf (stopped why) stop.TooLong
+read_by why status is (inl zeroth) = absurd (never_zero why (sym is ∙ zeroth))
+read_by why status is (inr (inl four)) = inl (ap stopped (input_by why (sym is ∙ four)))
+read_by why status is (inr (inr seven)) = inr (ap stopped (long_by why (sym is ∙ seven)))
 
 module _ (Tells : Type 0) (settings : Settings) (script : List ℕ) (old new : ℕ → HeldDisk) (shelf shelf' : ℕ) (before after : Option (List ℕ)) where
   pub to_all : Ends Tells settings script old new shelf shelf' before after (Ok tt) → LoadsTo Tells settings script old new shelf shelf' before after 0

@@ -19,10 +19,10 @@ use Rattle.hay_batch.specs.declared.photo.NewPhoto.{NewPhoto}
 use Rattle.hay_batch.specs.Batches.{shown_of}
 use Rattle.hay_batch.specs.Homes.{home_in}
 use Rattle.hay_batch.specs.Replicas.{At}
-use Rattle.hay_batch.specs.Shelves.{IsDamagedDisk, IsLeft, IsUndamagedBelow, OpensRows, OpensStore, StoredStore, disk_count, reads_of, replica_super, slot_of}
+use Rattle.hay_batch.specs.Shelves.{AreSoundBelow, IsDamagedDisk, IsLeft, IsUndamagedBelow, OpensRows, OpensStore, StoredStore, disk_count, reads_of, replica_super, slot_of}
 use Rattle.hay_load.specs.declared.reply.LoadReply.{LoadReply}
 use Rattle.hay_load.specs.declared.reply.LoadReply.TheVariants.{Loaded, Other}
-use Rattle.hay_load.specs.Answers.{AnswersAll, reply_lines}
+use Rattle.hay_load.specs.Answers.{AnswersAll, AreHomeless, MayLoad, SuitAll, reply_lines}
 use Rattle.hay_legal.specs.Items.{fed_part}
 use Rattle.hay_load.specs.Gathering.{Group, Batch, Bad, OpenBatch, groups_of, line_step}
 use Rattle.hay_load.specs.Loads.{IsFailed, LeavesFirst}
@@ -106,6 +106,13 @@ pub record CountsOn (old new : HeldDisk) : Type 0 where
   pub faults_rise : old.fault_count ≤ new.fault_count
   pub fuses_are : new.fuse_count ≡ old.fuse_count
 
+-- Where a disk may fail while a batch is loaded: no photo of it has a home, and the slot is that of the Directory, or that of a replica of
+-- the first try with room.
+pub record MayFailAt (settings : Settings) (s : StoredStore) (photos : List NewPhoto) (slot : ℕ) : Type 0 where
+  pub volume : ℕ
+  pub loads : MayLoad settings s photos volume
+  pub disk : (slot ≡ 0) ⊎ ((j : ℕ) × (j < settings.replicas) × (slot ≡ slot_of settings volume j))
+
 -- HOW A LOAD ENDS
 
 abbrev pub IsStatus : ℕ → Type 0
@@ -114,13 +121,13 @@ IsStatus status = (status ≡ 0) ⊎ (status ≡ 3) ⊎ (status ≡ 4) ⊎ (stat
 -- A load of a script on disks that are taken and given back, by a shelf with this count of faults and then that, while a sink goes
 -- from what it held to what it holds.
 module _ (Tells : Type 0) (settings : Settings) (script : List ℕ) (old new : ℕ → HeldDisk) (shelf shelf' : ℕ) (before after : Option (List ℕ)) where
-  -- The first groups of the script were answered by these replies: what the disks had became what is stored then, and behind these
-  -- groups come those that are next. In whatever a stop leaves of the disks an opening finds that; or, where the first of the next
-  -- groups is a batch of which no photo has a home, perhaps that with this whole batch, and never a row of a part of it. All batches
-  -- that were told as loaded stand there.
+  -- The first groups of the script were answered by these replies, which suit the rows that were read, whatever the disks tell; and
+  -- what the disks had became what is stored then, and behind these groups come those that are next. In whatever a stop leaves of the
+  -- disks an opening finds that; or, where the first of the next groups is a batch of which no photo has a home, perhaps that with this
+  -- whole batch in the first try with room, and never a row of a part of it. All batches that were told as loaded stand there.
   pub record Answers (groups : List Group) (replies : List LoadReply) (next : List Group) : Type 0 where
     pub front : IsFront (groups ++ next) (script_groups settings script)
-    pub many : length replies ≡ length groups
+    pub suited : (rows : List DirRow) × (known : List DirRow) × SuitAll settings rows groups replies known
     pub answers : Tells → (s : StoredStore) → OpensStore settings (reads_of old) s →
         (t : StoredStore) × AnswersAll settings s groups replies t
         × ((image : ℕ → ℕ → List ℕ) → MayLeaveSlots settings new image → LeavesFirst settings next image t × AllStandIn settings groups replies image)
@@ -165,7 +172,8 @@ module _ (Tells : Type 0) (settings : Settings) (script : List ℕ) (old new : �
     pub answers : Answers (groups ++ last) (replies ++ others) []
     pub wrote : WroteThen before (load_text settings groups replies) (reply_lines last others) after
 
-  -- The first groups were answered, and a disk failed while the next batch was loaded. Its count rose to the one that is told.
+  -- The first groups were answered, and a disk failed while the next batch was loaded, where one may. Its count rose to the one that is told.
+  -- Whatever the disks tell, the batch has no home by rows that the replies suit.
   pub record Breaks (Writes : Option (List ℕ) → List ℕ → List ℕ → Option (List ℕ) → Type 0) : Type 0 where
     pub groups : List Group
     pub replies : List LoadReply
@@ -175,6 +183,8 @@ module _ (Tells : Type 0) (settings : Settings) (script : List ℕ) (old new : �
     pub slot : ℕ
     pub faults : ℕ
     pub within : slot < disk_count settings
+    pub may : Tells → (s t : StoredStore) → OpensStore settings (reads_of old) s → AnswersAll settings s groups replies t → MayFailAt settings t photos slot
+    pub homeless : (rows : List DirRow) × (known : List DirRow) × SuitAll settings rows groups replies known × AreHomeless known photos
     pub rose : Rose (old slot).fault_count (new slot).fault_count
     pub count : faults ≡ (new slot).fault_count
     pub reply : Reply
@@ -182,15 +192,16 @@ module _ (Tells : Type 0) (settings : Settings) (script : List ℕ) (old new : �
     pub wrote : Writes before (load_text settings groups replies) (load_line line (Other reply)) after
 
   -- Why the store was not opened, as it is told: the shelf failed, and its count rose to the one that is told; a disk failed, and
-  -- none in a lower slot is damaged; or the disk in a slot is damaged at the place that is told, as it was taken and as it was
-  -- given back.
+  -- none in a lower slot was damaged; or the disk in a slot is damaged at the place that is told, as it was taken and as it was
+  -- given back. The disks in lower slots are given back formatted and not damaged.
   abbrev pub IsRefusal : Note → Type 0
   IsRefusal note =
       ((count : ℕ) × (note ≡ OpenShelf count) × Rose shelf shelf' × (count ≡ shelf'))
       ⊎ ((slot : ℕ) × (count : ℕ) × (note ≡ OpenFailed slot count) × (slot < disk_count settings)
-      × Rose (old slot).fault_count (new slot).fault_count × (count ≡ (new slot).fault_count) × (Tells → IsUndamagedBelow settings slot (reads_of old)))
+      × Rose (old slot).fault_count (new slot).fault_count × (count ≡ (new slot).fault_count)
+      × (Tells → IsUndamagedBelow settings slot (reads_of old) × AreSoundBelow settings slot (reads_of new)))
       ⊎ ((slot : ℕ) × (file : ℕ) × (at : ℕ) × (note ≡ OpenDamaged slot file at) × (slot < disk_count settings)
-      × (Tells → IsDamagedDisk settings (reads_of old) slot file at × IsDamagedDisk settings (reads_of new) slot file at))
+      × (Tells → IsDamagedDisk settings (reads_of old) slot file at × IsDamagedDisk settings (reads_of new) slot file at × AreSoundBelow settings slot (reads_of new)))
 
   -- each disk is as it was, or was void, and whatever a stop leaves of it an opening finds nothing
   abbrev pub AreLeft : Type 0

@@ -5,7 +5,8 @@
 //! What it promises, where the source, the sink and the disks tell, and the disks are void or of the load's settings: with status
 //! 0 the bytes written are the header and the replies to all batches and bad lines of the script, in order; in whatever a stop
 //! leaves of the disks given back an opening finds what they had and the batches that were told as loaded. Each other status
-//! comes for its own cause alone; then the first batches and bad lines are answered, and one batch more may be loaded whole.
+//! comes for its own cause alone; then the first batches and bad lines are answered, and one batch more may be loaded whole, into
+//! the first volume that has room for it. Whatever the disks tell, the replies suit the rows that were read of the journal.
 //! `specs/Endings.antt` says so status by status.
 #![tactic(auto)]
 

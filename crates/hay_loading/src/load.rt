@@ -1,11 +1,11 @@
 //! A load, from an opened shelf to its status.
-ghost use Rattle.std.specs.Prelude.{◌≡◌, ◌⊎◌, ℕ, ◌+◌, ◌<◌, ◌≤◌, List, ◌++◌, length, Option, Some, Err, OnOk, IsErrOf};
+ghost use Rattle.std.specs.Prelude.{◌≡◌, ◌⊎◌, ℕ, ◌+◌, ◌<◌, ◌≤◌, List, ◌++◌, length, Option, Some, Err, OnOk, IsErrOf, IsOk};
 ghost use Rattle.hay_disk.specs.Counts.{Rose, IsCounted};
 ghost use Rattle.hay_disk.specs.Streams.{Wrote};
 ghost use Rattle.hay_mount.specs.Mounts.{AreIn, SameFrom};
 ghost use Rattle.hay_reply.specs.Replies as texts;
 ghost use Rattle.hay_lines.specs.Stream.{IsReadToEnd, TookAtMost};
-ghost use Rattle.hay_batch.specs.Shelves.{IsLimited, disk_count};
+ghost use Rattle.hay_batch.specs.Shelves.{IsLimited, IsUndamagedBelow, disk_count, reads_of};
 ghost use Rattle.hay_loading.specs.declared.stops.Stop.{Stop};
 ghost use Rattle.hay_loading.specs.Endings.{CountsOn, Ends, HaltsBehind, IsStatus, LoadsTo, ReadFront, ReadOver};
 ghost use Rattle.hay_loading.specs.Lines.{Appends};
@@ -36,6 +36,8 @@ fn load_script<H: Shelf, S: Source, K: Sink>(
         HaltsBehind H.Disk.Tells settings script (H.disks shelf.old) (H.disks shelf.new) (H.fault_count shelf.old) (H.fault_count shelf.new) before (K.written sink.new) (λ read. ReadFront script read (S.left source.new)) }
     ensures halts_over { IsErrOf result Stop.TooLong → (script : List ℕ) (before : Option (List ℕ)) → S.left source.old ≡ Some script → Wrote before (texts.header_line settings) (K.written sink.old) →
         HaltsBehind H.Disk.Tells settings script (H.disks shelf.old) (H.disks shelf.new) (H.fault_count shelf.old) (H.fault_count shelf.new) before (K.written sink.new) (λ read. ReadOver script read (S.left source.new)) }
+    ensures sound { H.Disk.Tells → IsOk result ⊎ IsErrOf result Stop.Input ⊎ IsErrOf result Stop.TooLong →
+        IsUndamagedBelow settings (disk_count settings) (reads_of (H.disks shelf.old)) }
     ensures ended { OnOk result (IsReadToEnd (S.left source.old) (S.left source.new)) }
     ensures short { OnOk result ((script : List ℕ) → S.left source.old ≡ Some script → length script ≤ SCRIPT) }
     ensures long { IsErrOf result Stop.TooLong → (script : List ℕ) → S.left source.old ≡ Some script →
@@ -78,6 +80,8 @@ fn load_headed<H: Shelf, S: Source, K: Sink>(
         HaltsBehind H.Disk.Tells settings script (H.disks shelf.old) (H.disks shelf.new) (H.fault_count shelf.old) (H.fault_count shelf.new) (K.written sink.old) (K.written sink.new) (λ read. ReadFront script read (S.left source.new)) }
     ensures halts_over { IsErrOf result Stop.TooLong → (script : List ℕ) → S.left source.old ≡ Some script →
         HaltsBehind H.Disk.Tells settings script (H.disks shelf.old) (H.disks shelf.new) (H.fault_count shelf.old) (H.fault_count shelf.new) (K.written sink.old) (K.written sink.new) (λ read. ReadOver script read (S.left source.new)) }
+    ensures sound { H.Disk.Tells → IsOk result ⊎ IsErrOf result Stop.Input ⊎ IsErrOf result Stop.TooLong →
+        IsUndamagedBelow settings (disk_count settings) (reads_of (H.disks shelf.old)) }
     ensures ended { OnOk result (IsReadToEnd (S.left source.old) (S.left source.new)) }
     ensures short { OnOk result ((script : List ℕ) → S.left source.old ≡ Some script → length script ≤ SCRIPT) }
     ensures long { IsErrOf result Stop.TooLong → (script : List ℕ) → S.left source.old ≡ Some script →
@@ -127,6 +131,9 @@ pub fn load_store<H: Shelf, S: Source, K: Sink>(
         HaltsBehind H.Disk.Tells settings script (H.disks shelf.old) (H.disks shelf.new) (H.fault_count shelf.old) (H.fault_count shelf.new) (K.written sink.old) (K.written sink.new) (λ read. ReadFront script read (S.left source.new)) }
     ensures halts_over { result ≡ 7 → (script : List ℕ) → S.left source.old ≡ Some script →
         HaltsBehind H.Disk.Tells settings script (H.disks shelf.old) (H.disks shelf.new) (H.fault_count shelf.old) (H.fault_count shelf.new) (K.written sink.old) (K.written sink.new) (λ read. ReadOver script read (S.left source.new)) }
+
+    // Where a script was read to its end, or as far as it could be, nothing that an opening reads of the disks was damaged.
+    ensures sound { H.Disk.Tells → (result ≡ 0) ⊎ (result ≡ 4) ⊎ (result ≡ 7) → IsUndamagedBelow settings (disk_count settings) (reads_of (H.disks shelf.old)) }
 
     // When each status comes.
     ensures status { IsStatus result }

@@ -1,5 +1,5 @@
 use Rattle.std.proofs.Common.{Err, ap}
-use Rattle.hay_batch.proofs.Openings.{opened_as}
+use Rattle.hay_batch.proofs.Openings.{opened_as, opened_formatted}
 use Rattle.hay_batch.proofs.opening.open_file.Goals as goal
 
 pub returns-in-Ok-clause-opened : goal.returns-in-Ok-clause-opened
@@ -8,7 +8,11 @@ returns-in-Ok-clause-opened g c =
     record {
       opened = λ tells s is. opened_as g.D.Disk.files c.open_replica.new.disk c.args.sup.now s c.in-Ok.opened (told.opened tells s is);
       ready = λ tells. (told.ready tells).volume;
-      sound = λ tells. record { before = told.undamaged tells; behind = told.undamaged_now tells };
+      sound = λ tells. record {
+        before = told.undamaged tells;
+        behind = told.undamaged_now tells;
+        formatted = opened_formatted g.D.Disk.files c.args.disk.now c.open_replica.new.disk c.args.sup.now c.in-Ok.opened (told.kept tells) (told.opened tells);
+      };
       disk = record { kept = told.kept; stays = told.stays; nothing = told.nothing; later = told.counts; fuses = told.fuses };
     }
 

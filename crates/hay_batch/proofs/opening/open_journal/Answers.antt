@@ -46,6 +46,7 @@ returns-clause-opened g c =
       sound = λ tells. record {
         before = λ some at damage. told.undamaged tells some at (subst (λ (sup : Super). IsDamagedJournal sup (g.D.Disk.files c.args.disk.now 0).now at) (sym same) damage);
         behind = λ at damage. told.undamaged_now tells at (subst (λ (sup : Super). IsDamagedJournal sup (g.D.Disk.files c.open.new.disk 0).now at) (sym same) damage);
+        formatted = λ void. (let room = (told.rows tells).closed.room in omega (arith, room, ap (λ (l : List ℕ). length l) void));
       };
       disk = record { same = told.same; nothing = told.nothing; later = told.later; fuses = told.fuses };
     }

@@ -1,10 +1,11 @@
-use Rattle.std.proofs.Common.{◌≡◌, subst}
-use Rattle.std.specs.Prelude.{Result, Err}
+use Rattle.std.proofs.Common.{◌≡◌, ◌⊎◌, inl, inr, subst}
+use Rattle.std.specs.Prelude.{Result, Err, IsErrOf, IsOk}
 use Rattle.std.proofs.lemmas.Result.{err_from_is_err_and}
 use Rattle.hay_loading.specs.declared.stops.Stop.{Stop}
 use Rattle.hay_loading.specs.declared.stops.Stop.TheVariants as stop
 use Rattle.hay_loading.specs.Endings.{Ends}
-use Rattle.hay_loading.proofs.Refusing.{ends_unbegun, same_stop}
+use Rattle.hay_loading.proofs.Refusing.{ends_unbegun, not_read, same_stop}
+use Rattle.hay_loading.proofs.Statuses.{stopped}
 use Rattle.hay_loading.proofs.load.load_headed.Goals as goal
 
 pub returns-in_err-write_header-clause-ends : goal.returns-in_err-write_header-clause-ends
@@ -26,3 +27,10 @@ returns-clause-halts g c = λ stops script told. c.load_script.ensures.halts sto
 
 pub returns-clause-halts_over : goal.returns-clause-halts_over
 returns-clause-halts_over g c = λ stops script told. c.load_script.ensures.halts_over stops script (g.K.Sink.written c.args.sink.now) told c.in_ok-write_header.ensures.wrote
+
+pub returns-in_err-write_header-clause-sound : goal.returns-in_err-write_header-clause-sound
+returns-in_err-write_header-clause-sound g c = λ tells ends.
+    let same : c.from_residual.result ≡ stopped c.in_err-write_header.field-0.0 = (let p = err_from_is_err_and c.from_residual.result c.from_residual.ensures.1 in cc (p.1, p.2)) in
+    let why = c.in_err-write_header.field-0.0 in
+    absurd (not_read why (elim (same_stop why stop.Output stop.NoMemory c.in_err-write_header.ensures.stops) [ inl is ↦ inl is | inr is ↦ inr (inl is) ])
+    (subst (λ (r : Result (Unit {0}) Stop). IsOk r ⊎ IsErrOf r stop.Input ⊎ IsErrOf r stop.TooLong) same ends))

@@ -4,8 +4,8 @@ use Rattle.hay_mount.specs.Mounts.{AreIn, AreOut, SameFrom}
 use Rattle.hay_batch.specs.Shelves.{disk_count}
 use Rattle.hay_loading.proofs.Counting.{counts_left, counts_on}
 use Rattle.hay_loading.specs.declared.stops.Stop.TheVariants as stop
-use Rattle.hay_loading.proofs.Ending.{ends_open, halts_input, halts_long}
-use Rattle.hay_loading.proofs.Refusing.{ends_refused}
+use Rattle.hay_loading.proofs.Ending.{ends_open, halts_input, halts_long, remembered}
+use Rattle.hay_loading.proofs.Refusing.{ends_refused, not_read}
 use Rattle.hay_loading.proofs.Serving.{counts_at, serves_at, settings_at, store_begun, until_at}
 use Rattle.hay_loading.proofs.load.load_script.Goals as goal
 
@@ -24,6 +24,12 @@ returns-in-Err-clause-ends g c = λ script before told header.
     c.in-Err.ensures.damaged header
     c.write_refusal.result c.write_refusal.ensures.told c.write_refusal.ensures.part (λ e. ap g.K.Sink.written (c.write_refusal.ensures.wanting e)) c.write_refusal.ensures.stops
 
+pub returns-in-Err-clause-sound : goal.returns-in-Err-clause-sound
+returns-in-Err-clause-sound g c = λ tells ends. absurd (not_read c.write_refusal.result c.write_refusal.ensures.stops ends)
+
+pub returns-clause-sound : goal.returns-clause-sound
+returns-clause-sound g c = λ tells ends. c.in-Ok.ensures.sound tells
+
 pub returns-clause-ends : goal.returns-clause-ends
 returns-clause-ends g c = λ script before told header.
     let D = g.H.Disk.Disk in
@@ -36,7 +42,8 @@ returns-clause-ends g c = λ script before told header.
     c.serve-outcome.ensures.shape.1 c.close.ensures.given
     script (g.H.Shelf.disks c.args.shelf.now) (g.H.Shelf.fault_count c.args.shelf.now) (g.H.Shelf.fault_count c.close.new.shelf) before begun after c.in-Ok.store
     c.in-Ok.ensures.shape.0 c.in-Ok.ensures.shape.1
-    c.in-Ok.ensures.opened c.in-Ok.ensures.disks header c.requires.limits.some_volumes (g.S.Source.left c.serve-outcome.new.source) c.serve-outcome.result
+    c.in-Ok.ensures.opened c.in-Ok.ensures.disks header c.requires.limits.some_volumes c.in-Ok.ensures.homes.0
+    (remembered c.in-Ok.store c.in-Ok.ensures.homes.0 c.in-Ok.ensures.homes.1 c.in-Ok.ensures.homes.2) (g.S.Source.left c.serve-outcome.new.source) c.serve-outcome.result
     (λ done is. serves_at D.Tells D.files (Some script) c.new-load.result.store c.in-Ok.store c.serve-outcome.new.load.store begun after began (rw (is, told) at c.serve-outcome.ensures.served))
     (λ why is. until_at D.Tells D.files D.fault_count D.fuse_count why (Some script) (g.S.Source.left c.serve-outcome.new.source) c.new-load.result.store c.in-Ok.store c.serve-outcome.new.load.store begun after began
     (rw told at c.serve-outcome.ensures.stopped why is))
@@ -83,7 +90,8 @@ returns-clause-halts g c = λ stops script before told header.
     c.serve-outcome.ensures.shape.1 c.close.ensures.given
     script (g.H.Shelf.disks c.args.shelf.now) (g.H.Shelf.fault_count c.args.shelf.now) (g.H.Shelf.fault_count c.close.new.shelf) before begun after c.in-Ok.store
     c.in-Ok.ensures.shape.0 c.in-Ok.ensures.shape.1
-    c.in-Ok.ensures.opened c.in-Ok.ensures.disks header c.requires.limits.some_volumes left'
+    c.in-Ok.ensures.opened c.in-Ok.ensures.disks header c.requires.limits.some_volumes c.in-Ok.ensures.homes.0
+    (remembered c.in-Ok.store c.in-Ok.ensures.homes.0 c.in-Ok.ensures.homes.1 c.in-Ok.ensures.homes.2) left'
     (until_at D.Tells D.files D.fault_count D.fuse_count stop.Input (Some script) left' c.new-load.result.store c.in-Ok.store c.serve-outcome.new.load.store begun after
     (store_begun c.new-load.result c.in-Ok.store c.new-load.ensures.made) (rw told at c.serve-outcome.ensures.stopped stop.Input stops))
 
@@ -99,6 +107,7 @@ returns-clause-halts_over g c = λ stops script before told header.
     c.serve-outcome.ensures.shape.1 c.close.ensures.given
     script (g.H.Shelf.disks c.args.shelf.now) (g.H.Shelf.fault_count c.args.shelf.now) (g.H.Shelf.fault_count c.close.new.shelf) before begun after c.in-Ok.store
     c.in-Ok.ensures.shape.0 c.in-Ok.ensures.shape.1
-    c.in-Ok.ensures.opened c.in-Ok.ensures.disks header c.requires.limits.some_volumes left'
+    c.in-Ok.ensures.opened c.in-Ok.ensures.disks header c.requires.limits.some_volumes c.in-Ok.ensures.homes.0
+    (remembered c.in-Ok.store c.in-Ok.ensures.homes.0 c.in-Ok.ensures.homes.1 c.in-Ok.ensures.homes.2) left'
     (until_at D.Tells D.files D.fault_count D.fuse_count stop.TooLong (Some script) left' c.new-load.result.store c.in-Ok.store c.serve-outcome.new.load.store begun after
     (store_begun c.new-load.result c.in-Ok.store c.new-load.ensures.made) (rw told at c.serve-outcome.ensures.stopped stop.TooLong stops))
