@@ -21,13 +21,10 @@ use Rattle.hay_legal.specs.Items.Asked.{Alone, Block}
 use Rattle.hay_cluster.specs.declared.fault.ClusterFault.{ClusterFault}
 use Rattle.hay_cluster.specs.declared.fault.ClusterFault.TheVariants as refusal
 use Rattle.hay_cluster.specs.Leaving.{LeavesContents}
-use Rattle.hay_cluster.specs.Outside.{IsDamagedDisk, IsUndamaged, IsUndamagedBelow}
-use Rattle.hay_cluster.specs.Causes.{BlamesNoArm, HasFaultCause, IsCaused, LeavesFuses}
-use Rattle.hay_logical.specs.Seen.{VolumeSeen, volume_seen}
-use Rattle.hay_logical.specs.Volumes.{Volume}
-use Rattle.hay_cluster.specs.Pending.{PendingLines, line_of_change, pending_change, pending_of, pending_row}
-use Rattle.hay_cluster.specs.Seen.{Answers, OpensSeen, TellsSeen, pending_seen, store_seen}
-use Rattle.hay_cluster.specs.Store.{Open, contents_in}
+use Rattle.hay_cluster.specs.Outside.{AreSoundBelow, IsDamagedDisk, IsUndamaged}
+use Rattle.hay_cluster.specs.Causes.{BlamesNoArm, EndsRuns, HasFaultCause, IsCaused, LeavesFuses}
+use Rattle.hay_cluster.specs.Seen.{Answers, OpensSeen, TellsSeen}
+use Rattle.hay_cluster.specs.Sights.{LeavesSights}
 use Rattle.hay_cluster.specs.Suiting.{Suits}
 use Rattle.hay_run.specs.declared.stops.Stop.{Stop}
 use Rattle.hay_run.specs.declared.stops.Stop.TheVariants as stop
@@ -39,22 +36,6 @@ use Rattle.hay_run.specs.Turns.{Writing}
 use Rattle.hay_run.specs.Unbuilt.{unbuilt_text}
 use Rattle.hay_run.proofs.Counting.{NoneFalls-same}
 use Rattle.hay_run.proofs.Turning.{wrote_nothing, wrote_more, wrote_part}
-
--- what is pending is seen
-changes_seen : {D P : Type 0} (volumes : List (Volume D P)) → map pending_change volumes ≡ map (λ (seen : VolumeSeen). line_of_change seen.unsure) (map volume_seen volumes)
-changes_seen [] = refl
-changes_seen (volume ∷ volumes) = ap (λ (lines : List (Option ℕ)). pending_change volume ∷ lines) (changes_seen volumes)
-
-pub pending_is_seen : {D P A : Type 0} (store : Open D P A) → pending_of store ≡ pending_seen (store_seen store)
-pending_is_seen store = ap (λ (changes : List (Option ℕ)). record { changes = changes; row = pending_row store.directory }) (changes_seen store.volumes)
-
--- so the disks that a command leaves are told by what is seen
-pub contents_seen : {D P A : Type 0} (files : D → Files) (Tells : Type 0) (old new : Open D P A) (command : Command) (reply : Reply)
-    → (Tells → LeavesContents old.settings command reply (pending_of old) (pending_of new) (contents_in files old) (contents_in files new))
-    → Tells → LeavesContents old.settings command reply (pending_seen (store_seen old)) (pending_seen (store_seen new)) (contents_in files old) (contents_in files new)
-contents_seen files Tells old new command reply leaves tells =
-    let after = subst (λ (p : PendingLines). LeavesContents old.settings command reply (pending_of old) p (contents_in files old) (contents_in files new)) (pending_is_seen new) (leaves tells) in
-    subst (λ (p : PendingLines). LeavesContents old.settings command reply p (pending_seen (store_seen new)) (contents_in files old) (contents_in files new)) (pending_is_seen old) after
 
 pub same_tally : (tally : Tally) → IsLaterTally tally tally
 same_tally tally = (NoneFalls-same tally.counts.disks, NoneFalls-same tally.counts.arms, λ lane sure. sure)
@@ -103,16 +84,32 @@ module _ (Tells : Type 0) where
       → ((pick : ℕ) → command ≢ asks.Restart pick) → IsLaterTally before after → LeavesFuses settings command before.fuses after.fuses
       → FitsReply reply → Suits settings number command reply → IsCaused settings 0 before.counts after.counts reply → (HasSureArm before 0 → BlamesNoArm reply)
       → Answers settings (plain_tag number) command reply before.seen after.seen
-      → (Tells → LeavesContents settings command reply (pending_seen before.seen) (pending_seen after.seen) before.contents after.contents)
+      → LeavesSights settings command reply before.seen after.seen → EndsRuns settings reply before.seen after.seen before.counts.disks after.counts.disks
+      → (Tells → LeavesContents settings command reply (before.seen).volumes (after.seen).volumes before.contents after.contents)
       → Writes written (numbered_line number reply) written'
       → Caused Tells Writes settings before after (Alone number (item.Command command) ∷ []) written written'
-  caused_reply Writes settings before after number command reply written written' other none fuses fits suits cause sure seen contents wrote =
+  caused_reply Writes settings before after number command reply written written' other none fuses fits suits cause sure seen sights ended contents wrote =
       caused_one Writes settings before after (Alone number (item.Command command)) (numbered_line number reply) written written' none
-      (fuses, inr (other, (reply, fits, suits, cause, sure, seen, contents, refl))) wrote
+      (
+        fuses,
+        inr (record {
+          plain = other;
+          said = reply;
+          fits = fits;
+          suits = suits;
+          caused = cause;
+          sure = sure;
+          answers = seen;
+          sights = sights;
+          ended = ended;
+          contents = contents;
+          is = refl;
+        }),
+      ) wrote
 
   pub caused_restart : (Writes : Writing) (settings : Settings) (before after : Tally) (number pick rows : ℕ) (notes : List Note) (written written' : Option (List ℕ))
       → IsLaterTally before after → after.fuses ≡ before.fuses → after.counts.arms ≡ before.counts.arms → FitsReply (Restarted rows)
-      → TellsSeen settings before.seen notes → AllByRecursion FitsNote notes
+      → TellsSeen settings before.seen after.seen notes → AllByRecursion FitsNote notes
       → OpensSeen settings after.seen → rows ≡ (after.seen).directory.rows
       → (Tells → IsUndamaged settings after.contents) → Writes written (numbered_line number (Restarted rows) ++ flat_map note_line notes) written'
       → Caused Tells Writes settings before after (Alone number (item.Command (asks.Restart pick)) ∷ []) written written'
@@ -154,10 +151,11 @@ module _ (Tells : Type 0) where
     restart_number (n, p, same) = cc
 
     abbrev LowestFor : ClusterFault → Type 0
-    LowestFor fault = Tells → (slot count : ℕ) → fault ≡ refusal.Failed slot count → IsUndamagedBelow settings slot after.contents
+    LowestFor fault = Tells → (slot count : ℕ) → fault ≡ refusal.Failed slot count → AreSoundBelow settings slot after.contents
 
     abbrev PlaceFor : ClusterFault → Type 0
-    PlaceFor fault = Tells → (slot file at : ℕ) → fault ≡ refusal.Damaged slot file at → IsDamagedDisk settings after.contents slot file at
+    PlaceFor fault = Tells → (slot file at : ℕ) → fault ≡ refusal.Damaged slot file at
+        → IsDamagedDisk settings after.contents slot file at × AreSoundBelow settings slot after.contents
 
     note_caused : (fault : ClusterFault) → HasFaultCause settings before.counts.disks after.counts.disks fault → LowestFor fault → PlaceFor fault → (note : Note) → note_of fault ≡ Some note → IsNoteCaused Tells settings before after note
     note_caused (refusal.Shelf count) cause lowest place note is = absurd cause

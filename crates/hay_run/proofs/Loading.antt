@@ -39,6 +39,7 @@ load_nothing Tells settings status disks arms shelf left before back five = reco
   halts_over = λ seven. absurd (omega (arith, five, seven));
   ended = λ zero. absurd (omega (arith, five, zero));
   short = λ zero. absurd (omega (arith, five, zero));
+  sound = λ tells opened. absurd (elim opened [ inl zero ↦ omega (arith, five, zero) | inr (inl four) ↦ omega (arith, five, four) | inr (inr seven) ↦ omega (arith, five, seven) ]);
   counts = λ slot below. record { faults_rise = omega arith; fuses_are = refl };
   other_slots = λ slot above. refl;
   lanes = refl;

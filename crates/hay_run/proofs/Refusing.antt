@@ -22,7 +22,7 @@ use Rattle.hay_cluster.specs.declared.fault.ClusterFault.{ClusterFault}
 use Rattle.hay_cluster.specs.declared.fault.ClusterFault.TheVariants as refusal
 use Rattle.hay_directory.specs.Rows.{OpensRows}
 use Rattle.hay_logical.specs.Fits.{IsReplica}
-use Rattle.hay_cluster.specs.Outside.{CountsOn, IsDamagedDisk, IsFirstDamage, IsKept, IsNotWhole, IsUndamaged, IsUndamagedBelow, IsVoid, outside_of}
+use Rattle.hay_cluster.specs.Outside.{AreSoundBelow, CountsOn, IsDamagedDisk, IsFirstDamage, IsKept, IsNotWhole, IsUndamaged, IsUndamagedBelow, IsVoid, outside_of}
 use Rattle.hay_cluster.specs.Store.{Open, contents_in}
 use Rattle.hay_cluster.proofs.OpeningDamage.{slot_found}
 use Rattle.hay_run.specs.declared.stops.Stop.{Stop}
@@ -67,6 +67,12 @@ undamaged_as : (settings : Settings) (slot : ℕ) (a b : ℕ → Contents) → (
 undamaged_as settings slot a b below_same lowest lower file at below some there =
     let is = below_same lower below in
     lowest lower file at below (subst (λ (c : Contents). IsVoid c → ⊥) (sym is) some) (subst (λ (c : Contents). IsFirstDamage settings lower file at c) (sym is) there)
+
+sound_as : (settings : Settings) (slot : ℕ) (a b : ℕ → Contents) → ((lower : ℕ) → lower < slot → a lower ≡ b lower) → AreSoundBelow settings slot a → AreSoundBelow settings slot b
+sound_as settings slot a b below_same sound = record {
+  formatted = λ lower below void. sound.formatted lower below (subst IsVoid (sym (below_same lower below)) void);
+  undamaged = undamaged_as settings slot a b below_same sound.undamaged;
+}
 
 damaged_as : (settings : Settings) (slot file at : ℕ) (a b : ℕ → Contents) → a slot ≡ b slot → ((lower : ℕ) → lower < slot → a lower ≡ b lower) → IsDamagedDisk settings a slot file at → IsDamagedDisk settings b slot file at
 damaged_as settings slot file at a b same below_same d = record {
@@ -258,9 +264,10 @@ module _ (Tells : Type 0) (settings : Settings) (taken given : Outside) where
   pub cause_of : (fault : ClusterFault)
       → ((count : ℕ) → fault ≡ refusal.Shelf count → Rose taken.shelf given.shelf × (count ≡ given.shelf))
       → ((slot count : ℕ) → fault ≡ refusal.Failed slot count → (slot < disk_count settings) × Rose (taken.faults slot) (given.faults slot) × (count ≡ given.faults slot))
-      → (Tells → (slot count : ℕ) → fault ≡ refusal.Failed slot count → IsUndamagedBelow settings slot (read_contents taken))
+      → (Tells → (slot count : ℕ) → fault ≡ refusal.Failed slot count → IsUndamagedBelow settings slot (read_contents taken) × AreSoundBelow settings slot (read_contents given))
       → ((slot file at : ℕ) → fault ≡ refusal.Damaged slot file at → slot < disk_count settings)
-      → (Tells → (slot file at : ℕ) → fault ≡ refusal.Damaged slot file at → IsDamagedDisk settings (read_contents taken) slot file at × IsDamagedDisk settings (read_contents given) slot file at)
+      → (Tells → (slot file at : ℕ) → fault ≡ refusal.Damaged slot file at → IsDamagedDisk settings (read_contents taken) slot file at × IsDamagedDisk settings (read_contents given) slot file at
+          × AreSoundBelow settings slot (read_contents given))
       → (note : Note) → note_of fault ≡ Some note → IsFirstRefusal Tells settings taken given note
   cause_of (refusal.Shelf count) of_shelf of_disk of_lower within of_damage note is =
       let same : note ≡ told.OpenShelf count = cc in let rose = of_shelf count refl in inl (count, same, rose.0, rose.1)
@@ -290,8 +297,8 @@ module _ (Tells : Type 0) (settings : Settings) (taken given : Outside) where
             subst (λ n. Rose (taken.faults slot) n) (sym (back slot within)) (rose_more (taken.faults slot) (slice_index (counts_of faults store) slot) (slice_index (counts_of faults store') slot) (later slot within) rose),
             count_is ∙ sym (back slot within),
           ),
-          λ tells. undamaged_as settings slot (contents_in files store') (read_contents given) (λ lower low. sym (contents tells lower (omega (arith, low, within))))
-              (subst (λ (s : Settings). IsUndamagedBelow s slot (contents_in files store')) same (lowest tells)),
+          λ tells. sound_as settings slot (contents_in files store') (read_contents given) (λ lower low. sym (contents tells lower (omega (arith, low, within))))
+              (subst (λ (s : Settings). AreSoundBelow s slot (contents_in files store')) same (lowest tells)),
         )
     cause_later note (inr (slot, file, at, is, below, why)) =
         inr (
@@ -306,6 +313,8 @@ module _ (Tells : Type 0) (settings : Settings) (taken given : Outside) where
                 sound tells,
                 damaged_as settings slot file at (contents_in files store') (read_contents given) (sym (contents tells slot damaged.within))
                     (λ lower below. sym (contents tells lower (let within = damaged.within in omega (arith, below, within)))) damaged,
+                sound_as settings slot (contents_in files store') (read_contents given) (λ lower below. sym (contents tells lower (let within = damaged.within in omega (arith, below, within))))
+                    (subst (λ (s : Settings). AreSoundBelow s slot (contents_in files store')) same (why tells).2),
               ),
         )
 

@@ -1,9 +1,9 @@
 -- Causes of texts that no run has, each as a lemma.
-use Rattle.std.proofs.Common.{◌≡◌, ◌≢◌, ℕ, zero, suc, ◌+◌, ◌-◌, ◌^◌, ◌<◌, ◌≤◌, List, [], ◌∷◌, ◌++◌, length, Some, None, sym, ap, subst, ◌∙◌, inl, inr, arith}
+use Rattle.std.proofs.Common.{◌≡◌, ◌≢◌, ℕ, zero, suc, ◌+◌, ◌*◌, ◌-◌, ◌^◌, ◌<◌, ◌≤◌, List, [], ◌∷◌, ◌++◌, length, Some, None, refl, sym, ap, subst, ◌∙◌, inl, inr, arith}
 use Rattle.std.proofs.lemmas.List.{append_cancel_left, append_cancel_right}
 use Rattle.std.specs.Prelude.{Bool, true, false, codes, decimal, map, replicate, slice_index, slice_index_or, slice_set}
 use Rattle.std.specs.List.{AllByRecursion, AllZip}
-use Rattle.hay_disk.specs.Counts.{IsNext}
+use Rattle.hay_disk.specs.Counts.{IsNext, Rose}
 use Rattle.hay_needle.specs.declared.needle.Cookie.{Cookie}
 use Rattle.hay_needle.specs.declared.needle.Pair.{Pair}
 use Rattle.hay_needle.specs.declared.settings.Settings.{Settings}
@@ -15,42 +15,42 @@ use Rattle.hay_reply.specs.declared.ClosedBy.{ClosedBy}
 use Rattle.hay_reply.specs.declared.Refused.{Refused}
 use Rattle.hay_reply.specs.declared.Refused.TheVariants.{NoRoom}
 use Rattle.hay_reply.specs.declared.Reply.{Reply}
-use Rattle.hay_reply.specs.declared.Reply.TheVariants.{Failed, Flushed, Full, Idle, Nowhere, ReadOnly, Stored, Unknown}
+use Rattle.hay_reply.specs.declared.Reply.TheVariants.{Absent, Begun, Deleted, Failed, Flushed, Full, Gone, Idle, Nowhere, ReadOnly, Stepped, Stored, Unknown}
 use Rattle.hay_reply.specs.Fits.{FitsReply}
 use Rattle.hay_reply.specs.Replies.{numbered_line, reply_text}
 use Rattle.hay_reply.specs.Reading.{reply_of, words_of}
 use Rattle.hay_reply.proofs.Back.{back_reply}
-use Rattle.hay_legal.specs.Known.{disk_count, machine_of, tries_by}
+use Rattle.hay_legal.specs.Known.{disk_count, machine_of, replica_on, slot_of, tries_by}
 use Rattle.hay_legal.specs.Plain.{as_closed}
 use Rattle.hay_legal.specs.Stands.{Contents, Outside}
 use Rattle.hay_logical.specs.declared.fault.LogicalFault.{LogicalFault}
 use Rattle.hay_logical.specs.declared.fault.LogicalFault.TheVariants as refusal
 use Rattle.hay_logical.specs.declared.unsure.Unsure.{Unsure}
 use Rattle.hay_logical.specs.Fits.{At}
-use Rattle.hay_logical.specs.Seen.{ReplicaSeen, RoomSeen, SeesRoom, StoreSeen as PhotoSeen, VolumeSeen}
-use Rattle.hay_cluster.specs.Causes.{LeavesFuses}
-use Rattle.hay_cluster.specs.Changes.{IsReadOnly}
+use Rattle.hay_logical.specs.Seen.{BeginRefusedSeen, PutSeen, ReplicaSeen, RoomSeen, SeesAt, SeesRoom, StepRefusedSeen, StepsTo, VolumeSeen}
+use Rattle.hay_logical.specs.Sights.{Looks, SeesAll, Sight}
+use Rattle.hay_logical.specs.Sights.Sight.{Live, Unseen}
+use Rattle.hay_cluster.specs.Causes.{EndsRuns, LeavesFuses}
 use Rattle.hay_cluster.specs.Leaving.{IsApartOn, LeavesByPut, MayAddRow, MayPut}
 use Rattle.hay_cluster.specs.Maintenance.{IsRefusedAs}
-use Rattle.hay_cluster.specs.Pending.{PendingLines}
-use Rattle.hay_cluster.specs.Seen.{Answers, AnswersPut, Closes, GetsHome, IsFrozenBy, IsThawed, MovesVolume, OpensSeen, OpensVolumeSeen, RefusesPhoto, StoreSeen, TakesPhotoAt, home_seen, is_drained}
+use Rattle.hay_cluster.specs.Seen.{Answers, AnswersPut, Closes, GetsHome, IsFrozenBy, IsThawed, MovesVolume, OpensSeen, OpensVolumeSeen, RefusesPhoto, StoreSeen, TakesPhotoAt, VolumeAt, home_seen, is_drained}
+use Rattle.hay_cluster.specs.Sights.{IsAbsent, LeavesSights}
 use Rattle.hay_run.specs.Causing.{BeginsAt, IsNoteCaused, IsReplyText, IsRestartText, Tally, plain_tag}
 use Rattle.hay_run.specs.Runs.{IsFirstRefusal}
 
 -- a flush that changed what reads give of a disk but the replica's
 pub flush_elsewhere : (Tells : Type 0) (settings : Settings) (before after : Tally) (v m number slot file : ℕ) (text : List ℕ) → Tells → slot < disk_count settings → IsApartOn settings v m slot
     → (after.contents slot file ≡ before.contents slot file → ⊥) → IsReplyText Tells settings before after (asks.Flush v m) number text → ⊥
-flush_elsewhere Tells settings before after v m number slot file text tells within apart changed (other, (said, fits, suits, cause, sure, seen, contents, is)) =
-    elim (contents tells) [ inl work ↦ changed (work.1 slot file within apart) | inr keeps ↦ changed (keeps slot file within tt) ]
+flush_elsewhere Tells settings before after v m number slot file text tells within apart changed told =
+    elim (told.contents tells) [ inl work ↦ changed (work.1 slot file within apart) | inr keeps ↦ changed (keeps slot file within tt) ]
 
 -- a read that changed what reads give of any disk
 pub read_with_a_change : (Tells : Type 0) (settings : Settings) (before after : Tally) (pair : Pair) (cookie : Cookie) (number slot file : ℕ) (text : List ℕ) → Tells → slot < disk_count settings
     → (after.contents slot file ≡ before.contents slot file → ⊥) → IsReplyText Tells settings before after (asks.Read pair cookie) number text → ⊥
-read_with_a_change Tells settings before after pair cookie number slot file text tells within changed (other, (said, fits, suits, cause, sure, seen, contents, is)) =
-    changed (contents tells slot file within tt)
+read_with_a_change Tells settings before after pair cookie number slot file text tells within changed told = changed (told.contents tells slot file within tt)
 
 -- a put that was refused for want of room, and changed a disk
-full_not_made : (settings : Settings) (tries : List Refused) (before after : PendingLines) (old new : ℕ → Contents) (v : ℕ) → MayPut (Full tries) before after old new settings v → ⊥
+full_not_made : (settings : Settings) (tries : List Refused) (before after : List VolumeSeen) (old new : ℕ → Contents) (v : ℕ) → MayPut (Full tries) before after old new settings v → ⊥
 full_not_made settings tries before after old new v (inl (p, d, c, is)) = cc
 full_not_made settings tries before after old new v (inr (inl (m, f, is, keeps))) = cc
 full_not_made settings tries before after old new v (inr (inr (is, pends))) = cc
@@ -61,7 +61,7 @@ full_adds_none tries (inr (inl (v, m, f, is))) = cc
 full_adds_none tries (inr (inr (inl (f, is)))) = cc
 full_adds_none tries (inr (inr (inr is))) = cc
 
-pub full_with_a_change : (settings : Settings) (pair : Pair) (before after : PendingLines) (old new : ℕ → Contents) (tries : List Refused) (slot file : ℕ) → slot < disk_count settings
+pub full_with_a_change : (settings : Settings) (pair : Pair) (before after : List VolumeSeen) (old new : ℕ → Contents) (tries : List Refused) (slot file : ℕ) → slot < disk_count settings
     → (new slot file ≡ old slot file → ⊥) → LeavesByPut settings pair (Full tries) before after old new → ⊥
 full_with_a_change settings pair before after old new tries zero file within changed leaves =
     elim (leaves.rows) [ inl row ↦ full_adds_none tries row.0 | inr same ↦ changed (ap (λ (contents : Contents). contents file) same) ]
@@ -111,8 +111,20 @@ Says Tells settings before after command number said = FitsReply said × IsReply
 -- how it is answered, then
 answers_so : (Tells : Type 0) (settings : Settings) (before after : Tally) (command : Command) (number : ℕ) (said : Reply) → Says Tells settings before after command number said
     → Answers settings (plain_tag number) command said before.seen after.seen
-answers_so Tells settings before after command number said (large, (other, (told, fits, suits, cause, sure, seen, contents, is))) =
-    subst (λ (r : Reply). Answers settings (plain_tag number) command r before.seen after.seen) (sym (same_reply number said told large fits is)) seen
+answers_so Tells settings before after command number said (large, told) =
+    subst (λ (r : Reply). Answers settings (plain_tag number) command r before.seen after.seen) (sym (same_reply number said told.said large told.fits told.is)) told.answers
+
+-- and what is seen of photos
+sights_so : (Tells : Type 0) (settings : Settings) (before after : Tally) (command : Command) (number : ℕ) (said : Reply) → Says Tells settings before after command number said
+    → LeavesSights settings command said before.seen after.seen
+sights_so Tells settings before after command number said (large, told) =
+    subst (λ (r : Reply). LeavesSights settings command r before.seen after.seen) (sym (same_reply number said told.said large told.fits told.is)) told.sights
+
+-- and which compactions it ended
+ended_so : (Tells : Type 0) (settings : Settings) (before after : Tally) (command : Command) (number : ℕ) (said : Reply) → Says Tells settings before after command number said
+    → EndsRuns settings said before.seen after.seen before.counts.disks after.counts.disks
+ended_so Tells settings before after command number said (large, told) =
+    subst (λ (r : Reply). EndsRuns settings r before.seen after.seen before.counts.disks after.counts.disks) (sym (same_reply number said told.said large told.fits told.is)) told.ended
 
 -- the volume that a put got took its photo
 takes : (settings : Settings) (pair : Pair) (size v : ℕ) (old new : StoreSeen) → GetsHome settings pair size v old new → TakesPhotoAt settings old size v
@@ -199,7 +211,7 @@ stored_at_another_position Tells settings before after pair photo number v p d c
     kept mid (inl (home, taking, keeps)) = keeps.volumes
     kept mid (inr (taker, settles)) = settles.volumes
 
-    at : (mid : StoreSeen) → GetsHome settings pair (length photo) v before.seen mid → MovesVolume v (PhotoSeen (length photo) p) mid after.seen → ⊥
+    at : (mid : StoreSeen) → GetsHome settings pair (length photo) v before.seen mid → MovesVolume v (PutSeen (length photo) p) mid after.seen → ⊥
     at mid gets moves =
         let was : At (before.seen).volumes v moves.before = subst (λ (l : List VolumeSeen). At l v moves.before) (kept mid gets) moves.was in
         let same : Some volume ≡ Some moves.before = sym there ∙ was in
@@ -217,32 +229,129 @@ unknown_with_a_home Tells settings before after pair cookie number v d home says
 
 -- WORK
 
+-- a reply that was printed tells of no refusal but its own
+flushed_is_no_refusal : (v m n : ℕ) (fault : LogicalFault) → IsRefusedAs v m fault (Flushed v m n) → ⊥
+flushed_is_no_refusal v m n (refusal.ReadOnly by) (inl is) = cc
+flushed_is_no_refusal v m n (refusal.ReadOnly by) (inr is) = cc
+flushed_is_no_refusal v m n (refusal.Failed m' f) is = cc
+flushed_is_no_refusal v m n (refusal.Busy m' generation) is = cc
+flushed_is_no_refusal v m n (refusal.Worn m') is = cc
+flushed_is_no_refusal v m n refusal.Idle is = cc
+flushed_is_no_refusal v m n (refusal.Damaged m' at) is = cc
+flushed_is_no_refusal v m n refusal.NoMemory is = cc
+flushed_is_no_refusal v m n (refusal.Full m' end need capacity) is = is
+flushed_is_no_refusal v m n (refusal.Gone front) is = is
+
+begun_is_no_refusal : (v m n : ℕ) (fault : LogicalFault) → IsRefusedAs v m fault (Begun v m n) → ⊥
+begun_is_no_refusal v m n (refusal.ReadOnly by) (inl is) = cc
+begun_is_no_refusal v m n (refusal.ReadOnly by) (inr is) = cc
+begun_is_no_refusal v m n (refusal.Failed m' f) is = cc
+begun_is_no_refusal v m n (refusal.Busy m' generation) is = cc
+begun_is_no_refusal v m n (refusal.Worn m') is = cc
+begun_is_no_refusal v m n refusal.Idle is = cc
+begun_is_no_refusal v m n (refusal.Damaged m' at) is = cc
+begun_is_no_refusal v m n refusal.NoMemory is = cc
+begun_is_no_refusal v m n (refusal.Full m' end need capacity) is = is
+begun_is_no_refusal v m n (refusal.Gone front) is = is
+
+stepped_is_no_refusal : (v m n : ℕ) (fault : LogicalFault) → IsRefusedAs v m fault (Stepped v m n) → ⊥
+stepped_is_no_refusal v m n (refusal.ReadOnly by) (inl is) = cc
+stepped_is_no_refusal v m n (refusal.ReadOnly by) (inr is) = cc
+stepped_is_no_refusal v m n (refusal.Failed m' f) is = cc
+stepped_is_no_refusal v m n (refusal.Busy m' generation) is = cc
+stepped_is_no_refusal v m n (refusal.Worn m') is = cc
+stepped_is_no_refusal v m n refusal.Idle is = cc
+stepped_is_no_refusal v m n (refusal.Damaged m' at) is = cc
+stepped_is_no_refusal v m n refusal.NoMemory is = cc
+stepped_is_no_refusal v m n (refusal.Full m' end need capacity) is = is
+stepped_is_no_refusal v m n (refusal.Gone front) is = is
+
+-- what is seen of a volume, and of its replica on this machine
+pub record SeesReplica (settings : Settings) (seen : StoreSeen) (v m : ℕ) (r : ReplicaSeen) : Type 0 where
+  pub volume : VolumeSeen
+  pub there : At seen.volumes v volume
+  pub at : ℕ
+  pub on : replica_on settings v m ≡ Some at
+  pub is : At volume.replicas at r
+
+-- is what work there meets
+same_replica : (settings : Settings) (seen : StoreSeen) (v m at : ℕ) (r met : ReplicaSeen) (volume : VolumeSeen) → SeesReplica settings seen v m r
+    → replica_on settings v m ≡ Some at → At seen.volumes v volume → At volume.replicas at met → r ≡ met
+same_replica settings seen v m at r met volume sees on there is =
+    let one : Some sees.at ≡ Some at = sym sees.on ∙ on in
+    let same_at : sees.at ≡ at = cc in
+    let two : Some sees.volume ≡ Some volume = sym sees.there ∙ there in
+    let same_volume : sees.volume ≡ volume = cc in
+    let old : At volume.replicas sees.at r = subst (λ (o : VolumeSeen). At o.replicas sees.at r) same_volume sees.is in
+    let here : At volume.replicas at r = subst (λ j. At volume.replicas j r) same_at old in
+    let three : Some r ≡ Some met = sym here ∙ is in cc
+
+-- a flush that told another number of cells than had no record
+pub flushed_another_number : (Tells : Type 0) (settings : Settings) (before after : Tally) (v m n number : ℕ) (r : ReplicaSeen) → SeesReplica settings before.seen v m r
+    → (n ≡ r.bare → ⊥) → Says Tells settings before after (asks.Flush v m) number (Flushed v m n) → ⊥
+flushed_another_number Tells settings before after v m n number r sees other says =
+    done (answers_so Tells settings before after (asks.Flush v m) number (Flushed v m n) says)
+  where
+    done : Answers settings (plain_tag number) (asks.Flush v m) (Flushed v m n) before.seen after.seen → ⊥
+    done (inl (none, nowhere, keeps)) = cc
+    done (inr (inl (at, told, on, is, moves))) =
+        let change = moves.moves.1 in
+        let same = same_replica settings before.seen v m at r change.before moves.before sees on moves.was change.was in
+        let many : n ≡ told = cc in
+        let bare : told ≡ (change.before).bare = change.becomes.1 in
+        other (subst (λ (o : ReplicaSeen). n ≡ o.bare) (sym same) (many ∙ bare))
+    done (inr (inr (at, fault, on, refused, moves))) = flushed_is_no_refusal v m n fault refused
+
+-- a compaction that was begun towards a generation behind the last one
+pub begun_behind_the_last : (Tells : Type 0) (settings : Settings) (before after : Tally) (v m n number : ℕ) → 65535 < n
+    → Says Tells settings before after (asks.Begin v m) number (Begun v m n) → ⊥
+begun_behind_the_last Tells settings before after v m n number high says =
+    done (answers_so Tells settings before after (asks.Begin v m) number (Begun v m n) says)
+  where
+    done : Answers settings (plain_tag number) (asks.Begin v m) (Begun v m n) before.seen after.seen → ⊥
+    done (inl (none, nowhere, keeps)) = cc
+    done (inr (inl (at, goal, on, is, moves))) =
+        let change = moves.moves.1 in
+        let many : n ≡ goal = cc in
+        let below = change.becomes.0.1 in
+        let next = change.becomes.1 in omega (arith, high, many, below, next)
+    done (inr (inr (at, fault, on, refused, moves))) = begun_is_no_refusal v m n fault refused
+
+-- a step that told more cells than there is room for between the next one and their end
+pub stepped_over_more_than_stand : (Tells : Type 0) (settings : Settings) (before after : Tally) (v m cells n number : ℕ) (r : ReplicaSeen) → SeesReplica settings before.seen v m r
+    → 0 < n → r.end < r.next + n * needle_total 0 → Says Tells settings before after (asks.Step v m cells) number (Stepped v m n) → ⊥
+stepped_over_more_than_stand Tells settings before after v m cells n number r sees some more says =
+    done (answers_so Tells settings before after (asks.Step v m cells) number (Stepped v m n) says)
+  where
+    too_far : (told : ℕ) (a b : ReplicaSeen) → n ≡ told → StepsTo cells told a b → a.end < a.next + told * needle_total 0 → ⊥
+    too_far told a b many steps far =
+        let behind = steps.behind in
+        elim (steps.within) [ inl none ↦ omega (arith, some, many, none) | inr within ↦ omega (arith, behind, within, far) ]
+
+    done : Answers settings (plain_tag number) (asks.Step v m cells) (Stepped v m n) before.seen after.seen → ⊥
+    done (inl (none, nowhere, keeps)) = cc
+    done (inr (inl (at, told, on, is, moves))) =
+        let change = moves.moves.1 in
+        let same = same_replica settings before.seen v m at r change.before moves.before sees on moves.was change.was in
+        let many : n ≡ told = cc in
+        let here : (change.before).end < (change.before).next + n * needle_total 0 = subst (λ (o : ReplicaSeen). o.end < o.next + n * needle_total 0) same more in
+        too_far told change.before change.after many change.becomes (subst (λ k. (change.before).end < (change.before).next + k * needle_total 0) many here)
+    done (inr (inr (at, fault, on, refused, moves))) = stepped_is_no_refusal v m n fault refused
+
 -- a flush that was done while the volume is frozen
 pub flushed_while_frozen : (Tells : Type 0) (settings : Settings) (before after : Tally) (v m n by number : ℕ) → IsFrozenBy before.seen v by
     → Says Tells settings before after (asks.Flush v m) number (Flushed v m n) → ⊥
 flushed_while_frozen Tells settings before after v m n by number (volume, there, frozen) says =
     done (answers_so Tells settings before after (asks.Flush v m) number (Flushed v m n) says)
   where
-    not_refused : (fault : LogicalFault) → IsRefusedAs v m fault (Flushed v m n) → ⊥
-    not_refused (refusal.ReadOnly by') (inl is) = cc
-    not_refused (refusal.ReadOnly by') (inr is) = cc
-    not_refused (refusal.Failed m' f) is = cc
-    not_refused (refusal.Busy m' generation) is = cc
-    not_refused (refusal.Worn m') is = cc
-    not_refused refusal.Idle is = cc
-    not_refused (refusal.Damaged m' at) is = cc
-    not_refused refusal.NoMemory is = cc
-    not_refused (refusal.Full m' end need capacity) is = is
-    not_refused (refusal.Gone front) is = is
-
     done : Answers settings (plain_tag number) (asks.Flush v m) (Flushed v m n) before.seen after.seen → ⊥
     done (inl (none, nowhere, keeps)) = cc
     done (inr (inl (at, appended, on, is, moves))) =
         let same : Some volume ≡ Some moves.before = sym there ∙ moves.was in
         let here : volume ≡ moves.before = cc in
         let still : (moves.before).frozen ≡ Some by = subst (λ (o : VolumeSeen). o.frozen ≡ Some by) here frozen in
-        let thawed : (moves.before).frozen ≡ None = moves.moves.1 in cc
-    done (inr (inr (at, fault, on, refused, moves))) = not_refused fault refused
+        let thawed : (moves.before).frozen ≡ None = moves.moves.0 in cc
+    done (inr (inr (at, fault, on, refused, moves))) = flushed_is_no_refusal v m n fault refused
 
 -- a step of a compaction that was told as idle while the volume is frozen
 pub idle_while_frozen : (Tells : Type 0) (settings : Settings) (before after : Tally) (v m cells by number : ℕ) → IsFrozenBy before.seen v by
@@ -250,9 +359,17 @@ pub idle_while_frozen : (Tells : Type 0) (settings : Settings) (before after : T
 idle_while_frozen Tells settings before after v m cells by number (volume, there, frozen) says =
     told (answers_so Tells settings before after (asks.Step v m cells) number (Idle v m) says)
   where
-    not_read_only : IsReadOnly v by (Idle v m) → ⊥
-    not_read_only (inl is) = cc
-    not_read_only (inr is) = cc
+    refused : (fault : LogicalFault) (at : ℕ) (old new : VolumeSeen) → old.frozen ≡ Some by → IsRefusedAs v m fault (Idle v m) → StepRefusedSeen settings v at old new fault → ⊥
+    refused refusal.Idle at old new still is seen = let thawed : old.frozen ≡ None = seen.0.0 in cc
+    refused (refusal.ReadOnly m') at old new still (inl is) seen = cc
+    refused (refusal.ReadOnly m') at old new still (inr is) seen = cc
+    refused (refusal.Failed m' f) at old new still is seen = cc
+    refused (refusal.Busy m' generation) at old new still is seen = cc
+    refused (refusal.Worn m') at old new still is seen = cc
+    refused (refusal.Damaged m' place) at old new still is seen = cc
+    refused refusal.NoMemory at old new still is seen = cc
+    refused (refusal.Full m' end need capacity) at old new still is seen = is
+    refused (refusal.Gone front) at old new still is seen = is
 
     told : Answers settings (plain_tag number) (asks.Step v m cells) (Idle v m) before.seen after.seen → ⊥
     told (inl (none, nowhere, keeps)) = cc
@@ -261,4 +378,106 @@ idle_while_frozen Tells settings before after v m cells by number (volume, there
         let same : Some volume ≡ Some moves.before = sym there ∙ moves.was in
         let here : volume ≡ moves.before = cc in
         let still : (moves.before).frozen ≡ Some by = subst (λ (o : VolumeSeen). o.frozen ≡ Some by) here frozen in
-        not_read_only (subst (λ (f : LogicalFault). IsRefusedAs v m f (Idle v m)) (moves.moves.1 by still) is)
+        refused fault at moves.before moves.after still is moves.moves
+
+-- a compaction whose beginning failed while one stands
+pub begin_failed_beside_one : (Tells : Type 0) (settings : Settings) (before after : Tally) (v m m' n goal number : ℕ) (r : ReplicaSeen) → SeesReplica settings before.seen v m r
+    → r.goal ≡ Some goal → Says Tells settings before after (asks.Begin v m) number (Failed v m' n) → ⊥
+begin_failed_beside_one Tells settings before after v m m' n goal number r sees stands says =
+    told (answers_so Tells settings before after (asks.Begin v m) number (Failed v m' n) says)
+  where
+    refused : (fault : LogicalFault) (at : ℕ) (old new : VolumeSeen) → ((met : ReplicaSeen) → At old.replicas at met → r ≡ met) → IsRefusedAs v m fault (Failed v m' n)
+        → BeginRefusedSeen settings v at old new fault → ⊥
+    refused (refusal.Failed m'' f) at old new same is seen =
+        let met = seen.1 in
+        let none : (met.0).goal ≡ None = met.2.0 in
+        let one : (met.0).goal ≡ Some goal = subst (λ (o : ReplicaSeen). o.goal ≡ Some goal) (same met.0 met.1) stands in cc
+    refused refusal.Idle at old new same is seen = cc
+    refused (refusal.ReadOnly by) at old new same (inl is) seen = cc
+    refused (refusal.ReadOnly by) at old new same (inr is) seen = cc
+    refused (refusal.Busy m'' generation) at old new same is seen = cc
+    refused (refusal.Worn m'') at old new same is seen = cc
+    refused (refusal.Damaged m'' place) at old new same is seen = cc
+    refused refusal.NoMemory at old new same is seen = cc
+    refused (refusal.Full m'' end need capacity) at old new same is seen = is
+    refused (refusal.Gone front) at old new same is seen = is
+
+    told : Answers settings (plain_tag number) (asks.Begin v m) (Failed v m' n) before.seen after.seen → ⊥
+    told (inl (none, nowhere, keeps)) = cc
+    told (inr (inl (at, number', on, is, moves))) = cc
+    told (inr (inr (at, fault, on, is, moves))) =
+        refused fault at moves.before moves.after (λ met there. same_replica settings before.seen v m at r met moves.before sees on moves.was there) is moves.moves
+
+-- PHOTOS
+
+-- a look changes nothing where a photo is known to stand
+still_live : (old new : Sight) → old ≡ Live → Looks old new → new ≡ Live
+still_live old new live (inl same) = same ∙ live
+still_live old new live (inr (unseen, found)) = cc
+
+-- nor where none does
+still_none : (old new : Sight) → IsAbsent old → Looks old new → new ≡ Live → ⊥
+still_none old new none (inl same) live = subst IsAbsent (sym same ∙ live) none
+still_none old new none (inr (unseen, found)) live = subst IsAbsent unseen none
+
+-- a photo that is known to stand on a replica, and was told as gone by it
+pub gone_where_it_stands : (Tells : Type 0) (settings : Settings) (before after : Tally) (pair : Pair) (cookie : Cookie) (v m f d j number : ℕ) → replica_on settings v m ≡ Some j
+    → (before.seen).places v pair j ≡ Live → Says Tells settings before after (asks.Read pair cookie) number (Gone v m f d) → ⊥
+gone_where_it_stands Tells settings before after pair cookie v m f d j number on live says = read (sights_so Tells settings before after (asks.Read pair cookie) number (Gone v m f d) says)
+  where
+    read : LeavesSights settings (asks.Read pair cookie) (Gone v m f d) before.seen after.seen → ⊥
+    read (looked, (i, there, none)) =
+        let same : Some j ≡ Some i = sym on ∙ there in
+        let here : j ≡ i = cc in
+        let now : (after.seen).places v pair i ≡ Live = subst (λ k. (after.seen).places v pair k ≡ Live) here
+            (still_live ((before.seen).places v pair j) ((after.seen).places v pair j) live ((looked.changes).each j)) in
+        subst IsAbsent now none
+
+-- a deletion that found nothing where a photo is known to stand
+pub absent_where_it_stands : (Tells : Type 0) (settings : Settings) (before after : Tally) (pair : Pair) (v f d j number : ℕ) → j < settings.replicas
+    → (before.seen).places v pair j ≡ Live → Says Tells settings before after (asks.Del pair) number (Absent v f d) → ⊥
+absent_where_it_stands Tells settings before after pair v f d j number within live says = found (sights_so Tells settings before after (asks.Del pair) number (Absent v f d) says)
+  where
+    found : LeavesSights settings (asks.Del pair) (Absent v f d) before.seen after.seen → ⊥
+    found changes =
+        let finds = changes.changes in
+        finds.none (j, within, still_live ((before.seen).places v pair j) ((after.seen).places v pair j) live ((finds.looks).each j))
+
+-- a deletion of a photo of which it is known that it stands on no replica
+pub deleted_where_none_stands : (Tells : Type 0) (settings : Settings) (before after : Tally) (pair : Pair) (v p d number : ℕ) → ((j : ℕ) → j < settings.replicas → IsAbsent ((before.seen).places v pair j))
+    → Says Tells settings before after (asks.Del pair) number (Deleted v p d) → ⊥
+deleted_where_none_stands Tells settings before after pair v p d number none says = found (sights_so Tells settings before after (asks.Del pair) number (Deleted v p d) says)
+  where
+    found : LeavesSights settings (asks.Del pair) (Deleted v p d) before.seen after.seen → ⊥
+    found changes =
+        let deletes = changes.changes in
+        let live = (deletes.finds).live in
+        still_none ((before.seen).places v pair live.0) (deletes.found pair live.0) (none live.0 live.1) (((deletes.finds).looks).each live.0) live.2
+
+-- a deletion that failed behind its looks, and left the volume open
+pub failed_delete_leaves_it_open : (Tells : Type 0) (settings : Settings) (before after : Tally) (pair : Pair) (v m n number : ℕ) (volume : VolumeSeen) → SeesAll pair settings.replicas ((before.seen).places v)
+    → At (after.seen).volumes v volume → volume.frozen ≡ None → Says Tells settings before after (asks.Del pair) number (Failed v m n) → ⊥
+failed_delete_leaves_it_open Tells settings before after pair v m n number volume seen there thawed says = failed (sights_so Tells settings before after (asks.Del pair) number (Failed v m n) says)
+  where
+    looked : (old new : Sight) → (old ≡ Unseen → ⊥) → Looks old new → new ≡ Unseen → ⊥
+    looked old new known (inl same) unseen = known (sym same ∙ unseen)
+    looked old new known (inr (was, inl live)) unseen = cc
+    looked old new known (inr (was, inr gone)) unseen = cc
+
+    failed : LeavesSights settings (asks.Del pair) (Failed v m n) before.seen after.seen → ⊥
+    failed (inl ((other, at, frozen), changes)) =
+        let same : Some volume ≡ Some other = sym there ∙ at in
+        let is : volume ≡ other = cc in
+        let open_still : other.frozen ≡ None = subst (λ (o : VolumeSeen). o.frozen ≡ None) is thawed in cc
+    failed (inr (open_still, changes)) =
+        let vain = changes.changes in
+        let on = vain.unseen in
+        looked ((before.seen).places v pair on.0) ((after.seen).places v pair on.0) (seen on.0 on.1) ((vain.looks).each on.0) on.3
+
+-- a deletion that ended a compaction though no call of the replica's disk failed
+pub deleted_and_ended_a_compaction : (Tells : Type 0) (settings : Settings) (before after : Tally) (pair : Pair) (v p d j goal number : ℕ)
+    → VolumeAt v (SeesAt j (λ r. r.goal ≡ Some goal)) before.seen → VolumeAt v (SeesAt j (λ r. r.goal ≡ None)) after.seen
+    → (Rose (slice_index before.counts.disks (slot_of settings v j)) (slice_index after.counts.disks (slot_of settings v j)) → ⊥)
+    → Says Tells settings before after (asks.Del pair) number (Deleted v p d) → ⊥
+deleted_and_ended_a_compaction Tells settings before after pair v p d j goal number stood ended still says =
+    still (ended_so Tells settings before after (asks.Del pair) number (Deleted v p d) says v p d refl j goal stood ended)

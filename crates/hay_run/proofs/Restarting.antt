@@ -21,7 +21,7 @@ use Rattle.hay_legal.specs.Restarts.{IsRestarted}
 use Rattle.hay_cluster.specs.declared.fault.ClusterFault.{ClusterFault}
 use Rattle.hay_cluster.specs.declared.fault.ClusterFault.TheVariants as refusal
 use Rattle.hay_cluster.specs.Causes.{HasFaultCause}
-use Rattle.hay_cluster.specs.Outside.{IsDamagedDisk, IsUndamagedBelow}
+use Rattle.hay_cluster.specs.Outside.{AreSoundBelow, IsDamagedDisk}
 use Rattle.hay_cluster.specs.State.{Holds, Stands}
 use Rattle.hay_cluster.specs.Store.{Open, contents_in}
 use Rattle.hay_run.specs.declared.stops.Stop.{Stop}
@@ -118,10 +118,11 @@ module _ {D P A : Type 0} (Tells : Type 0) (Begins Left : Standing D P A) (files
   DamagedFor fault = Tells → (k : Known) → Begins store k → (slot file at : ℕ) → fault ≡ refusal.Damaged slot file at → ⊥
 
   abbrev PlaceFor : ClusterFault → Type 0
-  PlaceFor fault = Tells → (slot file at : ℕ) → fault ≡ refusal.Damaged slot file at → IsDamagedDisk store.settings (contents_in files store') slot file at
+  PlaceFor fault = Tells → (slot file at : ℕ) → fault ≡ refusal.Damaged slot file at
+      → IsDamagedDisk store.settings (contents_in files store') slot file at × AreSoundBelow store.settings slot (contents_in files store')
 
   abbrev LowestFor : ClusterFault → Type 0
-  LowestFor fault = Tells → (slot count : ℕ) → fault ≡ refusal.Failed slot count → IsUndamagedBelow store.settings slot (contents_in files store')
+  LowestFor fault = Tells → (slot count : ℕ) → fault ≡ refusal.Failed slot count → AreSoundBelow store.settings slot (contents_in files store')
 
   other_stop : {X : Type 0} → why ≢ stop.Store → (why ≡ stop.Store) ⊎ X → X
   other_stop not (inl is) = absurd (not is)
@@ -177,7 +178,7 @@ module _ {D P A : Type 0} (Tells : Type 0) (Begins Left : Standing D P A) (files
   }
   halts (refusal.Damaged slot file at) cause damaged place lowest some told = record {
     note = OpenDamaged slot file at;
-    why = inr (slot, file, at, refl, cause, λ tells. (λ k stands. damaged tells k stands slot file at refl, place tells slot file at refl));
+    why = inr (slot, file, at, refl, cause, λ tells. (λ k stands. damaged tells k stands slot file at refl, (place tells slot file at refl).0, (place tells slot file at refl).1));
     told = told_behind (OpenDamaged slot file at) (told_damaged slot file at told);
   }
   halts refusal.NoMemory cause damaged place lowest some told = absurd (some refl)

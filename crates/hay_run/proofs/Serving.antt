@@ -9,7 +9,7 @@ use Rattle.hay_legal.specs.Items.{Asked}
 use Rattle.hay_legal.specs.Known.{NoneFalls, disk_count}
 use Rattle.hay_reply.specs.declared.Note.{Note}
 use Rattle.hay_reply.specs.Replies.{note_line}
-use Rattle.hay_cluster.specs.Outside.{IsDamagedDisk, IsUndamagedBelow}
+use Rattle.hay_cluster.specs.Outside.{AreSoundBelow, IsDamagedDisk}
 use Rattle.hay_cluster.specs.Store.{Open, contents_in}
 use Rattle.hay_run.specs.declared.stops.Stop.{Stop}
 use Rattle.hay_run.specs.declared.stops.Stop.TheVariants as stop
@@ -58,7 +58,7 @@ refused_more Tells Stands files faults asked written written' store mid store' t
       rose_more (slice_index (counts_of faults store) slot) (slice_index (counts_of faults mid) slot) (slice_index (counts_of faults store') slot)
           (NoneFalls-at (counts_of faults store) (counts_of faults mid) slot later) rose,
       count_is,
-      λ tells. subst (λ (settings : Settings). IsUndamagedBelow settings slot (contents_in files store')) same (lowest tells),
+      λ tells. subst (λ (settings : Settings). AreSoundBelow settings slot (contents_in files store')) same (lowest tells),
     )
 refused_more Tells Stands files faults asked written written' store mid store' told same later answers (inr (slot, file, at, is, below, damaged)) =
     inr (
@@ -70,6 +70,7 @@ refused_more Tells Stands files faults asked written written' store mid store' t
       λ tells. (
         λ k stands. let a = answers tells k stands in (damaged tells).0 a.t a.left,
         subst (λ (settings : Settings). IsDamagedDisk settings (contents_in files store') slot file at) same (damaged tells).1,
+        subst (λ (settings : Settings). AreSoundBelow settings slot (contents_in files store')) same (damaged tells).2,
       ),
     )
 

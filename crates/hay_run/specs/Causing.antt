@@ -21,11 +21,12 @@ use Rattle.hay_legal.specs.Known.{NoneFalls, disk_count}
 use Rattle.hay_legal.specs.Stands.{Contents, Outside}
 use Rattle.hay_legal.specs.Statuses.{Ending, IsFront, read_contents}
 use Rattle.hay_legal.specs.Statuses.Ending.{ReadAll, OutputFault, InputFault, NoMemory, NotOpened, TooLong}
-use Rattle.hay_cluster.specs.Causes.{BlamesNoArm, Counts, IsCaused, LeavesFuses, RoseIn}
+use Rattle.hay_cluster.specs.Causes.{BlamesNoArm, Counts, EndsRuns, IsCaused, LeavesFuses, RoseIn}
 use Rattle.hay_cluster.specs.Draws.{drawn_in}
 use Rattle.hay_cluster.specs.Leaving.{LeavesContents}
-use Rattle.hay_cluster.specs.Outside.{FormatsVoid, IsDamagedDisk, IsKept, IsUndamaged, IsUndamagedBelow, KeepsContents}
-use Rattle.hay_cluster.specs.Seen.{Answers, OpensSeen, StoreSeen, TellsSeen, pending_seen, store_seen}
+use Rattle.hay_cluster.specs.Outside.{AreSoundBelow, FormatsVoid, IsDamagedDisk, IsKept, IsUndamaged, KeepsContents}
+use Rattle.hay_cluster.specs.Seen.{Answers, OpensSeen, StoreSeen, TellsSeen, store_seen}
+use Rattle.hay_cluster.specs.Sights.{LeavesSights}
 use Rattle.hay_cluster.specs.Store.{Open, contents_in, disks_of}
 use Rattle.hay_cluster.specs.Suiting.{Suits}
 use Rattle.hay_run.specs.declared.stops.Stop.{Stop}
@@ -39,7 +40,7 @@ use Rattle.hay_run.specs.Turns.{Writing, HoldsNone}
 use Rattle.hay_run.specs.Unbuilt.{unbuilt_text}
 
 -- What is seen of a store: how many calls of each disk and fetches of each arm failed, how many fuses were set on each disk, which
--- arms are sure, what is seen of its volumes and its Directory in memory, what reads of the disk in each slot give, and how many bytes
+-- arms are sure, what is seen of its volumes, its Directory and its photos in memory, what reads of the disk in each slot give, and how many bytes
 -- were read of each of its files.
 pub record Tally : Type 0 where
   pub counts : Counts
@@ -70,11 +71,11 @@ IsLaterTally before after =
 
 -- THE TEXT OF ITEMS
 
--- the text of a restart: its reply, with how many rows are seen then, and the notes behind it, which tell of all that was pending, with
+-- the text of a restart: its reply, with how many rows are seen then, and the notes behind it, which tell of all that was pending whether it was kept, with
 -- numbers of their types; nothing is pending or closed then, and nothing that an opening reads of the disks is damaged
 abbrev pub IsRestartText : Type 0 → Settings → Tally → Tally → Command → ℕ → List ℕ → Type 0
 IsRestartText Tells settings before after command number text =
-    (pick : ℕ) × (rows : ℕ) × (notes : List Note) × (command ≡ asks.Restart pick) × FitsReply (Restarted rows) × TellsSeen settings before.seen notes × AllByRecursion FitsNote notes
+    (pick : ℕ) × (rows : ℕ) × (notes : List Note) × (command ≡ asks.Restart pick) × FitsReply (Restarted rows) × TellsSeen settings before.seen after.seen notes × AllByRecursion FitsNote notes
     × OpensSeen settings after.seen × (rows ≡ (after.seen).directory.rows) × (after.counts.arms ≡ before.counts.arms)
     × (text ≡ numbered_line number (Restarted rows) ++ flat_map note_line notes) × (Tells → IsUndamaged settings after.contents)
 
@@ -82,15 +83,21 @@ IsRestartText Tells settings before after command number text =
 abbrev pub plain_tag : ℕ → CoreTag
 plain_tag number = record { lane = 0; line = number }
 
--- the text of another command: a reply with numbers of their types, which the command of this line may be given, which tells of a
+-- The text of another command: a reply with numbers of their types, which the command of this line may be given, which tells of a
 -- failure only where the count that it prints rose, and never of an arm that is sure; by which it is known what was seen of the store in
--- memory before it and how it changed that, and which disks have what they had
-abbrev pub IsReplyText : Type 0 → Settings → Tally → Tally → Command → ℕ → List ℕ → Type 0
-IsReplyText Tells settings before after command number text =
-    ((pick : ℕ) → command ≢ asks.Restart pick)
-    × ((reply : Reply) × FitsReply reply × Suits settings number command reply × IsCaused settings 0 before.counts after.counts reply × (HasSureArm before 0 → BlamesNoArm reply)
-    × Answers settings (plain_tag number) command reply before.seen after.seen
-    × (Tells → LeavesContents settings command reply (pending_seen before.seen) (pending_seen after.seen) before.contents after.contents) × (text ≡ numbered_line number reply))
+-- memory before it and how it changed that, and which disks have what they had.
+pub record IsReplyText (Tells : Type 0) (settings : Settings) (before after : Tally) (command : Command) (number : ℕ) (text : List ℕ) : Type 0 where
+  pub plain : (pick : ℕ) → command ≢ asks.Restart pick
+  pub said : Reply
+  pub fits : FitsReply said
+  pub suits : Suits settings number command said
+  pub caused : IsCaused settings 0 before.counts after.counts said
+  pub sure : HasSureArm before 0 → BlamesNoArm said
+  pub answers : Answers settings (plain_tag number) command said before.seen after.seen
+  pub sights : LeavesSights settings command said before.seen after.seen
+  pub ended : EndsRuns settings said before.seen after.seen before.counts.disks after.counts.disks
+  pub contents : Tells → LeavesContents settings command said (before.seen).volumes (after.seen).volumes before.contents after.contents
+  pub is : text ≡ numbered_line number said
 
 -- The text answers the item, while the counts went from these to those. A fuse is set by its command alone.
 abbrev pub IsTextOf : Type 0 → Settings → Tally → Tally → Asked → List ℕ → Type 0
@@ -124,11 +131,11 @@ pub record NotReopened (before after : Tally) (asked : List Asked) : Type 0 wher
   pub arms : after.counts.arms ≡ before.counts.arms
   pub fuses : after.fuses ≡ before.fuses
 
--- a note tells why: the disk in a slot failed, its count rose to the one that is told, and none in a lower slot is damaged; or the disk
--- in a slot is damaged at the place that is told
+-- a note tells why: the disk in a slot failed, and its count rose to the one that is told; or the disk in a slot is damaged at the place
+-- that is told; each in a lower slot is formatted and not damaged
 abbrev pub IsNoteCaused : Type 0 → Settings → Tally → Tally → Note → Type 0
-IsNoteCaused Tells settings before after (OpenFailed slot count) = (slot < disk_count settings) × RoseIn slot before.counts.disks after.counts.disks count × (Tells → IsUndamagedBelow settings slot after.contents)
-IsNoteCaused Tells settings before after (OpenDamaged slot file at) = (slot < disk_count settings) × (Tells → IsDamagedDisk settings after.contents slot file at)
+IsNoteCaused Tells settings before after (OpenFailed slot count) = (slot < disk_count settings) × RoseIn slot before.counts.disks after.counts.disks count × (Tells → AreSoundBelow settings slot after.contents)
+IsNoteCaused Tells settings before after (OpenDamaged slot file at) = (slot < disk_count settings) × (Tells → IsDamagedDisk settings after.contents slot file at × AreSoundBelow settings slot after.contents)
 IsNoteCaused Tells settings before after (OpenShelf count) = ⊥
 IsNoteCaused Tells settings before after (Kept v m line) = ⊥
 IsNoteCaused Tells settings before after (Lost v m line) = ⊥

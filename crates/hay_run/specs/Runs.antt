@@ -13,7 +13,7 @@ use Rattle.hay_legal.specs.Statuses.{Ending, HoldsNew, RunsTo, read_contents}
 use Rattle.hay_legal.specs.Statuses.Ending.{ReadAll, OutputFault, InputFault, NoMemory, NotOpened, TooLong}
 use Rattle.hay_directory.specs.Rows.{OpensRows}
 use Rattle.hay_logical.specs.Fits.{IsReplica}
-use Rattle.hay_cluster.specs.Outside.{CountsOn, IsDamagedDisk, IsKept, IsUndamaged, IsUndamagedBelow, IsVoid}
+use Rattle.hay_cluster.specs.Outside.{AreSoundBelow, CountsOn, IsDamagedDisk, IsKept, IsUndamaged, IsUndamagedBelow, IsVoid}
 use Rattle.hay_run.specs.declared.stops.Stop.{Stop}
 use Rattle.hay_run.specs.declared.stops.Stop.TheVariants as stop
 
@@ -59,23 +59,26 @@ TellsDisk settings taken given note slot =
     × Rose (taken.faults slot) (given.faults slot) × (count ≡ given.faults slot)
 
 -- Why the first opening was refused, as it is told: the shelf failed, and its count rose to the one that is told; a disk failed,
--- and none in a lower slot is damaged; or the disk in a slot is damaged at the place that is told, as it was taken and as it was
--- given back.
+-- and none in a lower slot was damaged; or the disk in a slot is damaged at the place that is told, as it was taken and as it was
+-- given back. Each disk in a lower slot is given back formatted and not damaged.
 abbrev pub IsFirstRefusal : Type 0 → Settings → Outside → Outside → Note → Type 0
 IsFirstRefusal Tells settings taken given note =
     ((count : ℕ) × (note ≡ OpenShelf count) × Rose taken.shelf given.shelf × (count ≡ given.shelf))
-    ⊎ ((slot : ℕ) × TellsDisk settings taken given note slot × (Tells → IsUndamagedBelow settings slot (read_contents taken)))
+    ⊎ ((slot : ℕ) × TellsDisk settings taken given note slot
+    × (Tells → IsUndamagedBelow settings slot (read_contents taken) × AreSoundBelow settings slot (read_contents given)))
     ⊎ ((slot : ℕ) × (file : ℕ) × (at : ℕ) × (note ≡ OpenDamaged slot file at) × (slot < disk_count settings)
-    × (Tells → IsDamagedDisk settings (read_contents taken) slot file at × IsDamagedDisk settings (read_contents given) slot file at))
+    × (Tells → IsDamagedDisk settings (read_contents taken) slot file at × IsDamagedDisk settings (read_contents given) slot file at
+    × AreSoundBelow settings slot (read_contents given)))
 
--- Why the opening of a restart was refused, as it is told: a disk failed, and none in a lower slot was given back damaged; or the
--- disks that were taken were not whole, though nothing that was read of them was damaged, and the disk in a slot is damaged at the
--- place that is told, as it was given back.
+-- Why the opening of a restart was refused, as it is told: a disk failed; or the disks that were taken were not whole, though nothing
+-- that was read of them was damaged, and the disk in a slot is damaged at the place that is told, as it was given back. Each disk in a
+-- lower slot is given back formatted and not damaged.
 abbrev pub IsLaterRefusal : Type 0 → Settings → Outside → Outside → Note → Type 0
 IsLaterRefusal Tells settings taken given note =
-    ((slot : ℕ) × TellsDisk settings taken given note slot × (Tells → IsUndamagedBelow settings slot (read_contents given)))
+    ((slot : ℕ) × TellsDisk settings taken given note slot × (Tells → AreSoundBelow settings slot (read_contents given)))
     ⊎ ((slot : ℕ) × (file : ℕ) × (at : ℕ) × (note ≡ OpenDamaged slot file at) × (slot < disk_count settings)
-    × (Tells → ((k : Known) → IsTaken settings taken k → ⊥) × IsUndamaged settings (read_contents taken) × IsDamagedDisk settings (read_contents given) slot file at))
+    × (Tells → ((k : Known) → IsTaken settings taken k → ⊥) × IsUndamaged settings (read_contents taken) × IsDamagedDisk settings (read_contents given) slot file at
+    × AreSoundBelow settings slot (read_contents given)))
 
 -- A run whose store was never opened: why, as all that was written behind what was written before tells. Nothing of the script
 -- was read, and each disk that was not void is as it was taken, but for its count.

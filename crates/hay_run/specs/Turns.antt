@@ -19,7 +19,7 @@ use Rattle.hay_legal.specs.Known.{CameUp, FaultsRose, disk_count, fault_count}
 use Rattle.hay_legal.specs.Legal.{Legal}
 use Rattle.hay_legal.specs.Statuses.{IsUnbuiltTurn}
 use Rattle.hay_legal.specs.Transcript.{turn_text}
-use Rattle.hay_cluster.specs.Outside.{IsDamagedDisk, IsUndamagedBelow, IsVoid}
+use Rattle.hay_cluster.specs.Outside.{AreSoundBelow, IsDamagedDisk, IsVoid}
 use Rattle.hay_cluster.specs.Store.{Open, contents_in, disks_of}
 use Rattle.hay_run.specs.declared.stops.Stop.{Stop}
 use Rattle.hay_run.specs.declared.stops.Stop.TheVariants as stop
@@ -169,9 +169,10 @@ abbrev pub RefusedFor : {D P A : Type 0} → Type 0 → Standing D P A → (D �
 RefusedFor Tells Stands files faults store store' note =
     ((slot : ℕ) × (count : ℕ) × (note ≡ OpenFailed slot count) × (slot < disk_count store.settings)
     × Rose (slice_index (counts_of faults store) slot) (slice_index (counts_of faults store') slot) × (count ≡ slice_index (counts_of faults store') slot)
-    × (Tells → IsUndamagedBelow store.settings slot (contents_in files store')))
+    × (Tells → AreSoundBelow store.settings slot (contents_in files store')))
     ⊎ ((slot : ℕ) × (file : ℕ) × (at : ℕ) × (note ≡ OpenDamaged slot file at) × (slot < disk_count store.settings)
-    × (Tells → ((k : Known) → Stands store k → ⊥) × IsDamagedDisk store.settings (contents_in files store') slot file at))
+    × (Tells → ((k : Known) → Stands store k → ⊥) × IsDamagedDisk store.settings (contents_in files store') slot file at
+    × AreSoundBelow store.settings slot (contents_in files store')))
 
 -- so it was told, behind what was written before
 pub record Halts {D P A : Type 0} (Tells : Type 0) (Stands : Standing D P A) (files : D → Files) (faults : D → ℕ) (store store' : Open D P A) (written written' : Option (List ℕ)) : Type 0 where

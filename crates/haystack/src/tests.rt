@@ -10,6 +10,7 @@ mod compactions;
 mod damage;
 mod devices;
 mod faults;
+mod loads;
 mod openings;
 mod versions;
 

@@ -22,7 +22,7 @@ load_store-requires-clause-disks_in g c = λ slot below. c.requires.disks_in slo
 pub returns-clause-loaded : goal.returns-clause-loaded
 returns-clause-loaded g c =
     let done = c.load_store.ensures in
-    record { loaded = done.loaded; halts = done.halts; halts_over = done.halts_over; ended = done.ended; short = done.short; counts = done.counts; other_slots = done.other_slots; lanes = done.lanes }
+    record { loaded = done.loaded; halts = done.halts; halts_over = done.halts_over; ended = done.ended; short = done.short; sound = done.sound; counts = done.counts; other_slots = done.other_slots; lanes = done.lanes }
 
 pub returns-clause-status : goal.returns-clause-status
 returns-clause-status g c = ends_so c.load_store.result c.load_store.ensures.status

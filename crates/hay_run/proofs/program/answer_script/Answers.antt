@@ -235,7 +235,7 @@ returns-in-Err-clause-caused g c = λ script held told told_sink.
     let given = outside_of shelf' (g.H.Shelf.disks c.open.new.shelf) (g.H.Shelf.arms c.open.new.shelf) in
     refused_caused g.H.Disk.Disk.Tells c.args.settings script (g.S.Source.left c.args.source.now) taken given sure disks disks' held (g.K.Sink.written c.write_refusal.new.sink) c.in-Err.ensures.kept (λ lane within. (c.in-Err.ensures.back_arms lane within).fault_count) (λ slot within. (c.in-Err.ensures.back_counts slot within).fuses_are) c.write_refusal.result c.in-Err.fault c.write_refusal.ensures.fits
     (cause_of g.H.Disk.Disk.Tells c.args.settings taken given c.in-Err.fault c.in-Err.ensures.shelf c.in-Err.ensures.failed
-    (λ t slot count e. c.in-Err.ensures.failed_lowest t slot count (ap (λ f. Err f) e)) (λ slot file at e. c.in-Err.ensures.damaged_within slot file at (ap (λ f. Err f) e)) (λ t slot file at e. c.in-Err.ensures.damaged t slot file at (ap (λ f. Err f) e)))
+    (λ t slot count e. (c.in-Err.ensures.failed_lowest t slot count (ap (λ f. Err f) e), c.in-Err.ensures.failed_first t slot count (ap (λ f. Err f) e))) (λ slot file at e. c.in-Err.ensures.damaged_within slot file at (ap (λ f. Err f) e)) (λ t slot file at e. ((c.in-Err.ensures.damaged t slot file at (ap (λ f. Err f) e)).0, (c.in-Err.ensures.damaged t slot file at (ap (λ f. Err f) e)).1, c.in-Err.ensures.damaged_first t slot file at (ap (λ f. Err f) e))))
     (rw told_sink at c.write_refusal.ensures.told) (rw told_sink at c.write_refusal.ensures.part)
     (λ none. let w = c.write_refusal.ensures.wanting none in (w.0, ap g.K.Sink.written w.1 ∙ told_sink)) c.write_refusal.ensures.stops told
 
@@ -258,7 +258,7 @@ returns-in-Err-clause-stopped g c = λ tells why is k taken_is script held told 
     (ran_unopened c.args.settings shelf shelf' disks disks' arms arms' k taken_is (c.in-Err.ensures.kept tells) c.in-Err.ensures.back_counts c.in-Err.ensures.back_arms c.requires.built.some_replicas
     script held written' D.Tells tells c.in-Err.fault why
     (cause_of D.Tells c.args.settings (outside_of shelf disks arms) (outside_of shelf' disks' arms') c.in-Err.fault
-    c.in-Err.ensures.shelf c.in-Err.ensures.failed (λ t slot count e. c.in-Err.ensures.failed_lowest t slot count (ap (λ f. Err f) e)) (λ slot file at e. c.in-Err.ensures.damaged_within slot file at (ap (λ f. Err f) e)) (λ t slot file at e. c.in-Err.ensures.damaged t slot file at (ap (λ f. Err f) e)))
+    c.in-Err.ensures.shelf c.in-Err.ensures.failed (λ t slot count e. (c.in-Err.ensures.failed_lowest t slot count (ap (λ f. Err f) e), c.in-Err.ensures.failed_first t slot count (ap (λ f. Err f) e))) (λ slot file at e. c.in-Err.ensures.damaged_within slot file at (ap (λ f. Err f) e)) (λ t slot file at e. ((c.in-Err.ensures.damaged t slot file at (ap (λ f. Err f) e)).0, (c.in-Err.ensures.damaged t slot file at (ap (λ f. Err f) e)).1, c.in-Err.ensures.damaged_first t slot file at (ap (λ f. Err f) e))))
     (rw (told_sink, same) at c.write_refusal.ensures.told) (rw (told_sink, same) at c.write_refusal.ensures.part)
     (λ none. let w = c.write_refusal.ensures.wanting none in (sym same ∙ w.0, ap g.K.Sink.written w.1 ∙ told_sink)) (rw same at c.write_refusal.ensures.stops))
 
@@ -272,7 +272,7 @@ returns-in-Err-clause-store g c = λ is.
       note = note.0;
       why = cause_of D.Tells c.args.settings (outside_of shelf (g.H.Shelf.disks c.args.shelf.now) (g.H.Shelf.arms c.args.shelf.now))
           (outside_of shelf' (g.H.Shelf.disks c.open.new.shelf) (g.H.Shelf.arms c.open.new.shelf)) c.in-Err.fault
-          c.in-Err.ensures.shelf c.in-Err.ensures.failed (λ t slot count e. c.in-Err.ensures.failed_lowest t slot count (ap (λ f. Err f) e)) (λ slot file at e. c.in-Err.ensures.damaged_within slot file at (ap (λ f. Err f) e)) (λ t slot file at e. c.in-Err.ensures.damaged t slot file at (ap (λ f. Err f) e)) note.0 note.1;
+          c.in-Err.ensures.shelf c.in-Err.ensures.failed (λ t slot count e. (c.in-Err.ensures.failed_lowest t slot count (ap (λ f. Err f) e), c.in-Err.ensures.failed_first t slot count (ap (λ f. Err f) e))) (λ slot file at e. c.in-Err.ensures.damaged_within slot file at (ap (λ f. Err f) e)) (λ t slot file at e. ((c.in-Err.ensures.damaged t slot file at (ap (λ f. Err f) e)).0, (c.in-Err.ensures.damaged t slot file at (ap (λ f. Err f) e)).1, c.in-Err.ensures.damaged_first t slot file at (ap (λ f. Err f) e))) note.0 note.1;
       told = λ held told_sink. (let wrote : Wrote (Some held) (note_line note.0) (g.K.Sink.written c.write_refusal.new.sink) = rw told_sink at note.2 in wrote);
       unread = refl;
       kept = c.in-Err.ensures.kept;

@@ -81,8 +81,8 @@ returns-in-Err-clause-halted g c = λ stopped.
     (λ t holds. holds_counts D.files D.fault_count D.fuse_count A.fault_count c.restart.new.self t holds)
     (λ tells k stands. let at = c.in-Err.ensures.left tells k stands in (at.known, at.leaves, at.holds))
     c.in-Err.fault c.in-Err.ensures.cause (λ tells k stands slot file at e. c.in-Err.ensures.whole tells k stands slot file at (ap (λ f. Err f) e))
-    (λ tells slot file at e. c.in-Err.ensures.damaged tells slot file at (ap (λ f. Err f) e))
-    (λ tells slot count e. c.in-Err.ensures.failed_lowest tells slot count (ap (λ f. Err f) e))
+    (λ tells slot file at e. (c.in-Err.ensures.damaged tells slot file at (ap (λ f. Err f) e), c.in-Err.ensures.damaged_first tells slot file at (ap (λ f. Err f) e)))
+    (λ tells slot count e. c.in-Err.ensures.failed_first tells slot count (ap (λ f. Err f) e))
     (λ e. (c.refuse.ensures.wanting e).0 is_store) (c.refuse.ensures.told is_store)
 
 pub returns-in-Ok-clause-arm_faults : goal.returns-in-Ok-clause-arm_faults
@@ -111,7 +111,7 @@ returns-in-Ok-clause-caused g c =
     let none : IsLaterTally (tally_of D.files D.drawn D.fault_count D.fuse_count A.fault_count A.is_sure c.args.cluster.now) (tally_of D.files D.drawn D.fault_count D.fuse_count A.fault_count A.is_sure c.restart.new.self) = (c.in-Ok.ensures.counts, NoneFalls-kept (map A.fault_count c.args.cluster.now.arms) (map A.fault_count c.restart.new.self.arms) (ap (map A.fault_count) c.in-Ok.ensures.arms), λ lane is. subst (λ arms. slice_get (map A.is_sure arms) lane ≡ Some true) (sym c.in-Ok.ensures.arms) is) in
     on_ok_weaker c.write_restarted.result (λ wrote.
     caused_restart g.D.Disk.Tells Wrote c.args.cluster.now.settings (tally_of D.files D.drawn D.fault_count D.fuse_count A.fault_count A.is_sure c.args.cluster.now) (tally_of D.files D.drawn D.fault_count D.fuse_count A.fault_count A.is_sure c.restart.new.self) c.args.number c.args.pick c.rows.result c.as_slice.result.now
-    (g.K.Sink.written c.args.sink.now) (g.K.Sink.written c.write_restarted.new.sink) none c.in-Ok.ensures.fuses (ap (map A.fault_count) c.in-Ok.ensures.arms) large (subst (λ (l : List Note). TellsSeen c.args.cluster.now.settings (store_seen c.args.cluster.now) l) (sym c.as_slice.ensures) c.in-Ok.ensures.tells)
+    (g.K.Sink.written c.args.sink.now) (g.K.Sink.written c.write_restarted.new.sink) none c.in-Ok.ensures.fuses (ap (map A.fault_count) c.in-Ok.ensures.arms) large (subst (λ (l : List Note). TellsSeen c.args.cluster.now.settings (store_seen c.args.cluster.now) (store_seen c.restart.new.self) l) (sym c.as_slice.ensures) c.in-Ok.ensures.tells)
     (subst (λ (l : List Note). AllByRecursion FitsNote l) (sym c.as_slice.ensures) c.in-Ok.ensures.fits) c.in-Ok.ensures.opens c.rows.ensures.count c.in-Ok.ensures.sound wrote)
     c.write_restarted.ensures.wrote
 
@@ -125,7 +125,7 @@ returns-in-Ok-clause-stop_caused g c = λ why is.
     (g.K.Sink.written c.args.sink.now) (g.K.Sink.written c.write_restarted.new.sink) c.write_restarted.result why is c.write_restarted.ensures.stops
     (on_err_weaker c.write_restarted.result (λ wrote.
     caused_restart g.D.Disk.Tells WrotePart c.args.cluster.now.settings (tally_of D.files D.drawn D.fault_count D.fuse_count A.fault_count A.is_sure c.args.cluster.now) (tally_of D.files D.drawn D.fault_count D.fuse_count A.fault_count A.is_sure c.restart.new.self) c.args.number c.args.pick c.rows.result c.as_slice.result.now
-    (g.K.Sink.written c.args.sink.now) (g.K.Sink.written c.write_restarted.new.sink) none c.in-Ok.ensures.fuses (ap (map A.fault_count) c.in-Ok.ensures.arms) large (subst (λ (l : List Note). TellsSeen c.args.cluster.now.settings (store_seen c.args.cluster.now) l) (sym c.as_slice.ensures) c.in-Ok.ensures.tells)
+    (g.K.Sink.written c.args.sink.now) (g.K.Sink.written c.write_restarted.new.sink) none c.in-Ok.ensures.fuses (ap (map A.fault_count) c.in-Ok.ensures.arms) large (subst (λ (l : List Note). TellsSeen c.args.cluster.now.settings (store_seen c.args.cluster.now) (store_seen c.restart.new.self) l) (sym c.as_slice.ensures) c.in-Ok.ensures.tells)
     (subst (λ (l : List Note). AllByRecursion FitsNote l) (sym c.as_slice.ensures) c.in-Ok.ensures.fits) c.in-Ok.ensures.opens c.rows.ensures.count c.in-Ok.ensures.sound wrote)
     c.write_restarted.ensures.part)
 
@@ -141,7 +141,8 @@ returns-in-Err-clause-stop_caused g c = λ why is.
     subst P same
     (refused_stops g.D.Disk.Tells c.args.cluster.now.settings (tally_of D.files D.drawn D.fault_count D.fuse_count A.fault_count A.is_sure c.args.cluster.now) (tally_of D.files D.drawn D.fault_count D.fuse_count A.fault_count A.is_sure c.restart.new.self) c.args.number c.args.pick
     (g.K.Sink.written c.args.sink.now) (g.K.Sink.written c.refuse.new.sink) c.refuse.result back
-    c.in-Err.fault c.refuse.ensures.fits c.in-Err.ensures.cause (λ tells slot count e. c.in-Err.ensures.failed_lowest tells slot count (ap (λ f. Err f) e)) (λ tells slot file at e. c.in-Err.ensures.damaged tells slot file at (ap (λ f. Err f) e))
+    c.in-Err.fault c.refuse.ensures.fits c.in-Err.ensures.cause (λ tells slot count e. c.in-Err.ensures.failed_first tells slot count (ap (λ f. Err f) e))
+    (λ tells slot file at e. (c.in-Err.ensures.damaged tells slot file at (ap (λ f. Err f) e), c.in-Err.ensures.damaged_first tells slot file at (ap (λ f. Err f) e)))
     c.refuse.ensures.wanting c.refuse.ensures.told c.refuse.ensures.part c.refuse.ensures.stops)
 
 -- none of its disks is void
