@@ -89,8 +89,7 @@ module _ (Tells : Type 0) where
       → Writes written (numbered_line number reply) written'
       → Caused Tells Writes settings before after (Alone number (item.Command command) ∷ []) written written'
   caused_reply Writes settings before after number command reply written written' other none fuses fits suits cause sure seen sights ended contents wrote =
-      caused_one Writes settings before after (Alone number (item.Command command)) (numbered_line number reply) written written' none
-      (
+      caused_one Writes settings before after (Alone number (item.Command command)) (numbered_line number reply) written written' none (
         fuses,
         inr (record {
           plain = other;

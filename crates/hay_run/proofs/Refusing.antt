@@ -267,7 +267,7 @@ module _ (Tells : Type 0) (settings : Settings) (taken given : Outside) where
       → (Tells → (slot count : ℕ) → fault ≡ refusal.Failed slot count → IsUndamagedBelow settings slot (read_contents taken) × AreSoundBelow settings slot (read_contents given))
       → ((slot file at : ℕ) → fault ≡ refusal.Damaged slot file at → slot < disk_count settings)
       → (Tells → (slot file at : ℕ) → fault ≡ refusal.Damaged slot file at → IsDamagedDisk settings (read_contents taken) slot file at × IsDamagedDisk settings (read_contents given) slot file at
-          × AreSoundBelow settings slot (read_contents given))
+      × AreSoundBelow settings slot (read_contents given))
       → (note : Note) → note_of fault ≡ Some note → IsFirstRefusal Tells settings taken given note
   cause_of (refusal.Shelf count) of_shelf of_disk of_lower within of_damage note is =
       let same : note ≡ told.OpenShelf count = cc in let rose = of_shelf count refl in inl (count, same, rose.0, rose.1)

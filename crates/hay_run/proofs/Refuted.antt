@@ -430,7 +430,7 @@ gone_where_it_stands Tells settings before after pair cookie v m f d j number on
         let same : Some j ≡ Some i = sym on ∙ there in
         let here : j ≡ i = cc in
         let now : (after.seen).places v pair i ≡ Live = subst (λ k. (after.seen).places v pair k ≡ Live) here
-            (still_live ((before.seen).places v pair j) ((after.seen).places v pair j) live ((looked.changes).each j)) in
+        (still_live ((before.seen).places v pair j) ((after.seen).places v pair j) live ((looked.changes).each j)) in
         subst IsAbsent now none
 
 -- a deletion that found nothing where a photo is known to stand
