@@ -81,6 +81,10 @@ pub record HasPeeked (end at : ℕ) (head : CellHead) : Type 0 where
   pub within : at + needle_total head.size ≤ end
   pub inside : at + needle_total head.size + 8 < 2 ^ 64
 
+-- where a compaction met damage: at the next cell, which stands behind the superblock and before `end`
+abbrev pub IsNextWithin : ℕ → ℕ → ℕ → Type 0
+IsNextWithin end next at = (at ≡ next) × (64 ≤ at) × (at < end)
+
 -- The bytes are some cell's with this head. Its place, and that of the end mark behind it, are numbers of 64 bits.
 pub record HasRead (at : ℕ) (bytes : List ℕ) (head : CellHead) : Type 0 where
   pub cell : Cell

@@ -7,7 +7,6 @@ use Rattle.hay_needle.specs.Tables.{lacks}
 use Rattle.hay_disk.specs.Disk.{Files, FileState}
 use Rattle.hay_volume.specs.Cells.{needles_of}
 use Rattle.hay_index.specs.declared.record.Record.{Record}
-use Rattle.hay_map.specs.Places.{has_stood}
 use Rattle.hay_map.specs.declared.place.Place.{Place}
 use Rattle.hay_map.specs.declared.place.Place.TheVariants as place
 use Rattle.hay_map.specs.declared.view.OpenCell.{OpenCell}
@@ -21,9 +20,16 @@ use Rattle.hay_compact.specs.Standing.{LastCells, place_in}
 abbrev pub AreThePlaces : {P : Type 0} → Type 0 → List Cell → List (OpenCell P) → Type 0
 AreThePlaces Tells cells places = (pair : Pair) → PlaceOf Tells (last_cell cells pair) (last_place places pair place.Gone)
 
+-- a place where a photo was seen
+abbrev pub IsLive : {P : Type 0} → Place P → Type 0
+IsLive (place.Live needle) = Unit {0}
+IsLive place.Gone = ⊥
+IsLive place.None = ⊥
+IsLive (place.Unseen at size) = ⊥
+
 -- each of these cells has a photo's place
 abbrev pub ArePhotos : {P : Type 0} → List (OpenCell P) → Type 0
-ArePhotos cells = All (λ cell. has_stood cell.place ≡ true) cells
+ArePhotos cells = All (λ cell. IsLive cell.place) cells
 
 -- a place that was looked at
 abbrev pub IsSeen : {P : Type 0} → Place P → Type 0

@@ -12,7 +12,8 @@ ghost use Rattle.hay_volume.specs.Cells.{IsMarked, IsVolume, StandsCell, cell_he
 ghost use Rattle.hay_volume.specs.declared.fault.CellFault.{CellFault};
 ghost use Rattle.hay_volume.specs.declared.volume.VolumeFile.{VolumeFile};
 ghost use Rattle.hay_open.specs.Stored.{index_file, volume_file};
-ghost use Rattle.hay_compact.specs.Copying.{Copies, Copying, HasPeeked, HasRead, IsCopy, IsHeadOf, IsLatest, IsMaking, KeepsOtherFiles, Making, MovesOn, Repeats, live_among, renewed_needle};
+ghost use Rattle.hay_compact.specs.Copying.{Copies, Copying, HasPeeked, HasRead, IsCopy, IsHeadOf, IsLatest};
+ghost use Rattle.hay_compact.specs.Copying.{IsMaking, IsNextWithin, KeepsOtherFiles, Making, MovesOn, Repeats, live_among, renewed_needle};
 
 use crate::standing::{LastCell, Standing};
 use hay_base::NoMemory;
@@ -165,7 +166,7 @@ impl Compactor {
             Copying sup (D.files disk.old) old.now self.now current fresh examined →
             IfOk result (λ next. IfNone next (examined ≡ length current)) }
 
-        ensures place { (k : ℕ) → result ≡ Err (CellFault.Damaged k) → k ≡ self.now.next }
+        ensures place { (k : ℕ) → result ≡ Err (CellFault.Damaged k) → IsNextWithin old.now.end self.now.next k }
         ensures whole { D.Tells → (sup : Super) (current fresh : List Cell) (examined k : ℕ) →
             Copying sup (D.files disk.old) old.now self.now current fresh examined → result ≡ Err (CellFault.Damaged k) → ⊥ }
         ensures memory { result ≡ Err CellFault.NoMemory → ⊥ }
@@ -218,7 +219,7 @@ impl Compactor {
             Copying sup (D.files disk.old) old.now self.old current fresh examined →
             drop examined current ≡ c ∷ drop (examined + 1) current →
             IsHeadOf self.old.next cell c → result ≡ Err (CellFault.Damaged k) → ⊥ }
-        ensures place { (k : ℕ) → result ≡ Err (CellFault.Damaged k) → k ≡ self.old.next }
+        ensures place { (k : ℕ) → result ≡ Err (CellFault.Damaged k) → IsNextWithin old.now.end self.old.next k }
         ensures stands { D.Tells → IsErrOf result CellFault.NoMemory → (sup : Super) (current fresh : List Cell) (examined : ℕ) →
             Copying sup (D.files disk.old) old.now self.old current fresh examined →
             Copying sup (D.files disk.new) old.now self.new current fresh examined }

@@ -21,7 +21,7 @@ use Rattle.hay_logical.specs.declared.runs.NewFiles.{NewFiles}
 use Rattle.hay_logical.specs.declared.runs.Unswapped.{Unswapped}
 use Rattle.hay_logical.specs.declared.runs.Unswapped.TheVariants.{Refused, Unsure as Perhaps}
 use Rattle.hay_logical.specs.declared.unsure.Unsure.{Unsure}
-use Rattle.hay_logical.specs.Answers.{CompactRefused, FinishRefused, HasFailed, MayBegin, IsCompacted, IsFinished, IsRunning, MayFinish, RemovesOld}
+use Rattle.hay_logical.specs.Answers.{CompactRefused, FinishRefused, HasFailed, IsAtRest, IsCompacted, IsFinished, IsRunning, MayFinish, RemovesOld}
 use Rattle.hay_logical.specs.Answers as answers
 use Rattle.hay_logical.specs.Fits.{At, RunsAs, copier_run}
 use Rattle.hay_logical.specs.Refusals.{unfinished_by}
@@ -123,7 +123,7 @@ module _ {D P : Type 0} (settings : Settings) (number : ℕ) (DiskTells : Type 0
   fresh : runs.Run
   fresh = record { goal = was.stored.generation + 1; left = length was.stored.cells; tight = true }
 
-  rest : (goal_of one.before ≡ None) × (generation_of one.before < 65535) → MayBegin k at
+  rest : (goal_of one.before ≡ None) × (generation_of one.before < 65535) → IsAtRest k at
   rest idle =
       let same = stands_generation files one.before was.stored was.stands in
       let fits = was.fits.generation in

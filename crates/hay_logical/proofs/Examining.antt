@@ -7,7 +7,7 @@ use Rattle.hay_disk.specs.Disk.{Files}
 use Rattle.hay_map.specs.declared.place.Place.{Place}
 use Rattle.hay_map.specs.declared.place.Place.TheVariants as place
 use Rattle.hay_open.specs.Stored.{Stored, last_cell}
-use Rattle.hay_compact.specs.Copying.{IsLatest}
+use Rattle.hay_compact.specs.Copying.{IsLatest, IsNextWithin}
 use Rattle.hay_physical.specs.declared.fault.ReplicaFault.{ReplicaFault}
 use Rattle.hay_physical.specs.declared.fault.ReplicaFault.TheVariants as fault
 use Rattle.hay_physical.specs.Copies.{Copy, IsFrozen, IsUp, copier_goal, copier_next, end_of, goal_of, next_of, phase_end, phase_goal, phase_next}
@@ -15,11 +15,13 @@ use Rattle.hay_physical.specs.declared.state.Copier.{Copier}
 use Rattle.hay_physical.specs.declared.state.Copier.TheVariants.{Ended, Standing}
 use Rattle.hay_physical.specs.declared.state.Phase.{Phase}
 use Rattle.hay_physical.specs.declared.state.Phase.TheVariants.{Closed, Open}
-use Rattle.hay_needle.specs.Sizes.{needle_total}
+use Rattle.hay_needle.specs.Sizes.{max_photo, needle_total}
+use Rattle.hay_needle.specs.declared.needle.Version.TheVariants.{Two}
 use Rattle.hay_needle.specs.declared.needle.CellHead.{CellHead}
 use Rattle.hay_physical.specs.Faults as physical_faults
 use Rattle.hay_physical.specs.Runs.{CopierPeeked, EndsRun, HasRun, IsPeeked, PhasePeeked, Run}
 use Rattle.hay_logical.specs.Fits.{PhotoAt}
+use Rattle.hay_logical.specs.Seen.{MeetsDamage, replica_seen}
 use Rattle.hay_logical.specs.Steps.{GoesOn, IsStepFault, StepLeaves, latest_of, stepped_by}
 use Rattle.hay_logical.proofs.Calls.{not_both, reach_still, reach_through}
 
@@ -53,26 +55,39 @@ module _ {D : Type 0} (DiskTells : Type 0) (files : D → Files) where
 module _ {D : Type 0} (faults : D → ℕ) where
   -- a cell was not examined
   pub examine_cause : (r r' : Copy D) (f : ReplicaFault) → IsUp r → (goal_of r ≡ None → ⊥) → (f ≡ fault.Frozen → IsFrozen r) → ((n : ℕ) → f ≡ fault.Ended n → goal_of r ≡ None)
+      → ((at : ℕ) → f ≡ fault.Damaged at → IsNextWithin (end_of r) (next_of r) at)
       → physical_faults.IsPeekFault (faults r.disk) (faults r'.disk) f → EndsRun (faults r'.disk) r r' f → IsStepFault faults r r' f
-  examine_cause r r' (fault.Failed n) up standing thawed none cause ends = (cause.0, cause.1, ends.0)
-  examine_cause r r' fault.Frozen up standing thawed none cause ends = absurd (not_both r up (thawed refl))
-  examine_cause r r' (fault.Full end need capacity) up standing thawed none cause ends = absurd cause
-  examine_cause r r' (fault.Busy generation) up standing thawed none cause ends = absurd cause
-  examine_cause r r' (fault.Ended n) up standing thawed none cause ends = absurd (standing (none n refl))
-  examine_cause r r' fault.Worn up standing thawed none cause ends = absurd cause
-  examine_cause r r' (fault.Damaged at) up standing thawed none cause ends = ends.0
-  examine_cause r r' fault.NoMemory up standing thawed none cause ends = ends
+  examine_cause r r' (fault.Failed n) up standing thawed none damaged cause ends = (cause.0, cause.1, ends.0)
+  examine_cause r r' fault.Frozen up standing thawed none damaged cause ends = absurd (not_both r up (thawed refl))
+  examine_cause r r' (fault.Full end need capacity) up standing thawed none damaged cause ends = absurd cause
+  examine_cause r r' (fault.Busy generation) up standing thawed none damaged cause ends = absurd cause
+  examine_cause r r' (fault.Ended n) up standing thawed none damaged cause ends = absurd (standing (none n refl))
+  examine_cause r r' fault.Worn up standing thawed none damaged cause ends = absurd cause
+  examine_cause r r' (fault.Damaged at) up standing thawed none damaged cause ends = let here = damaged at refl in let low : next_of r ≤ at = omega (arith, here.0) in (ends.0, (here.1, low, here.2))
+  examine_cause r r' fault.NoMemory up standing thawed none damaged cause ends = ends
 
   -- behind what went before
-  pub step_later : (r x y : Copy D) (f : ReplicaFault) → faults r.disk ≤ faults x.disk → goal_of x ≡ goal_of r → IsStepFault faults x y f → IsStepFault faults r y f
-  step_later r x y (fault.Failed n) low goal cause = (rose_later (faults r.disk) (faults x.disk) (faults y.disk) low cause.0, cause.1, cause.2)
-  step_later r x y fault.Frozen low goal cause = cause
-  step_later r x y (fault.Full end need capacity) low goal cause = cause
-  step_later r x y (fault.Busy generation) low goal cause = cause
-  step_later r x y (fault.Ended n) low goal cause = cause
-  step_later r x y fault.Worn low goal cause = cause
-  step_later r x y (fault.Damaged at) low goal cause = cause
-  step_later r x y fault.NoMemory low goal cause = cause ∙ goal
+  pub step_later : (r x y : Copy D) (f : ReplicaFault) → faults r.disk ≤ faults x.disk → goal_of x ≡ goal_of r
+      → ((at : ℕ) → MeetsDamage at (replica_seen x) → MeetsDamage at (replica_seen r)) → IsStepFault faults x y f → IsStepFault faults r y f
+  step_later r x y (fault.Failed n) low goal meets cause = (rose_later (faults r.disk) (faults x.disk) (faults y.disk) low cause.0, cause.1, cause.2)
+  step_later r x y fault.Frozen low goal meets cause = cause
+  step_later r x y (fault.Full end need capacity) low goal meets cause = cause
+  step_later r x y (fault.Busy generation) low goal meets cause = cause
+  step_later r x y (fault.Ended n) low goal meets cause = cause
+  step_later r x y fault.Worn low goal meets cause = cause
+  step_later r x y (fault.Damaged at) low goal meets cause = (cause.0, meets at cause.1)
+  step_later r x y fault.NoMemory low goal meets cause = cause ∙ goal
+
+  -- nothing but want of memory leaves a compaction
+  pub step_ends : (r r' : Copy D) (f : ReplicaFault) → (f ≡ fault.NoMemory → ⊥) → IsStepFault faults r r' f → goal_of r' ≡ None
+  step_ends r r' (fault.Failed n) some cause = cause.2
+  step_ends r r' fault.Frozen some cause = absurd cause
+  step_ends r r' (fault.Full end need capacity) some cause = absurd cause
+  step_ends r r' (fault.Busy generation) some cause = absurd cause
+  step_ends r r' (fault.Ended n) some cause = absurd cause
+  step_ends r r' fault.Worn some cause = absurd cause
+  step_ends r r' (fault.Damaged at) some cause = cause.0
+  step_ends r r' fault.NoMemory some cause = absurd (some refl)
 
 module _ {D : Type 0} (files : D → Files) where
   -- nothing was examined
@@ -117,6 +132,18 @@ fits_phase (Open opened) head peeked some = fits_copier opened.volume.end opened
 -- its needle ends where the cells end, or before
 pub peeked_fits : {D : Type 0} (r : Copy D) (head : CellHead) → IsPeeked r head → (goal_of r ≡ None → ⊥) → next_of r + needle_total head.size ≤ end_of r
 peeked_fits r head peeked some = fits_phase r.phase head peeked some
+
+small_copier : (end : ℕ) (copier : Copier) (head : CellHead) → CopierPeeked end copier head → (copier_goal copier ≡ None → ⊥) → head.size ≤ max_photo Two
+small_copier end (Ended printed) head peeked some = absurd (some refl)
+small_copier end (Standing stage) head peeked some = peeked.small
+
+small_phase : (p : Phase) (head : CellHead) → PhasePeeked p head → (phase_goal p ≡ None → ⊥) → head.size ≤ max_photo Two
+small_phase Closed head peeked some = absurd peeked
+small_phase (Open opened) head peeked some = small_copier opened.volume.end opened.copier head peeked some
+
+-- and takes no more bytes than that of the largest photo
+pub peeked_small : {D : Type 0} (r : Copy D) (head : CellHead) → IsPeeked r head → (goal_of r ≡ None → ⊥) → needle_total head.size ≤ needle_total (max_photo Two)
+peeked_small r head peeked some = let small : head.size ≤ 16777216 = small_phase r.phase head peeked some in omega (arith, small)
 
 -- THE LATEST PLACE
 

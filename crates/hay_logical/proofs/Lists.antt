@@ -161,3 +161,16 @@ went_each R Q n old new w more same i x y e f = elim (cases_lt i n) [
 -- one item was called
 pub one_same : {X : Type 0} (old : List X) (at : ℕ) (x y a b : X) → At old at x → At old at a → At (slice_set old at y) at b → (a ≡ x) × (b ≡ y)
 one_same old at x y a b was e f = (at_same old at a x e was, at_same (slice_set old at y) at b y f (at_set_same old at y (at_below old at x was)))
+
+-- the list that a loop has made of each item
+pub went_map : {X : Type 0} (f : X → X) (n : ℕ) (old new : List X) → Went (λ i x y. y ≡ f x) n old new → length old ≤ n → new ≡ map f old
+went_map {X} f n old new w all = by_items old new w.count (went_all _ n old new w all)
+  where
+    by_items : (xs ys : List X) → length ys ≡ length xs → ((i : ℕ) (x y : X) → At xs i x → At ys i y → y ≡ f x) → ys ≡ map f xs
+    by_items [] [] count each = refl
+    by_items [] (y ∷ ys) count each = absurd (omega (arith, count))
+    by_items (x ∷ xs) [] count each = absurd (omega (arith, count))
+    by_items (x ∷ xs) (y ∷ ys) count each =
+        let head : y ≡ f x = each 0 x y refl refl in
+        let tail : ys ≡ map f xs = by_items xs ys (omega (arith, count)) (λ i a b e g. each (suc i) a b e g) in
+        cc

@@ -4,7 +4,8 @@ use Rattle.std.specs.Prelude.{is_some, not, map, slice_set, Result, Ok, Err, IfO
 use Rattle.std.proofs.lemmas.Bool.{true≢false}
 use Rattle.std.proofs.lemmas.List.{length-map}
 use Rattle.hay_needle.specs.declared.settings.Settings.{Settings}
-use Rattle.hay_needle.specs.Sizes.{needle_total}
+use Rattle.hay_needle.specs.declared.needle.Version.TheVariants.{Two}
+use Rattle.hay_needle.specs.Sizes.{max_photo, needle_total}
 use Rattle.hay_map.specs.MapRows.{MapRows}
 use Rattle.hay_legal.specs.Known.{machine_of}
 use Rattle.hay_physical.specs.declared.fault.ReplicaFault.{ReplicaFault}
@@ -15,7 +16,7 @@ use Rattle.hay_physical.proofs.Laws.{no_next}
 use Rattle.hay_logical.specs.declared.unsure.Unsure.{Unsure}
 use Rattle.hay_logical.specs.Fits.{At}
 use Rattle.hay_logical.specs.Refusals.{answer_at}
-use Rattle.hay_logical.specs.Seen.{BeginRefusedSeen, BreaksStep, ChangesAt, ChangesRun, DeleteSeen, EndsAlone, FlushRefusedSeen, FlushesTo, IsEnded}
+use Rattle.hay_logical.specs.Seen.{BeginRefusedSeen, BreaksStep, ChangesAt, ChangesRun, DeleteSeen, EndsAlone, FlushRefusedSeen, FlushesTo, IsEnded, MeetsDamage}
 use Rattle.hay_logical.specs.Seen.{ReplicaSeen, StepRefusedSeen, StepsPartly, StepsTo, Sticks, SwapSeen, VolumeSeen, grown, replica_seen, volume_seen}
 use Rattle.hay_logical.specs.Steps.{CallsOne, IsBeginFault, IsFlushFault, IsStepFault}
 use Rattle.hay_logical.specs.Volumes.{Volume}
@@ -121,6 +122,7 @@ steps_none r stands = record {
   few = omega arith;
   all = inl refl;
   behind = omega arith;
+  most = omega arith;
   within = inl refl;
   none = λ e. refl;
 }
@@ -132,6 +134,7 @@ steps_more n r x y first second = record {
   few = omega arith;
   all = inl refl;
   behind = (let a : r.next + n * 48 ≤ x.next = first.behind in let b : x.next + 1 * 48 ≤ y.next = second.behind in let c : r.next + (n + 1) * 48 ≤ y.next = omega (arith, a, b) in c);
+  most = (let a : x.next ≤ r.next + n * 16777264 = first.most in let b : y.next ≤ x.next + 1 * 16777264 = second.most in let c : y.next ≤ r.next + (n + 1) * 16777264 = omega (arith, a, b) in c);
   within = elim second.within [
     | inl none ↦ let wrong : 1 ≡ 0 = none in absurd (omega (arith, wrong))
     | inr low ↦ inr (subst (λ e. y.next ≤ e) (ap (λ (s : ReplicaSeen). s.end) first.only) low)
@@ -153,22 +156,34 @@ steps_stop cells n r x y few first second =
         | inr all ↦ inr (subst (λ e. e ≤ y.next) ends all)
       ];
       behind = subst (λ k. r.next + n * needle_total 0 ≤ k) (sym same) first.behind;
+      most = subst (λ k. k ≤ r.next + n * needle_total (max_photo Two)) (sym same) first.most;
       within = elim first.within [ inl none ↦ inl none | inr low ↦ inr (subst (λ k. k ≤ r.end) (sym same) low) ];
       none = λ e. same ∙ first.none e;
     }
 
 pub steps_break : (n : ℕ) (r x y : ReplicaSeen) → StepsTo n n r x → BreaksStep x y → BreaksStep r y
 steps_break n r x y first broken =
-    let goal : x.goal ≡ r.goal = ap (λ (s : ReplicaSeen). s.goal) first.only in (
+    let goal : x.goal ≡ r.goal = ap (λ (s : ReplicaSeen). s.goal) first.only in
+    let ends : x.end ≡ r.end = ap (λ (s : ReplicaSeen). s.end) first.only in (
       changes_through r x y (steps_change n n r x first) broken.0,
-      λ same. let a : r.next + n * 48 ≤ x.next = first.behind in let b = broken.1 (same ∙ sym goal) in omega (arith, a, b),
+      λ same. let a : r.next + n * 48 ≤ x.next = first.behind in let b = broken.1 (same ∙ sym goal) in let low = b.0 in (omega (arith, a, low), subst (λ e. y.next ≤ e) ends b.1),
     )
+
+-- damage that was met later
+pub meets_later : (r x : ReplicaSeen) (place : ℕ) → r.next ≤ x.next → x.end ≡ r.end → MeetsDamage place x → MeetsDamage place r
+meets_later r x place low ends meets = let next = meets.1 in let end = meets.2 in (meets.0, omega (arith, low, next), omega (arith, end, ends))
+
+pub steps_meet : (cells n : ℕ) (r x : ReplicaSeen) (place : ℕ) → StepsTo cells n r x → MeetsDamage place x → MeetsDamage place r
+steps_meet cells n r x place steps meets =
+    let low : r.next + n * 48 ≤ x.next = steps.behind in
+    meets_later r x place (omega (arith, low)) (ap (λ (s : ReplicaSeen). s.end) steps.only) meets
 
 -- one cell was examined
 pub steps_one : {D : Type 0} (r x y : Copy D) (size : ℕ) → (goal_of r ≡ None → ⊥) → ChangesRun (replica_seen r) (replica_seen x)
     → ChangesRun (replica_seen x) (replica_seen y) → goal_of x ≡ goal_of r → goal_of y ≡ goal_of x
-    → next_of x ≡ next_of r → next_of y ≡ next_of x + needle_total size → next_of x + needle_total size ≤ end_of x → StepsTo 1 1 (replica_seen r) (replica_seen y)
-steps_one r x y size stands first second goal goal' next next' fits =
+    → next_of x ≡ next_of r → next_of y ≡ next_of x + needle_total size → next_of x + needle_total size ≤ end_of x
+    → needle_total size ≤ needle_total (max_photo Two) → StepsTo 1 1 (replica_seen r) (replica_seen y)
+steps_one r x y size stands first second goal goal' next next' fits small =
     let changes : ChangesRun (replica_seen r) (replica_seen y) = changes_through (replica_seen r) (replica_seen x) (replica_seen y) first second in
     let ends : end_of x ≡ end_of r = ap (λ (s : ReplicaSeen). s.end) first in
     record {
@@ -177,6 +192,7 @@ steps_one r x y size stands first second goal goal' next next' fits =
       few = omega arith;
       all = inl refl;
       behind = (let low : next_of r + 1 * 48 ≤ next_of y = omega (arith, next, next') in low);
+      most = (let low : needle_total size ≤ 16777264 = small in let high : next_of y ≤ next_of r + 1 * 16777264 = omega (arith, next, next', low) in high);
       within = inr (omega (arith, next', fits, ends));
       none = λ e. absurd (omega (arith, e));
     }
@@ -192,6 +208,7 @@ steps_end r x stands changes goal next ends =
       few = omega arith;
       all = inr (subst (λ e. e ≤ next_of x) same ends);
       behind = omega (arith, next);
+      most = omega (arith, next);
       within = inl refl;
       none = λ e. next;
     }
@@ -263,7 +280,7 @@ module _ (settings : Settings) (v at : ℕ) {D : Type 0} (faults : D → ℕ) (r
   step_refused_seen thawed (fault.Busy goal) cause steps ends = absurd cause
   step_refused_seen thawed (fault.Ended printed) cause steps ends = absurd cause
   step_refused_seen thawed fault.Worn cause steps ends = absurd cause
-  step_refused_seen thawed (fault.Damaged place) cause steps ends = (thawed, refl, ends cause)
+  step_refused_seen thawed (fault.Damaged place) cause steps ends = ((thawed, refl, ends cause.0), (replica_seen r, there, cause.1))
   step_refused_seen thawed fault.NoMemory cause steps ends = (thawed, steps cause)
 
   pub flush_refused_seen : (f : ReplicaFault) → old.frozen ≡ None → IsFlushFault faults r r' f → (is_stuck r' ≡ is_stuck r → new ≡ old)

@@ -54,7 +54,7 @@ module _ (settings : Settings) (v at : ℕ) {D : Type 0} (faults : D → ℕ) (r
       → ((unfinished_by settings v at u).frozen ≡ None → IsUp r' → goal_of r' ≡ None → ChangesAt at EndsAlone old new) → Froze u
       → FinishRefusedSeen settings v at old new (unfinished_by settings v at u).fault
   finish_refused_seen thawed has (Refused (fault.Failed printed)) left ends froze = inl (thawed, refl, ends refl left.0 left.1)
-  finish_refused_seen thawed has (Refused (fault.Damaged place)) left ends froze = (thawed, refl, ends refl left.0 left.1)
+  finish_refused_seen thawed has (Refused (fault.Damaged place)) left ends froze = ((thawed, refl, ends refl left.0 left.1), (replica_seen r, there, left.3))
   finish_refused_seen thawed has (Refused fault.NoMemory) left ends froze = (thawed, ends refl left.0 left.1)
   finish_refused_seen thawed has (Refused (fault.Busy goal)) left ends froze = let wrong : Going ≡ Fresh = left.0 in absurd cc
   finish_refused_seen thawed has (Refused fault.Worn) left ends froze = let wrong : Going ≡ Fresh = left.0 in absurd cc
@@ -69,7 +69,7 @@ module _ (settings : Settings) (v at : ℕ) {D : Type 0} (faults : D → ℕ) (r
   compact_refused_seen thawed up changes (Refused (fault.Failed printed)) left same froze =
       (refl, (replica_seen r, there, left.2), inl (thawed, same refl left.0 (none_same r r' changes left.1 left.2.0)))
   compact_refused_seen thawed up changes (Refused (fault.Damaged place)) left same froze =
-      (((thawed, same refl left.0 (none_same r r' changes left.1 left.2.0)), refl), (replica_seen r, there, left.2))
+      (((thawed, same refl left.0 (none_same r r' changes left.1 left.2.0)), refl), (replica_seen r, there, (left.2, left.3)))
   compact_refused_seen thawed up changes (Refused fault.NoMemory) left same froze = ((thawed, same refl left.0 (none_same r r' changes left.1 left.2.0)), (replica_seen r, there, left.2))
   compact_refused_seen thawed up changes (Refused (fault.Busy goal)) left same froze =
       (((thawed, same refl (subst (λ (x : Copy D). IsUp x) (sym left.2) up) (ap replica_seen left.2)), refl), (replica_seen r, there, left.1))

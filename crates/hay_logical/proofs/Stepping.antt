@@ -17,7 +17,7 @@ use Rattle.hay_physical.specs.Copies.{Copy, generation_of, goal_of}
 use Rattle.hay_physical.specs.Runs as runs
 use Rattle.hay_physical.proofs.Laws.{stands_generation}
 use Rattle.hay_logical.specs.declared.unsure.Unsure.{Unsure}
-use Rattle.hay_logical.specs.Answers.{BeginRefused, MayBegin, IsBegun, IsRunning, IsStepped, StepRefused, change_at}
+use Rattle.hay_logical.specs.Answers.{BeginRefused, IsAtRest, IsBegun, IsRunning, IsStepped, StepRefused, change_at}
 use Rattle.hay_logical.specs.Answers as answers
 use Rattle.hay_logical.specs.Fits.{At, Fits, RunsAs, copier_run}
 use Rattle.hay_logical.specs.Refusals.{answer_at}
@@ -120,7 +120,7 @@ module _ {D P : Type 0} (settings : Settings) (number : ℕ) (DiskTells : Type 0
         })
         (other_changed settings number DiskTells files Tells faults items new rows front unsure k at without_run)
 
-    rest_known : goal_of one.before ≡ None → generation_of one.before < 65535 → MayBegin k at
+    rest_known : goal_of one.before ≡ None → generation_of one.before < 65535 → IsAtRest k at
     rest_known none less =
         let w = was_at in
         let same = stands_generation files one.before w.stored w.stands in

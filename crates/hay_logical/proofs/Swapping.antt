@@ -1,7 +1,7 @@
 -- How a compaction of a replica ends.
 use Rattle.std.proofs.Common.{◌≡◌, ◌≢◌, inl, inr, ℕ, zero, suc, ◌≤◌, Bool, true, false, cond, List, [], ◌∷◌, length, Option, Some, None, refl, sym, ap, subst, ◌∙◌, arith}
-use Rattle.std.specs.Prelude.{slice_set, Result, Ok, Err, IfErr, OnErr}
-use Rattle.std.proofs.lemmas.Bool.{cases_lt, cond_both, true≢false}
+use Rattle.std.specs.Prelude.{All, map, slice_set, Result, Ok, Err, IfErr, OnErr}
+use Rattle.std.proofs.lemmas.Bool.{cases_Bool, cases_lt, cond-false, cond-true, cond_both}
 use Rattle.hay_needle.specs.declared.needle.Cell.{Cell}
 use Rattle.hay_needle.specs.declared.needle.Outcome.{Outcome}
 use Rattle.hay_needle.specs.declared.needle.Outcome.TheVariants as outcome
@@ -11,14 +11,16 @@ use Rattle.hay_disk.specs.Counts.{Rose}
 use Rattle.hay_disk.specs.Disk.{Files}
 use Rattle.hay_volume.specs.Cells.{needles_of}
 use Rattle.hay_map.specs.MapRows.{MapRows}
-use Rattle.hay_map.specs.Places.{gone_place, has_stood, place_in}
+use Rattle.hay_needle.proofs.TableLaws.{pair_same}
+use Rattle.hay_map.specs.Places.{gone_place, has_stood, moved_place, place_in}
+use Rattle.hay_map.specs.Sealed.{SealedNeedle}
 use Rattle.hay_map.specs.Rows.{last_place, row_at, swapped_place}
 use Rattle.hay_map.specs.declared.place.Place.{Place}
 use Rattle.hay_map.specs.declared.place.Place.TheVariants as place
 use Rattle.hay_map.specs.declared.view.OpenCell.{OpenCell}
 use Rattle.hay_map.proofs.Moving.{swapped_last, swapped_none}
 use Rattle.hay_open.specs.Stored.{Stored, index_file, last_cell, volume_file}
-use Rattle.hay_compact.specs.Finishing.{ArePhotos, AreThePlaces, IsSeen}
+use Rattle.hay_compact.specs.Finishing.{ArePhotos, AreThePlaces, IsLive, IsSeen}
 use Rattle.hay_physical.specs.declared.fault.ReplicaFault.{ReplicaFault}
 use Rattle.hay_physical.specs.declared.fault.ReplicaFault.TheVariants as fault
 use Rattle.hay_physical.specs.Copies.{Copy, IsFrozen, IsUp, goal_of, is_stuck}
@@ -30,9 +32,11 @@ use Rattle.hay_logical.specs.declared.runs.NewFiles.{NewFiles}
 use Rattle.hay_logical.specs.declared.runs.Unswapped.{Unswapped}
 use Rattle.hay_logical.specs.declared.runs.Unswapped.TheVariants.{Refused, Unsure}
 use Rattle.hay_logical.specs.Fits.{PhotoAt}
+use Rattle.hay_logical.specs.Seen.{MeetsDamage, replica_seen}
 use Rattle.hay_logical.specs.Sights.{SwapsSights, sight, sights_of}
 use Rattle.hay_logical.specs.Sights.Sight.{Gone, Live, Never, Unseen}
-use Rattle.hay_logical.specs.Steps.{GoesOn, HoldsUnswapped, IsLeftBy, IsStepFault, KeepsPlaces, PlacesAre, Start, StartsRun, StaysInReach, StepLeaves, SwapsAt, SwapsTo, WasAtRest}
+use Rattle.hay_logical.specs.Steps.{GoesOn, HoldsUnswapped, IsLeftBy, IsStepFault, KeepsPlaces, PlacesAre, Start}
+use Rattle.hay_logical.specs.Steps.{StartsRun, StaysInReach, StepLeaves, SwapsAt, SwapsTo, WasAtRest, still_gone, still_gone_cell}
 use Rattle.hay_logical.specs.Steps.Start.{Examined, Fresh, Going}
 use Rattle.hay_logical.specs.Volumes.{ReachesPlaces}
 use Rattle.hay_logical.proofs.Calls.{loaded, loaded_other, not_both, reach_through, up_open}
@@ -58,6 +62,10 @@ nothing_at : (P Tells : Type 0) (o : Option Cell) → cell_outcome o outcome.Not
 nothing_at P Tells None e = tt
 nothing_at P Tells (Some cell) e = deleted_is cell.deleted (outcome.Photo (record { cookie = cell.cookie; bytes = cell.bytes })) (λ w. cc) e
 
+gone_at : (P Tells : Type 0) (o : Option Cell) → cell_outcome o outcome.Nothing ≡ outcome.Nothing → PhotoAt {P = P} Tells o place.Gone
+gone_at P Tells None e = tt
+gone_at P Tells (Some cell) e = deleted_is cell.deleted (outcome.Photo (record { cookie = cell.cookie; bytes = cell.bytes })) (λ w. cc) e
+
 seen_may : {D P : Type 0} (files : D → Files) (r : Copy D) (p : Place P) → IsSeen p → physical.MaySeePlace files r p
 seen_may files r (place.Live needle) seen = tt
 seen_may files r place.Gone seen = tt
@@ -70,35 +78,87 @@ seen_apart place.Gone other seen = tt
 seen_apart place.None other seen = tt
 seen_apart (place.Unseen at size) other seen = absurd seen
 
-stood_sight : {P : Type 0} (p : Place P) → has_stood p ≡ true → sight p ≡ Never → ⊥
-stood_sight (place.Live needle) stood e = let wrong : Live ≡ Never = e in cc
-stood_sight place.Gone stood e = let wrong : Gone ≡ Never = e in cc
-stood_sight place.None stood e = true≢false (sym stood)
-stood_sight (place.Unseen at size) stood e = let wrong : Unseen ≡ Never = e in cc
+is_live : {P : Type 0} (Q : Place P → Type 0) (p : Place P) → IsLive p → ((needle : SealedNeedle) → Q (place.Live needle)) → Q p
+is_live Q (place.Live needle) live here = here needle
+is_live Q place.Gone live here = absurd live
+is_live Q place.None live here = absurd live
+is_live Q (place.Unseen at size) live here = absurd live
 
-last_stood : {P : Type 0} (cells : List (OpenCell P)) (pair : Pair) (before : Place P) → has_stood before ≡ true → ArePhotos cells → has_stood (last_place cells pair before) ≡ true
-last_stood [] pair before stood photos = stood
-last_stood {P} (cell ∷ cells) pair before stood photos =
-    last_stood cells pair (cond (pair_eq cell.pair pair) cell.place before)
-    (cond_both (pair_eq cell.pair pair) cell.place before (λ (p : Place P). has_stood p ≡ true) (λ same. photos 0 cell (omega arith)) (λ apart. stood))
-    (λ k d h. photos (suc k) d (omega arith))
+-- the place of a pair is that before, or one of a photo
+last_is : {P : Type 0} (Q : Place P → Type 0) (cells : List (OpenCell P)) (pair : Pair) (before : Place P) → ArePhotos cells → ((needle : SealedNeedle) → Q (place.Live needle)) → Q before
+    → Q (last_place cells pair before)
+last_is Q [] pair before photos live none = none
+last_is Q (cell ∷ cells) pair before photos live none =
+    last_is Q cells pair (cond (pair_eq cell.pair pair) cell.place before) (λ k d h. photos (suc k) d (omega arith)) live
+    (cond_both (pair_eq cell.pair pair) cell.place before Q (λ same. is_live Q cell.place (photos 0 cell (omega arith)) live) (λ apart. none))
+
+have_stood : {P : Type 0} (cells : List (OpenCell P)) → ArePhotos cells → All (λ (cell : OpenCell P). has_stood cell.place ≡ true) cells
+have_stood cells photos = λ k d h. is_live (λ p. has_stood p ≡ true) _ (photos k d h) (λ needle. refl)
+
+module _ {P : Type 0} (rows : MapRows P) (at : ℕ) where
+  abbrev kept : List (OpenCell P) → List (OpenCell P)
+  kept cells = map (still_gone_cell rows at) cells
+
+  -- a photo that was gone stays so
+  kept_gone : (cells : List (OpenCell P)) (pair : Pair) → place_in (row_at rows pair) at ≡ place.Gone → swapped_place (kept cells) pair place.Gone ≡ place.Gone
+  kept_gone [] pair gone = refl
+  kept_gone (cell ∷ cells) pair gone =
+      let there : Place P = still_gone (place_in (row_at rows cell.pair) at) cell.place in
+      elim (cases_Bool (pair_eq cell.pair pair)) [
+        | inl here ↦
+            let same : place_in (row_at rows cell.pair) at ≡ place.Gone = ap (λ p. place_in (row_at rows p) at) (pair_same cell.pair pair here) ∙ gone in
+            ap (λ p. swapped_place (kept cells) pair p) (cond-true (pair_eq cell.pair pair) there place.Gone here ∙ ap (λ p. still_gone p cell.place) same) ∙ kept_gone cells pair gone
+        | inr apart ↦ ap (λ p. swapped_place (kept cells) pair p) (cond-false (pair_eq cell.pair pair) there place.Gone apart) ∙ kept_gone cells pair gone
+      ]
+
+  abbrev place_of : Pair → Place P
+  place_of pair = place_in (row_at rows pair) at
+
+  still_there : (p there : Place P) → (p ≡ place.Gone → ⊥) → still_gone p there ≡ there
+  still_there place.Gone there some = absurd (some refl)
+  still_there place.None there some = refl
+  still_there (place.Live needle) there some = refl
+  still_there (place.Unseen at size) there some = refl
+
+  -- and any other one has the place that the new files give
+  kept_there : (cells : List (OpenCell P)) (pair : Pair) (before : Place P) → (place_in (row_at rows pair) at ≡ place.Gone → ⊥)
+      → swapped_place (kept cells) pair before ≡ swapped_place cells pair before
+  kept_there [] pair before some = refl
+  kept_there (cell ∷ cells) pair before some =
+      let there : Place P = still_gone (place_in (row_at rows cell.pair) at) cell.place in
+      kept_there cells pair (cond (pair_eq cell.pair pair) (moved_place before there) before) some
+      ∙ ap (λ p. swapped_place cells pair p)
+      (elim (cases_Bool (pair_eq cell.pair pair)) [
+        | inl here ↦
+            cond-true (pair_eq cell.pair pair) (moved_place before there) before here
+            ∙ ap (λ p. moved_place before p) (still_there (place_of cell.pair) cell.place (λ gone. some (ap place_of (sym (pair_same cell.pair pair here)) ∙ gone)))
+            ∙ sym (cond-true (pair_eq cell.pair pair) (moved_place before cell.place) before here)
+        | inr apart ↦
+            cond-false (pair_eq cell.pair pair) (moved_place before there) before apart
+            ∙ sym (cond-false (pair_eq cell.pair pair) (moved_place before cell.place) before apart)
+      ])
 
 module _ {P : Type 0} (Tells : Type 0) (rows rows' : MapRows P) (at : ℕ) (cells : List (OpenCell P)) (photos : ArePhotos cells)
-    (changed : (pair : Pair) → row_at rows' pair ≡ slice_set (row_at rows pair) at (swapped_place cells pair (gone_place (place_in (row_at rows pair) at)))) where
-  -- a pair that had a place has that of its last cell, and any other one has none
-  swapped_is : (pair : Pair) (Q : Place P → Type 0) (p : Place P) → ((sight p ≡ Never → ⊥) → Q (last_place cells pair place.Gone)) → (p ≡ place.None → Q place.None)
-      → Q (swapped_place cells pair (gone_place p))
-  swapped_is pair Q (place.Live needle) here none = subst Q (sym (swapped_last cells pair place.Gone refl photos)) (here (λ e. let wrong : Live ≡ Never = e in cc))
-  swapped_is pair Q place.Gone here none = subst Q (sym (swapped_last cells pair place.Gone refl photos)) (here (λ e. let wrong : Gone ≡ Never = e in cc))
-  swapped_is pair Q place.None here none = subst Q (sym (swapped_none cells pair)) (none refl)
-  swapped_is pair Q (place.Unseen there size) here none = subst Q (sym (swapped_last cells pair place.Gone refl photos)) (here (λ e. let wrong : Unseen ≡ Never = e in cc))
+    (changed : (pair : Pair) → row_at rows' pair ≡ slice_set (row_at rows pair) at (swapped_place (map (still_gone_cell rows at) cells) pair (gone_place (place_in (row_at rows pair) at)))) where
+  -- a photo has the place of its last cell, and where it was gone, or never was, it is so still
+  swapped_is : (pair : Pair) (Q : Place P → Type 0) (p : Place P) → place_in (row_at rows pair) at ≡ p → ((sight p ≡ Never → ⊥) → (sight p ≡ Gone → ⊥) → Q (last_place cells pair place.Gone))
+      → (p ≡ place.Gone → Q place.Gone) → (p ≡ place.None → Q place.None) → Q (swapped_place (map (still_gone_cell rows at) cells) pair (gone_place p))
+  swapped_is pair Q (place.Live needle) is here gone none =
+      subst Q (sym (kept_there rows at cells pair place.Gone (λ e. let wrong : place.Live needle ≡ place.Gone = sym is ∙ e in cc) ∙ swapped_last cells pair place.Gone refl (have_stood cells photos)))
+      (here (λ e. let wrong : Live ≡ Never = e in cc) (λ e. let wrong : Live ≡ Gone = e in cc))
+  swapped_is pair Q place.Gone is here gone none = subst Q (sym (kept_gone rows at cells pair is)) (gone refl)
+  swapped_is pair Q place.None is here gone none = subst Q (sym (swapped_none (map (still_gone_cell rows at) cells) pair)) (none refl)
+  swapped_is pair Q (place.Unseen there size) is here gone none =
+      subst Q (sym (kept_there rows at cells pair place.Gone (λ e. let wrong : place.Unseen there size ≡ place.Gone = sym is ∙ e in cc)
+      ∙ swapped_last cells pair place.Gone refl (have_stood cells photos)))
+      (here (λ e. let wrong : Unseen ≡ Never = e in cc) (λ e. let wrong : Unseen ≡ Gone = e in cc))
 
-  new_place : (pair : Pair) (Q : Place P → Type 0) → ((sights_of rows pair at ≡ Never → ⊥) → Q (last_place cells pair place.Gone))
-      → (place_in (row_at rows pair) at ≡ place.None → Q place.None) → Q (place_in (row_at rows' pair) at)
-  new_place pair Q here none =
-      let p : Place P = swapped_place cells pair (gone_place (place_in (row_at rows pair) at)) in
+  new_place : (pair : Pair) (Q : Place P → Type 0) → ((sights_of rows pair at ≡ Never → ⊥) → (sights_of rows pair at ≡ Gone → ⊥) → Q (last_place cells pair place.Gone))
+      → (place_in (row_at rows pair) at ≡ place.Gone → Q place.Gone) → (place_in (row_at rows pair) at ≡ place.None → Q place.None) → Q (place_in (row_at rows' pair) at)
+  new_place pair Q here gone none =
+      let p : Place P = swapped_place (map (still_gone_cell rows at) cells) pair (gone_place (place_in (row_at rows pair) at)) in
       elim (cases_lt at (length (row_at rows pair))) [
-        | inl less ↦ subst Q (sym (loaded (row_at rows pair) (row_at rows' pair) at p (changed pair) less)) (swapped_is pair Q (place_in (row_at rows pair) at) here none)
+        | inl less ↦ subst Q (sym (loaded (row_at rows pair) (row_at rows' pair) at p (changed pair) less)) (swapped_is pair Q (place_in (row_at rows pair) at) refl here gone none)
         | inr most ↦
             let long : length (row_at rows' pair) ≡ length (row_at rows pair) = ap (λ l. length l) (changed pair) ∙ length-slice_set (row_at rows pair) at p in
             subst Q (sym (beyond (row_at rows' pair) at (let e : length (row_at rows' pair) ≤ at = omega (arith, most, long) in e))) (none (beyond (row_at rows pair) at most))
@@ -106,33 +166,40 @@ module _ {P : Type 0} (Tells : Type 0) (rows rows' : MapRows P) (at : ℕ) (cell
 
   pub places_swapped : (s t : Stored) → table_of (needles_of t.cells) ≡ table_of (needles_of s.cells) → PlacesAre Tells rows at s → AreThePlaces Tells t.cells cells → PlacesAre Tells rows' at t
   places_swapped s t table were are pair =
-      new_place pair (PhotoAt Tells (last_cell t.cells pair)) (λ some. photo_at Tells (last_cell t.cells pair) (last_place cells pair place.Gone) (are pair))
-      (λ e.
-      let nothing : outcome_at (table_of (needles_of s.cells)) pair ≡ outcome.Nothing =
-      no_photo P Tells pair _ (inr (place_means Tells s.cells pair place.None tt (subst (λ (p : Place P). PhotoAt Tells (last_cell s.cells pair) p) e (were pair)))) in
-      nothing_at P Tells (last_cell t.cells pair) (sym (at_cells t.cells pair) ∙ ap (λ (x : Table). outcome_at x pair) table ∙ nothing))
+      let still : outcome_at (table_of (needles_of s.cells)) pair ≡ outcome.Nothing → cell_outcome (last_cell t.cells pair) outcome.Nothing ≡ outcome.Nothing =
+      (λ nothing. sym (at_cells t.cells pair) ∙ ap (λ (x : Table). outcome_at x pair) table ∙ nothing) in
+      let at_place : (p : Place P) → place_in (row_at rows pair) at ≡ p → PhotoAt Tells (last_cell s.cells pair) p =
+      (λ p e. subst (λ (q : Place P). PhotoAt Tells (last_cell s.cells pair) q) e (were pair)) in
+      new_place pair (PhotoAt Tells (last_cell t.cells pair)) (λ some held. photo_at Tells (last_cell t.cells pair) (last_place cells pair place.Gone) (are pair))
+      (λ e. gone_at P Tells (last_cell t.cells pair) (still (no_photo P Tells pair _ (inl (place_means Tells s.cells pair place.Gone tt (at_place place.Gone e))))))
+      (λ e. nothing_at P Tells (last_cell t.cells pair) (still (no_photo P Tells pair _ (inr (place_means Tells s.cells pair place.None tt (at_place place.None e))))))
 
   -- each place is one that was looked at
-  pub reach_swapped : {D : Type 0} (files : D → Files) (r : Copy D) → ((pair : Pair) → physical.MayDeletePlace files r (last_place cells pair place.Gone)) → ((pair : Pair) → IsSeen (last_place cells pair place.Gone))
-      → ReachesPlaces files rows' at r
-  reach_swapped files r may seen = record {
-    deletes = λ up pair. new_place pair (physical.MayDeletePlace files r) (λ some. may pair) (λ e. tt);
+  pub reach_swapped : {D : Type 0} (files : D → Files) (r : Copy D) → ((pair : Pair) → physical.MayDeletePlace files r (last_place cells pair place.Gone)) → ReachesPlaces files rows' at r
+  reach_swapped files r may = record {
+    deletes = λ up pair. new_place pair (physical.MayDeletePlace files r) (λ some held. may pair) (λ e. tt) (λ e. tt);
     sees = λ is. record {
-      may = λ pair. seen_may files r (place_in (row_at rows' pair) at) (new_place pair IsSeen (λ some. seen pair) (λ e. tt));
-      apart = λ pair other differ. seen_apart (place_in (row_at rows' pair) at) (place_in (row_at rows' other) at) (new_place pair IsSeen (λ some. seen pair) (λ e. tt));
+      may = λ pair. seen_may files r (place_in (row_at rows' pair) at) (new_place pair IsSeen (λ some held. last_is IsSeen cells pair place.Gone photos (λ needle. tt) tt) (λ e. tt) (λ e. tt));
+      apart = λ pair other differ. seen_apart (place_in (row_at rows' pair) at) (place_in (row_at rows' other) at)
+          (new_place pair IsSeen (λ some held. last_is IsSeen cells pair place.Gone photos (λ needle. tt) tt) (λ e. tt) (λ e. tt));
     };
   }
 
   pub swaps_sights : SwapsSights at (sights_of rows) (sights_of rows')
-  swaps_sights =
-      let each : (pair : Pair) → (sights_of rows pair at ≡ Never → sights_of rows' pair at ≡ Never) × (sights_of rows' pair at ≡ Never → sights_of rows pair at ≡ Never) =
-      λ pair. new_place pair (λ p. (sights_of rows pair at ≡ Never → sight p ≡ Never) × (sight p ≡ Never → sights_of rows pair at ≡ Never))
-      (λ some. (λ e. absurd (some e), λ e. absurd (stood_sight (last_place cells pair place.Gone) (last_stood cells pair place.Gone refl photos) e)))
-      (λ none. (λ e. refl, λ e. ap (λ (p : Place P). sight p) none)) in record {
-        never = λ pair. (each pair).0;
-        ever = λ pair. (each pair).1;
-        others = λ pair j apart. ap (λ (p : Place P). sight p) (loaded_other (row_at rows pair) (row_at rows' pair) j at _ (changed pair) apart);
-      }
+  swaps_sights = record {
+    never = λ pair. new_place pair (λ p. sights_of rows pair at ≡ Never → sight p ≡ Never) (λ some held e. absurd (some e))
+        (λ gone e. let wrong : Gone ≡ Never = sym (ap (λ (p : Place P). sight p) gone) ∙ e in cc) (λ none e. refl);
+    ever = λ pair. new_place pair (λ p. sight p ≡ Never → sights_of rows pair at ≡ Never)
+        (λ some held. last_is (λ p. sight p ≡ Never → sights_of rows pair at ≡ Never) cells pair place.Gone photos
+        (λ needle e. let wrong : Live ≡ Never = e in cc) (λ e. let wrong : Gone ≡ Never = e in cc))
+        (λ gone e. let wrong : Gone ≡ Never = e in cc) (λ none e. ap (λ (p : Place P). sight p) none);
+    gone = λ pair. new_place pair (λ p. sights_of rows pair at ≡ Gone → sight p ≡ Gone) (λ some held e. absurd (held e)) (λ gone e. refl)
+        (λ none e. let wrong : Never ≡ Gone = sym (ap (λ (p : Place P). sight p) none) ∙ e in cc);
+    seen = λ pair. new_place pair (λ p. sight p ≡ Unseen → ⊥)
+        (λ some held. last_is (λ p. sight p ≡ Unseen → ⊥) cells pair place.Gone photos (λ needle e. let wrong : Live ≡ Unseen = e in cc) (λ e. let wrong : Gone ≡ Unseen = e in cc))
+        (λ gone e. let wrong : Gone ≡ Unseen = e in cc) (λ none e. let wrong : Never ≡ Unseen = e in cc);
+    others = λ pair j apart. ap (λ (p : Place P). sight p) (loaded_other (row_at rows pair) (row_at rows' pair) j at _ (changed pair) apart);
+  }
 
 -- WHY NO SWAP WAS MADE
 
@@ -175,7 +242,7 @@ module _ {D : Type 0} (files : D → Files) (faults : D → ℕ) where
   step_left r x y (fault.Busy generation) up goal disk cause = absurd cause
   step_left r x y (fault.Ended n) up goal disk cause = absurd cause
   step_left r x y fault.Worn up goal disk cause = absurd cause
-  step_left r x y (fault.Damaged at) up goal disk cause = (up, goal, tt)
+  step_left r x y (fault.Damaged at) up goal disk cause = (up, goal, tt, cause.1)
   step_left r x y fault.NoMemory up goal disk cause = (up, goal, tt)
 
   pub step_holds : (r x y : Copy D) (s : Stored) (run : Run) (cells : ℕ) (f : ReplicaFault) → IsStepFault faults r x f → StepLeaves files x s run cells f → physical.Stands files y s → is_stuck y ≡ is_stuck r
@@ -191,16 +258,17 @@ module _ {D : Type 0} (files : D → Files) (faults : D → ℕ) where
 
   -- BEHIND WHAT WENT BEFORE
 
-  pub left_later : (r x y : Copy D) (u : Unswapped) (a b : Start) → (b ≡ Fresh → ⊥) → WasAtRest a r → faults r.disk ≤ faults x.disk → IsLeftBy faults b x y u → IsLeftBy faults a r y u
-  left_later r x y (Refused (fault.Failed n)) a b later rest low left = (left.0, left.1, rest, rose_later (faults r.disk) (faults x.disk) (faults y.disk) low left.3, left.4)
-  left_later r x y (Refused (fault.Damaged at)) a b later rest low left = (left.0, left.1, rest)
-  left_later r x y (Refused fault.NoMemory) a b later rest low left = (left.0, left.1, rest)
-  left_later r x y (Refused (fault.Busy goal)) a b later rest low left = absurd (later left.0)
-  left_later r x y (Refused fault.Worn) a b later rest low left = absurd (later left.0)
-  left_later r x y (Refused fault.Frozen) a b later rest low left = left
-  left_later r x y (Refused (fault.Full end need capacity)) a b later rest low left = left
-  left_later r x y (Refused (fault.Ended n)) a b later rest low left = left
-  left_later r x y (Unsure n) a b later rest low left = (left.0, left.1, rest, rose_later (faults r.disk) (faults x.disk) (faults y.disk) low left.3, left.4)
+  pub left_later : (r x y : Copy D) (u : Unswapped) (a b : Start) → (b ≡ Fresh → ⊥) → WasAtRest a r → faults r.disk ≤ faults x.disk
+      → ((at : ℕ) → MeetsDamage at (replica_seen x) → MeetsDamage at (replica_seen r)) → IsLeftBy faults b x y u → IsLeftBy faults a r y u
+  left_later r x y (Refused (fault.Failed n)) a b later rest low meets left = (left.0, left.1, rest, rose_later (faults r.disk) (faults x.disk) (faults y.disk) low left.3, left.4)
+  left_later r x y (Refused (fault.Damaged at)) a b later rest low meets left = (left.0, left.1, rest, meets at left.3)
+  left_later r x y (Refused fault.NoMemory) a b later rest low meets left = (left.0, left.1, rest)
+  left_later r x y (Refused (fault.Busy goal)) a b later rest low meets left = absurd (later left.0)
+  left_later r x y (Refused fault.Worn) a b later rest low meets left = absurd (later left.0)
+  left_later r x y (Refused fault.Frozen) a b later rest low meets left = left
+  left_later r x y (Refused (fault.Full end need capacity)) a b later rest low meets left = left
+  left_later r x y (Refused (fault.Ended n)) a b later rest low meets left = left
+  left_later r x y (Unsure n) a b later rest low meets left = (left.0, left.1, rest, rose_later (faults r.disk) (faults x.disk) (faults y.disk) low left.3, left.4)
 
   pub to_later : (s t : Stored) (run next : Run) → next.tight ≡ run.tight → SwapsTo s t next → SwapsTo s t run
   to_later s t run next same to = record { swaps = to.swaps; tight = λ e. to.tight (same ∙ e); ends = to.ends }
@@ -231,9 +299,10 @@ stays_later DiskTells files r x y (Err u) before behind = λ tells. reach_throug
 -- A swap behind what went before. `meets` says what it finds then.
 module _ {D P : Type 0} (DiskTells : Type 0) (files : D → Files) (faults : D → ℕ) (Tells : Type 0) (rows rows' : MapRows P) (at : ℕ) (r x y : Copy D) where
   pub swaps_later : (result : Result (NewFiles P) Unswapped) (a b : Start) → (b ≡ Fresh → ⊥) → IsUp r → GoesOn DiskTells files r x → WasAtRest a r → faults r.disk ≤ faults x.disk
+      → ((place : ℕ) → MeetsDamage place (replica_seen x) → MeetsDamage place (replica_seen r))
       → (DiskTells → (s : Stored) (run : Run) → physical.Stands files r s → StartsRun files a r s run → PlacesAre Tells rows at s → (next : Run) × (next.tight ≡ run.tight) × StartsRun files b x s next)
       → SwapsAt DiskTells files faults Tells b rows rows' at x y result → SwapsAt DiskTells files faults Tells a rows rows' at r y result
-  swaps_later (Ok generation) a b later up on rest low meets swaps = record {
+  swaps_later (Ok generation) a b later up on rest low damage meets swaps = record {
     «open» = swaps.«open»;
     sup = swaps.sup ∙ on.sup;
     up = ((swaps.up).0, (swaps.up).1, (swaps.up).2, rest);
@@ -248,11 +317,11 @@ module _ {D P : Type 0} (DiskTells : Type 0) (files : D → Files) (faults : D �
     refused = λ tells s run stands start places. tt;
     reach = λ tells reach. swaps.reach tells (reaches_on files rows rows at r x (λ u. up) (λ u. up_open r up) (on.reach tells) (λ pair. refl) reach);
   }
-  swaps_later (Err u) a b later up on rest low meets swaps = record {
+  swaps_later (Err u) a b later up on rest low damage meets swaps = record {
     «open» = swaps.«open»;
     sup = swaps.sup ∙ on.sup;
     up = tt;
-    left = left_later files faults r x y u a b later rest low swaps.left;
+    left = left_later files faults r x y u a b later rest low damage swaps.left;
     swapped = λ tells s run stands start places. tt;
     sizes = λ tells. tt;
     still = swaps.still ∙ on.stuck;

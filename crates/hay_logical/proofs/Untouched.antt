@@ -13,7 +13,7 @@ use Rattle.hay_logical.specs.declared.runs.Unswapped.{Unswapped}
 use Rattle.hay_logical.specs.declared.runs.Unswapped.TheVariants.{Refused, Unsure as Perhaps}
 use Rattle.hay_logical.specs.declared.unsure.Unsure.{Unsure}
 use Rattle.hay_logical.specs.Fits.{At}
-use Rattle.hay_logical.specs.Refusals.{FlushSticks, IsUntouchedBy, answer_at, unfinished_by}
+use Rattle.hay_logical.specs.Refusals.{IsUntouchedBy, answer_at, unfinished_by}
 use Rattle.hay_logical.specs.Steps.{CallsOne, IsBeginFault, IsFlushFault, IsLeftBy, IsStepFault, KeepsStuck, Start}
 use Rattle.hay_logical.proofs.Changing.{set_back}
 use Rattle.hay_logical.proofs.Lists.{at_below, at_same, at_there}
@@ -43,16 +43,6 @@ module _ {D : Type 0} (faults : D → ℕ) (r r' : Copy D) (m : ℕ) where
   flush_stuck fault.Worn n cause is = absurd cause
   flush_stuck (fault.Damaged at) n cause is = absurd cause
   flush_stuck fault.NoMemory n cause is = absurd cc
-
-  pub flush_sticks : (f : ReplicaFault) → IsFlushFault faults r r' f → FlushSticks r r' (answer_at m f)
-  flush_sticks (fault.Failed printed) cause = cause.2
-  flush_sticks fault.Frozen cause = ap is_stuck cause.1
-  flush_sticks (fault.Full end need capacity) cause = absurd cause
-  flush_sticks (fault.Busy generation) cause = absurd cause
-  flush_sticks (fault.Ended printed) cause = absurd cause
-  flush_sticks fault.Worn cause = absurd cause
-  flush_sticks (fault.Damaged at) cause = absurd cause
-  flush_sticks fault.NoMemory cause = cause
 
   pub begin_untouched : (f : ReplicaFault) → IsBeginFault faults r r' f → IsUntouchedBy (answer_at m f) → r' ≡ r
   begin_untouched (fault.Failed printed) cause by = absurd by

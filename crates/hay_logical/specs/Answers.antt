@@ -253,8 +253,8 @@ FlushRefused files Tells k replica old new (Damaged m at) = ⊥
 -- COMPACTIONS
 
 -- none stands at a replica, and its generation is not the last one
-abbrev pub MayBegin : VolumeKnown → ℕ → Type 0
-MayBegin k j = ((replica_at k j).run ≡ None) × ((replica_at k j).generation < 65535)
+abbrev pub IsAtRest : VolumeKnown → ℕ → Type 0
+IsAtRest k j = ((replica_at k j).run ≡ None) × ((replica_at k j).generation < 65535)
 
 -- one stands there
 abbrev pub IsRunning : VolumeKnown → ℕ → Type 0
@@ -266,7 +266,7 @@ MayFinish k j = IsRunning k j × ((replica_at k j).generation < 65535)
 
 pub record IsBegun {D P : Type 0} (files : D → Files) (Tells : Type 0) (k : VolumeKnown) (replica generation : ℕ) (new : Volume D P) : Type 0 where
   pub thawed : k.frozen ≡ None
-  pub rest : MayBegin k replica
+  pub rest : IsAtRest k replica
   pub next : generation ≡ (replica_at k replica).generation + 1
   pub stands : Stands files Tells new (change_at k replica (with_run (record { goal = generation; left = (replica_at k replica).cells })))
 
@@ -279,8 +279,8 @@ BeginRefused files Tells k replica old new (Worn m) =
     (k.frozen ≡ None) × (m ≡ machine_of old.settings old.number replica)
     × ((replica_at k replica).run ≡ None) × ((replica_at k replica).generation ≡ 65535) × (new ≡ old)
 BeginRefused files Tells k replica old new (Failed m faults) =
-    (k.frozen ≡ None) × (m ≡ machine_of old.settings old.number replica) × MayBegin k replica × Stands files Tells new k
-BeginRefused files Tells k replica old new NoMemory = (k.frozen ≡ None) × MayBegin k replica × Stands files Tells new k
+    (k.frozen ≡ None) × (m ≡ machine_of old.settings old.number replica) × IsAtRest k replica × Stands files Tells new k
+BeginRefused files Tells k replica old new NoMemory = (k.frozen ≡ None) × IsAtRest k replica × Stands files Tells new k
 BeginRefused files Tells k replica old new (Full m end need capacity) = ⊥
 BeginRefused files Tells k replica old new (Gone front) = ⊥
 BeginRefused files Tells k replica old new Idle = ⊥
@@ -369,7 +369,7 @@ pub record IsTightened {D P : Type 0} (files : D → Files) (Tells : Type 0) (k 
 
 pub record IsCompacted {D P : Type 0} (files : D → Files) (Tells : Type 0) (k : VolumeKnown) (replica generation : ℕ) (new : Volume D P) : Type 0 where
   pub thawed : k.frozen ≡ None
-  pub rest : MayBegin k replica
+  pub rest : IsAtRest k replica
   pub next : generation ≡ (replica_at k replica).generation + 1
   pub swaps : StandsSwapped files Tells IsTight as_it_is k replica new
   pub sizes : (r : Copy D) → At new.replicas replica r → HasSizes files r swaps.0 swaps.1
@@ -383,9 +383,9 @@ CompactRefused files Tells k replica old new (Worn m) =
     (k.frozen ≡ None) × (m ≡ machine_of old.settings old.number replica)
     × ((replica_at k replica).run ≡ None) × ((replica_at k replica).generation ≡ 65535) × Stands files Tells new k
 CompactRefused files Tells k replica old new (Failed m faults) =
-    (k.frozen ≡ None) × (m ≡ machine_of old.settings old.number replica) × MayBegin k replica × StandsFailed files Tells m k replica new
+    (k.frozen ≡ None) × (m ≡ machine_of old.settings old.number replica) × IsAtRest k replica × StandsFailed files Tells m k replica new
 CompactRefused files Tells k replica old new NoMemory =
-    (k.frozen ≡ None) × MayBegin k replica × Stands files Tells new (change_at k replica without_run)
+    (k.frozen ≡ None) × IsAtRest k replica × Stands files Tells new (change_at k replica without_run)
 CompactRefused files Tells k replica old new (Full m end need capacity) = ⊥
 CompactRefused files Tells k replica old new (Gone front) = ⊥
 CompactRefused files Tells k replica old new Idle = ⊥

@@ -1,8 +1,7 @@
 -- Which replicas have a change that was broken off, by what was kept of it in memory, and how that is told.
-use Rattle.std.specs.Prelude.{◌≡◌, ◌⊎◌, ◌==◌, ℕ, not, Bool, true, false, List, [], length, slice_get, slice_index, Option, Some, None}
+use Rattle.std.specs.Prelude.{◌≡◌, ◌==◌, ℕ, not, Bool, true, false, List, [], length, slice_get, slice_index, Option, Some, None}
 use Rattle.hay_needle.specs.declared.settings.Settings.{Settings}
 use Rattle.hay_reply.specs.declared.Note.{Note}
-use Rattle.hay_core.specs.declared.entry.CoreTag.{CoreTag}
 use Rattle.hay_legal.specs.Restarts.{replica_notes}
 use Rattle.hay_map.specs.MapRows.{MapRows}
 use Rattle.hay_map.specs.Places.{place_in}
@@ -10,8 +9,6 @@ use Rattle.hay_map.specs.Rows.{row_at}
 use Rattle.hay_map.specs.declared.place.Place.{Place}
 use Rattle.hay_map.specs.declared.place.Place.TheVariants as place
 use Rattle.hay_compact.specs.Finishing.{IsSeen}
-use Rattle.hay_logical.specs.declared.fault.LogicalFault.{LogicalFault}
-use Rattle.hay_logical.specs.declared.fault.LogicalFault.TheVariants as refusal
 use Rattle.hay_logical.specs.declared.unsure.Change.{Change}
 use Rattle.hay_logical.specs.declared.unsure.Change.TheVariants as change
 use Rattle.hay_logical.specs.declared.unsure.Unsure.{Unsure}
@@ -58,35 +55,3 @@ abbrev pub NotesTell : Settings → ℕ → Option Unsure → Sights → List Re
 NotesTell settings v None sights replicas notes = notes ≡ []
 NotesTell settings v (Some unsure) sights replicas notes =
     (kept : List Bool) × KeptIn unsure.change sights replicas kept × (notes ≡ replica_notes settings v (unsure.tag).line 0 kept)
-
--- WHAT IS BROKEN OFF
-
--- the change of this line was broken off, and none before it
-pub record IsBrokenOff (tag : CoreTag) (old new : Option Unsure) : Type 0 where
-  pub settled : old ≡ None
-  pub change : Change
-  pub is : new ≡ Some (record { tag = tag; change = change })
-
--- what a put leaves that is refused: a failure broke it off, and want of memory may have
-abbrev pub PutLeavesUnsure : CoreTag → Option Unsure → Option Unsure → LogicalFault → Type 0
-PutLeavesUnsure tag old new (refusal.Failed m count) = IsBrokenOff tag old new
-PutLeavesUnsure tag old new refusal.NoMemory = (new ≡ old) ⊎ IsBrokenOff tag old new
-PutLeavesUnsure tag old new (refusal.ReadOnly m) = new ≡ old
-PutLeavesUnsure tag old new (refusal.Full m end need capacity) = new ≡ old
-PutLeavesUnsure tag old new (refusal.Gone front) = new ≡ old
-PutLeavesUnsure tag old new (refusal.Busy m generation) = new ≡ old
-PutLeavesUnsure tag old new (refusal.Worn m) = new ≡ old
-PutLeavesUnsure tag old new refusal.Idle = new ≡ old
-PutLeavesUnsure tag old new (refusal.Damaged m at) = new ≡ old
-
--- what a delete leaves that is refused: a failure may have broken it off, or came before it changed anything
-abbrev pub DeleteLeavesUnsure : CoreTag → Option Unsure → Option Unsure → LogicalFault → Type 0
-DeleteLeavesUnsure tag old new (refusal.Failed m count) = (new ≡ old) ⊎ IsBrokenOff tag old new
-DeleteLeavesUnsure tag old new refusal.NoMemory = new ≡ old
-DeleteLeavesUnsure tag old new (refusal.ReadOnly m) = new ≡ old
-DeleteLeavesUnsure tag old new (refusal.Full m end need capacity) = new ≡ old
-DeleteLeavesUnsure tag old new (refusal.Gone front) = new ≡ old
-DeleteLeavesUnsure tag old new (refusal.Busy m generation) = new ≡ old
-DeleteLeavesUnsure tag old new (refusal.Worn m) = new ≡ old
-DeleteLeavesUnsure tag old new refusal.Idle = new ≡ old
-DeleteLeavesUnsure tag old new (refusal.Damaged m at) = new ≡ old

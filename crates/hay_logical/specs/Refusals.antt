@@ -1,10 +1,10 @@
 -- What puts, flushes and compactions that were broken off are answered.
-use Rattle.std.specs.Prelude.{◌≡◌, ◌⊎◌, ℕ, true, false, List, Option, Some, None}
+use Rattle.std.specs.Prelude.{◌≡◌, ℕ, false, List, Some, None}
 use Rattle.hay_needle.specs.declared.settings.Settings.{Settings}
 use Rattle.hay_legal.specs.Known.{machine_of}
 use Rattle.hay_physical.specs.declared.fault.ReplicaFault.{ReplicaFault}
 use Rattle.hay_physical.specs.declared.fault.ReplicaFault.TheVariants as fault
-use Rattle.hay_physical.specs.Copies.{Copy, is_frozen, is_stuck}
+use Rattle.hay_physical.specs.Copies.{Copy, is_frozen}
 use Rattle.hay_logical.specs.declared.fault.LogicalFault.{LogicalFault}
 use Rattle.hay_logical.specs.declared.fault.LogicalFault.TheVariants.{Busy, Damaged, Failed, Full, Gone, Idle, NoMemory, ReadOnly, Worn}
 use Rattle.hay_logical.specs.declared.refusals.Refusal.{Refusal}
@@ -12,7 +12,6 @@ use Rattle.hay_logical.specs.declared.refusals.Unfinished.{Unfinished}
 use Rattle.hay_logical.specs.declared.replicas.Broken.{Broken}
 use Rattle.hay_logical.specs.declared.runs.Unswapped.{Unswapped}
 use Rattle.hay_logical.specs.declared.runs.Unswapped.TheVariants.{Refused, Unsure as Perhaps}
-use Rattle.hay_logical.specs.declared.unsure.Unsure.{Unsure}
 use Rattle.hay_logical.specs.Fits.{At}
 
 -- memory was wanting on the first replica, which takes changes still
@@ -77,51 +76,3 @@ IsUntouchedBy (Gone front) = ⊥
 IsUntouchedBy (Failed machine faults) = ⊥
 IsUntouchedBy (Damaged machine at) = ⊥
 IsUntouchedBy NoMemory = ⊥
-
--- By which machine a volume is frozen behind a refusal: a failure freezes it by the machine whose disk failed, or it is as before.
-abbrev pub FailureMayFreeze : Option ℕ → Option ℕ → LogicalFault → Type 0
-FailureMayFreeze old new (Failed m faults) = (new ≡ old) ⊎ (new ≡ Some m)
-FailureMayFreeze old new (ReadOnly machine) = new ≡ old
-FailureMayFreeze old new (Full machine end need capacity) = new ≡ old
-FailureMayFreeze old new (Gone front) = new ≡ old
-FailureMayFreeze old new (Busy machine generation) = new ≡ old
-FailureMayFreeze old new (Worn machine) = new ≡ old
-FailureMayFreeze old new Idle = new ≡ old
-FailureMayFreeze old new (Damaged machine at) = new ≡ old
-FailureMayFreeze old new NoMemory = new ≡ old
-
--- Where a failure froze it in a delete, that is pending.
-abbrev pub DeleteFreezes : Option ℕ → Option ℕ → Option Unsure → Option Unsure → LogicalFault → Type 0
-DeleteFreezes old new before after (Failed m faults) = ((new ≡ old) × (after ≡ before)) ⊎ ((new ≡ Some m) × ((unsure : Unsure) × (after ≡ Some unsure)))
-DeleteFreezes old new before after (ReadOnly machine) = new ≡ old
-DeleteFreezes old new before after (Full machine end need capacity) = new ≡ old
-DeleteFreezes old new before after (Gone front) = new ≡ old
-DeleteFreezes old new before after (Busy machine generation) = new ≡ old
-DeleteFreezes old new before after (Worn machine) = new ≡ old
-DeleteFreezes old new before after Idle = new ≡ old
-DeleteFreezes old new before after (Damaged machine at) = new ≡ old
-DeleteFreezes old new before after NoMemory = new ≡ old
-
--- In a put a failure freezes it, and want of memory may by the machine of the first replica.
-abbrev pub PutFreezes : Settings → ℕ → Option ℕ → Option ℕ → LogicalFault → Type 0
-PutFreezes settings v old new (Failed m faults) = new ≡ Some m
-PutFreezes settings v old new NoMemory = (new ≡ old) ⊎ (new ≡ Some (machine_of settings v 0))
-PutFreezes settings v old new (ReadOnly machine) = new ≡ old
-PutFreezes settings v old new (Full machine end need capacity) = new ≡ old
-PutFreezes settings v old new (Gone front) = new ≡ old
-PutFreezes settings v old new (Busy machine generation) = new ≡ old
-PutFreezes settings v old new (Worn machine) = new ≡ old
-PutFreezes settings v old new Idle = new ≡ old
-PutFreezes settings v old new (Damaged machine at) = new ≡ old
-
--- Whether a flush of a replica has failed, behind one that was refused.
-abbrev pub FlushSticks : {D : Type 0} → Copy D → Copy D → LogicalFault → Type 0
-FlushSticks r r' (Failed m faults) = is_stuck r' ≡ true
-FlushSticks r r' (ReadOnly machine) = is_stuck r' ≡ is_stuck r
-FlushSticks r r' (Full machine end need capacity) = is_stuck r' ≡ is_stuck r
-FlushSticks r r' (Gone front) = is_stuck r' ≡ is_stuck r
-FlushSticks r r' (Busy machine generation) = is_stuck r' ≡ is_stuck r
-FlushSticks r r' (Worn machine) = is_stuck r' ≡ is_stuck r
-FlushSticks r r' Idle = is_stuck r' ≡ is_stuck r
-FlushSticks r r' (Damaged machine at) = is_stuck r' ≡ is_stuck r
-FlushSticks r r' NoMemory = is_stuck r' ≡ is_stuck r

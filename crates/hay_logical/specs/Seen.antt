@@ -2,7 +2,8 @@
 use Rattle.std.specs.Prelude.{◌≡◌, ◌⊎◌, ◌≤◌, ◌<◌, ◌+◌, ◌*◌, ℕ, Bool, true, false, List, length, map, slice_index, slice_set, Option, Some, None}
 use Rattle.hay_needle.specs.declared.settings.Settings.{Settings}
 use Rattle.hay_needle.specs.declared.needle.Pair.{Pair}
-use Rattle.hay_needle.specs.Sizes.{needle_total}
+use Rattle.hay_needle.specs.declared.needle.Version.TheVariants.{Two}
+use Rattle.hay_needle.specs.Sizes.{max_photo, needle_total}
 use Rattle.hay_core.specs.declared.entry.CoreTag.{CoreTag}
 use Rattle.hay_legal.specs.Known.{machine_of}
 use Rattle.hay_physical.specs.Copies.{Copy, bare_of, end_of, generation_of, goal_of, is_stuck, next_of}
@@ -117,25 +118,30 @@ pub record StepsTo (cells number : ℕ) (r r' : ReplicaSeen) : Type 0 where
   pub few : number ≤ cells
   pub all : (number ≡ cells) ⊎ (r.end ≤ r'.next)
   pub behind : r.next + number * needle_total 0 ≤ r'.next
+  pub most : r'.next ≤ r.next + number * needle_total (max_photo Two)
   pub within : (number ≡ 0) ⊎ (r'.next ≤ r.end)
   pub none : number ≡ 0 → r'.next ≡ r.next
 
 abbrev pub StepSeen : ℕ → ℕ → ℕ → VolumeSeen → VolumeSeen → Type 0
 StepSeen at cells number old new = (old.frozen ≡ None) × ChangesAt at (StepsTo cells number) old new
 
--- what a step that was refused has left: a compaction that stands on does not stand behind where it stood
+-- what a step that was refused has left: a compaction that stands on went on, if at all, and not behind the end
 abbrev pub BreaksStep : ReplicaSeen → ReplicaSeen → Type 0
-BreaksStep r r' = ChangesRun r r' × (r'.goal ≡ r.goal → r.next ≤ r'.next)
+BreaksStep r r' = ChangesRun r r' × (r'.goal ≡ r.goal → (r.next ≤ r'.next) × (r'.next ≤ r.end))
 
 -- some cells of a compaction that stands were examined
 abbrev pub StepsPartly : ReplicaSeen → ReplicaSeen → Type 0
-StepsPartly r r' = HasGoal r × (r' ≡ record r { next = r'.next }) × (r.next ≤ r'.next)
+StepsPartly r r' = HasGoal r × (r' ≡ record r { next = r'.next }) × (r.next ≤ r'.next) × (r'.next ≤ r.end)
+
+-- a compaction met damage at its next cell, or at one behind it
+abbrev pub MeetsDamage : ℕ → ReplicaSeen → Type 0
+MeetsDamage place r = (64 ≤ place) × (r.next ≤ place) × (place < r.end)
 
 abbrev pub StepRefusedSeen : Settings → ℕ → ℕ → VolumeSeen → VolumeSeen → LogicalFault → Type 0
 StepRefusedSeen settings v at old new (ReadOnly m) = RefusedFrozen m old new
 StepRefusedSeen settings v at old new Idle = StaysThawed old new × SeesAt at (λ r. r.goal ≡ None) old
 StepRefusedSeen settings v at old new (Failed m faults) = EndedBy (machine_of settings v at) at m old new
-StepRefusedSeen settings v at old new (Damaged m place) = EndedBy (machine_of settings v at) at m old new
+StepRefusedSeen settings v at old new (Damaged m place) = EndedBy (machine_of settings v at) at m old new × SeesAt at (MeetsDamage place) old
 StepRefusedSeen settings v at old new NoMemory = (old.frozen ≡ None) × ChangesAt at StepsPartly old new
 StepRefusedSeen settings v at old new (Full m end need capacity) = ⊥
 StepRefusedSeen settings v at old new (Gone front) = ⊥
@@ -154,9 +160,10 @@ pub record SwapSeen (generation end : ℕ) (r r' : ReplicaSeen) : Type 0 where
 abbrev pub SeesIdle : VolumeSeen → Type 0
 SeesIdle seen = (j : ℕ) (r : ReplicaSeen) → At seen.replicas j r → r.goal ≡ None
 
--- It was frozen by this machine, which ended each compaction.
+-- It was frozen by this machine, which ended each compaction. No change was pending before.
 pub record FreezesSeen (m : ℕ) (pending : Option Unsure) (old new : VolumeSeen) : Type 0 where
   pub thawed : old.frozen ≡ None
+  pub settled : old.unsure ≡ None
   pub many : length new.replicas ≡ length old.replicas
   pub front : new.front ≡ old.front
   pub frozen : new.frozen ≡ Some m
@@ -174,7 +181,7 @@ FinishRefusedSeen settings v at old new (ReadOnly m) = RefusedFrozen m old new
 FinishRefusedSeen settings v at old new Idle = StaysThawed old new × SeesAt at (λ r. r.goal ≡ None) old
 FinishRefusedSeen settings v at old new (Failed m faults) =
     EndedBy (machine_of settings v at) at m old new ⊎ ((m ≡ machine_of settings v at) × SeesAt at HasGoal old × FreezesSeen m old.unsure old new)
-FinishRefusedSeen settings v at old new (Damaged m place) = EndedBy (machine_of settings v at) at m old new
+FinishRefusedSeen settings v at old new (Damaged m place) = EndedBy (machine_of settings v at) at m old new × SeesAt at (MeetsDamage place) old
 FinishRefusedSeen settings v at old new NoMemory = (old.frozen ≡ None) × ChangesAt at EndsAlone old new
 FinishRefusedSeen settings v at old new (Full m end need capacity) = ⊥
 FinishRefusedSeen settings v at old new (Gone front) = ⊥
@@ -194,7 +201,8 @@ CompactRefusedSeen settings v at old new (Busy m goal) = RefusedBy (machine_of s
 CompactRefusedSeen settings v at old new (Worn m) = RefusedBy (machine_of settings v at) m old new × SeesAt at IsWorn old
 CompactRefusedSeen settings v at old new (Failed m faults) =
     (m ≡ machine_of settings v at) × SeesAt at CanBegin old × (StaysThawed old new ⊎ FreezesSeen m old.unsure old new)
-CompactRefusedSeen settings v at old new (Damaged m place) = RefusedBy (machine_of settings v at) m old new × SeesAt at CanBegin old
+CompactRefusedSeen settings v at old new (Damaged m place) =
+    RefusedBy (machine_of settings v at) m old new × SeesAt at (λ r. CanBegin r × MeetsDamage place r) old
 CompactRefusedSeen settings v at old new NoMemory = StaysThawed old new × SeesAt at CanBegin old
 CompactRefusedSeen settings v at old new (Full m end need capacity) = ⊥
 CompactRefusedSeen settings v at old new (Gone front) = ⊥

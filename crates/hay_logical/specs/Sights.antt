@@ -84,10 +84,13 @@ pub record ErasesSights (pair : Pair) (old new : Sights) : Type 0 where
   pub gone : (j : ℕ) → new pair j ≡ gone_sight (old pair j)
   pub others : KeepsOtherPairs pair old new
 
--- A replica has new files: there never was a photo where there never was one, and nowhere else.
+-- A replica has new files: there never was a photo where there never was one, and nowhere else, one that was gone stays gone, and
+-- each place was looked at.
 pub record SwapsSights (replica : ℕ) (old new : Sights) : Type 0 where
   pub never : (pair : Pair) → old pair replica ≡ Never → new pair replica ≡ Never
   pub ever : (pair : Pair) → new pair replica ≡ Never → old pair replica ≡ Never
+  pub gone : (pair : Pair) → old pair replica ≡ Gone → new pair replica ≡ Gone
+  pub seen : (pair : Pair) → new pair replica ≡ Unseen → ⊥
   pub others : (pair : Pair) (j : ℕ) → (j ≡ replica → ⊥) → new pair j ≡ old pair j
 
 -- each replica was looked at, and some has the photo

@@ -20,6 +20,7 @@ use Rattle.hay_map.specs.Sealed.{SealedNeedle}
 use Rattle.hay_map.specs.declared.place.Place.{Place}
 use Rattle.hay_map.specs.declared.place.Place.TheVariants as place
 use Rattle.hay_map.specs.declared.view.MapOp.TheVariants as op
+use Rattle.hay_map.specs.declared.view.OpenCell.{OpenCell}
 use Rattle.hay_open.specs.declared.fault.OpenFault.{OpenFault}
 use Rattle.hay_open.specs.declared.fault.OpenFault.TheVariants as open_fault
 use Rattle.hay_open.specs.Damage.{IsOpeningDamage}
@@ -42,6 +43,7 @@ use Rattle.hay_logical.specs.declared.runs.Unswapped.TheVariants.{Refused, Unsur
 use Rattle.hay_logical.specs.Answers.{HasSizes}
 use Rattle.hay_logical.specs.Fits.{At, PhotoAt, PlaceStands}
 use Rattle.hay_logical.specs.Refusals.{IsUntouched}
+use Rattle.hay_logical.specs.Seen.{CanBegin, MeetsDamage, replica_seen}
 use Rattle.hay_logical.specs.Sights.{SeesPair, SwapsSights, sight, sights_of}
 use Rattle.hay_logical.specs.Sights.Sight.{Live, Unseen}
 use Rattle.hay_logical.specs.Volumes.{ReachesPlaces}
@@ -349,11 +351,11 @@ IsBeginFault faults r r' (fault.Busy goal) = (goal_of r ≡ Some goal) × (r' �
 IsBeginFault faults r r' (fault.Ended printed) = ⊥
 IsBeginFault faults r r' fault.Worn = (goal_of r ≡ None) × (generation_of r ≡ 65535) × (r' ≡ r)
 IsBeginFault faults r r' (fault.Damaged at) = ⊥
-IsBeginFault faults r r' fault.NoMemory = (goal_of r ≡ None) × (generation_of r < 65535)
+IsBeginFault faults r r' fault.NoMemory = CanBegin (replica_seen r)
 
 pub record BeginsAt {D : Type 0} (DiskTells : Type 0) (files : D → Files) (faults : D → ℕ) (r r' : Copy D) (result : Result ℕ ReplicaFault) : Type 0 where
   pub on : GoesOn DiskTells files r r'
-  pub rest : OnOk result ((goal_of r ≡ None) × (generation_of r < 65535))
+  pub rest : OnOk result (CanBegin (replica_seen r))
   pub goal : IfOk result (λ goal. goal_of r' ≡ Some goal)
   pub begun : DiskTells → (s : Stored) → physical.Stands files r s →
       IfOk result (λ goal. (goal ≡ s.generation + 1) × HasRun files r' s (Some (record { goal = goal; left = length s.cells; tight = true })))
@@ -369,7 +371,7 @@ IsStepFault faults r r' (fault.Full end need capacity) = ⊥
 IsStepFault faults r r' (fault.Busy generation) = ⊥
 IsStepFault faults r r' (fault.Ended printed) = ⊥
 IsStepFault faults r r' fault.Worn = ⊥
-IsStepFault faults r r' (fault.Damaged at) = goal_of r' ≡ None
+IsStepFault faults r r' (fault.Damaged at) = (goal_of r' ≡ None) × MeetsDamage at (replica_seen r)
 IsStepFault faults r r' fault.NoMemory = goal_of r' ≡ goal_of r
 
 -- what want of memory leaves of so many cells to examine
@@ -410,6 +412,17 @@ pub record ExaminesAt {D P : Type 0} (DiskTells : Type 0) (files : D → Files) 
 
 -- SWAPS
 
+-- the place of a photo in new files, where the current ones have this one
+abbrev pub still_gone : {P : Type 0} → Place P → Place P → Place P
+still_gone place.Gone there = place.Gone
+still_gone place.None there = there
+still_gone (place.Live needle) there = there
+still_gone (place.Unseen at size) there = there
+
+-- a cell of new files of this replica
+abbrev pub still_gone_cell : {P : Type 0} → MapRows P → ℕ → OpenCell P → OpenCell P
+still_gone_cell rows at cell = record cell { place = still_gone (place_in (row_at rows cell.pair) at) cell.place }
+
 -- What a call finds that ends a compaction: none, one, or one whose cells are all examined.
 pub data Start : Type 0 where
   Fresh Going Examined : Start
@@ -421,7 +434,7 @@ StartsRun files Examined r s run = HasRun files r s (Some run) × (run.left ≡ 
 
 -- a fresh one could begin
 abbrev pub WasAtRest : {D : Type 0} → Start → Copy D → Type 0
-WasAtRest Fresh r = (goal_of r ≡ None) × (generation_of r < 65535)
+WasAtRest Fresh r = CanBegin (replica_seen r)
 WasAtRest Going r = Unit {0}
 WasAtRest Examined r = Unit {0}
 
@@ -429,7 +442,7 @@ WasAtRest Examined r = Unit {0}
 abbrev pub IsLeftBy : {D : Type 0} → (D → ℕ) → Start → Copy D → Copy D → Unswapped → Type 0
 IsLeftBy faults start r r' (Refused (fault.Failed printed)) =
     IsUp r' × (goal_of r' ≡ None) × WasAtRest start r × Rose (faults r.disk) (faults r'.disk) × (printed ≡ faults r'.disk)
-IsLeftBy faults start r r' (Refused (fault.Damaged at)) = IsUp r' × (goal_of r' ≡ None) × WasAtRest start r
+IsLeftBy faults start r r' (Refused (fault.Damaged at)) = IsUp r' × (goal_of r' ≡ None) × WasAtRest start r × MeetsDamage at (replica_seen r)
 IsLeftBy faults start r r' (Refused fault.NoMemory) = IsUp r' × (goal_of r' ≡ None) × WasAtRest start r
 IsLeftBy faults start r r' (Refused (fault.Busy goal)) = (start ≡ Fresh) × (goal_of r ≡ Some goal) × (r' ≡ r)
 IsLeftBy faults start r r' (Refused fault.Worn) = (start ≡ Fresh) × (goal_of r ≡ None) × (generation_of r ≡ 65535) × (r' ≡ r)

@@ -19,8 +19,8 @@ ghost use Rattle.hay_physical.specs.Copies as copies;
 ghost use Rattle.hay_compact.specs.Finishing.{IsSeen};
 ghost use Rattle.hay_logical.specs.Draws.{DrewAt, HasDrawnNothing, looked_pair};
 ghost use Rattle.hay_logical.specs.Fits.{At, PlaceStands, super_of};
-ghost use Rattle.hay_logical.specs.Notes.{DeleteLeavesUnsure, NotesTell, PutLeavesUnsure};
-ghost use Rattle.hay_logical.specs.Refusals.{DeleteFreezes, FailureMayFreeze, FlushSticks, IsUntouchedBy, PutFreezes};
+ghost use Rattle.hay_logical.specs.Notes.{NotesTell};
+ghost use Rattle.hay_logical.specs.Refusals.{IsUntouchedBy};
 ghost use Rattle.hay_logical.specs.Seen.{BeginRefusedSeen, BeginSeen, ChangesAt, CompactRefusedSeen, CompactSeen, DeleteRefusedSeen, EraseSeen, FinishRefusedSeen, FinishSeen, FlushRefusedSeen, FlushSeen, FreezesSeen, HideSeen, IsEnded, OpenSeen, PutRefusedSeen, PutSeen, RoomRefusedSeen, RoomSeen, StepRefusedSeen, StepSeen, WriteSeen, volume_seen};
 ghost use Rattle.hay_logical.specs.Sights.{DeleteRefusedSights, DeletesSights, ErasesSights, FindsPhoto, KeepsSights, LookRefusedSights, LooksAtPair, SeesPair, StoresSights, SwapsSights, sights_of};
 ghost use Rattle.hay_logical.specs.Sights.Sight.{Unseen};
@@ -272,8 +272,6 @@ impl<D: Disk> Logical<D> {
             IfErr result (PutRefused D.files D.Piece.Tells k tag pair cookie bytes.now self.old self.new) }
         ensures causes { IfErr result (IsPutFault D.fault_count self.old.settings self.old.number self.old.replicas self.new.replicas) }
         ensures takes { self.old.frozen ≡ None → ((j : ℕ) (r : Copy D) → At self.old.replicas j r → RoomFor (length bytes.now) r) → IfErr result BreaksPutOff }
-        ensures refused_unsure { IfErr result (PutLeavesUnsure tag self.old.unsure self.new.unsure) }
-        ensures freezes { IfErr result (PutFreezes self.old.settings self.old.number self.old.frozen self.new.frozen) }
         // Where the volume is frozen or a replica lacks room, all stays. A refusal that left no change pending changed no byte.
         ensures read_only { (m : ℕ) → result ≡ Err (LogicalFault.ReadOnly m) → self.new ≡ self.old }
         ensures full { (m end need capacity : ℕ) → result ≡ Err (LogicalFault.Full m end need capacity) → self.new ≡ self.old }
@@ -387,6 +385,7 @@ impl<D: Disk> Logical<D> {
         } }
         ensures each { (j : ℕ) (r r' : Copy D) → At self.old.replicas j r → At self.new.replicas j r' → LosesRun D.Tells D.files r r' }
         ensures ended { AllIdle self.new.replicas }
+        ensures settled { self.old.frozen ≡ None → self.old.unsure ≡ None }
         ensures open { IsOpenVolume self.new }
         ensures counts { KeepsCounts D.fault_count D.fuse_count self.old.replicas self.new.replicas }
         ensures same { IsSame self.old self.new }
@@ -414,8 +413,6 @@ impl<D: Disk> Logical<D> {
         ensures causes { IfErr result (IsPutFault D.fault_count self.old.settings self.old.number self.old.replicas self.new.replicas) }
         ensures takes { self.old.frozen ≡ None → ((j : ℕ) (r : Copy D) → At self.old.replicas j r → RoomFor (length bytes.now) r) → IfErr result BreaksPutOff }
         ensures stored_unsure { OnOk result (self.new.unsure ≡ self.old.unsure) }
-        ensures refused_unsure { IfErr result (PutLeavesUnsure tag self.old.unsure self.new.unsure) }
-        ensures freezes { IfErr result (PutFreezes self.old.settings self.old.number self.old.frozen self.new.frozen) }
         ensures still { OnOk result (self.new.frozen ≡ self.old.frozen) }
         // Where the volume is frozen or a replica lacks room, all stays. A refusal that left no change pending changed no byte.
         ensures read_only { (m : ℕ) → result ≡ Err (LogicalFault.ReadOnly m) → self.new ≡ self.old }
@@ -585,8 +582,6 @@ impl<D: Disk> Logical<D> {
         ensures frozen { (m : ℕ) → self.old.frozen ≡ Some m → (result ≡ Err (LogicalFault.ReadOnly m)) × (self.new ≡ self.old) }
         ensures thawed { self.old.frozen ≡ None → (m : ℕ) → result ≡ Err (LogicalFault.ReadOnly m) → ⊥ }
         ensures causes { IfErr result (IsDeleteFault D.fault_count self.old.settings self.old.number self.old.replicas self.new.replicas) }
-        ensures refused_unsure { IfErr result (DeleteLeavesUnsure tag self.old.unsure self.new.unsure) }
-        ensures freezes { IfErr result (DeleteFreezes self.old.frozen self.new.frozen self.old.unsure self.new.unsure) }
         // A refusal that left no change pending changed no byte of a file.
         ensures files { OnErr result (self.new.unsure ≡ self.old.unsure → KeepsFiles D.Tells D.files self.old.replicas self.new.replicas) }
         // Each replica behind one whose disk failed keeps its files.
@@ -624,8 +619,6 @@ impl<D: Disk> Logical<D> {
         ensures refused { D.Tells → (k : VolumeKnown) → Stands D.files D.Piece.Tells self.old k →
             IfErr result (DeleteRefused D.files D.Piece.Tells k tag pair self.new) }
         ensures causes { IfErr result (IsDeleteFault D.fault_count self.old.settings self.old.number self.old.replicas self.new.replicas) }
-        ensures refused_unsure { IfErr result (DeleteLeavesUnsure tag self.old.unsure self.new.unsure) }
-        ensures freezes { IfErr result (DeleteFreezes self.old.frozen self.new.frozen self.old.unsure self.new.unsure) }
         ensures undamaged { (m at : ℕ) → result ≡ Err (LogicalFault.Damaged m at) → ⊥ }
         ensures thawed { (m : ℕ) → result ≡ Err (LogicalFault.ReadOnly m) → ⊥ }
         ensures files { OnErr result (self.new.unsure ≡ self.old.unsure → KeepsFiles D.Tells D.files self.old.replicas self.new.replicas) }
@@ -702,8 +695,6 @@ impl<D: Disk> Logical<D> {
         ensures thawed { self.old.frozen ≡ None → (m : ℕ) → result ≡ Err (LogicalFault.ReadOnly m) → ⊥ }
         ensures causes { IfErr result (IsDeleteFault D.fault_count self.old.settings self.old.number self.old.replicas self.new.replicas) }
         ensures deleted_unsure { OnOk result (self.new.unsure ≡ self.old.unsure) }
-        ensures refused_unsure { IfErr result (DeleteLeavesUnsure tag self.old.unsure self.new.unsure) }
-        ensures freezes { IfErr result (DeleteFreezes self.old.frozen self.new.frozen self.old.unsure self.new.unsure) }
         ensures still { OnOk result (self.new.frozen ≡ self.old.frozen) }
         // A refusal that left no change pending changed no byte of a file.
         ensures files { OnErr result (self.new.unsure ≡ self.old.unsure → KeepsFiles D.Tells D.files self.old.replicas self.new.replicas) }
@@ -743,7 +734,6 @@ impl<D: Disk> Logical<D> {
         ensures still { self.new ≡ record self.old { replicas = self.new.replicas } }
         ensures others { (j : ℕ) → (j ≡ replica → ⊥) → (r r' : Copy D) → At self.old.replicas j r → At self.new.replicas j r' → r' ≡ r }
         ensures loose { OnOk result ((r : Copy D) → At self.new.replicas replica r → is_stuck r ≡ false) }
-        ensures stuck { IfErr result (λ fault. (r r' : Copy D) → At self.old.replicas replica r → At self.new.replicas replica r' → FlushSticks r r' fault) }
         ensures tight { D.Tells → (j : ℕ) → IsTightAt D.files self.old j → IsTightAt D.files self.new j }
         ensures open { IsOpenVolume self.new }
         ensures counts { KeepsCounts D.fault_count D.fuse_count self.old.replicas self.new.replicas }
@@ -840,8 +830,9 @@ impl<D: Disk> Logical<D> {
         }
     }
 
-    /// Examines what is left for a replica's compaction, makes its files the current ones, and then changes the rows.
-    /// Answers them, by whose cells the rows changed. Any refusal but `ReadOnly` and `Idle` ends the compaction.
+    /// Examines what is left for a replica's compaction, makes its files the current ones, and then changes the rows. A photo
+    /// that is gone stays so, whatever the new files have. Answers them, by whose cells the rows changed. Any refusal but
+    /// `ReadOnly` and `Idle` ends the compaction.
     ///
     /// `Failed` freezes the volume where the replica may stand before the swap or behind it.
     pub fn finish_files(&mut self, replica: u32) -> Result<NewFiles<D::Piece>, LogicalFault>
@@ -861,7 +852,6 @@ impl<D: Disk> Logical<D> {
         ensures frozen { (m : ℕ) → self.old.frozen ≡ Some m → (result ≡ Err (LogicalFault.ReadOnly m)) × (self.new ≡ self.old) }
         ensures thawed { self.old.frozen ≡ None → (m : ℕ) → result ≡ Err (LogicalFault.ReadOnly m) → ⊥ }
         ensures untouched { IfErr result (λ fault. IsUntouchedBy fault → self.new ≡ self.old) }
-        ensures freezes { IfErr result (FailureMayFreeze self.old.frozen self.new.frozen) }
         ensures causes { IfErr result (IsRunFault D.fault_count self.old.settings self.old.number replica self.old.replicas self.new.replicas) }
         ensures kept { OnErr result ((pair : Pair) → row_at self.new.rows pair ≡ row_at self.old.rows pair) }
         ensures front { self.new.front ≡ self.old.front }
@@ -914,7 +904,6 @@ impl<D: Disk> Logical<D> {
         ensures frozen { (m : ℕ) → self.old.frozen ≡ Some m → (result ≡ Err (LogicalFault.ReadOnly m)) × (self.new ≡ self.old) }
         ensures thawed { self.old.frozen ≡ None → (m : ℕ) → result ≡ Err (LogicalFault.ReadOnly m) → ⊥ }
         ensures untouched { IfErr result (λ fault. IsUntouchedBy fault → self.new ≡ self.old) }
-        ensures freezes { IfErr result (FailureMayFreeze self.old.frozen self.new.frozen) }
         ensures still { OnOk result (self.new.frozen ≡ self.old.frozen) }
         ensures causes { IfErr result (IsRunFault D.fault_count self.old.settings self.old.number replica self.old.replicas self.new.replicas) }
         ensures unsure { self.new.unsure ≡ self.old.unsure }
@@ -956,7 +945,6 @@ impl<D: Disk> Logical<D> {
         ensures frozen { (m : ℕ) → self.old.frozen ≡ Some m → (result ≡ Err (LogicalFault.ReadOnly m)) × (self.new ≡ self.old) }
         ensures thawed { self.old.frozen ≡ None → (m : ℕ) → result ≡ Err (LogicalFault.ReadOnly m) → ⊥ }
         ensures untouched { IfErr result (λ fault. IsUntouchedBy fault → self.new ≡ self.old) }
-        ensures freezes { IfErr result (FailureMayFreeze self.old.frozen self.new.frozen) }
         ensures causes { IfErr result (IsCompactFault D.fault_count self.old.settings self.old.number replica self.old.replicas self.new.replicas) }
         ensures kept { OnErr result ((pair : Pair) → row_at self.new.rows pair ≡ row_at self.old.rows pair) }
         ensures front { self.new.front ≡ self.old.front }
@@ -1005,7 +993,6 @@ impl<D: Disk> Logical<D> {
         ensures frozen { (m : ℕ) → self.old.frozen ≡ Some m → (result ≡ Err (LogicalFault.ReadOnly m)) × (self.new ≡ self.old) }
         ensures thawed { self.old.frozen ≡ None → (m : ℕ) → result ≡ Err (LogicalFault.ReadOnly m) → ⊥ }
         ensures untouched { IfErr result (λ fault. IsUntouchedBy fault → self.new ≡ self.old) }
-        ensures freezes { IfErr result (FailureMayFreeze self.old.frozen self.new.frozen) }
         ensures still { OnOk result (self.new.frozen ≡ self.old.frozen) }
         ensures causes { IfErr result (IsCompactFault D.fault_count self.old.settings self.old.number replica self.old.replicas self.new.replicas) }
         ensures unsure { self.new.unsure ≡ self.old.unsure }

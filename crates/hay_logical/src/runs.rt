@@ -1,11 +1,11 @@
 //! Compactions of replicas.
-ghost use Rattle.std.specs.Prelude.{◌≡◌, ◌≤◌, ◌<◌, ℕ, if◌then◌else◌, true, false, length, None, IfOk, OnErr};
+ghost use Rattle.std.specs.Prelude.{◌≡◌, ◌≤◌, ◌<◌, ℕ, if◌then◌else◌, true, false, length, map, None, IfOk, OnErr};
 ghost use Rattle.hay_map.specs.Places.{place_in};
 ghost use Rattle.hay_physical.specs.Copies.{Copy, IsUp, goal_of, is_frozen};
 ghost use Rattle.hay_logical.specs.Fits.{At};
 ghost use Rattle.hay_logical.specs.Seen.{BeginsTo, BreaksStep, ChangesRun, IsEnded, StepsTo, SwapSeen, replica_seen};
 ghost use Rattle.hay_logical.specs.Steps.Start.{Examined, Fresh, Going};
-ghost use Rattle.hay_logical.specs.Steps.{AllIdle, BeginsAt, CallsOne, ExaminesAt, KeepsPlaces, LosesRun, StaysInReach, StepsAt, SwapsAt, SwapsOne, latest_of};
+ghost use Rattle.hay_logical.specs.Steps.{AllIdle, BeginsAt, CallsOne, ExaminesAt, KeepsPlaces, LosesRun, StaysInReach, StepsAt, SwapsAt, SwapsOne, latest_of, still_gone, still_gone_cell};
 ghost use Rattle.hay_logical.specs.Volumes.{KeepsCounts};
 
 use hay_base::Listed;
@@ -228,7 +228,8 @@ fn swap<D: Disk>(
 {
     let count = replica.copied();
     match replica.finish() {
-        Ok(places) => {
+        Ok(mut places) => {
+            keep_gone(places.as_mut_slice(), rows, at);
             rows.swap(at, places.as_slice());
             Ok(NewFiles {
                 generation: replica.generation(),
@@ -238,6 +239,30 @@ fn swap<D: Disk>(
             })
         }
         Err(fault) => Err(why_unswapped(replica, fault)),
+    }
+}
+
+// A photo that is gone stays so, whatever the new files of the replica have.
+fn keep_gone<P: Piece>(cells: &mut [OpenCell<P>], rows: &MapView<P>, at: u32)
+    requires { at < rows.now.replicas }
+    ensures { cells.new ≡ map (still_gone_cell rows.now at) cells.old }
+{
+    for cell in cells.iter_mut() {
+        let row = rows.row(cell.pair);
+        keep_gone_in(&row, at as usize, cell);
+    }
+}
+
+// The photo of a cell stays gone where its row has it so.
+fn keep_gone_in<P: Piece>(row: &Row<P>, at: usize, cell: &mut OpenCell<P>)
+    requires { at < length row.now }
+    ensures { cell.new ≡ record cell.old { place = still_gone (place_in row.now at) cell.old.place } }
+{
+    match row.place(at) {
+        Place::Gone => cell.place = Place::Gone,
+        Place::None => (),
+        Place::Live(_) => (),
+        Place::Unseen { .. } => (),
     }
 }
 

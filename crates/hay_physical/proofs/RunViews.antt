@@ -10,7 +10,7 @@ use Rattle.hay_compact.specs.Copying.{KeepsOtherFiles}
 use Rattle.hay_physical.specs.declared.state.OpenFiles.{OpenFiles}
 use Rattle.hay_physical.specs.declared.state.Phase.{Phase}
 use Rattle.hay_physical.specs.declared.state.Phase.TheVariants.{Open}
-use Rattle.hay_physical.specs.Copies.{Copy, MayBegin, copier_goal, goal_of, phase_generation, phase_goal}
+use Rattle.hay_physical.specs.Copies.{CanBegin, Copy, copier_goal, goal_of, phase_generation, phase_goal}
 use Rattle.hay_physical.specs.Replicas.{FilesReady, IsBounded, IsBoundedPhase, IsCopierReady, IsSettled, IsSettledPhase, MayDelete, MayFlag, PhaseReady, Stands}
 use Rattle.hay_physical.specs.Runs.{FilesPeek, FilesRun, HasNext, HasRun, KeepsFiles, PeekStands, Run, RunStands}
 use Rattle.hay_physical.proofs.RunLaws.{flag_beside, next_besides_volume, not_ended, run_deleted, stand_beside}
@@ -56,9 +56,9 @@ pub files_say : {D T : Type 0} (say : Phase → T) (r : Copy D) (sup : Super) (d
 files_say say r sup disk phase opened view is = sym (ap say is) ∙ ap (λ (x : Copy _). say x.phase) view
 
 pub files_begin : {D : Type 0} (r : Copy D) (sup : Super) (disk : D) (phase : Phase) (opened : OpenFiles) → record { sup = sup; disk = disk; phase = phase } ≡ r → phase ≡ Open opened
-    → (copier_goal opened.copier ≡ None) × (opened.head.generation < 65535) → MayBegin r
+    → (copier_goal opened.copier ≡ None) × (opened.head.generation < 65535) → CanBegin r
 files_begin r sup disk phase opened view is may =
-    subst (λ (x : Copy _). MayBegin x) view (subst (λ (p : Phase). (phase_goal p ≡ None) × (phase_generation p < 65535)) (sym is) may)
+    subst (λ (x : Copy _). CanBegin x) view (subst (λ (p : Phase). (phase_goal p ≡ None) × (phase_generation p < 65535)) (sym is) may)
 
 pub files_goal : {D : Type 0} (r : Copy D) (sup : Super) (disk : D) (phase : Phase) (opened : OpenFiles) → record { sup = sup; disk = disk; phase = phase } ≡ r → phase ≡ Open opened → copier_goal opened.copier ≡ goal_of r
 files_goal r sup disk phase opened view is = sym (ap phase_goal is) ∙ ap (λ (x : Copy _). goal_of x) view

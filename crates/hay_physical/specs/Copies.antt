@@ -142,8 +142,8 @@ abbrev pub generation_of : {D : Type 0} → Copy D → ℕ
 generation_of r = phase_generation r.phase
 
 -- no compaction stands, and there is a next generation
-abbrev pub MayBegin : {D : Type 0} → Copy D → Type 0
-MayBegin r = (goal_of r ≡ None) × (generation_of r < 65535)
+abbrev pub CanBegin : {D : Type 0} → Copy D → Type 0
+CanBegin r = (goal_of r ≡ None) × (generation_of r < 65535)
 
 -- the files of the same generation, whose cells end where they ended
 abbrev pub KeepsEnd : {D : Type 0} → Copy D → Copy D → Type 0

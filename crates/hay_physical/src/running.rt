@@ -7,9 +7,9 @@ ghost use Rattle.hay_needle.specs.declared.needle.Pair.{Pair};
 ghost use Rattle.hay_map.specs.declared.place.Place.TheVariants as place;
 ghost use Rattle.hay_map.specs.Rows.{last_place};
 ghost use Rattle.hay_open.specs.Stored.{Stored, index_file, volume_file};
-ghost use Rattle.hay_compact.specs.Copying.{IsLatest};
+ghost use Rattle.hay_compact.specs.Copying.{IsLatest, IsNextWithin};
 ghost use Rattle.hay_compact.specs.Finishing.{ArePhotos, AreThePlaces, IsSeen};
-ghost use Rattle.hay_physical.specs.Copies.{IsFrozen, IsOpenCopy, IsUp, KeepsEnd, MayBegin, bare_of, copied_of, end_of, faults_at_end, generation_of, goal_of, is_frozen, is_stuck, next_of};
+ghost use Rattle.hay_physical.specs.Copies.{CanBegin, IsFrozen, IsOpenCopy, IsUp, KeepsEnd, bare_of, copied_of, end_of, faults_at_end, generation_of, goal_of, is_frozen, is_stuck, next_of};
 ghost use Rattle.hay_physical.specs.Faults.{IsBeginFault, IsPeekFault, IsRunFault};
 ghost use Rattle.hay_physical.specs.Replicas.{Anywhere, Holds, KeepsSight, MayDelete, MayDeletePlace, ShowsCell, Stands};
 ghost use Rattle.hay_physical.specs.Runs.{EndsRun, HasNext, HasPair, HasRun, IsPeeked, IsTight, RemovedBoth, Run, Swaps, stepped};
@@ -42,8 +42,8 @@ impl<D: Disk> Replica<D> {
         ensures goal { IfOk result (λ goal. (goal ≡ generation_of self.old + 1) × (goal_of self.old ≡ None) × (goal_of self.new ≡ Some goal)) }
         ensures small { IfOk result (λ goal. goal ≤ 65535) }
         ensures first { OnOk result (next_of self.new ≡ 64) }
-        ensures memory { IsErrOf result ReplicaFault.NoMemory → MayBegin self.old }
-        ensures failed { (faults : ℕ) → result ≡ Err (ReplicaFault.Failed faults) → MayBegin self.old }
+        ensures memory { IsErrOf result ReplicaFault.NoMemory → CanBegin self.old }
+        ensures failed { (faults : ℕ) → result ≡ Err (ReplicaFault.Failed faults) → CanBegin self.old }
         ensures stands { D.Tells → (s : Stored) → Stands D.files self.old s → Stands D.files self.new s }
         ensures deletes { D.Tells → (place : ℕ) → MayDelete D.files self.old place → MayDelete D.files self.new place }
         ensures sees { D.Tells → KeepsSight D.files Anywhere self.old self.new }
@@ -95,7 +95,7 @@ impl<D: Disk> Replica<D> {
     }
 
     /// The next cell that the compaction is to examine, by the head of its needle, or none at the end of the current volume
-    /// file. `Ended` comes exactly where no compaction stands. `Failed` and `Damaged` end it.
+    /// file. `Ended` comes exactly where no compaction stands. `Failed` and `Damaged` end it. It takes no memory.
     pub fn peek(&mut self) -> Result<Option<CellHead>, ReplicaFault>
         requires open { IsOpenCopy self.old }
 
@@ -112,10 +112,11 @@ impl<D: Disk> Replica<D> {
             IfOk result (λ next. IfNone next (run.left ≡ 0)) }
         ensures whole { D.Tells → (s : Stored) (run : Run) → HasRun D.files self.old s (Some run) →
             (at : ℕ) → result ≡ Err (ReplicaFault.Damaged at) → ⊥ }
+        ensures damaged { (at : ℕ) → result ≡ Err (ReplicaFault.Damaged at) → IsNextWithin (end_of self.old) (next_of self.old) at }
+        ensures memory { result ≡ Err ReplicaFault.NoMemory → ⊥ }
 
         // It stands where it stood, unless a failure or damage ended it.
         ensures run { D.Tells → (s : Stored) (run : Run) → HasRun D.files self.old s (Some run) → OnOk result (HasRun D.files self.new s (Some run)) }
-        ensures memory { D.Tells → IsErrOf result ReplicaFault.NoMemory → (s : Stored) (run : Run) → HasRun D.files self.old s (Some run) → HasRun D.files self.new s (Some run) }
         ensures goal { OnOk result (goal_of self.new ≡ goal_of self.old) }
         ensures place { goal_of self.new ≡ goal_of self.old → next_of self.new ≡ next_of self.old }
         ensures at_end { IfOk result (λ next. IfNone next (end_of self.new ≤ next_of self.new)) }
@@ -158,6 +159,7 @@ impl<D: Disk> Replica<D> {
             OnOk result (HasRun D.files self.new s (Some (stepped run))) }
         ensures whole { D.Tells → (s : Stored) (run : Run) → HasNext D.files self.old s run cell →
             (at : ℕ) → result ≡ Err (ReplicaFault.Damaged at) → ⊥ }
+        ensures damaged { (at : ℕ) → result ≡ Err (ReplicaFault.Damaged at) → IsNextWithin (end_of self.old) (next_of self.old) at }
         ensures memory { D.Tells → IsErrOf result ReplicaFault.NoMemory → (s : Stored) (run : Run) → HasRun D.files self.old s (Some run) → HasRun D.files self.new s (Some run) }
         ensures goal { OnOk result (goal_of self.new ≡ goal_of self.old) }
         ensures moved { OnOk result (next_of self.new ≡ next_of self.old + needle_total cell.size) }

@@ -7,7 +7,7 @@ ghost use Rattle.hay_needle.specs.declared.settings.Super.{Super};
 ghost use Rattle.hay_map.specs.declared.place.Place.TheVariants as place;
 ghost use Rattle.hay_map.specs.Rows.{last_place};
 ghost use Rattle.hay_open.specs.Stored.{Stored};
-ghost use Rattle.hay_compact.specs.Copying.{IsLatest, KeepsOtherFiles, Stage};
+ghost use Rattle.hay_compact.specs.Copying.{IsLatest, IsNextWithin, KeepsOtherFiles, Stage};
 ghost use Rattle.hay_compact.specs.Finishing.{ArePhotos, AreThePlaces, IsSeen};
 ghost use Rattle.hay_physical.specs.Copies.{copier_copied, copier_faults, copier_goal, copier_next};
 ghost use Rattle.hay_physical.specs.Faults.{IsBeginFault, IsPeekFault, IsRunFault};
@@ -104,12 +104,12 @@ impl OpenFiles {
             IfOk result (λ next. IfNone next (run.left ≡ 0)) }
         ensures whole { D.Tells → (sup : Super) (s : Stored) (run : Run) → FilesRun sup (D.files disk.old) self.old s run →
             (at : ℕ) → result ≡ Err (ReplicaFault.Damaged at) → ⊥ }
+        ensures damaged { (at : ℕ) → result ≡ Err (ReplicaFault.Damaged at) → IsNextWithin self.old.volume.end (copier_next self.old.copier) at }
+        ensures memory { result ≡ Err ReplicaFault.NoMemory → ⊥ }
 
         // It stands where it stood, unless a failure or damage ended it.
         ensures run { D.Tells → (sup : Super) (s : Stored) (run : Run) → FilesRun sup (D.files disk.old) self.old s run →
             OnOk result (FilesRun sup (D.files disk.new) self.new s run) }
-        ensures memory { D.Tells → IsErrOf result ReplicaFault.NoMemory → (sup : Super) (s : Stored) (run : Run) → FilesRun sup (D.files disk.old) self.old s run →
-            FilesRun sup (D.files disk.new) self.new s run }
         ensures ok { OnOk result (copier_goal self.new.copier ≡ copier_goal self.old.copier) }
         ensures err { IfErr result (EndsBy (D.fault_count disk.new) self.old.copier self.new.copier) }
         ensures making { D.Tells → IsCopierReady (D.files disk.old) self.old → IsCopierReady (D.files disk.new) self.new }
@@ -155,6 +155,7 @@ impl OpenFiles {
             OnOk result (FilesRun sup (D.files disk.new) self.new s (stepped run)) }
         ensures whole { D.Tells → (sup : Super) (s : Stored) (run : Run) → FilesPeek sup (D.files disk.old) self.old s run cell →
             (at : ℕ) → result ≡ Err (ReplicaFault.Damaged at) → ⊥ }
+        ensures damaged { (at : ℕ) → result ≡ Err (ReplicaFault.Damaged at) → IsNextWithin self.old.volume.end (copier_next self.old.copier) at }
         ensures memory { D.Tells → IsErrOf result ReplicaFault.NoMemory → (sup : Super) (s : Stored) (run : Run) → FilesRun sup (D.files disk.old) self.old s run →
             FilesRun sup (D.files disk.new) self.new s run }
         ensures moved { OnOk result (copier_next self.new.copier ≡ copier_next self.old.copier + needle_total cell.size) }

@@ -1,9 +1,8 @@
-use Rattle.std.proofs.Common.{◌≡◌, ◌∙◌, List, true, ap, arith, refl, subst, sym}
+use Rattle.std.proofs.Common.{◌∙◌, List, ap, arith, refl, subst, sym}
 use Rattle.std.proofs.lemmas.List.Elements.{All-push}
-use Rattle.hay_map.specs.Places.{has_stood}
 use Rattle.hay_map.specs.Sealed.{SealedNeedle}
 use Rattle.hay_map.specs.declared.view.OpenCell.{OpenCell}
-use Rattle.hay_compact.specs.Finishing.{ArePhotos}
+use Rattle.hay_compact.specs.Finishing.{ArePhotos, IsLive}
 use Rattle.hay_compact.proofs.Copied.{is_next, not_next}
 use Rattle.hay_compact.proofs.Sealings.{places_pass, places_sealed, rests_sealed, due_inside}
 use Rattle.hay_compact.proofs.finish.seal_next.Goals as goal
@@ -40,4 +39,4 @@ returns-clause-places g c = λ tells sup s rest can due so_far.
 pub returns-clause-photos : goal.returns-clause-photos
 returns-clause-photos g c = λ all.
     subst (λ (cells : List (OpenCell _)). ArePhotos cells) (sym c.in_ok-push.ensures.items)
-    (All-push (λ (cell : OpenCell _). has_stood cell.place ≡ true) c.args.places.now.items _ all refl)
+    (All-push (λ (cell : OpenCell _). IsLive cell.place) c.args.places.now.items _ all tt)

@@ -1,4 +1,4 @@
-use Rattle.std.proofs.Common.{◌≡◌, Err, Ok, true, length, refl, sym, ap, subst}
+use Rattle.std.proofs.Common.{◌≡◌, Err, Ok, true, length, refl, sym, ap, subst, arith}
 use Rattle.hay_physical.specs.Copies.{Copy}
 use Rattle.hay_logical.specs.Steps.{BeginsAt}
 use Rattle.hay_logical.specs.Steps.Start.{Fresh, Going}
@@ -8,7 +8,8 @@ use Rattle.hay_logical.proofs.Reaching.{reaches_on}
 use Rattle.hay_logical.proofs.Swapping.{keeps_rows, stays_later, swaps_later}
 use Rattle.hay_logical.proofs.runs.compact.Given as given
 use Rattle.hay_physical.proofs.Views.{if_ok_so, on_err_so}
-use Rattle.hay_logical.proofs.Seen.{changes_through, run_changed, swap_later}
+use Rattle.hay_physical.proofs.Laws.{no_next}
+use Rattle.hay_logical.proofs.Seen.{changes_through, meets_later, run_changed, swap_later}
 use Rattle.hay_logical.specs.Seen.{replica_seen}
 use Rattle.hay_logical.proofs.runs.compact.Goals as goal
 use Rattle.hay_logical.proofs.runs.compact.Goals.{After-begin}
@@ -29,6 +30,7 @@ returns-in-Ok-clause-swaps g c =
     subst (λ z. BeginsAt g.D.Disk.Tells g.D.Disk.files g.D.Disk.fault_count r x z) c.in-Ok.is (begun g (goal.at.returns-in-Ok-clause-swaps g c).After-begin) in
     swaps_later g.D.Disk.Tells g.D.Disk.files g.D.Disk.fault_count g.D.Piece.Piece.Tells c.args.rows.now c.finish.new.rows c.args.at r x y c.finish.result Fresh Going (λ e. let wrong : Going ≡ Fresh = e in cc)
     c.requires.up began.on began.rest c.begin.ensures.counts
+    (λ place. meets_later (replica_seen r) (replica_seen x) place (let none = no_next r began.rest.0 in omega (arith, none)) c.begin.ensures.stays.1)
     (λ tells s run stands start places.
     let has = began.begun tells s stands in
     (record { goal = c.in-Ok.field-0; left = length s.cells; tight = true }, ap (λ z. z.tight) (sym start.1), has.1))

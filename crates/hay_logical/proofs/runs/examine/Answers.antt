@@ -1,19 +1,19 @@
-use Rattle.std.proofs.Common.{◌≡◌, Err, sym, ap, subst, ◌∙◌}
+use Rattle.std.proofs.Common.{◌≡◌, ◌<◌, Err, sym, ap, subst, ◌∙◌}
 use Rattle.hay_map.specs.Places.{place_in}
 use Rattle.hay_open.specs.Stored.{last_cell}
 use Rattle.hay_compact.specs.Copying.{IsLatest}
-use Rattle.hay_physical.specs.Copies.{Copy, goal_of}
+use Rattle.hay_physical.specs.Copies.{Copy, end_of, goal_of, next_of}
 use Rattle.hay_physical.proofs.Laws.{next_left}
 use Rattle.hay_logical.specs.Fits.{PhotoAt}
-use Rattle.hay_logical.specs.Steps.{GoesOn}
+use Rattle.hay_logical.specs.Steps.{GoesOn, IsStepFault}
 use Rattle.std.proofs.lemmas.Bool.{true≢false}
 use Rattle.hay_logical.proofs.Calls.{still_up}
-use Rattle.hay_logical.proofs.Examining.{examine_cause, goes_after, latest_is, leaves_none, peeked_fits, step_later}
+use Rattle.hay_logical.proofs.Examining.{examine_cause, goes_after, latest_is, leaves_none, peeked_fits, peeked_small, step_ends, step_later}
 use Rattle.hay_logical.proofs.runs.examine.Given as given
 use Rattle.std.proofs.Common.{arith}
 use Rattle.hay_physical.specs.Runs.{IsPeeked}
 use Rattle.hay_logical.specs.Seen.{ChangesRun, replica_seen}
-use Rattle.hay_logical.proofs.Seen.{changes_through, run_changed, steps_end, steps_one}
+use Rattle.hay_logical.proofs.Seen.{changes_through, meets_later, run_changed, steps_end, steps_one}
 use Rattle.hay_logical.proofs.runs.examine.Goals as goal
 use Rattle.hay_logical.proofs.runs.examine.Goals.{After-peek, After-copy}
 
@@ -88,10 +88,18 @@ returns-in-Err-copy-clause-examines g c =
           (λ e. c.copy.ensures.memory tells (c.in-Err-copy.is ∙ ap Err e) s run (c.in-Ok-Some.ensures.run tells s run has))
           (λ at e. c.copy.ensures.whole tells s run (rw c.in-Ok-Some.field-0-is at (c.in-Ok-Some.ensures.next tells s run has)).0 at (c.in-Err-copy.is ∙ ap Err e));
       cause = step_later g.D.Disk.fault_count r x y c.in-Err-copy.fault c.peek.ensures.counts goal_stays
+          (λ at meets. meets_later (replica_seen r) (replica_seen x) at (let next = c.peek.ensures.place goal_stays in omega (arith, next)) c.peek.ensures.stays.1 meets)
           (examine_cause g.D.Disk.fault_count x y c.in-Err-copy.fault peeks.up (λ e. c.requires.standing (sym goal_stays ∙ e))
           (λ e. c.copy.ensures.thawed (c.in-Err-copy.is ∙ ap Err e)) (λ n e. c.copy.ensures.none n (c.in-Err-copy.is ∙ ap Err e))
+          (λ at e. c.copy.ensures.damaged at (c.in-Err-copy.is ∙ ap Err e))
           c.in-Err-copy.ensures.causes c.in-Err-copy.ensures.ends);
     }
+
+-- why no cell was peeked at
+peek_cause : (g : given.Over) (c : goal.In-Err g) → IsStepFault g.D.Disk.fault_count c.args.replica.now c.peek.new.self c.in-Err.fault
+peek_cause g c = examine_cause g.D.Disk.fault_count c.args.replica.now c.peek.new.self c.in-Err.fault c.requires.up c.requires.standing
+    (λ e. c.peek.ensures.thawed (c.in-Err.is ∙ ap Err e)) (λ n e. c.peek.ensures.none n (c.in-Err.is ∙ ap Err e))
+    (λ at e. c.peek.ensures.damaged at (c.in-Err.is ∙ ap Err e)) c.in-Err.ensures.causes c.in-Err.ensures.ends
 
 pub returns-in-Err-clause-examines : goal.returns-in-Err-clause-examines
 returns-in-Err-clause-examines g c =
@@ -103,11 +111,9 @@ returns-in-Err-clause-examines g c =
       examined = λ tells s run stands has places. tt;
       refused = λ tells s run stands has places.
           leaves_none g.D.Disk.files x s run 0 c.in-Err.fault
-          (λ e. c.peek.ensures.memory tells (c.in-Err.is ∙ ap Err e) s run has)
+          (λ e. absurd (c.peek.ensures.memory (c.in-Err.is ∙ ap Err e)))
           (λ at e. c.peek.ensures.whole tells s run has at (c.in-Err.is ∙ ap Err e));
-      cause = examine_cause g.D.Disk.fault_count r x c.in-Err.fault c.requires.up c.requires.standing
-          (λ e. c.peek.ensures.thawed (c.in-Err.is ∙ ap Err e)) (λ n e. c.peek.ensures.none n (c.in-Err.is ∙ ap Err e))
-          c.in-Err.ensures.causes c.in-Err.ensures.ends;
+      cause = peek_cause g c;
     }
 
 -- what is seen of the replica behind them
@@ -130,7 +136,7 @@ returns-in-Ok-clause-seen g c =
     let peeked : IsPeeked x c.in-Ok-Some.cell = rw c.in-Ok-Some.field-0-is at c.in-Ok-Some.ensures.peeked in
     steps_one c.args.replica.now x c.copy.new.self c.in-Ok-Some.cell.size c.requires.standing (peek_changes g (goal.at.returns-in-Ok-clause-seen g c).After-peek)
     (copy_changes g (goal.at.returns-in-Ok-clause-seen g c).After-copy) held c.in-Ok.ensures.goal (c.peek.ensures.place held) c.in-Ok.ensures.moved
-    (peeked_fits x c.in-Ok-Some.cell peeked (λ e. c.requires.standing (sym held ∙ e)))
+    (peeked_fits x c.in-Ok-Some.cell peeked (λ e. c.requires.standing (sym held ∙ e))) (peeked_small x c.in-Ok-Some.cell peeked (λ e. c.requires.standing (sym held ∙ e)))
 
 pub returns-in-Err-copy-clause-left : goal.returns-in-Err-copy-clause-left
 returns-in-Err-copy-clause-left g c =
@@ -140,8 +146,17 @@ returns-in-Err-copy-clause-left g c =
     let held = c.in-Ok-Some.ensures.goal in (
       changes_through (replica_seen r) (replica_seen x) (replica_seen y) (peek_changes g (goal.at.returns-in-Err-copy-clause-left g c).After-peek)
           (copy_changes g (goal.at.returns-in-Err-copy-clause-left g c).After-copy),
-      λ same. let next = c.in-Err-copy.ensures.place (same ∙ sym held) ∙ c.peek.ensures.place held in omega (arith, next),
+      λ same.
+          let stays = c.peek.ensures.place held in
+          let next = c.in-Err-copy.ensures.place (same ∙ sym held) in
+          let more : next_of x < end_of x = rw c.in-Ok-Some.field-0-is at c.in-Ok-Some.ensures.more in
+          let end = c.peek.ensures.stays.1 in
+          (omega (arith, next, stays), omega (arith, next, more, end)),
     )
 
 pub returns-in-Err-clause-left : goal.returns-in-Err-clause-left
-returns-in-Err-clause-left g c = (peek_changes g (goal.at.returns-in-Err-clause-left g c).After-peek, λ same. let next = c.peek.ensures.place same in omega (arith, next))
+returns-in-Err-clause-left g c = (
+  peek_changes g (goal.at.returns-in-Err-clause-left g c).After-peek,
+  λ same. absurd (c.requires.standing (sym same ∙ step_ends g.D.Disk.fault_count c.args.replica.now c.peek.new.self c.in-Err.fault
+      (λ e. c.peek.ensures.memory (c.in-Err.is ∙ ap Err e)) (peek_cause g c))),
+)

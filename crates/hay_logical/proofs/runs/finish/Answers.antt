@@ -9,7 +9,7 @@ use Rattle.hay_logical.proofs.SwapSizes.{cells_within}
 use Rattle.hay_logical.proofs.Swapping.{keeps_rows, stays_later, step_holds, step_left, swaps_later}
 use Rattle.hay_logical.proofs.runs.finish.Given as given
 use Rattle.hay_physical.proofs.Views.{if_ok_so, on_err_so}
-use Rattle.hay_logical.proofs.Seen.{changes_through, run_changed, steps_change, swap_later}
+use Rattle.hay_logical.proofs.Seen.{changes_through, run_changed, steps_change, steps_meet, swap_later}
 use Rattle.hay_logical.specs.Seen.{ReplicaSeen, replica_seen}
 use Rattle.std.proofs.Common.{ap}
 use Rattle.hay_logical.proofs.runs.finish.Goals as goal
@@ -21,7 +21,7 @@ returns-in-Ok-clause-swaps g c =
     let x : Copy g.row.D.Denot = c.step.new.replica in
     let y : Copy g.row.D.Denot = c.swap.new.replica in
     swaps_later g.D.Disk.Tells g.D.Disk.files g.D.Disk.fault_count g.D.Piece.Piece.Tells c.args.rows.now c.swap.new.rows c.args.at r x y c.swap.result Going Examined (λ e. let wrong : Examined ≡ Fresh = e in cc)
-    c.requires.up c.in-Ok.ensures.steps.on tt c.step.ensures.counts
+    c.requires.up c.in-Ok.ensures.steps.on tt c.step.ensures.counts (λ at. steps_meet c.end-most.result c.in-Ok.field-0 (replica_seen r) (replica_seen x) at c.in-Ok.ensures.seen)
     (λ tells s run stands has places.
     let done = c.in-Ok.ensures.steps.stepped tells s run stands has places in
     let number = done.0 in

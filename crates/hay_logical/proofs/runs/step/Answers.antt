@@ -3,7 +3,7 @@ use Rattle.std.specs.Prelude.{if◌then◌else◌, min}
 use Rattle.hay_physical.specs.Runs.{HasRun, Run}
 use Rattle.hay_logical.specs.Steps.{stepped_by}
 use Rattle.hay_logical.proofs.Examining.{goes_after, goes_none, leaves_some, step_later, step_more, step_none}
-use Rattle.hay_logical.proofs.Seen.{steps_break, steps_more, steps_none, steps_stop}
+use Rattle.hay_logical.proofs.Seen.{steps_break, steps_meet, steps_more, steps_none, steps_stop}
 use Rattle.hay_logical.specs.Seen.{StepsTo, replica_seen}
 use Rattle.hay_logical.proofs.runs.step.Goals as goal
 
@@ -70,7 +70,9 @@ returns-in-Err-clause-steps g c =
           let low : c.loop-examined.examined < c.args.cells = omega (arith, test) in
           leaves_some g.D.Disk.files c.examine.new.replica s run c.args.cells c.loop-examined.examined c.in-Err.fault low so_far.0
           (c.in-Err.ensures.examines.refused tells s (stepped_by c.loop-examined.examined run) (was.on.stands tells s stands) so_far.1 places);
-      cause = step_later g.D.Disk.fault_count c.args.replica.now c.loop-examined.replica c.examine.new.replica c.in-Err.fault was.counts was.goal c.in-Err.ensures.examines.cause;
+      cause = step_later g.D.Disk.fault_count c.args.replica.now c.loop-examined.replica c.examine.new.replica c.in-Err.fault was.counts was.goal
+          (λ at. steps_meet c.loop-examined.examined c.loop-examined.examined (replica_seen c.args.replica.now) (replica_seen c.loop-examined.replica) at was.seen)
+          c.in-Err.ensures.examines.cause;
     }
 
 pub returns-clause-steps : goal.returns-clause-steps

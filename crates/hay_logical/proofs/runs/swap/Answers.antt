@@ -1,15 +1,17 @@
-use Rattle.std.proofs.Common.{◌≡◌, inl, inr, Err, refl, sym, ap, subst, ◌∙◌}
+use Rattle.std.proofs.Common.{◌≡◌, inl, inr, List, Err, refl, sym, ap, subst, ◌∙◌}
 use Rattle.std.proofs.lemmas.Bool.{cases_Bool}
-use Rattle.std.specs.Prelude.{slice_set}
+use Rattle.std.specs.Prelude.{map, slice_set}
+use Rattle.std.proofs.lemmas.List.{with_items_is}
 use Rattle.hay_needle.specs.declared.needle.Pair.{Pair}
 use Rattle.hay_map.specs.Places.{gone_place, place_in}
 use Rattle.hay_map.specs.Rows.{ChangesRows, row_at, swapped_place}
 use Rattle.hay_map.specs.declared.view.MapOp.TheVariants as op
+use Rattle.hay_map.specs.declared.view.OpenCell.{OpenCell}
 use Rattle.hay_open.specs.Stored.{index_file, volume_file}
 use Rattle.hay_physical.specs.Copies.{Copy, is_frozen}
 use Rattle.hay_physical.specs.Runs.{RemovedBoth}
 use Rattle.hay_physical.proofs.Laws.{stands_cells_end, stands_generation, stands_up}
-use Rattle.hay_logical.specs.Steps.{HoldsUnswapped, IsLeftBy, StaysInReach}
+use Rattle.hay_logical.specs.Steps.{HoldsUnswapped, IsLeftBy, StaysInReach, still_gone_cell}
 use Rattle.hay_logical.specs.Steps.Start.{Examined}
 use Rattle.hay_logical.specs.Volumes.{ReachesPlaces}
 use Rattle.hay_logical.proofs.Calls.{loaded_other, not_both, open_frozen, open_up, up_open}
@@ -24,10 +26,14 @@ pub returns-in-Ok-clause-swaps : goal.returns-in-Ok-clause-swaps
 returns-in-Ok-clause-swaps g c =
     let x : Copy g.row.D.Denot = c.finish.new.self in
     let photos = c.in-Ok.ensures.photos in
+    let cells : List (OpenCell g.row.D-Piece.Denot) = map (still_gone_cell c.args.rows.now c.args.at) c.in-Ok.places.items in
+    let cells_are : c.as_slice.result.now ≡ cells =
+    c.as_slice.ensures.value ∙ with_items_is c.in-Ok.places c.keep_gone.new.cells (c.keep_gone.auto.cells ∙ c.as_mut_slice.ensures.len) ∙ c.keep_gone.ensures
+    ∙ ap (λ l. map (still_gone_cell c.args.rows.now c.args.at) l) c.as_mut_slice.ensures.value in
     let changed : (pair : Pair) → row_at c.swap.new.self pair ≡ slice_set (row_at c.args.rows.now pair) c.args.at
-    (swapped_place c.in-Ok.places.items pair (gone_place (place_in (row_at c.args.rows.now pair) c.args.at))) =
+    (swapped_place cells pair (gone_place (place_in (row_at c.args.rows.now pair) c.args.at))) =
     subst (λ l. (pair : Pair) → row_at c.swap.new.self pair ≡ slice_set (row_at c.args.rows.now pair) c.args.at
-    (swapped_place l pair (gone_place (place_in (row_at c.args.rows.now pair) c.args.at)))) c.as_slice.ensures.value c.swap.ensures.rows in
+    (swapped_place l pair (gone_place (place_in (row_at c.args.rows.now pair) c.args.at)))) cells_are c.swap.ensures.rows in
     record {
       «open» = c.finish.ensures.«open»;
       sup = c.finish.ensures.sup;
@@ -48,15 +54,19 @@ returns-in-Ok-clause-swaps g c =
           subst (λ n. RemovedBoth (g.D.Disk.files x.disk) (volume_file n) (index_file n) (g.D.Disk.fault_count (c.args.replica.now).disk) (g.D.Disk.fault_count x.disk))
           (stands_generation g.D.Disk.files c.args.replica.now s stands) (c.in-Ok.ensures.removed tells);
       refused = λ tells s run stands start places. tt;
-      reach = λ tells reach. reach_swapped g.D.Piece.Piece.Tells c.args.rows.now c.swap.new.self c.args.at c.in-Ok.places.items photos changed g.D.Disk.files x (c.in-Ok.ensures.can_delete tells) (c.in-Ok.ensures.seen tells);
+      reach = λ tells reach. reach_swapped g.D.Piece.Piece.Tells c.args.rows.now c.swap.new.self c.args.at c.in-Ok.places.items photos changed g.D.Disk.files x (c.in-Ok.ensures.can_delete tells);
     }
 
 pub returns-in-Ok-clause-places : goal.returns-in-Ok-clause-places
 returns-in-Ok-clause-places g c =
+    let cells : List (OpenCell g.row.D-Piece.Denot) = map (still_gone_cell c.args.rows.now c.args.at) c.in-Ok.places.items in
+    let cells_are : c.as_slice.result.now ≡ cells =
+    c.as_slice.ensures.value ∙ with_items_is c.in-Ok.places c.keep_gone.new.cells (c.keep_gone.auto.cells ∙ c.as_mut_slice.ensures.len) ∙ c.keep_gone.ensures
+    ∙ ap (λ l. map (still_gone_cell c.args.rows.now c.args.at) l) c.as_mut_slice.ensures.value in
     let changed : (pair : Pair) → row_at c.swap.new.self pair ≡ slice_set (row_at c.args.rows.now pair) c.args.at
-    (swapped_place c.in-Ok.places.items pair (gone_place (place_in (row_at c.args.rows.now pair) c.args.at))) =
+    (swapped_place cells pair (gone_place (place_in (row_at c.args.rows.now pair) c.args.at))) =
     subst (λ l. (pair : Pair) → row_at c.swap.new.self pair ≡ slice_set (row_at c.args.rows.now pair) c.args.at
-    (swapped_place l pair (gone_place (place_in (row_at c.args.rows.now pair) c.args.at)))) c.as_slice.ensures.value c.swap.ensures.rows in
+    (swapped_place l pair (gone_place (place_in (row_at c.args.rows.now pair) c.args.at)))) cells_are c.swap.ensures.rows in
     record {
       moved = subst (λ l. ChangesRows (op.Swap c.args.at l) c.args.rows.now c.swap.new.self) (c.as_slice.ensures.value ∙ sym c.from_vec.ensures) c.swap.ensures;
       sights = swaps_sights g.D.Piece.Piece.Tells c.args.rows.now c.swap.new.self c.args.at c.in-Ok.places.items c.in-Ok.ensures.photos changed;

@@ -1,4 +1,4 @@
-use Rattle.std.proofs.Common.{◌≡◌, ◌∙◌, ◌+◌, Some, true, Err, ap, inl, inr, refl, sym, subst}
+use Rattle.std.proofs.Common.{◌≡◌, ◌∙◌, ◌+◌, Some, true, Err, ap, arith, inl, inr, refl, sym, subst}
 use Rattle.std.proofs.lemmas.Result.{err_from_is_err_and}
 use Rattle.hay_volume.proofs.ReadLaws.{same_fault}
 use Rattle.hay_compact.specs.Copying.{IsLatest, MovesOn, Stage}
@@ -54,3 +54,11 @@ returns-clause-examined g c = λ tells sup current fresh examined cell copying i
     let last = subst (λ o. IsLatest current cell.pair o) (next ∙ ap (λ k. Some k) (sym same)) latest in
     subst (λ k. MovesOn sup (g.D.Disk.files c.append.new.disk) c.args.old.now c.append.new.self current fresh examined cell k true) (ap (λ (s : Stage). s.volume.end) c.read.ensures.stands)
     (c.in_ok-append.ensures.examined tells sup c.args.old.now current fresh examined cell read is (c.in_ok-read.ensures.copy tells cell stands.0) last)
+
+pub returns-in_err-read-clause-place : goal.returns-in_err-read-clause-place
+returns-in_err-read-clause-place g c = λ k wrong.
+    let fault = err_from_is_err_and c.from_residual.result c.from_residual.ensures.1 in
+    let at = c.in_err-read.ensures.place k (ap (λ x. Err x) (same_fault c.from_residual.result fault.0 c.in_err-read.field-0.0 k k fault.1 fault.2 wrong refl)) in
+    let next = ap (λ (s : Stage). s.next) c.self.view_is in
+    let within = c.requires.peeked.within in
+    (at, omega (arith, at, next, c.self.invariant.from, c.self.invariant.behind), omega (arith, at, within))

@@ -63,3 +63,17 @@ pub returns-clause-more : goal.returns-clause-more
 returns-clause-more g c =
     let left : c.args.old.now.end ≤ c.self.inside.next → ⊥ = λ end. true≢false (sym (c.ready.ensures.end.1 (omega (arith, end, ap (λ (s : Stage). s.next) c.self.view_is))) ∙ c.if-ready.false) in
     omega (arith, left, ap (λ (s : Stage). s.next) c.self.view_is)
+
+pub returns-in_default-clause-place : goal.returns-in_default-clause-place
+returns-in_default-clause-place g c = λ k is.
+    let next = ap (λ (s : Stage). s.next) c.self.view_is in
+    let at : c.self.inside.next ≡ k = cc in
+    let left : c.args.old.now.end ≤ c.self.inside.next → ⊥ = λ end. true≢false (sym (c.ready.ensures.end.1 (omega (arith, end, next))) ∙ c.if-ready.false) in
+    (sym at ∙ next, omega (arith, at, c.self.invariant.from, c.self.invariant.behind), omega (arith, at, left))
+
+pub returns-then-room-total_of-clause-place : goal.returns-then-room-total_of-clause-place
+returns-then-room-total_of-clause-place g c = λ k is.
+    let next = ap (λ (s : Stage). s.next) c.self.view_is in
+    let at : c.self.inside.next ≡ k = cc in
+    let left : c.args.old.now.end ≤ c.self.inside.next → ⊥ = λ end. true≢false (sym (c.ready.ensures.end.1 (omega (arith, end, next))) ∙ c.if-ready.false) in
+    (sym at ∙ next, omega (arith, at, c.self.invariant.from, c.self.invariant.behind), omega (arith, at, left))

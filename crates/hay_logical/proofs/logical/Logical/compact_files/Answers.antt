@@ -22,7 +22,7 @@ use Rattle.hay_logical.proofs.SwapShapes.{SwapCall, called_each, called_open, ca
 use Rattle.hay_logical.specs.Volumes.{IsMachineOf, Volume}
 use Rattle.hay_logical.specs.declared.refusals.Unfinished.{Unfinished}
 use Rattle.hay_logical.proofs.Untouched.{called_thawed, called_untouched}
-use Rattle.hay_logical.proofs.Freezing.{frozen_unfinished, unfinished_freezes}
+use Rattle.hay_logical.proofs.Freezing.{frozen_unfinished}
 use Rattle.std.proofs.Common.{◌≡◌, ℕ, Option, None, refl}
 use Rattle.std.specs.Prelude.{map, IfOk, OnErr}
 use Rattle.hay_physical.specs.Copies.{goal_of}
@@ -214,11 +214,6 @@ returns-in-Err-clause-untouched g c = λ by.
     called_untouched c.self.inside.settings c.self.inside.number c.in-Err.unswapped call (subst (λ (u : Unfinished). IsUntouchedBy u.fault) c.unfinished_by-unfinished.ensures by) _ c.self.inside.front c.self.inside.frozen
     c.unfinished_by-unfinished.result.frozen c.self.inside.unsure (kept g after) (not_some c.self.inside.frozen c.in_default.not-Some) (ap (λ (u : Unfinished). u.frozen) c.unfinished_by-unfinished.ensures) ∙ c.self.view_is
 
-pub returns-in-Err-clause-freezes : goal.returns-in-Err-clause-freezes
-returns-in-Err-clause-freezes g c =
-    unfinished_freezes c.self.inside.settings c.self.inside.number c.args.replica c.self.inside.frozen c.args.self.now.frozen c.in-Err.unswapped c.unfinished_by-unfinished.result
-    (not_some c.self.inside.frozen c.in_default.not-Some) (ap (λ v. v.frozen) (sym c.self.view_is)) c.unfinished_by-unfinished.ensures
-
 pub returns-in-Ok-clause-sizes : goal.returns-in-Ok-clause-sizes
 returns-in-Ok-clause-sizes g c = λ tells r f.
     let after = (goal.at.returns-in-Ok-clause-sizes g c).After-compact_at in
@@ -300,6 +295,7 @@ returns-in-Err-clause-refused_seen g c =
     (kept g after) same))
     (λ m froze by_m. record {
       thawed = thawed;
+      settled = (c.self.invariant.0).settled thawed;
       many = many_seen c.self.inside.replicas.items _ (ap length (kept g after) ∙ call.one.count);
       front = refl;
       frozen = by_m;

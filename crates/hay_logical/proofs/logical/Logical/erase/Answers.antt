@@ -1,4 +1,4 @@
-use Rattle.std.proofs.Common.{◌≡◌, ◌+◌, ℕ, None, Err, sym, ap, subst, ◌∙◌, Option}
+use Rattle.std.proofs.Common.{◌≡◌, ◌+◌, None, Err, sym, ap, subst, ◌∙◌}
 use Rattle.std.specs.Prelude.{IfErr}
 use Rattle.std.proofs.lemmas.Result.{err_from_is_err_and, on_ok_weaker, on_err_weaker}
 use Rattle.hay_needle.specs.declared.settings.Settings.{Settings}
@@ -9,14 +9,9 @@ use Rattle.hay_logical.specs.Stands.{Stands}
 use Rattle.hay_logical.proofs.Bytes.{files_more}
 use Rattle.hay_logical.proofs.Changing.{not_some}
 use Rattle.hay_logical.proofs.Through.{counts_through, delete_later, erased_later, look_refused, same_through}
-use Rattle.hay_logical.proofs.Telling.{delete_before}
-use Rattle.hay_logical.specs.Notes.{DeleteLeavesUnsure}
-use Rattle.hay_logical.specs.declared.unsure.Unsure.{Unsure}
 use Rattle.hay_logical.specs.Volumes.{IsMachineOf, Volume}
 use Rattle.hay_logical.specs.Steps.{KeepsAbove}
 use Rattle.hay_logical.proofs.Above.{above_files, above_looked}
-use Rattle.hay_logical.specs.Refusals.{DeleteFreezes}
-use Rattle.hay_logical.proofs.Freezing.{delete_same}
 use Rattle.hay_logical.proofs.Untouched.{stuck_more, stuck_same}
 use Rattle.std.specs.Prelude.{OnErr}
 use Rattle.hay_logical.specs.Stands.{IsTightAt}
@@ -74,16 +69,6 @@ returns-clause-counts g c = counts_through g.D.Disk.fault_count g.D.Disk.fuse_co
 pub returns-clause-same : goal.returns-clause-same
 returns-clause-same g c = same_through c.args.self.now c.see_each.new.self c.erase_seen.new.self c.see_each.ensures.counts.count c.see_each.ensures.same c.erase_seen.ensures.same
 
-pub returns-in_err-see_each-clause-refused_unsure : goal.returns-in_err-see_each-clause-refused_unsure
-returns-in_err-see_each-clause-refused_unsure g c =
-    let fault = err_from_is_err_and c.from_residual.result c.from_residual.ensures.1 in
-    subst (λ r. IfErr r (DeleteLeavesUnsure c.args.tag c.args.self.now.unsure c.see_each.new.self.unsure)) (sym fault.1)
-    (delete_before c.args.tag c.args.self.now.unsure c.see_each.new.self.unsure fault.0 c.see_each.ensures.still.2)
-
-pub returns-clause-refused_unsure : goal.returns-clause-refused_unsure
-returns-clause-refused_unsure g c =
-    subst (λ (u : Option Unsure). IfErr c.erase_seen.result (DeleteLeavesUnsure c.args.tag u c.erase_seen.new.self.unsure)) c.see_each.ensures.still.2 c.erase_seen.ensures.refused_unsure
-
 pub returns-in-Some-clause-causes : goal.returns-in-Some-clause-causes
 returns-in-Some-clause-causes g c =
     subst (λ (v : Volume g.row.D.Denot g.row.D-Piece.Denot). IsMachineOf v.settings v.number c.in-Some.machine) c.self.view_is ((c.self.invariant.0).frozen_by c.in-Some.machine c.in-Some.is)
@@ -103,17 +88,6 @@ returns-clause-above g c = λ m count e.
     above_looked g.D.Disk.Tells g.D.Disk.files c.args.self.now.settings c.args.self.now.number m c.args.self.now.replicas c.see_each.new.self.replicas c.erase_seen.new.self.replicas c.see_each.ensures.counts.count c.see_each.ensures.files
     (subst (λ n. KeepsAbove g.D.Disk.Tells g.D.Disk.files c.args.self.now.settings n m c.see_each.new.self.replicas c.erase_seen.new.self.replicas) same.number
     (subst (λ (s : Settings). KeepsAbove g.D.Disk.Tells g.D.Disk.files s c.see_each.new.self.number m c.see_each.new.self.replicas c.erase_seen.new.self.replicas) same.settings (c.erase_seen.ensures.above m count e)))
-
-pub returns-in_err-see_each-clause-freezes : goal.returns-in_err-see_each-clause-freezes
-returns-in_err-see_each-clause-freezes g c =
-    let fault = err_from_is_err_and c.from_residual.result c.from_residual.ensures.1 in
-    subst (λ r. IfErr r (DeleteFreezes c.args.self.now.frozen c.see_each.new.self.frozen c.args.self.now.unsure c.see_each.new.self.unsure)) (sym fault.1)
-    (delete_same c.args.self.now.frozen c.see_each.new.self.frozen c.args.self.now.unsure c.see_each.new.self.unsure fault.0 c.see_each.ensures.still.0 c.see_each.ensures.still.2)
-
-pub returns-clause-freezes : goal.returns-clause-freezes
-returns-clause-freezes g c =
-    subst (λ (o : Option ℕ). IfErr c.erase_seen.result (DeleteFreezes o c.erase_seen.new.self.frozen c.args.self.now.unsure c.erase_seen.new.self.unsure)) c.see_each.ensures.still.0
-    (subst (λ (u : Option Unsure). IfErr c.erase_seen.result (DeleteFreezes c.see_each.new.self.frozen c.erase_seen.new.self.frozen u c.erase_seen.new.self.unsure)) c.see_each.ensures.still.2 c.erase_seen.ensures.freezes)
 
 pub returns-in-Some-clause-stuck : goal.returns-in-Some-clause-stuck
 returns-in-Some-clause-stuck g c = stuck_same c.args.self.now.replicas

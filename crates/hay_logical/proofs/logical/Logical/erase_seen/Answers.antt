@@ -263,13 +263,6 @@ returns-clause-same g c =
     same_by _ _ _ _ c.self.view_is refl refl kept
     (λ j r r' e f. (delete_remains g.D.Disk.Tells g.D.Disk.files g.D.Disk.fault_count c.self.inside.replicas.items c.delete_each.new.replicas c.row-row.result c.in-Err.failed left up j r r' e f).sup)
 
-pub returns-clause-refused_unsure : goal.returns-clause-refused_unsure
-returns-clause-refused_unsure g c = inr (record {
-  settled = ap (λ v. v.unsure) (sym c.self.view_is) ∙ (c.self.invariant.0).settled (ap (λ v. v.frozen) c.self.view_is ∙ c.requires.thawed);
-  change = change.Delete c.args.pair;
-  is = refl;
-})
-
 pub returns-clause-files : goal.returns-clause-files
 returns-clause-files g c = λ same.
     let settled = ap (λ v. v.unsure) (sym c.self.view_is) ∙ (c.self.invariant.0).settled (ap (λ v. v.frozen) c.self.view_is ∙ c.requires.thawed) in
@@ -289,9 +282,6 @@ returns-clause-above g c = λ m count e.
     (subst (λ rs. KeepsAbove g.D.Disk.Tells g.D.Disk.files c.self.inside.settings c.self.inside.number m c.self.inside.replicas.items rs) (sym kept)
     (above_lost g.D.Disk.Tells g.D.Disk.files c.self.inside.settings c.self.inside.number c.self.inside.replicas.items c.delete_each.new.replicas c.in-Err.failed.at m (c.self.invariant.0).settings within
     (sym same ∙ c.machine_of-machine.ensures) left.above))
-
-pub returns-clause-freezes : goal.returns-clause-freezes
-returns-clause-freezes g c = inr (refl, (record { tag = c.args.tag; change = change.Delete c.args.pair }, refl))
 
 pub returns-then-not-has_live-clause-stuck : goal.returns-then-not-has_live-clause-stuck
 returns-then-not-has_live-clause-stuck g c = stuck_same c.args.self.now.replicas
@@ -359,6 +349,7 @@ returns-clause-refused_seen g c =
     let kept = with_items_is c.self.inside.replicas c.delete_each.new.replicas (c.delete_each.auto.replicas ∙ c.as_mut_slice.ensures.len) in
     inr (record {
       thawed = c.requires.thawed;
+      settled = ap (λ v. v.unsure) (sym c.self.view_is) ∙ (c.self.invariant.0).settled (ap (λ v. v.frozen) c.self.view_is ∙ c.requires.thawed);
       many = many_seen c.args.self.now.replicas _ (ap length kept ∙ c.delete_each.ensures.counts.count ∙ ap length (c.as_mut_slice.ensures.value) ∙ ap
           (λ (v : Volume g.row.D.Denot g.row.D-Piece.Denot). length v.replicas) c.self.view_is);
       front = ap (λ (v : Volume g.row.D.Denot g.row.D-Piece.Denot). v.front) c.self.view_is;

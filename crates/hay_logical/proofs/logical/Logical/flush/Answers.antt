@@ -17,9 +17,9 @@ use Rattle.hay_logical.proofs.Standing.{volume_with}
 use Rattle.hay_logical.proofs.Changing.{flush_cause, flush_refused, flushed, not_some, some_none}
 use Rattle.hay_logical.proofs.Reaching.{same_rows}
 use Rattle.hay_logical.specs.declared.fault.LogicalFault.{LogicalFault}
-use Rattle.hay_logical.proofs.Untouched.{flush_sticks, flush_stuck, flush_untouched, one_untouched}
+use Rattle.hay_logical.proofs.Untouched.{flush_stuck, flush_untouched, one_untouched}
 use Rattle.hay_logical.specs.declared.fault.LogicalFault.TheVariants as logical
-use Rattle.hay_logical.specs.Refusals.{FlushSticks, IsUntouchedBy, answer_at}
+use Rattle.hay_logical.specs.Refusals.{IsUntouchedBy, answer_at}
 use Rattle.hay_logical.proofs.Tightness.{tight_flushed, tight_one}
 use Rattle.std.proofs.Common.{None, inl}
 use Rattle.hay_logical.specs.Seen.{FlushRefusedSeen, FlushSeen, FlushesTo, Sticks, VolumeSeen, replica_seen, volume_seen}
@@ -250,26 +250,6 @@ returns-clause-loose g c =
       | in-Err w ↦ rw w.result-is tt
     ]
 
-pub returns-clause-stuck : goal.returns-clause-stuck
-returns-clause-stuck g c =
-    let now = c.as_mut_slice.ensures.value in
-    let kept = with_items_is c.self.inside.replicas c.flush_at.new.replicas (c.flush_at.auto.replicas ∙ c.as_mut_slice.ensures.len) in
-    let one : CallsOne c.args.replica c.self.inside.replicas.items c.flush_at.new.replicas = subst (λ xs. CallsOne c.args.replica xs c.flush_at.new.replicas) now c.flush_at.ensures.one in
-    let there = one_after c.args.replica c.self.inside.replicas.items c.flush_at.new.replicas one in
-    elim c.match-flush_at.branch [
-      | in-Ok w ↦ rw w.result-is tt
-      | in-Err w ↦
-          let step : FlushesAt g.D.Disk.Tells g.D.Disk.files g.D.Disk.fault_count one.before one.after (Err w.in-Err.fault) =
-          subst (λ x. FlushesAt g.D.Disk.Tells g.D.Disk.files g.D.Disk.fault_count one.before one.after x) w.in-Err.is
-          (c.flush_at.ensures.flushes one.before one.after (subst (λ xs. At xs c.args.replica one.before) (sym now) one.was) there) in
-          let sticks : FlushSticks one.before one.after w.answer_at.result =
-          subst (λ (f : LogicalFault). FlushSticks one.before one.after f) (sym w.answer_at.ensures) (flush_sticks g.D.Disk.fault_count one.before one.after c.machine_of-machine.result w.in-Err.fault step.cause) in
-          subst (λ r. IfErr r (λ (fault : LogicalFault). (x y : Copy g.row.D.Denot) → At c.args.self.now.replicas c.args.replica x → At (with_items c.self.inside.replicas c.flush_at.new.replicas).items c.args.replica y → FlushSticks x y fault)) (sym w.result-is)
-          (λ x y e f.
-          subst (λ (z : Copy g.row.D.Denot). FlushSticks z y w.answer_at.result) (at_same c.self.inside.replicas.items c.args.replica one.before x one.was (subst (λ v. At v.replicas c.args.replica x) (sym c.self.view_is) e))
-          (subst (λ (z : Copy g.row.D.Denot). FlushSticks one.before z w.answer_at.result) (at_same c.flush_at.new.replicas c.args.replica one.after y there (subst (λ xs. At xs c.args.replica y) kept f)) sticks))
-    ]
-
 pub returns-clause-tight : goal.returns-clause-tight
 returns-clause-tight g c = λ tells j tight r' f.
     let now = c.as_mut_slice.ensures.value in
@@ -280,9 +260,6 @@ returns-clause-tight g c = λ tells j tight r' f.
     c.flush_at.ensures.flushes one.before one.after (subst (λ xs. At xs c.args.replica one.before) (sym now) one.was) there in
     tight_one g.D.Disk.files c.args.replica c.self.inside.replicas.items c.flush_at.new.replicas one (tight_flushed g.D.Disk.files one.before one.after g.D.Disk.Tells g.D.Disk.fault_count tells c.flush_at.result step)
     j (λ r e. tight r (subst (λ v. At v.replicas j r) c.self.view_is e)) r' (subst (λ xs. At xs j r') kept f)
-
-pub returns-in-Some-clause-stuck : goal.returns-in-Some-clause-stuck
-returns-in-Some-clause-stuck g c = λ r r' e f. ap is_stuck (at_same c.args.self.now.replicas c.args.replica r' r f e)
 
 pub returns-in-Some-clause-refused_seen : goal.returns-in-Some-clause-refused_seen
 returns-in-Some-clause-refused_seen g c = inl (refl, ap (λ v. v.frozen) (sym c.self.view_is) ∙ c.in-Some.is)

@@ -61,6 +61,7 @@ returns-clause-seen g c = λ none.
     subst (λ v. FreezesSeen (machine_of old.settings old.number 0) old.unsure (volume_seen old) (volume_seen v)) (sym c.halt.ensures.still)
     (record {
       thawed = none;
+      settled = c.halt.ensures.settled none;
       many = many_seen c.args.self.now.replicas c.halt.new.self.replicas c.halt.ensures.counts.count;
       front = refl;
       frozen = refl;

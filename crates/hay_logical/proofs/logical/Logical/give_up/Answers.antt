@@ -52,6 +52,7 @@ returns-clause-seen g c = λ none.
     (record v { unsure = Some unsure }))) (sym (c.self.view_is ∙ c.halt.ensures.still))
     (record {
       thawed = none;
+      settled = c.halt.ensures.settled none;
       many = many_seen c.args.self.now.replicas c.halt.new.self.replicas c.halt.ensures.counts.count;
       front = refl;
       frozen = refl;

@@ -86,3 +86,6 @@ pub returns-clause-same : goal.returns-clause-same
 returns-clause-same g c =
     let a = (goal.at.returns-clause-same g c).After-drop_runs in
     same_by _ _ _ _ c.self.view_is refl refl (kept g a) (λ j r r' e f. (loses g a j r r' e f).sup)
+
+pub returns-clause-settled : goal.returns-clause-settled
+returns-clause-settled g c = λ none. ap (λ v. v.unsure) (sym c.self.view_is) ∙ (c.self.invariant.0).settled (ap (λ v. v.frozen) c.self.view_is ∙ none)

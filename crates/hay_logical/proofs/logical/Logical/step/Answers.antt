@@ -383,7 +383,7 @@ returns-clause-refused_seen g c =
           c.self.inside.frozen c.self.inside.unsure one c.args.self.now c.self.view_is (with_items c.self.inside.replicas c.step_at.new.replicas).items kept) none w.in-Err.fault left.cause
           (λ goal. changes_one c.args.replica StepsPartly c.self.inside.settings c.self.inside.number c.self.inside.replicas.items c.step_at.new.replicas c.self.inside.rows c.self.inside.front
           c.self.inside.frozen c.self.inside.unsure one c.args.self.now c.self.view_is (with_items c.self.inside.replicas c.step_at.new.replicas).items kept
-          (has, broken.0 ∙ ap (λ (o : Option ℕ). record (replica_seen one.before) { goal = o; next = next_of one.after }) goal, broken.1 goal))
+          (has, broken.0 ∙ ap (λ (o : Option ℕ). record (replica_seen one.before) { goal = o; next = next_of one.after }) goal, (broken.1 goal).0, (broken.1 goal).1))
           (λ goal. changes_one c.args.replica EndsAlone c.self.inside.settings c.self.inside.number c.self.inside.replicas.items c.step_at.new.replicas c.self.inside.rows c.self.inside.front
           c.self.inside.frozen c.self.inside.unsure one c.args.self.now c.self.view_is (with_items c.self.inside.replicas c.step_at.new.replicas).items kept
           (has, run_ended one.before one.after broken.0 goal))))

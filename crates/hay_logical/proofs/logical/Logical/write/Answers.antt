@@ -26,13 +26,11 @@ use Rattle.hay_logical.proofs.Reaching.{put_row, same_rows, seen_apart, seen_see
 use Rattle.hay_logical.proofs.Putting.{all_thawed, is_err_of, ok_of, put_cause_of, put_refused, room_cause, room_ok, room_refused, rows_kept, untouched}
 use Rattle.hay_logical.proofs.Refusing.{refusal_breaks, refuses_put}
 use Rattle.hay_logical.proofs.Showing.{written}
-use Rattle.hay_logical.proofs.Telling.{put_broken, room_leaves}
-use Rattle.hay_logical.specs.Notes.{PutLeavesUnsure}
-use Rattle.hay_logical.proofs.Freezing.{frozen_refusal, put_freezes, room_freezes}
+use Rattle.hay_logical.proofs.Freezing.{frozen_refusal}
 use Rattle.hay_logical.specs.declared.fault.LogicalFault.{LogicalFault}
 use Rattle.hay_logical.specs.declared.fault.LogicalFault.TheVariants as logical
 use Rattle.hay_logical.proofs.Above.{above_put}
-use Rattle.hay_logical.specs.Refusals.{IsUntouched, PutFreezes}
+use Rattle.hay_logical.specs.Refusals.{IsUntouched}
 use Rattle.hay_logical.proofs.Untouched.{stuck_same}
 use Rattle.std.specs.Prelude.{OnErr}
 use Rattle.hay_logical.specs.Stands.{IsTightAt}
@@ -410,25 +408,6 @@ returns-else-is_untouched-clause-same g c =
     same_by _ _ _ _ c.self.view_is refl refl kept
     (λ j r r' e f. (put_remains g.D.Disk.Tells g.D.Disk.files g.D.Disk.fault_count c.args.pair c.args.cookie c.args.bytes.now c.self.inside.replicas.items c.put_each.new.replicas c.in-Err.broken left up j r r' e f).sup)
 
-pub returns-in_err-room-clause-refused_unsure : goal.returns-in_err-room-clause-refused_unsure
-returns-in_err-room-clause-refused_unsure g c =
-    subst (λ r. IfErr r (PutLeavesUnsure c.args.tag c.args.self.now.unsure c.args.self.now.unsure)) (sym (is_err_of c.from_residual.result c.in_err-room.field-0.0 c.from_residual.ensures.1))
-    (room_leaves c.args.self.now.settings c.args.self.now.number c.args.tag c.args.self.now.unsure c.in_err-room.field-0.0 c.in_err-room.ensures.causes)
-
-pub returns-in_default-clause-refused_unsure : goal.returns-in_default-clause-refused_unsure
-returns-in_default-clause-refused_unsure g c = inl refl
-
-pub returns-then-is_err-clause-refused_unsure : goal.returns-then-is_err-clause-refused_unsure
-returns-then-is_err-clause-refused_unsure g c = inl (ap (λ v. v.unsure) c.self.view_is)
-
-pub returns-then-is_untouched-clause-refused_unsure : goal.returns-then-is_untouched-clause-refused_unsure
-returns-then-is_untouched-clause-refused_unsure g c = inl (ap (λ v. v.unsure) c.self.view_is)
-
-pub returns-else-is_untouched-clause-refused_unsure : goal.returns-else-is_untouched-clause-refused_unsure
-returns-else-is_untouched-clause-refused_unsure g c =
-    put_broken c.self.inside.settings c.self.inside.number c.in-Err.broken.at c.args.tag (change.Put c.ends_of-ends.result) c.args.self.now.unsure c.in-Err.broken.fault c.put_refusal-refusal.result c.put_refusal-refusal.ensures
-    (ap (λ v. v.unsure) (sym c.self.view_is) ∙ (c.self.invariant.0).settled (ap (λ v. v.frozen) c.self.view_is ∙ c.in_ok-room.ensures.fits.0))
-
 pub returns-in-Ok-clause-of : goal.returns-in-Ok-clause-of
 returns-in-Ok-clause-of g c =
     let next : c.in-Some.position ≡ c.self.inside.front + 1 = (let h = c.in-Some.ensures in omega (arith, h)) in (
@@ -458,25 +437,6 @@ returns-else-is_untouched-clause-above g c = λ m count e.
     (subst (λ rs. KeepsAbove g.D.Disk.Tells g.D.Disk.files c.self.inside.settings c.self.inside.number m c.self.inside.replicas.items rs) (sym kept)
     (above_put g.D.Disk.Tells g.D.Disk.files c.self.inside.settings c.self.inside.number c.self.inside.replicas.items c.put_each.new.replicas c.in-Err.broken.at m count c.in-Err.broken.fault c.put_refusal-refusal.result
     (c.self.invariant.0).settings within c.put_refusal-refusal.ensures said left.above))
-
-pub returns-in_err-room-clause-freezes : goal.returns-in_err-room-clause-freezes
-returns-in_err-room-clause-freezes g c =
-    subst (λ r. IfErr r (PutFreezes c.args.self.now.settings c.args.self.now.number c.args.self.now.frozen c.args.self.now.frozen)) (sym (is_err_of c.from_residual.result c.in_err-room.field-0.0 c.from_residual.ensures.1))
-    (room_freezes c.args.self.now.settings c.args.self.now.number c.args.self.now.frozen c.in_err-room.field-0.0 c.in_err-room.ensures.causes)
-
-pub returns-in_default-clause-freezes : goal.returns-in_default-clause-freezes
-returns-in_default-clause-freezes g c = inl refl
-
-pub returns-then-is_err-clause-freezes : goal.returns-then-is_err-clause-freezes
-returns-then-is_err-clause-freezes g c = inl (ap (λ v. v.frozen) c.self.view_is)
-
-pub returns-then-is_untouched-clause-freezes : goal.returns-then-is_untouched-clause-freezes
-returns-then-is_untouched-clause-freezes g c = inl (ap (λ v. v.frozen) c.self.view_is)
-
-pub returns-else-is_untouched-clause-freezes : goal.returns-else-is_untouched-clause-freezes
-returns-else-is_untouched-clause-freezes g c =
-    subst (λ v. PutFreezes v.settings v.number v.frozen (Some c.put_refusal-refusal.result.machine) c.put_refusal-refusal.result.fault) c.self.view_is
-    (put_freezes c.self.inside.settings c.self.inside.number c.in-Err.broken.at c.self.inside.frozen c.in-Err.broken.fault c.put_refusal-refusal.result c.put_refusal-refusal.ensures)
 
 pub returns-in_err-room-clause-above : goal.returns-in_err-room-clause-above
 returns-in_err-room-clause-above g c = λ m count e.
@@ -602,6 +562,7 @@ returns-else-is_untouched-clause-refused_seen g c =
           c.ends_of-ends.ensures j x.0 (subst (λ xs. At xs j x.0) (sym c.as_slice.ensures.value) x.1) ∙ ap (λ (r : ReplicaSeen). r.end) (sym x.2);
       freezes = record {
         thawed = thawed;
+        settled = (c.self.invariant.0).settled thawed;
         many = many_seen c.self.inside.replicas.items _ (ap length kept ∙ c.put_each.ensures.counts.count ∙ ap length now);
         front = refl;
         frozen = refl;

@@ -3,11 +3,12 @@ use Rattle.hay_physical.proofs.RunViews.{beside_deletes, beside_stands, ends_run
 use Rattle.hay_physical.specs.Runs.{stepped}
 use Rattle.hay_physical.specs.Replicas.{Anywhere}
 use Rattle.hay_physical.proofs.Seeing.{beside_sight}
-use Rattle.std.proofs.Common.{◌∙◌, ◌+◌, ap, sym}
+use Rattle.std.proofs.Common.{◌∙◌, ◌+◌, ap, subst, sym}
 use Rattle.hay_needle.specs.Sizes.{needle_total}
-use Rattle.hay_physical.specs.Copies.{phase_next}
+use Rattle.hay_physical.specs.Copies.{copier_next, phase_end, phase_next}
 use Rattle.hay_physical.proofs.Views.{on_err_so}
 use Rattle.hay_physical.proofs.RunViews.{files_goal, files_say}
+use Rattle.hay_compact.specs.Copying.{IsNextWithin}
 use Rattle.hay_physical.proofs.replica.Replica.copy.Goals as goal
 
 pub returns-clause-run : goal.returns-clause-run
@@ -65,3 +66,10 @@ returns-clause-place g c =
     let goal = files_goal c.args.self.now was.sup was.disk was.phase c.in-Open.files c.self.view_is c.in-Open.is in
     let next = files_say phase_next c.args.self.now was.sup was.disk was.phase c.in-Open.files c.self.view_is c.in-Open.is in
     on_err_so c.copy.result _ _ (λ place same. place (same ∙ sym goal) ∙ next) c.copy.ensures.place
+
+pub returns-clause-damaged : goal.returns-clause-damaged
+returns-clause-damaged g c = λ at is.
+    let was = c.self.inside in
+    let next = files_say phase_next c.args.self.now was.sup was.disk was.phase c.in-Open.files c.self.view_is c.in-Open.is in
+    let end = files_say phase_end c.args.self.now was.sup was.disk was.phase c.in-Open.files c.self.view_is c.in-Open.is in
+    subst (λ n. IsNextWithin (phase_end c.args.self.now.phase) n at) next (subst (λ n. IsNextWithin n (copier_next c.in-Open.files.copier) at) end (c.copy.ensures.damaged at is))

@@ -4,9 +4,10 @@ use Rattle.hay_physical.proofs.Views.{if_err_so, if_ok_some, on_ok_one}
 use Rattle.hay_physical.proofs.RunViews.{beside_deletes, beside_stands, ends_run, files_run, open_next, open_run, peek_pair}
 use Rattle.hay_physical.specs.Replicas.{Anywhere}
 use Rattle.hay_physical.proofs.Seeing.{beside_sight}
-use Rattle.std.proofs.Common.{◌∙◌, sym}
-use Rattle.hay_physical.specs.Copies.{phase_next}
+use Rattle.std.proofs.Common.{◌∙◌, subst, sym}
+use Rattle.hay_physical.specs.Copies.{copier_next, phase_end, phase_next}
 use Rattle.hay_physical.proofs.RunViews.{files_goal, files_say}
+use Rattle.hay_compact.specs.Copying.{IsNextWithin}
 use Rattle.hay_physical.proofs.replica.Replica.peek.Goals as goal
 
 pub returns-clause-next : goal.returns-clause-next
@@ -34,13 +35,6 @@ returns-clause-run g c = λ tells s run has.
     let was = c.self.inside in
     on_ok_one c.peek.result _ _ (λ r. open_run files was.sup c.peek.new.disk c.peek.new.self s run r)
     (c.peek.ensures.run tells was.sup s run (files_run files c.args.self.now was.sup was.disk was.phase c.in-Open.files s run c.self.view_is c.in-Open.is has))
-
-pub returns-clause-memory : goal.returns-clause-memory
-returns-clause-memory g c = λ tells wants s run has.
-    let files = g.D.Disk.files in
-    let was = c.self.inside in
-    open_run files was.sup c.peek.new.disk c.peek.new.self s run
-    (c.peek.ensures.memory tells wants was.sup s run (files_run files c.args.self.now was.sup was.disk was.phase c.in-Open.files s run c.self.view_is c.in-Open.is has))
 
 pub returns-clause-stands : goal.returns-clause-stands
 returns-clause-stands g c = λ tells s stands.
@@ -72,3 +66,10 @@ returns-clause-place g c = λ same.
     let goal = files_goal c.args.self.now was.sup was.disk was.phase c.in-Open.files c.self.view_is c.in-Open.is in
     let next = files_say phase_next c.args.self.now was.sup was.disk was.phase c.in-Open.files c.self.view_is c.in-Open.is in
     c.peek.ensures.place (same ∙ sym goal) ∙ next
+
+pub returns-clause-damaged : goal.returns-clause-damaged
+returns-clause-damaged g c = λ at is.
+    let was = c.self.inside in
+    let next = files_say phase_next c.args.self.now was.sup was.disk was.phase c.in-Open.files c.self.view_is c.in-Open.is in
+    let end = files_say phase_end c.args.self.now was.sup was.disk was.phase c.in-Open.files c.self.view_is c.in-Open.is in
+    subst (λ n. IsNextWithin (phase_end c.args.self.now.phase) n at) next (subst (λ n. IsNextWithin n (copier_next c.in-Open.files.copier) at) end (c.peek.ensures.damaged at is))

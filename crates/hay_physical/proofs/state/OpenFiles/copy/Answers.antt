@@ -1,4 +1,4 @@
-use Rattle.hay_compact.specs.Copying.{IsHeadOf, Stage}
+use Rattle.hay_compact.specs.Copying.{IsHeadOf, IsNextWithin, Stage}
 use Rattle.hay_physical.specs.declared.state.Copier.TheVariants.{Standing}
 use Rattle.hay_physical.proofs.RunLaws.{bounded_next, examined_within, gone}
 use Rattle.std.proofs.Common.{◌≡◌, ◌∙◌, arith, refl, ap, subst, sym, Err}
@@ -61,3 +61,14 @@ returns-in-Err-clause-whole g c = λ tells sup s run p at is.
     let stage = c.in-Standing.compactor in
     c.in-Err.ensures.whole tells sup s.cells p.has.fresh p.has.examined k p.cell (copying_at sup files c.args.self.now s run stage p.has c.in-Standing.is) p.is
     (subst (λ (x : Stage). IsHeadOf x.next c.args.cell p.cell) (stage_at sup files c.args.self.now s run stage p.has c.in-Standing.is) p.copy) (ap (λ x. Err x) damaged))
+
+pub returns-in-Err-clause-damaged : goal.returns-in-Err-clause-damaged
+returns-in-Err-clause-damaged g c = λ at is.
+    let end = c.args.self.now.volume.end in
+    by_fault c.in-Err.fault (IsNextWithin end (copier_next c.args.self.now.copier) at)
+    (λ memory. let e : ReplicaFault.NoMemory ≡ ReplicaFault.Damaged at = (let known = (c.broken_off.ensures.memory memory).0 in cc) in absurd cc)
+    (λ failed. let e : ReplicaFault.Failed (g.D.Disk.fault_count c.copy.new.disk) ≡ ReplicaFault.Damaged at = (let known = (c.broken_off.ensures.failed failed).0 in cc) in absurd cc)
+    (λ k damaged.
+    let same : k ≡ at = (let known = (c.broken_off.ensures.damaged k damaged).0 in cc) in
+    subst (λ n. IsNextWithin end n at) (sym (ap copier_next c.in-Standing.is))
+    (subst (λ n. IsNextWithin end c.in-Standing.compactor.next n) same (c.in-Err.ensures.place k (ap (λ x. Err x) damaged))))

@@ -2,7 +2,7 @@ use Rattle.std.specs.Prelude.{IfNone, IfSome}
 use Rattle.hay_physical.specs.Copies.{copier_next}
 use Rattle.std.proofs.Common.{◌≡◌, ◌≤◌, ◌<◌, ap, subst, sym, Err}
 use Rattle.hay_disk.specs.Disk.{Files}
-use Rattle.hay_compact.specs.Copying.{IsMaking}
+use Rattle.hay_compact.specs.Copying.{IsMaking, IsNextWithin}
 use Rattle.hay_physical.specs.Replicas.{IsCopierReady}
 use Rattle.hay_physical.specs.Runs.{FilesRun}
 use Rattle.hay_physical.specs.declared.fault.ReplicaFault.{ReplicaFault}
@@ -34,9 +34,9 @@ returns-in-Err-clause-whole g c = λ tells sup s run r at is.
     (λ k damaged. c.in-Err.ensures.whole tells sup s.cells r.fresh r.examined k (copying_at sup (g.D.Disk.files c.args.disk.now) c.args.self.now s run c.in-Standing.compactor r c.in-Standing.is) (ap (λ x. Err x) damaged))
 
 pub returns-in-Err-clause-memory : goal.returns-in-Err-clause-memory
-returns-in-Err-clause-memory g c = λ tells wants sup s run r.
+returns-in-Err-clause-memory g c = λ wants.
     by_fault c.in-Err.fault _
-    (λ memory. absurd (c.in-Err.ensures.memory (ap (λ x. Err x) memory)))
+    (λ memory. c.in-Err.ensures.memory (ap (λ x. Err x) memory))
     (λ failed. absurd (let known = (c.broken_off.ensures.failed failed).0 in cc))
     (λ k damaged. absurd (let known = (c.broken_off.ensures.damaged k damaged).0 in cc))
 
@@ -62,3 +62,14 @@ returns-in-Ok-clause-end g c = subst (λ k. IfNone c.in-Ok.next (c.args.self.now
 
 pub returns-in-Ok-clause-more : goal.returns-in-Ok-clause-more
 returns-in-Ok-clause-more g c = subst (λ k. IfSome c.in-Ok.next (λ head. k < c.args.self.now.volume.end)) (sym (ap copier_next c.in-Standing.is)) c.in-Ok.ensures.more
+
+pub returns-in-Err-clause-damaged : goal.returns-in-Err-clause-damaged
+returns-in-Err-clause-damaged g c = λ at is.
+    let end = c.args.self.now.volume.end in
+    by_fault c.in-Err.fault (IsNextWithin end (copier_next c.args.self.now.copier) at)
+    (λ memory. absurd (c.in-Err.ensures.memory (ap (λ x. Err x) memory)))
+    (λ failed. let e : ReplicaFault.Failed (g.D.Disk.fault_count c.peek.new.disk) ≡ ReplicaFault.Damaged at = (let known = (c.broken_off.ensures.failed failed).0 in cc) in absurd cc)
+    (λ k damaged.
+    let same : k ≡ at = (let known = (c.broken_off.ensures.damaged k damaged).0 in cc) in
+    subst (λ n. IsNextWithin end n at) (sym (ap copier_next c.in-Standing.is))
+    (subst (λ n. IsNextWithin end c.in-Standing.compactor.next n) same (c.in-Err.ensures.place k (ap (λ x. Err x) damaged))))
