@@ -14,9 +14,9 @@ use Rattle.hay_legal.specs.Stands.{Contents}
 use Rattle.hay_physical.specs.Copies.{Copy}
 use Rattle.hay_logical.specs.Answers.{BreaksPutOff}
 use Rattle.hay_logical.specs.Fits.{At}
-use Rattle.hay_logical.specs.Notes.{DeleteLeavesUnsure, IsBrokenOff, PutLeavesUnsure}
 use Rattle.hay_logical.specs.Refusals.{IsUntouchedBy}
 use Rattle.hay_logical.specs.Steps.{KeepsAbove, KeepsFiles}
+use Rattle.hay_logical.specs.declared.unsure.Change.TheVariants.{Delete, Put}
 use Rattle.hay_logical.specs.declared.unsure.Unsure.{Unsure}
 use Rattle.hay_logical.specs.Volumes.{Volume}
 use Rattle.hay_logical.specs.declared.fault.LogicalFault.{LogicalFault}
@@ -31,7 +31,7 @@ use Rattle.hay_cluster.specs.declared.maintenance.Maintenance.TheVariants.{Flush
 use Rattle.hay_cluster.specs.Leaving.{AddsRow, AnySlot, ComesToPend, DeleteKeeps, IsApart, IsApartOn, IsBeside, IsReplicaBeside, IsReplicaSlot, KeepsBehind, KeepsIn, LeavesByDelete, LeavesByPut, LeavesByWork, LeavesIn, LeavesReplicas, MayAddRow, MayPut, MayWork, PutKeeps, WorkKeeps}
 use Rattle.hay_cluster.specs.Maintenance.{IsRefusedAs, done_as}
 use Rattle.hay_cluster.specs.Seen.{store_seen}
-use Rattle.hay_logical.specs.Seen.{VolumeSeen, volume_seen}
+use Rattle.hay_logical.specs.Seen.{DeleteRefusedSeen, FreezesSeen, PutRefusedSeen, VolumeSeen, volume_seen}
 use Rattle.hay_cluster.specs.Puts.{IsPutReply, settle_reply}
 use Rattle.hay_cluster.specs.Store.{IsShaped, Open, contents_in, disk_of, disks_of, volume_disks}
 use Rattle.hay_cluster.proofs.Changing.{replica_machine}
@@ -237,17 +237,17 @@ module _ {D P A : Type 0} (DiskTells : Type 0) (files : D → Files) (faults fus
   called_behind tells old store v before after is shape called m above =
       subst (λ (st : Open D P A). KeepsBehind st.settings v m (contents_in files st) (contents_in files (with_one store v after))) is (behind_in tells store v before after shape called m above)
 
--- a change that was broken off is pending
-pub comes_to_pend : {D P A : Type 0} (old store : Open D P A) (v : ℕ) (before after : Volume D P) (tag : CoreTag) → store ≡ old → At store.volumes v before → IsBrokenOff tag before.unsure after.unsure
-    → ComesToPend v (store_seen old).volumes (store_seen (with_one store v after)).volumes
-comes_to_pend old store v before after tag is at broken = record {
+-- a change that froze its volume is pending
+pub comes_to_pend : {D P A : Type 0} (old store : Open D P A) (v : ℕ) (before after : Volume D P) (m : ℕ) (change : Unsure) → store ≡ old → At store.volumes v before
+    → FreezesSeen m (Some change) (volume_seen before) (volume_seen after) → ComesToPend v (store_seen old).volumes (store_seen (with_one store v after)).volumes
+comes_to_pend old store v before after m change is at freezes = record {
   before = volume_seen before;
   after = volume_seen after;
   was = seen_at old store is v before at;
   is = map-at volume_seen (slice_set store.volumes v after) v after (slice_get-set store.volumes v before after at);
-  settled = broken.settled;
-  change = record { tag = tag; change = broken.change };
-  pends = broken.is;
+  settled = freezes.settled;
+  change = change;
+  pends = freezes.unsure;
 }
 
 -- PUTS AND DELETES
@@ -262,41 +262,40 @@ pub keeps-fewer : (settings : Settings) (Among : ℕ → Type 0) (old new : ℕ 
 keeps-fewer settings Among old new keeps slot file within among = keeps slot file within tt
 
 -- What a refusal leaves, by whether the change is pending.
-module _ (settings : Settings) (v : ℕ) (pending pending' : List VolumeSeen) (old new : ℕ → Contents) (tag : CoreTag) (before after : Option Unsure)
-    (keeps : after ≡ before → KeepsIn settings AnySlot old new) (broke : IsBrokenOff tag before after → ComesToPend v pending pending') where
+module _ (settings : Settings) (v : ℕ) (pending pending' : List VolumeSeen) (old new : ℕ → Contents) (tag : CoreTag) (before after : VolumeSeen)
+    (keeps : after.unsure ≡ before.unsure → KeepsIn settings AnySlot old new)
+    (pends : (m : ℕ) (change : Unsure) → FreezesSeen m (Some change) before after → ComesToPend v pending pending') where
   abbrev Behind : LogicalFault → Type 0
   Behind fault = (m f : ℕ) → fault ≡ refusal.Failed m f → KeepsBehind settings v m old new
 
-  memory_kept : (after ≡ before) ⊎ IsBrokenOff tag before after → ComesToPend v pending pending' ⊎ KeepsIn settings AnySlot old new
-  memory_kept (inl same) = inr (keeps same)
-  memory_kept (inr broken) = inl (broke broken)
+  same_kept : after ≡ before → KeepsIn settings AnySlot old new
+  same_kept same = keeps (ap (λ (s : VolumeSeen). s.unsure) same)
 
-  pub put_keeps : (fault : LogicalFault) → PutLeavesUnsure tag before after fault → Behind fault → PutKeeps settings v pending pending' old new fault
-  put_keeps (refusal.Failed m f) left behind = behind m f refl
-  put_keeps refusal.NoMemory left behind = memory_kept left
-  put_keeps (refusal.ReadOnly m) left behind = keeps left
-  put_keeps (refusal.Full m end need capacity) left behind = keeps left
-  put_keeps (refusal.Gone front) left behind = tt
-  put_keeps (refusal.Busy m generation) left behind = tt
-  put_keeps (refusal.Worn m) left behind = tt
-  put_keeps refusal.Idle left behind = tt
-  put_keeps (refusal.Damaged m at) left behind = tt
+  pub put_keeps : (called : Settings) (number size : ℕ) (fault : LogicalFault) → PutRefusedSeen called number tag size before after fault → Behind fault
+      → PutKeeps settings v pending pending' old new fault
+  put_keeps called number size (refusal.Failed m f) refused behind = behind m f refl
+  put_keeps called number size refusal.NoMemory (inl same) behind = inr (same_kept same.1)
+  put_keeps called number size refusal.NoMemory (inr breaks) behind =
+      inl (pends (machine_of called number 0) (record { tag = tag; change = Put breaks.ends }) breaks.freezes)
+  put_keeps called number size (refusal.ReadOnly m) refused behind = same_kept refused.0
+  put_keeps called number size (refusal.Full m end need capacity) refused behind = same_kept refused.0
+  put_keeps called number size (refusal.Gone front) refused behind = absurd refused
+  put_keeps called number size (refusal.Busy m generation) refused behind = absurd refused
+  put_keeps called number size (refusal.Worn m) refused behind = absurd refused
+  put_keeps called number size refusal.Idle refused behind = absurd refused
+  put_keeps called number size (refusal.Damaged m at) refused behind = absurd refused
 
-  failed_kept : (m f : ℕ) → (after ≡ before) ⊎ IsBrokenOff tag before after → KeepsBehind settings v m old new
-      → (ComesToPend v pending pending' × KeepsBehind settings v m old new) ⊎ KeepsIn settings AnySlot old new
-  failed_kept m f (inl same) behind = inr (keeps same)
-  failed_kept m f (inr broken) behind = inl (broke broken, behind)
-
-  pub delete_keeps : (fault : LogicalFault) → DeleteLeavesUnsure tag before after fault → Behind fault → DeleteKeeps settings v pending pending' old new fault
-  delete_keeps (refusal.Failed m f) left behind = failed_kept m f left (behind m f refl)
-  delete_keeps refusal.NoMemory left behind = keeps left
-  delete_keeps (refusal.ReadOnly m) left behind = keeps left
-  delete_keeps (refusal.Full m end need capacity) left behind = keeps left
-  delete_keeps (refusal.Gone front) left behind = keeps left
-  delete_keeps (refusal.Busy m generation) left behind = keeps left
-  delete_keeps (refusal.Worn m) left behind = keeps left
-  delete_keeps refusal.Idle left behind = keeps left
-  delete_keeps (refusal.Damaged m at) left behind = keeps left
+  pub delete_keeps : (pair : Pair) (fault : LogicalFault) → DeleteRefusedSeen tag pair before after fault → Behind fault → DeleteKeeps settings v pending pending' old new fault
+  delete_keeps pair (refusal.Failed m f) (inl same) behind = inr (same_kept same.1)
+  delete_keeps pair (refusal.Failed m f) (inr freezes) behind = inl (pends m (record { tag = tag; change = Delete pair }) freezes, behind m f refl)
+  delete_keeps pair refusal.NoMemory refused behind = same_kept refused.1
+  delete_keeps pair (refusal.ReadOnly m) refused behind = same_kept refused.0
+  delete_keeps pair (refusal.Gone front) refused behind = same_kept (refused.0).1
+  delete_keeps pair (refusal.Damaged m at) refused behind = same_kept refused.1
+  delete_keeps pair (refusal.Full m end need capacity) refused behind = absurd refused
+  delete_keeps pair (refusal.Busy m generation) refused behind = absurd refused
+  delete_keeps pair (refusal.Worn m) refused behind = absurd refused
+  delete_keeps pair refusal.Idle refused behind = absurd refused
 
 -- THE REPLIES OF PUTS AND DELETES
 

@@ -1,15 +1,15 @@
-use Rattle.std.proofs.Common.{◌≡◌, ℕ, Option, ◌<◌, List, ap, length, sym, subst, ◌∙◌, arith}
+use Rattle.std.proofs.Common.{◌≡◌, ℕ, Some, ◌<◌, List, ap, length, sym, subst, ◌∙◌, arith}
 use Rattle.std.specs.Prelude.{Result, Ok, Err, IfErr, OnErr, slice_index_or, slice_set}
 use Rattle.std.proofs.lemmas.List.{with_items_is}
 use Rattle.std.proofs.lemmas.Result.{IfErr-weaker, IfOk-weaker, on_ok_weaker}
 use borrow.Author.Rules.{scaled_Fits}
 use Rattle.hay_core.specs.declared.entry.CoreTag.{CoreTag}
+use Rattle.hay_needle.specs.declared.needle.Pair.{Pair}
 use Rattle.hay_needle.specs.declared.settings.Settings.{Settings}
 use Rattle.hay_legal.specs.Stands.{Contents}
 use Rattle.hay_logical.specs.declared.fault.LogicalFault.{LogicalFault}
 use Rattle.hay_logical.specs.declared.fault.LogicalFault.TheVariants as refusal
 use Rattle.hay_logical.specs.declared.unsure.Unsure.{Unsure}
-use Rattle.hay_logical.specs.Notes.{DeleteLeavesUnsure, IsBrokenOff}
 use Rattle.hay_logical.specs.Steps.{KeepsFiles}
 use Rattle.hay_logical.specs.Fits.{At}
 use Rattle.hay_logical.specs.Volumes.{Volume}
@@ -20,19 +20,20 @@ use Rattle.hay_cluster.proofs.Lists.{length-set, map-at, slice_get-set}
 use Rattle.hay_cluster.proofs.Moves.{Called, called_fuses, called_later, called_shape, in_volume, with_one, volume_of}
 use Rattle.hay_cluster.specs.Leaving.{AnySlot, DeleteKeeps, IsBeside, KeepsIn, LeavesIn, ComesToPend, KeepsBehind}
 use Rattle.hay_cluster.proofs.Leaving.{called_keeps, called_leaves, delete_keeps, called_behind, comes_to_pend}
-use Rattle.hay_logical.specs.Seen.{DeleteRefusedSeen, HideSeen, VolumeSeen, volume_seen}
+use Rattle.hay_logical.specs.Seen.{FreezesSeen, DeleteRefusedSeen, HideSeen, VolumeSeen, volume_seen}
 use Rattle.hay_cluster.proofs.Seeing.{volume_moves}
 use Rattle.hay_cluster.specs.Seen.{store_seen}
 use Rattle.hay_cluster.proofs.Sighting.{runs_end, volume_photos}
 use Rattle.hay_logical.specs.Sights.{DeletesSights, DeleteRefusedSights, sights_of}
 use Rattle.hay_cluster.proofs.cluster.Cluster.delete_in.Goals as goal
 
-refused_keeps : {T : Type 0} (settings : Settings) (v : ℕ) (pending pending' : List VolumeSeen) (old new : ℕ → Contents) (tag : CoreTag) (before after : Option Unsure) (Kept : Type 0) (r : Result T LogicalFault)
-    → IfErr r (DeleteLeavesUnsure tag before after) → OnErr r (after ≡ before → Kept) → (Kept → KeepsIn settings AnySlot old new) → (IsBrokenOff tag before after → ComesToPend v pending pending')
-    → ((m f : ℕ) → r ≡ Err (refusal.Failed m f) → KeepsBehind settings v m old new) → IfErr r (DeleteKeeps settings v pending pending' old new)
-refused_keeps settings v pending pending' old new tag before after Kept (Ok x) left files keeps broke behind = tt
-refused_keeps settings v pending pending' old new tag before after Kept (Err fault) left files keeps broke behind =
-    delete_keeps settings v pending pending' old new tag before after (λ same. keeps (files same)) broke fault left (λ m f is. behind m f (ap Err is))
+refused_keeps : {T : Type 0} (settings : Settings) (v : ℕ) (pending pending' : List VolumeSeen) (old new : ℕ → Contents) (tag : CoreTag) (before after : VolumeSeen) (pair : Pair) (Kept : Type 0)
+    (r : Result T LogicalFault) → IfErr r (DeleteRefusedSeen tag pair before after) → OnErr r (after.unsure ≡ before.unsure → Kept) → (Kept → KeepsIn settings AnySlot old new)
+    → ((m : ℕ) (change : Unsure) → FreezesSeen m (Some change) before after → ComesToPend v pending pending') → ((m f : ℕ) → r ≡ Err (refusal.Failed m f) → KeepsBehind settings v m old new)
+    → IfErr r (DeleteKeeps settings v pending pending' old new)
+refused_keeps settings v pending pending' old new tag before after pair Kept (Ok x) refused files keeps pends behind = tt
+refused_keeps settings v pending pending' old new tag before after pair Kept (Err fault) refused files keeps pends behind =
+    delete_keeps settings v pending pending' old new tag before after (λ same. keeps (files same)) pends pair fault refused (λ m f is. behind m f (ap Err is))
 
 pub offset_bounds-as_mut_slice-volume : goal.offset_bounds-as_mut_slice-volume
 offset_bounds-as_mut_slice-volume g c =
@@ -147,8 +148,9 @@ returns-clause-kept g c = λ tells.
     called_keeps g.D.Disk.files g.D.Disk.Tells settings c.args.self.now store c.args.volume volume c.delete.new.self tells c.self.view_is at (c.delete.ensures.counts).count files in
     subst (λ (vs : List (Volume g.row.D.Denot g.row.D-Piece.Denot)). let next : Open g.row.D.Denot g.row.D-Piece.Denot g.row.A.Denot = record store { volumes = vs } in
     IfErr c.delete.result (DeleteKeeps settings c.args.volume (store_seen c.args.self.now).volumes (store_seen next).volumes (contents_in g.D.Disk.files c.args.self.now) (contents_in g.D.Disk.files next))) (sym items)
-    (refused_keeps settings c.args.volume (store_seen c.args.self.now).volumes (store_seen (with_one store c.args.volume c.delete.new.self)).volumes (contents_in g.D.Disk.files c.args.self.now) (contents_in g.D.Disk.files (with_one store c.args.volume c.delete.new.self)) c.args.tag volume.unsure c.delete.new.self.unsure _ c.delete.result c.delete.ensures.refused_unsure c.delete.ensures.files keeps
-    (λ broken. comes_to_pend c.args.self.now store c.args.volume volume c.delete.new.self c.args.tag c.self.view_is at broken)
+    (refused_keeps settings c.args.volume (store_seen c.args.self.now).volumes (store_seen (with_one store c.args.volume c.delete.new.self)).volumes (contents_in g.D.Disk.files c.args.self.now) (contents_in g.D.Disk.files (with_one store c.args.volume c.delete.new.self)) c.args.tag (volume_seen volume) (volume_seen c.delete.new.self) c.args.pair _ c.delete.result
+    c.delete.ensures.refused_seen c.delete.ensures.files keeps
+    (λ m change freezes. comes_to_pend c.args.self.now store c.args.volume volume c.delete.new.self m change c.self.view_is at freezes)
     (λ m f is. called_behind g.D.Disk.Tells g.D.Disk.files g.D.Disk.fault_count g.D.Disk.fuse_count tells c.args.self.now store c.args.volume volume c.delete.new.self c.self.view_is c.self.invariant called m (c.delete.ensures.above m f is)))
 
 pub returns-clause-seen : goal.returns-clause-seen

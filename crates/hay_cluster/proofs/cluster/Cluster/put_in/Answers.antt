@@ -1,4 +1,4 @@
-use Rattle.std.proofs.Common.{◌≡◌, ◌<◌, List, ap, length, sym, subst, ◌∙◌, arith, ℕ, Option}
+use Rattle.std.proofs.Common.{◌≡◌, ◌<◌, List, ap, length, sym, subst, ◌∙◌, arith, ℕ, Some}
 use Rattle.std.specs.Prelude.{Result, Ok, Err, IfErr, slice_index_or, slice_set, OnErr}
 use Rattle.std.proofs.lemmas.List.{with_items_is}
 use Rattle.std.proofs.lemmas.Result.{IfErr-weaker, IfOk-weaker, on_ok_weaker, on_err_weaker}
@@ -18,9 +18,8 @@ use Rattle.hay_legal.specs.Stands.{Contents}
 use Rattle.hay_logical.specs.declared.fault.LogicalFault.{LogicalFault}
 use Rattle.hay_logical.specs.declared.fault.LogicalFault.TheVariants as refusal
 use Rattle.hay_logical.specs.declared.unsure.Unsure.{Unsure}
-use Rattle.hay_logical.specs.Notes.{IsBrokenOff, PutLeavesUnsure}
 use Rattle.hay_logical.specs.Steps.{KeepsFiles}
-use Rattle.hay_logical.specs.Seen.{PutRefusedSeen, PutSeen, volume_seen, VolumeSeen}
+use Rattle.hay_logical.specs.Seen.{FreezesSeen, PutRefusedSeen, PutSeen, volume_seen, VolumeSeen}
 use Rattle.hay_cluster.proofs.Moves.{volume_of}
 use Rattle.hay_cluster.proofs.Seeing.{volume_moves}
 use Rattle.hay_cluster.specs.Seen.{store_seen}
@@ -28,12 +27,13 @@ use Rattle.hay_cluster.proofs.Sighting.{volume_kept_photos, volume_photos}
 use Rattle.hay_logical.specs.Sights.{StoresSights, sights_of}
 use Rattle.hay_cluster.proofs.cluster.Cluster.put_in.Goals as goal
 
-refused_keeps : {T : Type 0} (settings : Settings) (v : ℕ) (pending pending' : List VolumeSeen) (old new : ℕ → Contents) (tag : CoreTag) (before after : Option Unsure) (Kept : Type 0) (r : Result T LogicalFault)
-    → IfErr r (PutLeavesUnsure tag before after) → OnErr r (after ≡ before → Kept) → (Kept → KeepsIn settings AnySlot old new) → (IsBrokenOff tag before after → ComesToPend v pending pending')
-    → ((m f : ℕ) → r ≡ Err (refusal.Failed m f) → KeepsBehind settings v m old new) → IfErr r (PutKeeps settings v pending pending' old new)
-refused_keeps settings v pending pending' old new tag before after Kept (Ok x) left files keeps broke behind = tt
-refused_keeps settings v pending pending' old new tag before after Kept (Err fault) left files keeps broke behind =
-    put_keeps settings v pending pending' old new tag before after (λ same. keeps (files same)) broke fault left (λ m f is. behind m f (ap Err is))
+refused_keeps : {T : Type 0} (settings : Settings) (v : ℕ) (pending pending' : List VolumeSeen) (old new : ℕ → Contents) (tag : CoreTag) (before after : VolumeSeen) (called : Settings) (number size : ℕ) (Kept : Type 0)
+    (r : Result T LogicalFault) → IfErr r (PutRefusedSeen called number tag size before after) → OnErr r (after.unsure ≡ before.unsure → Kept) → (Kept → KeepsIn settings AnySlot old new)
+    → ((m : ℕ) (change : Unsure) → FreezesSeen m (Some change) before after → ComesToPend v pending pending') → ((m f : ℕ) → r ≡ Err (refusal.Failed m f) → KeepsBehind settings v m old new)
+    → IfErr r (PutKeeps settings v pending pending' old new)
+refused_keeps settings v pending pending' old new tag before after called number size Kept (Ok x) refused files keeps pends behind = tt
+refused_keeps settings v pending pending' old new tag before after called number size Kept (Err fault) refused files keeps pends behind =
+    put_keeps settings v pending pending' old new tag before after (λ same. keeps (files same)) pends called number size fault refused (λ m f is. behind m f (ap Err is))
 
 pub offset_bounds-as_mut_slice-volume : goal.offset_bounds-as_mut_slice-volume
 offset_bounds-as_mut_slice-volume g c =
@@ -158,8 +158,9 @@ returns-clause-kept g c = λ tells.
     called_keeps g.D.Disk.files g.D.Disk.Tells settings c.args.self.now store c.args.volume volume c.put.new.self tells c.self.view_is at (c.put.ensures.counts).count files in
     subst (λ (vs : List (Volume g.row.D.Denot g.row.D-Piece.Denot)). let next : Open g.row.D.Denot g.row.D-Piece.Denot g.row.A.Denot = record store { volumes = vs } in
     IfErr c.put.result (PutKeeps settings c.args.volume (store_seen c.args.self.now).volumes (store_seen next).volumes (contents_in g.D.Disk.files c.args.self.now) (contents_in g.D.Disk.files next))) (sym items)
-    (refused_keeps settings c.args.volume (store_seen c.args.self.now).volumes (store_seen (with_one store c.args.volume c.put.new.self)).volumes (contents_in g.D.Disk.files c.args.self.now) (contents_in g.D.Disk.files (with_one store c.args.volume c.put.new.self)) c.args.tag volume.unsure c.put.new.self.unsure _ c.put.result c.put.ensures.refused_unsure c.put.ensures.files keeps
-    (λ broken. comes_to_pend c.args.self.now store c.args.volume volume c.put.new.self c.args.tag c.self.view_is at broken)
+    (refused_keeps settings c.args.volume (store_seen c.args.self.now).volumes (store_seen (with_one store c.args.volume c.put.new.self)).volumes (contents_in g.D.Disk.files c.args.self.now) (contents_in g.D.Disk.files (with_one store c.args.volume c.put.new.self)) c.args.tag (volume_seen volume) (volume_seen c.put.new.self) volume.settings volume.number (length c.args.bytes.now) _ c.put.result
+    c.put.ensures.refused_seen c.put.ensures.files keeps
+    (λ m change freezes. comes_to_pend c.args.self.now store c.args.volume volume c.put.new.self m change c.self.view_is at freezes)
     (λ m f is. called_behind g.D.Disk.Tells g.D.Disk.files g.D.Disk.fault_count g.D.Disk.fuse_count tells c.args.self.now store c.args.volume volume c.put.new.self c.self.view_is c.self.invariant called m (c.put.ensures.above m f is)))
 
 pub returns-clause-seen : goal.returns-clause-seen
