@@ -1,7 +1,6 @@
 -- Answers, from what was done.
 use Rattle.std.proofs.Common.{◌≡◌, ℕ, ◌≤◌, true, false, List, [], ◌∷◌, length, map, Option, Some, None, refl, sym, ap, subst, ◌∙◌, inl, inr, arith}
 use Rattle.std.specs.Prelude.{find, is_none, slice_index, Err, Result, IsErrOf}
-use Rattle.std.specs.List.{AllByRecursion}
 use Rattle.std.proofs.lemmas.Bool.{cases_Bool, cond-true, cond-false}
 use Rattle.hay_needle.specs.declared.needle.Pair.{Pair}
 use Rattle.hay_needle.specs.declared.settings.Settings.{Settings}
@@ -9,18 +8,15 @@ use Rattle.hay_disk.specs.Counts.{Rose}
 use Rattle.hay_disk.specs.Disk.{Files}
 use Rattle.hay_script.specs.declared.Command.{Command}
 use Rattle.hay_script.specs.declared.Command.TheVariants as command
-use Rattle.hay_reply.specs.declared.Cause.{Cause}
-use Rattle.hay_reply.specs.declared.Cause.TheVariants.{Arm, Disk, Damage}
-use Rattle.hay_reply.specs.declared.Passed.{Passed}
 use Rattle.hay_reply.specs.declared.Reply.{Reply}
 use Rattle.hay_reply.specs.declared.Reply.TheVariants as reply
 use Rattle.hay_core.specs.declared.entry.CoreTag.{CoreTag}
 use Rattle.hay_legal.specs.declared.known.Known.{Known}
-use Rattle.hay_legal.specs.Known.{CameUp, Leaves, NoneFalls, fault_count, home_of, refusal_of, replica_on, slot_of, taker_of, tries_of}
+use Rattle.hay_legal.specs.Known.{Leaves, NoneFalls, fault_count, home_of, refusal_of, replica_on, slot_of, taker_of, tries_of}
 use Rattle.hay_legal.specs.Plain.{LegalCommand, row_pending}
 use Rattle.hay_directory.specs.declared.fault.DirFault.{DirFault}
 use Rattle.hay_directory.specs.declared.fault.DirFault.TheVariants as settling
-use Rattle.hay_cluster.specs.Causes.{CauseCameUp, Counts, IsCaused, RoseAt, RoseIn, SetsFuse, SetsFuseOn}
+use Rattle.hay_cluster.specs.Causes.{IsCaused, RoseAt, RoseIn, SetsFuse, SetsFuseOn}
 use Rattle.hay_cluster.specs.Parts.{Comes}
 use Rattle.hay_cluster.specs.Puts.{settle_reply}
 use Rattle.hay_cluster.specs.State.{Answered, Stands}
@@ -86,23 +82,10 @@ rose_at_earlier settings v m f before mid after falls rose = record {
   told = rose.told;
 }
 
-causes_earlier : (settings : Settings) (lane v : ℕ) (before mid after : Counts) (passed : List Passed) → NoneFalls before.disks mid.disks → mid.arms ≡ before.arms
-    → AllByRecursion (λ over. CauseCameUp settings lane v mid after over.machine over.cause) passed → AllByRecursion (λ over. CauseCameUp settings lane v before after over.machine over.cause) passed
-causes_earlier settings lane v before mid after [] falls arms all = tt
-causes_earlier settings lane v before mid after (over ∷ passed) falls arms all = (one over.machine over.cause all.0, causes_earlier settings lane v before mid after passed falls arms all.1)
-  where
-    one : (m : ℕ) (cause : Cause) → CauseCameUp settings lane v mid after m cause → CauseCameUp settings lane v before after m cause
-    one m (Arm f) h = subst (λ ns. CameUp (slice_index ns lane) f (slice_index after.arms lane)) arms h
-    one m (Disk f) h = rose_at_earlier settings v m f before.disks mid.disks after.disks falls h
-    one m (Damage at) h = tt
-
-pub cause_earlier : (settings : Settings) (lane : ℕ) (before mid after : Counts) (answer : Reply) → NoneFalls before.disks mid.disks → mid.arms ≡ before.arms → IsCaused settings lane mid after answer → IsCaused settings lane before after answer
-cause_earlier settings lane before mid after (reply.Failed v m f) falls arms cause = rose_at_earlier settings v m f before.disks mid.disks after.disks falls cause
-cause_earlier settings lane before mid after (reply.FailedDir f) falls arms cause =
-    (rose_earlier (slice_index before.disks 0) (slice_index mid.disks 0) (slice_index after.disks 0) (falls_at before.disks mid.disks 0 falls) cause.0, cause.1)
-cause_earlier settings lane before mid after (reply.Unreadable v p d passed) falls arms cause =
-    record { rises = cause.rises; each = causes_earlier settings lane v before mid after passed falls arms cause.each }
-cause_earlier settings lane before mid after _ falls arms cause = tt
+pub cause_earlier : (settings : Settings) (before mid after : List ℕ) (answer : Reply) → NoneFalls before mid → IsCaused settings mid after answer → IsCaused settings before after answer
+cause_earlier settings before mid after (reply.Failed v m f) falls cause = rose_at_earlier settings v m f before mid after falls cause
+cause_earlier settings before mid after (reply.FailedDir f) falls cause = (rose_earlier (slice_index before 0) (slice_index mid 0) (slice_index after 0) (falls_at before mid 0 falls) cause.0, cause.1)
+cause_earlier settings before mid after _ falls cause = tt
 
 -- A PAIR THAT GOT NO HOME
 

@@ -24,6 +24,7 @@ pub mod OpeningStore
 pub mod OpeningTaken
 pub mod OpeningVoid
 pub mod OpeningVolumes
+pub mod Passing
 pub mod Puts
 pub mod ReadSights
 pub mod Refusals

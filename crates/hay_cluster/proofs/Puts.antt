@@ -24,7 +24,7 @@ use Rattle.hay_logical.specs.declared.fault.LogicalFault.{LogicalFault}
 use Rattle.hay_logical.specs.declared.fault.LogicalFault.TheVariants.{ReadOnly, Full, Failed, NoMemory}
 use Rattle.hay_logical.specs.Stands as logical
 use Rattle.hay_logical.specs.Volumes.{Volume}
-use Rattle.hay_cluster.specs.Causes.{Counts, IsCaused, IsPutCause, RoseAt}
+use Rattle.hay_cluster.specs.Causes.{IsCaused, IsPutCause, RoseAt}
 use Rattle.hay_cluster.specs.Parts.{Comes}
 use Rattle.hay_cluster.specs.declared.put.Tried.TheVariants.{Taker}
 use Rattle.hay_cluster.specs.Puts.{IsPutReply, IsRefusal, IsTried, StoredAs, Stores}
@@ -75,11 +75,11 @@ one_more settings k pair size turn v refused refusal is refuses others =
     ∙ sym (map-append Some refused (refusal ∷ []))
 
 -- a refusal has no cause to tell
-pub refusal_caused : (settings : Settings) (lane : ℕ) (before after : Counts) (refused : List Refused) (answer : Reply) → IsRefusal refused answer → IsCaused settings lane before after answer
-refusal_caused settings lane before after refused (reply.Full tries) told = tt
-refusal_caused settings lane before after refused (reply.ReadOnly closed) told = tt
-refusal_caused settings lane before after refused reply.NoMem told = tt
-refusal_caused settings lane before after refused _ told = absurd told
+pub refusal_caused : (settings : Settings) (before after : List ℕ) (refused : List Refused) (answer : Reply) → IsRefusal refused answer → IsCaused settings before after answer
+refusal_caused settings before after refused (reply.Full tries) told = tt
+refusal_caused settings before after refused (reply.ReadOnly closed) told = tt
+refusal_caused settings before after refused reply.NoMem told = tt
+refusal_caused settings before after refused _ told = absurd told
 
 -- LEGALITY
 
@@ -253,9 +253,9 @@ module _ {D P A : Type 0} (files : D → Files) (Tells : Type 0) (faults fuses :
   put_refused old new k tag pair bytes v cookie _ answer before after own within stood takes was cause refused comes told = absurd refused
 
 -- a put that a volume did not store tells of a failure only with its cause
-pub put_caused : (settings : Settings) (lane v : ℕ) (before after : Counts) (fault : LogicalFault) (answer : Reply) → IsPutCause settings v before.disks after.disks fault → IsPutReply v fault answer → IsCaused settings lane before after answer
-put_caused settings lane v before after (ReadOnly m) answer cause told = refusal_caused settings lane before after (Closed v m ∷ []) answer told
-put_caused settings lane v before after (Full m end need capacity) answer cause told = refusal_caused settings lane before after (NoRoom v m end need ∷ []) answer told
-put_caused settings lane v before after (Failed m f) answer cause told = subst (λ (r : Reply). IsCaused settings lane before after r) (sym told) cause.1
-put_caused settings lane v before after NoMemory answer cause told = subst (λ (r : Reply). IsCaused settings lane before after r) (sym told) tt
-put_caused settings lane v before after _ answer cause told = absurd told
+pub put_caused : (settings : Settings) (v : ℕ) (before after : List ℕ) (fault : LogicalFault) (answer : Reply) → IsPutCause settings v before after fault → IsPutReply v fault answer → IsCaused settings before after answer
+put_caused settings v before after (ReadOnly m) answer cause told = refusal_caused settings before after (Closed v m ∷ []) answer told
+put_caused settings v before after (Full m end need capacity) answer cause told = refusal_caused settings before after (NoRoom v m end need ∷ []) answer told
+put_caused settings v before after (Failed m f) answer cause told = subst (λ (r : Reply). IsCaused settings before after r) (sym told) cause.1
+put_caused settings v before after NoMemory answer cause told = subst (λ (r : Reply). IsCaused settings before after r) (sym told) tt
+put_caused settings v before after _ answer cause told = absurd told

@@ -1,19 +1,17 @@
 -- What a read sees of the photo of a pair.
 use Rattle.std.proofs.Common.{◌≡◌, Bool, ℕ, ◌+◌, ◌%◌, ◌<◌, List, [], ◌∷◌, ◌++◌, length, map, refl, sym, ap, subst, ◌∙◌, arith}
-use Rattle.std.specs.Prelude.{Err, Ok}
+use Rattle.std.specs.Prelude.{Ok}
 use Rattle.std.specs.List.{AllByRecursion}
 use Rattle.std.proofs.Math.Nat.{mod-lt}
-use Rattle.std.proofs.lemmas.List.{take-append-drop}
 use Rattle.hay_needle.specs.declared.needle.Cookie.{Cookie}
 use Rattle.hay_needle.specs.declared.needle.Pair.{Pair}
 use Rattle.hay_needle.specs.declared.settings.Settings.{Settings}
 use Rattle.hay_map.specs.declared.place.Place.{Place}
 use Rattle.hay_map.specs.declared.place.Place.TheVariants as place
 use Rattle.hay_map.specs.Places.{place_in}
-use Rattle.hay_reply.specs.declared.Cause.{Cause}
 use Rattle.hay_reply.specs.declared.Passed.{Passed}
 use Rattle.hay_legal.specs.Known.{machine_of, replica_on}
-use Rattle.hay_reader.specs.Causes.{ArmUse, ComeFirst, PassesRow, passed_now}
+use Rattle.hay_reader.specs.Causes.{ArmUse, ComeFirst}
 use Rattle.hay_reader.specs.Shown.{ReadsRow, ShowsRead, reply_at}
 use Rattle.hay_reader.specs.Tried.{IsRead, PlaceGives, ShowsSeen}
 use Rattle.hay_reader.specs.declared.causes.PassedReplica.{PassedReplica}
@@ -25,7 +23,7 @@ use Rattle.hay_reader.proofs.Passing.{all_weaken}
 use Rattle.hay_logical.specs.Sights.{SeesPair, Sight, Sights, sight}
 use Rattle.hay_logical.specs.Sights.Sight.{Live, Unseen}
 use Rattle.hay_cluster.specs.declared.reading.Found.{Found}
-use Rattle.hay_cluster.specs.Reads.{FoundSees, IsFoundAs, ReadSees, passed_at}
+use Rattle.hay_cluster.specs.Reads.{FoundSees, IsFoundAs, MayHave, ReadSees, passed_at}
 use Rattle.hay_cluster.specs.Seen.{StoreSeen}
 use Rattle.hay_cluster.specs.Sights.{IsAbsent, MayStand, SeesOn}
 use Rattle.hay_cluster.specs.Store.{IsBuilt}
@@ -54,34 +52,15 @@ module _ {P : Type 0} (Tells : Type 0) (sure : Bool) (cookie : Cookie) (put : Li
   gives_unseen place.Gone gives = absurd cc
   gives_unseen (place.Unseen at size) gives = refl
 
-  -- and one that was passed over may
-  gives_cause : (there : Place P) (cause : Cause) → PlaceGives Tells sure cookie put there (Err cause) → MayStand (sight there)
-  gives_cause (place.Live needle) cause gives = tt
-  gives_cause place.None cause gives = absurd cc
-  gives_cause place.Gone cause gives = absurd cc
-  gives_cause (place.Unseen at size) cause gives = absurd cc
-
 -- ROWS
 
 module _ {P : Type 0} (Tells : Type 0) (arm : ArmUse) (start : ℕ) (row : List (Place P)) (cookie : Cookie) (passed : List PassedReplica) where
-  abbrev Stands : PassedReplica → Type 0
-  Stands over = MayStand (sight (place_in row over.replica))
-
-  row_over : (causes : List PassedReplica) → AllByRecursion Stands passed → PassesRow Tells arm start row cookie passed causes → AllByRecursion Stands causes
-  row_over causes before h =
-      let now : List PassedReplica = passed_now passed causes in
-      let parts : causes ≡ passed ++ now = sym (take-append-drop (length passed) causes) ∙ ap (λ (xs : List PassedReplica). xs ++ now) (h.passes).begins in
-      subst (λ (xs : List PassedReplica). AllByRecursion Stands xs) (sym parts)
-      (all_append Stands passed now before
-      (all_weaken (λ over. PlaceGives Tells arm.sure cookie [] (place_in row over.replica) (Err over.cause)) Stands
-      (λ over gives. gives_cause Tells arm.sure cookie [] (place_in row over.replica) over.cause gives) now h.places))
-
-  pub row_sees : (put : List ℕ) (reply : ReadReply) → AllByRecursion Stands passed → ReadsRow Tells arm start row cookie passed put reply → ReadSees (λ j. sight (place_in row j)) reply
-  row_sees put (read.Photo j) before h = gives_live Tells arm.sure cookie put (place_in row j) shown.Photo tt h.1.gives
-  row_sees put (read.Gone j) before h = gives_none Tells arm.sure cookie put (place_in row j) h.1.gives
-  row_sees put (read.WrongCookie j) before h = gives_live Tells arm.sure cookie put (place_in row j) shown.WrongCookie tt h.1.gives
-  row_sees put (read.Unseen j causes) before h = (gives_unseen Tells arm.sure cookie put (place_in row j) h.gives, row_over causes before h.before)
-  row_sees put (read.Unreadable causes) before h = row_over causes before h.0
+  pub row_sees : (put : List ℕ) (reply : ReadReply) → ReadsRow Tells arm start row cookie passed put reply → ReadSees (λ j. sight (place_in row j)) reply
+  row_sees put (read.Photo j) h = gives_live Tells arm.sure cookie put (place_in row j) shown.Photo tt h.1.gives
+  row_sees put (read.Gone j) h = gives_none Tells arm.sure cookie put (place_in row j) h.1.gives
+  row_sees put (read.WrongCookie j) h = gives_live Tells arm.sure cookie put (place_in row j) shown.WrongCookie tt h.1.gives
+  row_sees put (read.Unseen j causes) h = gives_unseen Tells arm.sure cookie put (place_in row j) h.gives
+  row_sees put (read.Unreadable causes) h = tt
 
 module _ {P : Type 0} (row : List (Place P)) (cookie : Cookie) (passed : List PassedReplica) where
   -- what was read to see the place of the next replica shows it
@@ -109,33 +88,29 @@ sees_in {P} row now seen reply is same sees = go reply sees
     here : (j : ℕ) → sight (place_in row j) ≡ seen j
     here j = ap (λ (l : List (Place P)). sight (place_in l j)) is ∙ sym (same j)
 
-    over : (causes : List PassedReplica) → AllByRecursion (λ p. MayStand (sight (place_in row p.replica))) causes → AllByRecursion (λ p. MayStand (seen p.replica)) causes
-    over causes all = all_weaken (λ p. MayStand (sight (place_in row p.replica))) (λ p. MayStand (seen p.replica)) (λ p may. subst MayStand (here p.replica) may) causes all
-
     go : (r : ReadReply) → ReadSees (λ j. sight (place_in row j)) r → ReadSees seen r
     go (read.Photo j) s = sym (here j) ∙ s
     go (read.Gone j) s = subst IsAbsent (here j) s
     go (read.WrongCookie j) s = sym (here j) ∙ s
-    go (read.Unseen j causes) s = (sym (here j) ∙ s.0, over causes s.1)
-    go (read.Unreadable causes) s = over causes s
+    go (read.Unseen j causes) s = sym (here j) ∙ s
+    go (read.Unreadable causes) s = tt
 
 -- REPLICAS THAT WERE PASSED OVER
 
-pub may_stand_as : (seen now : ℕ → Sight) (causes : List PassedReplica) → ((j : ℕ) → now j ≡ seen j) → AllByRecursion (λ over. MayStand (seen over.replica)) causes
-    → AllByRecursion (λ over. MayStand (now over.replica)) causes
+pub may_stand_as : (seen now : ℕ → Sight) (causes : List PassedReplica) → ((j : ℕ) → now j ≡ seen j) → MayHave seen causes → MayHave now causes
 may_stand_as seen now causes same all =
     all_weaken (λ over. MayStand (seen over.replica)) (λ over. MayStand (now over.replica)) (λ over may. subst MayStand (sym (same over.replica)) may) causes all
 
 -- the place of another replica was looked at
 pub may_stand_still : (pair : Pair) (replica : ℕ) (old new : Sights) (causes : List PassedReplica) → SeesPair pair replica old new → AllByRecursion (λ over. over.replica ≡ replica → ⊥) causes
-    → AllByRecursion (λ over. MayStand (old pair over.replica)) causes → AllByRecursion (λ over. MayStand (new pair over.replica)) causes
+    → MayHave (old pair) causes → MayHave (new pair) causes
 may_stand_still pair replica old new [] sees apart all = tt
 may_stand_still pair replica old new (over ∷ causes) sees apart all =
     (subst MayStand (sym (sees.others over.replica apart.0)) all.0, may_stand_still pair replica old new causes sees apart.1 all.1)
 
 -- one more, which was not seen
-pub may_stand_more : (seen : ℕ → Sight) (causes : List PassedReplica) (over : PassedReplica) → seen over.replica ≡ Unseen → AllByRecursion (λ p. MayStand (seen p.replica)) causes
-    → AllByRecursion (λ p. MayStand (seen p.replica)) (causes ++ over ∷ [])
+pub may_stand_more : (seen : ℕ → Sight) (causes : List PassedReplica) (over : PassedReplica) → seen over.replica ≡ Unseen → MayHave seen causes
+    → MayHave seen (causes ++ over ∷ [])
 may_stand_more seen causes over unseen all = all_append (λ p. MayStand (seen p.replica)) causes (over ∷ []) all (subst MayStand (sym unseen) tt, tt)
 
 -- the next replica is none of those before it

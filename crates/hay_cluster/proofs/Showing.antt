@@ -1,5 +1,5 @@
 -- Reads are legal.
-use Rattle.std.proofs.Common.{◌≡◌, ℕ, zero, suc, ◌+◌, ◌-◌, ◌%◌, ◌^◌, ◌<◌, ◌≤◌, ◌⊎◌, not, true, false, Bool, cond, List, [], ◌∷◌, ◌++◌, length, take, drop, map, Option, Some, refl, sym, ap, subst, ◌∙◌, inl, inr, arith}
+use Rattle.std.proofs.Common.{◌≡◌, ◌≢◌, ℕ, zero, suc, ◌+◌, ◌-◌, ◌%◌, ◌^◌, ◌<◌, ◌≤◌, ◌⊎◌, not, true, false, Bool, cond, List, [], ◌∷◌, ◌++◌, length, take, drop, map, Option, Some, refl, sym, ap, subst, ◌∙◌, inl, inr, arith}
 use Rattle.std.specs.Prelude.{◌==◌, Err, slice_get, slice_index, slice_index_or, slice_set, take_while}
 use Rattle.std.specs.List.{AllByRecursion, AllZip, count_by, prefix_len, range_with_len}
 use Rattle.std.proofs.Math.Nat.{mod-lt}
@@ -14,6 +14,7 @@ use Rattle.hay_needle.specs.declared.needle.Outcome.{Outcome}
 use Rattle.hay_needle.specs.declared.needle.Outcome.TheVariants as outcome
 use Rattle.hay_needle.specs.declared.needle.Pair.{Pair}
 use Rattle.hay_needle.specs.declared.settings.Settings.{Settings}
+use Rattle.hay_needle.specs.declared.total.TheConstants.{MAX_PHOTO}
 use Rattle.hay_needle.specs.Needle.{NeedleBytes, needle_of_cell}
 use Rattle.hay_needle.specs.Tables.{outcome_at}
 use Rattle.hay_needle.specs.declared.needle.Needle.{Needle}
@@ -47,7 +48,7 @@ use Rattle.hay_reply.specs.declared.Reply.TheVariants as reply
 use Rattle.hay_script.specs.declared.Command.TheVariants as command
 use Rattle.hay_url.specs.declared.Url.{Url}
 use Rattle.hay_reader.specs.Causes.{ArmRises, ArmUse, ComeFirst, EachPair, HasArmCause, PassesRow, passed_now, tried_from}
-use Rattle.hay_reader.specs.Shown.{MayMean, ReadAnswers, ReadsRow, ShowsAt, ShowsPlace}
+use Rattle.hay_reader.specs.Shown.{HasBytes, MayMean, ReadAnswers, ReadsRow, ShowsAt, ShowsPlace}
 use Rattle.hay_reader.specs.Tried.{CanShow, HasItsPhoto, HasPhoto, PlaceGives}
 use Rattle.hay_reader.specs.declared.causes.PassedReplica.{PassedReplica}
 use Rattle.hay_reader.specs.declared.seat.ReadReply.{ReadReply}
@@ -56,17 +57,20 @@ use Rattle.hay_reader.specs.declared.trial.Shown.{Shown}
 use Rattle.hay_reader.specs.declared.trial.Shown.TheVariants as shown
 use Rattle.hay_reader.proofs.Outcomes.{passed_for_arm, stops_unseen}
 use Rattle.hay_reader.proofs.Passing.{all_weaken, first_more, no_shorter}
-use Rattle.hay_cluster.specs.Causes.{CauseCameUp, Counts, IsNoArm, PassedOver, RoseIn}
-use Rattle.hay_cluster.specs.Reads.{FoundNoArm, FoundPasses, FoundSays, IsFoundAs, IsPassedFor, IsSeenAt, IsSeenByAt, IsSightCause, IsSightFault, IsWhole, PassesFrom, PassesNoArm, PassesTo, ReadNoArm, ReadPasses, ReadSays, StopsUnseen, counts_of, outcomes_of, passed_at}
+use Rattle.hay_cluster.specs.Causes.{Counts, RoseIn}
+use Rattle.hay_cluster.specs.Passing.{IsSureArm}
+use Rattle.hay_cluster.specs.Reads.{FoundPasses, FoundSays, IsFoundAs, IsPassedFor, IsSeenAt, IsSeenByAt, IsSightCause, IsSightFault, IsWhole, MayHave, NeverIn, PassesFrom, PassesTo, ReadPasses, ReadSays, StopsUnseen, counts_of, outcomes_of, passed_at}
 use Rattle.hay_cluster.specs.declared.reading.Found.{Found}
+use Rattle.hay_cluster.specs.declared.reading.Found.TheVariants as found
 use Rattle.hay_cluster.specs.Parts.{Comes}
 use Rattle.hay_cluster.specs.State.{Stands}
+use Rattle.hay_cluster.specs.Sights.{MayStand}
+use Rattle.hay_logical.specs.Sights.{Sight, sight}
 use Rattle.hay_cluster.specs.Store.{IsBuilt, IsShaped, Open, disks_of}
-use Rattle.hay_cluster.specs.Suiting.{ShowsFrom}
+use Rattle.hay_cluster.specs.Suiting.{ShowsOf}
 use Rattle.hay_cluster.proofs.Changing.{comes_still}
 use Rattle.hay_cluster.proofs.Lists.{length-set, slice_get-set}
 use Rattle.hay_cluster.proofs.Machines.{replica_found, same_machine}
-use Rattle.hay_cluster.proofs.Sure.{no_arm_on}
 use Rattle.hay_cluster.proofs.Moves.{Called, called_failed, called_shape, count_at, falls_at, falls_trans, has_item, none_falls, volume_comes, volume_of, volume_stood, with_one}
 
 range_get : (f : ℕ → Outcome) (n at i : ℕ) (x : Outcome) → slice_get (map f (range_with_len at n)) i ≡ Some x → (i < n) × (f (at + i) ≡ x)
@@ -159,6 +163,15 @@ module _ {D P A : Type 0} (files : D → Files) (Tells : Type 0) (faults fuses :
 
 -- PASSED REPLICAS
 
+-- what never is the cause in a read is none in what goes on with it
+pub never_on : {D P A : Type 0} (DiskTells : Type 0) (files : D → Files) (Tells : Type 0) (faults fuses : D → ℕ) (arm_faults : A → ℕ) (is_sure : A → Bool) (old new : Open D P A) (lane : ℕ)
+    → (IsSureArm is_sure old.arms lane → IsSureArm is_sure new.arms lane)
+    → (IsWhole DiskTells files Tells faults fuses arm_faults old → IsWhole DiskTells files Tells faults fuses arm_faults new) → (cause : Cause)
+    → NeverIn DiskTells files Tells faults fuses arm_faults is_sure old lane cause → NeverIn DiskTells files Tells faults fuses arm_faults is_sure new lane cause
+never_on DiskTells files Tells faults fuses arm_faults is_sure old new lane sure whole (Arm f) never = sure never
+never_on DiskTells files Tells faults fuses arm_faults is_sure old new lane sure whole (Disk f) never = never
+never_on DiskTells files Tells faults fuses arm_faults is_sure old new lane sure whole (Damage at) never = whole never
+
 pub all_append : {X : Type 0} (Q : X → Type 0) (xs ys : List X) → AllByRecursion Q xs → AllByRecursion Q ys → AllByRecursion Q (xs ++ ys)
 all_append Q [] ys first rest = rest
 all_append Q (x ∷ xs) ys first rest = (first.0, all_append Q xs ys first.1 rest)
@@ -179,22 +192,23 @@ all_pairs : {X : Type 0} (Q S : X → Type 0) (R : X → X → Type 0) → ((x y
 all_pairs Q S R join xs ys q s = all_weaken Q (λ x. AllByRecursion (R x) ys) (λ x h. all_weaken S (R x) (λ y k. join x y h k) ys s) xs q
 
 -- a cause is one until later counts, where its disk's count stays, and since earlier ones
-cause_until : (W : Type 0) (slot arm mid later : ℕ) (disks between after : List ℕ) (cause : Cause) → mid ≤ later → (later ≡ mid) ⊎ (later < 2 ^ 64) → slice_index after slot ≡ slice_index between slot
+cause_until : (W : Cause → Type 0) (slot arm mid later : ℕ) (disks between after : List ℕ) (cause : Cause) → mid ≤ later → (later ≡ mid) ⊎ (later < 2 ^ 64) → slice_index after slot ≡ slice_index between slot
     → IsPassedFor W slot arm mid disks between cause → IsPassedFor W slot arm later disks after cause
 cause_until W slot arm mid later disks between after (Arm f) more most same has =
-    let below : later < 2 ^ 64 = elim most [ inl still ↦ omega (arith, has.1) | inr below ↦ below ] in
-    ((has.0.0, omega (arith, has.0.1)), below)
+    let below : later < 2 ^ 64 = elim most [ inl still ↦ (let low = (has.0).1 in omega (arith, low)) | inr below ↦ below ] in
+    ((((has.0).0.0, (let low = (has.0).0.1 in omega (arith, low))), below), has.1)
 cause_until W slot arm mid later disks between after (Disk f) more most same has = (subst (λ n. Rose (slice_index disks slot) n) (sym same) has.0, has.1 ∙ sym same)
 cause_until W slot arm mid later disks between after (Damage at) more most same has = has
 
-cause_since : (W W' : Type 0) (slot arm mid later : ℕ) (disks between after : List ℕ) (cause : Cause) → (W → W') → arm ≤ mid → slice_index disks slot ≤ slice_index between slot
+cause_since : (W W' : Cause → Type 0) (slot arm mid later : ℕ) (disks between after : List ℕ) (cause : Cause) → ((cause : Cause) → W cause → W' cause) → arm ≤ mid → slice_index disks slot ≤ slice_index between slot
     → IsPassedFor W' slot mid later between after cause → IsPassedFor W slot arm later disks after cause
-cause_since W W' slot arm mid later disks between after (Arm f) whole more low has = ((elim has.0.0 [ inl up ↦ inl (omega arith) | inr top ↦ inr top ], has.0.1), has.1)
+cause_since W W' slot arm mid later disks between after (Arm f) whole more low has =
+    (((elim (has.0).0.0 [ inl up ↦ inl (omega arith) | inr top ↦ inr top ], (has.0).0.1), (has.0).1), λ w. has.1 (whole (Arm f) w))
 cause_since W W' slot arm mid later disks between after (Disk f) whole more low has = (elim has.0 [ inl up ↦ inl (omega arith) | inr top ↦ inr top ], has.1)
-cause_since W W' slot arm mid later disks between after (Damage at) whole more low has = λ w. has (whole w)
+cause_since W W' slot arm mid later disks between after (Damage at) whole more low has = λ w. has (whole (Damage at) w)
 
-rises_later : (W W' : Type 0) (slot slot' arm mid later : ℕ) (disks between after : List ℕ) (a b : Cause) → IsPassedFor W slot arm mid disks between a → IsPassedFor W' slot' mid later between after b → ArmRises a b
-rises_later W W' slot slot' arm mid later disks between after (Arm f) (Arm h) has has' = elim has'.0.0 [ inl up ↦ inl (let low = has.0.1 in omega (arith, low, up)) | inr top ↦ inr top ]
+rises_later : (W W' : Cause → Type 0) (slot slot' arm mid later : ℕ) (disks between after : List ℕ) (a b : Cause) → IsPassedFor W slot arm mid disks between a → IsPassedFor W' slot' mid later between after b → ArmRises a b
+rises_later W W' slot slot' arm mid later disks between after (Arm f) (Arm h) has has' = elim (has'.0).0.0 [ inl up ↦ inl (let low = (has.0).0.1 in omega (arith, low, up)) | inr top ↦ inr top ]
 rises_later W W' slot slot' arm mid later disks between after (Arm f) (Disk h) has has' = tt
 rises_later W W' slot slot' arm mid later disks between after (Arm f) (Damage at) has has' = tt
 rises_later W W' slot slot' arm mid later disks between after (Disk f) b has has' = tt
@@ -208,7 +222,7 @@ pub record GoesOn (settings : Settings) (lane v : ℕ) (before mid after : Count
   pub fall : (slot : ℕ) → slice_index before.disks slot ≤ slice_index mid.disks slot
   pub still : AllByRecursion (λ p. slice_index after.disks (slot_of settings v p.replica) ≡ slice_index mid.disks (slot_of settings v p.replica)) causes
 
-module _ (W W' : Type 0) (settings : Settings) (lane v start : ℕ) (before mid after : Counts) (passed causes more : List PassedReplica) where
+module _ (W W' : Cause → Type 0) (settings : Settings) (lane v start : ℕ) (before mid after : Counts) (passed causes more : List PassedReplica) where
   abbrev First : PassedReplica → Type 0
   First p = IsPassedFor W (slot_of settings v p.replica) (slice_index before.arms lane) (slice_index mid.arms lane) before.disks mid.disks p.cause
 
@@ -218,7 +232,7 @@ module _ (W W' : Type 0) (settings : Settings) (lane v start : ℕ) (before mid 
   abbrev Both : PassedReplica → Type 0
   Both p = IsPassedFor W (slot_of settings v p.replica) (slice_index before.arms lane) (slice_index after.arms lane) before.disks after.disks p.cause
 
-  pub passes_on : (W → W') → GoesOn settings lane v before mid after causes → PassesFrom W settings lane v start before mid passed causes → PassesFrom W' settings lane v start mid after causes more
+  pub passes_on : ((cause : Cause) → W cause → W' cause) → GoesOn settings lane v before mid after causes → PassesFrom W settings lane v start before mid passed causes → PassesFrom W' settings lane v start mid after causes more
       → PassesFrom W settings lane v start before after passed more
   passes_on whole on first then =
       let now : List PassedReplica = passed_now passed causes in
@@ -249,19 +263,23 @@ module _ (W W' : Type 0) (settings : Settings) (lane v start : ℕ) (before mid 
       assoc (x ∷ xs) ys zs = ap (λ (l : List PassedReplica). x ∷ l) (assoc xs ys zs)
 
 -- a read that goes on from passed replicas
-pub read_on : (W W' : Type 0) (settings : Settings) (lane v start : ℕ) (before mid after : Counts) (passed causes : List PassedReplica) (reply : ReadReply) → (W → W') → GoesOn settings lane v before mid after causes
-    → PassesFrom W settings lane v start before mid passed causes → ReadPasses W' settings lane v start mid after causes reply → ReadPasses W settings lane v start before after passed reply
-read_on W W' settings lane v start before mid after passed causes reply whole on first reads = go reply reads
+pub read_on : (W W' : Cause → Type 0) (settings : Settings) (lane v start : ℕ) (before mid after : Counts) (seen : ℕ → Sight) (passed causes : List PassedReplica) (reply : ReadReply)
+    → ((cause : Cause) → W cause → W' cause) → GoesOn settings lane v before mid after causes → PassesFrom W settings lane v start before mid passed causes
+    → ReadPasses W' settings lane v start mid after seen causes reply → ReadPasses W settings lane v start before after seen passed reply
+read_on W W' settings lane v start before mid after seen passed causes reply whole on first reads = go reply reads
   where
-    to : (more : List PassedReplica) (j : ℕ) → PassesTo W' settings lane v start mid after causes more j → PassesTo W settings lane v start before after passed more j
-    to more j h = record { passes = passes_on W W' settings lane v start before mid after passed causes more whole on first h.passes; fewer = h.fewer; next = h.next }
+    from : (more : List PassedReplica) → PassesFrom W' settings lane v start mid after causes more → PassesFrom W settings lane v start before after passed more
+    from more h = passes_on W W' settings lane v start before mid after passed causes more whole on first h
 
-    go : (r : ReadReply) → ReadPasses W' settings lane v start mid after causes r → ReadPasses W settings lane v start before after passed r
+    to : (more : List PassedReplica) (j : ℕ) → PassesTo W' settings lane v start mid after seen causes more j → PassesTo W settings lane v start before after seen passed more j
+    to more j h = record { passes = from more h.passes; stood = h.stood; fewer = h.fewer; next = h.next }
+
+    go : (r : ReadReply) → ReadPasses W' settings lane v start mid after seen causes r → ReadPasses W settings lane v start before after seen passed r
     go (read.Photo j) h = (h.0, to h.0 j h.1)
     go (read.Gone j) h = (h.0, to h.0 j h.1)
     go (read.WrongCookie j) h = (h.0, to h.0 j h.1)
     go (read.Unseen j more) h = to more j h
-    go (read.Unreadable more) h = (passes_on W W' settings lane v start before mid after passed causes more whole on first h.0, h.1)
+    go (read.Unreadable more) h = record { passes = from more h.passes; stood = h.stood; all = h.all }
 
 -- THE ARM'S COUNT
 
@@ -292,13 +310,13 @@ count_more q x xs =
 count_none : (q : ℕ → Bool) (x : ℕ) (xs : List ℕ) → q x ≡ false → count_by q (x ∷ xs) ≡ count_by q xs
 count_none q x xs fails = let none : one_if (q x) ≡ 0 = ap one_if fails in let all = count_cons q x xs in omega (arith, all, none)
 
-module _ (W : Type 0) (whole : W) (settings : Settings) (v arm' : ℕ) (disks disks' : List ℕ) where
+module _ (W : Cause → Type 0) (whole : (at : ℕ) → W (Damage at)) (settings : Settings) (v arm' : ℕ) (disks disks' : List ℕ) where
   abbrev IsOver : ℕ → PassedReplica → Type 0
   IsOver arm p = IsPassedFor W (slot_of settings v p.replica) arm arm' disks disks' p.cause
 
   -- a cause since an earlier count that comes behind one of the arm comes since that
   since_arm : (arm f slot : ℕ) (cause : Cause) → ArmRises (Arm f) cause → IsPassedFor W slot arm arm' disks disks' cause → IsPassedFor W slot f arm' disks disks' cause
-  since_arm arm f slot (Arm h) rises has = ((rises, has.0.1), has.1)
+  since_arm arm f slot (Arm h) rises has = (((rises, (has.0).0.1), (has.0).1), has.1)
   since_arm arm f slot (Disk h) rises has = has
   since_arm arm f slot (Damage at) rises has = has
 
@@ -307,12 +325,12 @@ module _ (W : Type 0) (whole : W) (settings : Settings) (v arm' : ℕ) (disks di
       → Reaches arm (count_by (λ i. not (rose_in settings v disks disks' i)) (j ∷ map (λ p. p.replica) rest)) arm'
   reach_one arm j (Arm f) rest has rises each reach later =
       let others : AllByRecursion (IsOver f) rest = all_both (λ p. ArmRises (Arm f) p.cause) (IsOver arm) (IsOver f) (λ p up came. since_arm arm f (slot_of settings v p.replica) p.cause up came) rest rises each in
-      elim has.0.0 [
-        | inl up ↦ elim (reach f has.0.1 others) [
+      elim (has.0).0.0 [
+        | inl up ↦ elim (reach f (has.0).0.1 others) [
           | inl far ↦ inl (let one = count_more (λ i. not (rose_in settings v disks disks' i)) j (map (λ p. p.replica) rest) in omega (arith, one, far, up))
           | inr top ↦ inr top
         ]
-        | inr top ↦ inr (omega (arith, has.0.1, has.1, top))
+        | inr top ↦ inr (let low = (has.0).0.1 in let most = (has.0).1 in omega (arith, low, most, top))
       ]
   reach_one arm j (Disk f) rest has rises each reach later =
       let risen : not (rose_in settings v disks disks' j) ≡ false = ap not (has_rose (slice_index disks (slot_of settings v j)) (slice_index disks' (slot_of settings v j)) has.0) in
@@ -320,7 +338,7 @@ module _ (W : Type 0) (whole : W) (settings : Settings) (v arm' : ℕ) (disks di
         | inl far ↦ inl (let none = count_none (λ i. not (rose_in settings v disks disks' i)) j (map (λ p. p.replica) rest) risen in omega (arith, none, far))
         | inr top ↦ inr top
       ]
-  reach_one arm j (Damage at) rest has rises each reach later = absurd (has whole)
+  reach_one arm j (Damage at) rest has rises each reach later = absurd (has (whole at))
 
   reaches : (arm : ℕ) (over : List PassedReplica) → arm ≤ arm' → AllByRecursion (IsOver arm) over → EachPair (λ a b. ArmRises a.cause b.cause) over
       → Reaches arm (count_by (λ i. not (rose_in settings v disks disks' i)) (map (λ p. p.replica) over)) arm'
@@ -348,7 +366,7 @@ front_counts p q (x ∷ xs) y ys fails =
     take_one z n zs = let e : 1 + n ≡ suc n = omega arith in ap (λ k. take k (z ∷ zs)) e
 
 -- the tries up to one
-split_tries : (f : ℕ → ℕ) (tries n at : ℕ) → tries < n → (rest : List ℕ) × (map f (range_with_len at n) ≡ map f (range_with_len at tries) ++ f (at + tries) ∷ rest)
+pub split_tries : (f : ℕ → ℕ) (tries n at : ℕ) → tries < n → (rest : List ℕ) × (map f (range_with_len at n) ≡ map f (range_with_len at tries) ++ f (at + tries) ∷ rest)
 split_tries f tries zero at few = absurd (omega arith)
 split_tries f zero (suc n) at few = (map f (range_with_len (at + 1) n), (let e : at ≡ at + 0 = omega arith in ap (λ i. f i ∷ map f (range_with_len (at + 1) n)) e))
 split_tries f (suc tries) (suc n) at few =
@@ -356,10 +374,10 @@ split_tries f (suc tries) (suc n) at few =
     let e : at + 1 + tries ≡ at + suc tries = omega arith in
     (rest.0, ap (λ (xs : List ℕ). f at ∷ xs) rest.1 ∙ ap (λ i. f at ∷ (map f (range_with_len (at + 1) tries) ++ f i ∷ rest.0)) e)
 
-pub tried : (W : Type 0) (settings : Settings) (lane v start : ℕ) (before after : Counts) (causes : List PassedReplica) (j : ℕ) → W → slice_index before.arms lane ≤ slice_index after.arms lane
-    → PassesTo W settings lane v start before after [] causes j
+pub tried : (W : Cause → Type 0) (settings : Settings) (lane v start : ℕ) (before after : Counts) (seen : ℕ → Sight) (causes : List PassedReplica) (j : ℕ) → ((at : ℕ) → W (Damage at)) → slice_index before.arms lane ≤ slice_index after.arms lane
+    → PassesTo W settings lane v start before after seen [] causes j
     → Reaches (slice_index before.arms lane) (count_by (λ i. not (rose_in settings v before.disks after.disks i)) (take_while (λ i. not (i == j)) (order_from settings start))) (slice_index after.arms lane)
-tried W settings lane v start before after causes j whole later passes =
+tried W settings lane v start before after seen causes j whole later passes =
     let q : ℕ → Bool = λ i. not (rose_in settings v before.disks after.disks i) in
     let f : ℕ → ℕ = λ i. (start + i) % settings.replicas in
     let split = split_tries f (length causes) settings.replicas 0 passes.fewer in
@@ -387,12 +405,21 @@ all_tried Q f (suc n) at each (p ∷ over) order =
 
 -- A READ OF A ROW
 
+-- an arm that is sure is not the cause
+unsure_arm : {P : Type 0} (Tells : Type 0) (sure : Bool) (cookie : Cookie) (put : List ℕ) (there : Place P) (f : ℕ) → PlaceGives Tells sure cookie put there (Err (Arm f)) → sure ≢ true
+unsure_arm Tells sure cookie put (place.Live needle) f gives = gives
+unsure_arm Tells sure cookie put place.None f gives = absurd cc
+unsure_arm Tells sure cookie put place.Gone f gives = absurd cc
+unsure_arm Tells sure cookie put (place.Unseen at size) f gives = absurd cc
+
 -- why the try of a place passes a replica over
-tried_for : {P : Type 0} (W Tells : Type 0) (sure : Bool) (cookie : Cookie) (slot arm arm' : ℕ) (disks disks' : List ℕ) (pair : Pair) (there : Place P) (cause : Cause) → (W → (what : Outcome) × MayMean Tells pair there what)
+tried_for : {P : Type 0} (W : Cause → Type 0) (Tells : Type 0) (sure : Bool) (cookie : Cookie) (slot arm arm' : ℕ) (disks disks' : List ℕ) (pair : Pair) (there : Place P) (cause : Cause)
+    → ((at : ℕ) → W (Damage at) → (what : Outcome) × MayMean Tells pair there what) → ((f : ℕ) → W (Arm f) → sure ≡ true)
     → HasArmCause arm arm' cause → PlaceGives Tells sure cookie [] there (Err cause) → IsPassedFor W slot arm arm' disks disks' cause
-tried_for W Tells sure cookie slot arm arm' disks disks' pair there (Arm f) means has gives = has
-tried_for W Tells sure cookie slot arm arm' disks disks' pair there (Disk f) means has gives = absurd has
-tried_for W Tells sure cookie slot arm arm' disks disks' pair there (Damage at) means has gives = λ w. passed_for_arm Tells sure cookie [] pair there (Damage at) (means w).0 (means w).1 gives
+tried_for W Tells sure cookie slot arm arm' disks disks' pair there (Arm f) means surely has gives = (has, λ w. unsure_arm Tells sure cookie [] there f gives (surely f w))
+tried_for W Tells sure cookie slot arm arm' disks disks' pair there (Disk f) means surely has gives = absurd has
+tried_for W Tells sure cookie slot arm arm' disks disks' pair there (Damage at) means surely has gives =
+    λ w. passed_for_arm Tells sure cookie [] pair there (Damage at) (means at w).0 (means at w).1 gives
 
 mean_at : {P : Type 0} (R : Place P → Outcome → Type 0) (row : List (Place P)) (outcomes : List Outcome) (j : ℕ) → R place.None outcome.Nothing → AllZip R row outcomes → (what : Outcome) × R (place_in row j) what
 mean_at R [] [] j none all = (outcome.Nothing, none)
@@ -401,36 +428,55 @@ mean_at R (x ∷ xs) [] j none all = absurd all
 mean_at R (x ∷ xs) (y ∷ ys) zero none all = (y, all.0)
 mean_at R (x ∷ xs) (y ∷ ys) (suc j) none all = mean_at R xs ys j none all.1
 
-module _ {P : Type 0} (W Tells : Type 0) (sure : Bool) (settings : Settings) (lane v start : ℕ) (before after : Counts) (row : List (Place P)) (pair : Pair) (cookie : Cookie) (long : length row ≡ settings.replicas)
-    (means : W → (outcomes : List Outcome) × AllZip (MayMean Tells pair) row outcomes) where
+-- a replica that is passed over may have the photo
+gives_cause : {P : Type 0} (Tells : Type 0) (sure : Bool) (cookie : Cookie) (put : List ℕ) (there : Place P) (cause : Cause) → PlaceGives Tells sure cookie put there (Err cause) → MayStand (sight there)
+gives_cause Tells sure cookie put (place.Live needle) cause gives = tt
+gives_cause Tells sure cookie put place.None cause gives = absurd cc
+gives_cause Tells sure cookie put place.Gone cause gives = absurd cc
+gives_cause Tells sure cookie put (place.Unseen at size) cause gives = absurd cc
+
+module _ {P : Type 0} (W : Cause → Type 0) (Tells : Type 0) (sure : Bool) (settings : Settings) (lane v start : ℕ) (before after : Counts) (row : List (Place P)) (pair : Pair) (cookie : Cookie) (long : length row ≡ settings.replicas)
+    (means : (at : ℕ) → W (Damage at) → (outcomes : List Outcome) × AllZip (MayMean Tells pair) row outcomes) (surely : (f : ℕ) → W (Arm f) → sure ≡ true)
+    (seen : ℕ → Sight) (same : (j : ℕ) → sight (place_in row j) ≡ seen j) (passed : List PassedReplica) (stood : MayHave seen passed) where
   abbrev TheArm : ArmUse
   TheArm = record { sure = sure; before = slice_index before.arms lane; after = slice_index after.arms lane }
 
-  row_passes : (passed causes : List PassedReplica) → PassesRow Tells TheArm start row cookie passed causes → PassesFrom W settings lane v start before after passed causes
-  row_passes passed causes h = record {
+  row_passes : (causes : List PassedReplica) → PassesRow Tells TheArm start row cookie passed causes → PassesFrom W settings lane v start before after passed causes
+  row_passes causes h = record {
     begins = h.passes.begins;
     order = subst (λ n. ComeFirst start n causes) long h.passes.order;
     each = all_both (λ p. HasArmCause (slice_index before.arms lane) (slice_index after.arms lane) p.cause) (λ p. PlaceGives Tells sure cookie [] (place_in row p.replica) (Err p.cause))
         (λ p. IsPassedFor W (slot_of settings v p.replica) (slice_index before.arms lane) (slice_index after.arms lane) before.disks after.disks p.cause)
         (λ p has gives. tried_for W Tells sure cookie (slot_of settings v p.replica) (slice_index before.arms lane) (slice_index after.arms lane) before.disks after.disks pair (place_in row p.replica) p.cause
-        (λ w. let m = means w in mean_at (MayMean Tells pair) row m.0 p.replica tt m.1) has gives)
+        (λ at w. let m = means at w in mean_at (MayMean Tells pair) row m.0 p.replica tt m.1) surely has gives)
         (passed_now passed causes) h.passes.each h.places;
     rises = h.passes.rises;
   }
 
-  row_to : (passed causes : List PassedReplica) (put : List ℕ) (j : ℕ) (what : Shown) → ShowsPlace Tells TheArm start row cookie passed causes put j what → PassesTo W settings lane v start before after passed causes j
-  row_to passed causes put j what h = record {
-    passes = row_passes passed causes h.before;
+  row_stood : (causes : List PassedReplica) → PassesRow Tells TheArm start row cookie passed causes → MayHave seen causes
+  row_stood causes h =
+      let fresh : List PassedReplica = passed_now passed causes in
+      let parts : causes ≡ passed ++ fresh = sym (take-append-drop (length passed) causes) ∙ ap (λ (xs : List PassedReplica). xs ++ fresh) (h.passes).begins in
+      subst (λ (xs : List PassedReplica). MayHave seen xs) (sym parts)
+      (all_append (λ over. MayStand (seen over.replica)) passed fresh stood
+      (all_weaken (λ over. PlaceGives Tells sure cookie [] (place_in row over.replica) (Err over.cause)) (λ over. MayStand (seen over.replica))
+      (λ over gives. subst MayStand (same over.replica) (gives_cause Tells sure cookie [] (place_in row over.replica) over.cause gives)) fresh h.places))
+
+  row_to : (causes : List PassedReplica) (put : List ℕ) (j : ℕ) (what : Shown) → ShowsPlace Tells TheArm start row cookie passed causes put j what
+      → PassesTo W settings lane v start before after seen passed causes j
+  row_to causes put j what h = record {
+    passes = row_passes causes h.before;
+    stood = row_stood causes h.before;
     fewer = subst (λ n. length causes < n) long h.fewer;
     next = h.next ∙ ap (λ n. (start + length causes) % n) long;
   }
 
-  pub row_read : (passed : List PassedReplica) (put : List ℕ) (reply : ReadReply) → ReadsRow Tells TheArm start row cookie passed put reply → ReadPasses W settings lane v start before after passed reply
-  row_read passed put (read.Photo j) h = (h.0, row_to passed h.0 put j shown.Photo h.1)
-  row_read passed put (read.Gone j) h = (h.0, row_to passed h.0 put j shown.Gone h.1)
-  row_read passed put (read.WrongCookie j) h = (h.0, row_to passed h.0 put j shown.WrongCookie h.1)
-  row_read passed put (read.Unseen j causes) h = row_to passed causes put j shown.Unseen h
-  row_read passed put (read.Unreadable causes) h = (row_passes passed causes h.0, h.1 ∙ long)
+  pub row_read : (put : List ℕ) (reply : ReadReply) → ReadsRow Tells TheArm start row cookie passed put reply → ReadPasses W settings lane v start before after seen passed reply
+  row_read put (read.Photo j) h = (h.0, row_to h.0 put j shown.Photo h.1)
+  row_read put (read.Gone j) h = (h.0, row_to h.0 put j shown.Gone h.1)
+  row_read put (read.WrongCookie j) h = (h.0, row_to h.0 put j shown.WrongCookie h.1)
+  row_read put (read.Unseen j causes) h = row_to causes put j shown.Unseen h
+  row_read put (read.Unreadable causes) h = record { passes = row_passes causes h.0; stood = row_stood causes h.0; all = h.1 ∙ long }
 
 -- the outcome that is shown
 pub answers_say : (start before after : ℕ) (cookie : Cookie) (passed : List PassedReplica) (outcomes : List Outcome) (put : List ℕ) (reply : ReadReply) → ReadAnswers start cookie before after passed outcomes put reply → ReadSays cookie outcomes put reply
@@ -461,7 +507,7 @@ rose_came : (before after f : ℕ) → Rose before after → f ≡ after → kno
 rose_came before after f (inl up) is = (inl (omega (arith, up, is)), omega (arith, is))
 rose_came before after f (inr top) is = (inr (is ∙ top), omega (arith, is))
 
-passed_each : (W : Type 0) (settings : Settings) (k t : Known) (tag : CoreTag) (v : ℕ) (js : List ℕ) (over : List PassedReplica) → W → map (λ p. p.replica) over ≡ js
+passed_each : (W : Cause → Type 0) (settings : Settings) (k t : Known) (tag : CoreTag) (v : ℕ) (js : List ℕ) (over : List PassedReplica) → ((at : ℕ) → W (Damage at)) → map (λ p. p.replica) over ≡ js
     → AllByRecursion (λ p. IsPassedFor W (slot_of settings v p.replica) (arm_count k tag.lane) (arm_count t tag.lane) k.faults t.faults p.cause) over
     → AllZip (λ j passed. (passed.machine ≡ machine_of settings v j) × legal.HasCause settings k t tag v j passed.cause) js (map (passed_at settings v) over)
 passed_each W settings k t tag v [] [] whole order causes = tt
@@ -473,9 +519,9 @@ passed_each W settings k t tag v (j ∷ js) (p ∷ over) whole order causes =
     ((ap (machine_of settings v) first, subst (λ i. legal.HasCause settings k t tag v i p.cause) first (one p.replica p.cause causes.0)), passed_each W settings k t tag v js over whole rest causes.1)
   where
     one : (i : ℕ) (cause : Cause) → IsPassedFor W (slot_of settings v i) (arm_count k tag.lane) (arm_count t tag.lane) k.faults t.faults cause → legal.HasCause settings k t tag v i cause
-    one i (Arm f) has = has.0
+    one i (Arm f) has = (has.0).0
     one i (Disk f) has = rose_came (fault_count k (slot_of settings v i)) (fault_count t (slot_of settings v i)) f has.0 has.1
-    one i (Damage at) has = absurd (has whole)
+    one i (Damage at) has = absurd (has (whole at))
 
 rises_one : (a b : Cause) → ArmRises a b → legal.ArmRises a b
 rises_one (Arm f) (Arm h) rise = rise
@@ -489,53 +535,28 @@ rises_all : (settings : Settings) (v : ℕ) (a : PassedReplica) (over : List Pas
 rises_all settings v a [] all = tt
 rises_all settings v a (b ∷ over) all = (rises_one a.cause b.cause all.0, rises_all settings v a over all.1)
 
-rises_each : (settings : Settings) (v : ℕ) (over : List PassedReplica) → EachPair (λ a b. ArmRises a.cause b.cause) over → known.EachPair (λ a b. legal.ArmRises a.cause b.cause) (map (passed_at settings v) over)
+pub rises_each : (settings : Settings) (v : ℕ) (over : List PassedReplica) → EachPair (λ a b. ArmRises a.cause b.cause) over → known.EachPair (λ a b. legal.ArmRises a.cause b.cause) (map (passed_at settings v) over)
 rises_each settings v [] all = tt
 rises_each settings v (a ∷ over) all = (rises_all settings v a over all.0, rises_each settings v over all.1)
 
 -- all replicas in the order of tries
-in_order : (settings : Settings) (start : ℕ) (over : List PassedReplica) → ComeFirst start settings.replicas over → length over ≡ settings.replicas → map (λ p. p.replica) over ≡ order_from settings start
+pub in_order : (settings : Settings) (start : ℕ) (over : List PassedReplica) → ComeFirst start settings.replicas over → length over ≡ settings.replicas → map (λ p. p.replica) over ≡ order_from settings start
 in_order settings start over order all = order ∙ ap (λ n. tried_from start settings.replicas n) all
 
-machines_told : (settings : Settings) (v : ℕ) (over : List PassedReplica) → map (λ passed. passed.machine) (map (passed_at settings v) over) ≡ map (machine_of settings v) (map (λ p. p.replica) over)
+pub machines_told : (settings : Settings) (v : ℕ) (over : List PassedReplica) → map (λ passed. passed.machine) (map (passed_at settings v) over) ≡ map (machine_of settings v) (map (λ p. p.replica) over)
 machines_told settings v [] = refl
 machines_told settings v (p ∷ over) = ap (λ (ms : List ℕ). machine_of settings v p.replica ∷ ms) (machines_told settings v over)
 
--- a failure is a cause only where its count rose
-causes_told : (W : Type 0) (settings : Settings) (lane v : ℕ) (before after : Counts) (over : List PassedReplica) → IsBuilt settings → v < settings.volumes → AllByRecursion (λ p. p.replica < settings.replicas) over
-    → AllByRecursion (λ p. IsPassedFor W (slot_of settings v p.replica) (slice_index before.arms lane) (slice_index after.arms lane) before.disks after.disks p.cause) over
-    → AllByRecursion (λ passed. CauseCameUp settings lane v before after passed.machine passed.cause) (map (passed_at settings v) over)
-causes_told W settings lane v before after [] built volume within each = tt
-causes_told W settings lane v before after (p ∷ over) built volume within each = (one p.replica p.cause within.0 each.0, causes_told W settings lane v before after over built volume within.1 each.1)
-  where
-    one : (j : ℕ) (cause : Cause) → j < settings.replicas → IsPassedFor W (slot_of settings v j) (slice_index before.arms lane) (slice_index after.arms lane) before.disks after.disks cause → CauseCameUp settings lane v before after (machine_of settings v j) cause
-    one j (Arm f) below came = came.0
-    one j (Disk f) below came = record { replica = j; there = replica_found settings v j volume below built.no_more_replicas; rose = came.0; told = came.1 }
-    one j (Damage at) below came = tt
-
--- they are named in the order in which they were tried
-pub passed_in_order : (W : Type 0) (settings : Settings) (lane v start : ℕ) (before after : Counts) (over : List PassedReplica) → PassesFrom W settings lane v start before after [] over → length over ≡ settings.replicas
-    → map (λ passed. passed.machine) (map (passed_at settings v) over) ≡ map (machine_of settings v) (order_from settings start)
-passed_in_order W settings lane v start before after over passes all = machines_told settings v over ∙ ap (map (machine_of settings v)) (in_order settings start over passes.order all)
-
-pub passed_over : (W : Type 0) (settings : Settings) (lane v start : ℕ) (before after : Counts) (over : List PassedReplica) → IsBuilt settings → v < settings.volumes
-    → PassesFrom W settings lane v start before after [] over → PassedOver settings lane v before after (map (passed_at settings v) over)
-passed_over W settings lane v start before after over built volume passes = record {
-  rises = rises_each settings v over passes.rises;
-  each = causes_told W settings lane v before after over built volume
-      (all_tried (λ j. j < settings.replicas) (λ i. (start + i) % settings.replicas) (length over) 0 (λ i low high. let some = built.some_replicas in mod-lt (start + i) (omega (arith, some))) over passes.order) passes.each;
-}
-
 -- the replica that showed the photo is one of the volume's
-pub to_below : (W : Type 0) (settings : Settings) (lane v start : ℕ) (before after : Counts) (passed causes : List PassedReplica) (j : ℕ) → PassesTo W settings lane v start before after passed causes j → j < settings.replicas
-to_below W settings lane v start before after passed causes j to =
+pub to_below : (W : Cause → Type 0) (settings : Settings) (lane v start : ℕ) (before after : Counts) (seen : ℕ → Sight) (passed causes : List PassedReplica) (j : ℕ) → PassesTo W settings lane v start before after seen passed causes j → j < settings.replicas
+to_below W settings lane v start before after seen passed causes j to =
     let fewer = to.fewer in
     let some : 0 < settings.replicas = omega (arith, fewer) in
     let low = mod-lt (start + length causes) some in
     let next = to.next in
     omega (arith, next, low)
 
-module _ {D P A : Type 0} (DiskTells : Type 0) (files : D → Files) (Tells : Type 0) (faults fuses : D → ℕ) (arm_faults : A → ℕ) where
+module _ {D P A : Type 0} (DiskTells : Type 0) (files : D → Files) (Tells : Type 0) (faults fuses : D → ℕ) (arm_faults : A → ℕ) (is_sure : A → Bool) where
   counts_known : (store : Open D P A) (k : Known) → Stands files Tells faults fuses arm_faults store k → counts_of faults arm_faults store ≡ known_counts k
   unfolding Stands
   counts_known store k s =
@@ -545,40 +566,43 @@ module _ {D P A : Type 0} (DiskTells : Type 0) (files : D → Files) (Tells : Ty
   abbrev Whole : Open D P A → Type 0
   Whole store = IsWhole DiskTells files Tells faults fuses arm_faults store
 
-  pub read_shown : (old new : Open D P A) (settings : Settings) (k : Known) (tag : CoreTag) (start : ℕ) (pair : Pair) (v j m p d : ℕ) (what : Outcome) (causes : List PassedReplica) → IsBuilt settings → v < settings.volumes → home_of k pair ≡ Some v
+  abbrev Never : Open D P A → ℕ → Cause → Type 0
+  Never store lane cause = NeverIn DiskTells files Tells faults fuses arm_faults is_sure store lane cause
+
+  pub read_shown : (old new : Open D P A) (settings : Settings) (k : Known) (tag : CoreTag) (start : ℕ) (pair : Pair) (v j m p d : ℕ) (what : Outcome) (seen : ℕ → Sight) (causes : List PassedReplica) → IsBuilt settings → v < settings.volumes → home_of k pair ≡ Some v
       → p ≡ length (volume_at k v).log → d ≡ length k.directory.rows → m ≡ machine_of settings v j → Whole old → Stands files Tells faults fuses arm_faults old k → (came : Comes files Tells faults fuses arm_faults k k new)
       → slice_get (outcomes_of settings (volume_at k v) pair) j ≡ Some what
-      → PassesTo (Whole old) settings tag.lane v start (counts_of faults arm_faults old) (counts_of faults arm_faults new) [] causes j
+      → PassesTo (Never old tag.lane) settings tag.lane v start (counts_of faults arm_faults old) (counts_of faults arm_faults new) seen [] causes j
       → IsShown settings k tag start pair v m p d what came.known
-  read_shown old new settings k tag start pair v j m p d what causes built volume home front rows machine whole stood came says passes =
+  read_shown old new settings k tag start pair v j m p d what seen causes built volume home front rows machine whole stood came says passes =
       let got = range_get (λ i. outcome_at (now (volume_at k v) (replica_at (volume_at k v) i)) pair) settings.replicas 0 j what says in
       let zero_j : 0 + j ≡ j = omega arith in
-      let known : PassesTo (Whole old) settings tag.lane v start (known_counts k) (known_counts came.known) [] causes j =
-      subst (λ (c : Counts). PassesTo (Whole old) settings tag.lane v start c (known_counts came.known) [] causes j) (counts_known old k stood)
-      (subst (λ (c : Counts). PassesTo (Whole old) settings tag.lane v start (counts_of faults arm_faults old) c [] causes j) (counts_known new came.known came.stands) passes) in
+      let known : PassesTo (Never old tag.lane) settings tag.lane v start (known_counts k) (known_counts came.known) seen [] causes j =
+      subst (λ (c : Counts). PassesTo (Never old tag.lane) settings tag.lane v start c (known_counts came.known) seen [] causes j) (counts_known old k stood)
+      (subst (λ (c : Counts). PassesTo (Never old tag.lane) settings tag.lane v start (counts_of faults arm_faults old) c seen [] causes j) (counts_known new came.known came.stands) passes) in
       subst (λ n. IsShown settings k tag start pair v n p d what came.known) (sym machine)
       (record {
         seen = record { home = home; front = front; rows = rows };
         replica = j;
         there = replica_found settings v j volume got.0 built.no_more_replicas;
         stands = ap (λ i. outcome_at (now (volume_at k v) (replica_at (volume_at k v) i)) pair) (sym zero_j) ∙ got.1;
-        passed = tried (Whole old) settings tag.lane v start (known_counts k) (known_counts came.known) causes j whole (falls_at k.arms (came.known).arms tag.lane (came.leaves).arms) known;
+        passed = tried (Never old tag.lane) settings tag.lane v start (known_counts k) (known_counts came.known) seen causes j (λ at. whole) (falls_at k.arms (came.known).arms tag.lane (came.leaves).arms) known;
         leaves = came.leaves;
       })
 
   pub read_unreadable : (old new : Open D P A) (settings : Settings) (k : Known) (tag : CoreTag) (start : ℕ) (pair : Pair) (v p d : ℕ) (over : List PassedReplica) (passed : List Passed)
       → home_of k pair ≡ Some v → p ≡ length (volume_at k v).log → d ≡ length k.directory.rows → passed ≡ map (passed_at settings v) over
       → Whole old → Stands files Tells faults fuses arm_faults old k → (came : Comes files Tells faults fuses arm_faults k k new)
-      → PassesFrom (Whole old) settings tag.lane v start (counts_of faults arm_faults old) (counts_of faults arm_faults new) [] over → length over ≡ settings.replicas
+      → PassesFrom (Never old tag.lane) settings tag.lane v start (counts_of faults arm_faults old) (counts_of faults arm_faults new) [] over → length over ≡ settings.replicas
       → IsUnreadable settings k tag start pair v p d passed came.known
   read_unreadable old new settings k tag start pair v p d over passed home front rows is whole stood came passes all =
-      let known : PassesFrom (Whole old) settings tag.lane v start (known_counts k) (known_counts came.known) [] over =
-      subst (λ (c : Counts). PassesFrom (Whole old) settings tag.lane v start c (known_counts came.known) [] over) (counts_known old k stood)
-      (subst (λ (c : Counts). PassesFrom (Whole old) settings tag.lane v start (counts_of faults arm_faults old) c [] over) (counts_known new came.known came.stands) passes) in
+      let known : PassesFrom (Never old tag.lane) settings tag.lane v start (known_counts k) (known_counts came.known) [] over =
+      subst (λ (c : Counts). PassesFrom (Never old tag.lane) settings tag.lane v start c (known_counts came.known) [] over) (counts_known old k stood)
+      (subst (λ (c : Counts). PassesFrom (Never old tag.lane) settings tag.lane v start (counts_of faults arm_faults old) c [] over) (counts_known new came.known came.stands) passes) in
       subst (λ (told : List Passed). IsUnreadable settings k tag start pair v p d told came.known) (sym is)
       (record {
         seen = record { home = home; front = front; rows = rows };
-        each = passed_each (Whole old) settings k came.known tag v (order_from settings start) over whole (in_order settings start over known.order all) known.each;
+        each = passed_each (Never old tag.lane) settings k came.known tag v (order_from settings start) over (λ at. whole) (in_order settings start over known.order all) known.each;
         arms = rises_each settings v over known.rises;
         leaves = came.leaves;
       })
@@ -665,10 +689,10 @@ module _ {D P A : Type 0} (files : D → Files) (Tells : Type 0) (faults fuses :
 -- A REPLICA IS SEEN OR PASSED OVER
 
 -- why a replica is passed over whose place could not be seen
-pub sight_passed : (W : Type 0) (slot arm arm' : ℕ) (disks disks' : List ℕ) (fault : LogicalFault) (cause : Cause) → IsSightFault slot disks disks' fault → IsSightCause fault cause
-    → (W → (m at : ℕ) → fault ≡ refusal.Damaged m at → ⊥) → IsPassedFor W slot arm arm' disks disks' cause × IsNoArm cause
-sight_passed W slot arm arm' disks disks' (refusal.Failed m count) cause h is whole = subst (λ (c : Cause). IsPassedFor W slot arm arm' disks disks' c × IsNoArm c) (sym is) (h, tt)
-sight_passed W slot arm arm' disks disks' (refusal.Damaged m at) cause h is whole = subst (λ (c : Cause). IsPassedFor W slot arm arm' disks disks' c × IsNoArm c) (sym is) ((λ w. whole w m at refl), tt)
+pub sight_passed : (W : Cause → Type 0) (slot arm arm' : ℕ) (disks disks' : List ℕ) (fault : LogicalFault) (cause : Cause) → IsSightFault slot disks disks' fault → IsSightCause fault cause
+    → ((m at : ℕ) → W (Damage at) → fault ≡ refusal.Damaged m at → ⊥) → IsPassedFor W slot arm arm' disks disks' cause
+sight_passed W slot arm arm' disks disks' (refusal.Failed m count) cause h is whole = subst (λ (c : Cause). IsPassedFor W slot arm arm' disks disks' c) (sym is) h
+sight_passed W slot arm arm' disks disks' (refusal.Damaged m at) cause h is whole = subst (λ (c : Cause). IsPassedFor W slot arm arm' disks disks' c) (sym is) (λ w. whole m at w refl)
 sight_passed W slot arm arm' disks disks' refusal.NoMemory cause h is whole = absurd is
 sight_passed W slot arm arm' disks disks' (refusal.ReadOnly m) cause h is whole = absurd h
 sight_passed W slot arm arm' disks disks' (refusal.Full m end need capacity) cause h is whole = absurd h
@@ -678,7 +702,7 @@ sight_passed W slot arm arm' disks disks' (refusal.Worn m) cause h is whole = ab
 sight_passed W slot arm arm' disks disks' refusal.Idle cause h is whole = absurd h
 
 -- no replica more, and one more
-pub passes_none : (W : Type 0) (settings : Settings) (lane v start : ℕ) (before after : Counts) (causes : List PassedReplica) → ComeFirst start settings.replicas causes → PassesFrom W settings lane v start before after causes causes
+pub passes_none : (W : Cause → Type 0) (settings : Settings) (lane v start : ℕ) (before after : Counts) (causes : List PassedReplica) → ComeFirst start settings.replicas causes → PassesFrom W settings lane v start before after causes causes
 passes_none W settings lane v start before after causes order = record {
   begins = take-length causes;
   order = order;
@@ -686,7 +710,7 @@ passes_none W settings lane v start before after causes order = record {
   rises = subst (λ (ps : List PassedReplica). EachPair (λ a b. ArmRises a.cause b.cause) ps) (sym (drop-length causes)) tt;
 }
 
-pub passes_one : (W : Type 0) (settings : Settings) (lane v start : ℕ) (before after : Counts) (causes : List PassedReplica) (over : PassedReplica) → ComeFirst start settings.replicas causes
+pub passes_one : (W : Cause → Type 0) (settings : Settings) (lane v start : ℕ) (before after : Counts) (causes : List PassedReplica) (over : PassedReplica) → ComeFirst start settings.replicas causes
     → over.replica ≡ (start + length causes) % settings.replicas → IsPassedFor W (slot_of settings v over.replica) (slice_index before.arms lane) (slice_index after.arms lane) before.disks after.disks over.cause
     → PassesFrom W settings lane v start before after causes (causes ++ over ∷ [])
 passes_one W settings lane v start before after causes over order next has = record {
@@ -718,20 +742,19 @@ its_photo DiskTells Tells bytes place.Gone tells by = tt
 its_photo DiskTells Tells bytes (place.Unseen at size) tells by = tt
 
 -- a read that the next replica showed passes none over
-pub shown_passes : (W : Type 0) (settings : Settings) (lane v start : ℕ) (before after : Counts) (passed : List PassedReplica) (reply : ReadReply) → ComeFirst start settings.replicas passed → length passed < settings.replicas
-    → ShowsAt ((start + length passed) % settings.replicas) reply → ReadPasses W settings lane v start before after passed reply
-shown_passes W settings lane v start before after passed (read.Photo j) order fewer next = (passed, record { passes = passes_none W settings lane v start before after passed order; fewer = fewer; next = next })
-shown_passes W settings lane v start before after passed (read.Gone j) order fewer next = (passed, record { passes = passes_none W settings lane v start before after passed order; fewer = fewer; next = next })
-shown_passes W settings lane v start before after passed (read.WrongCookie j) order fewer next = (passed, record { passes = passes_none W settings lane v start before after passed order; fewer = fewer; next = next })
-shown_passes W settings lane v start before after passed (read.Unseen j causes) order fewer next = absurd next
-shown_passes W settings lane v start before after passed (read.Unreadable causes) order fewer next = absurd next
+pub shown_passes : (W : Cause → Type 0) (settings : Settings) (lane v start : ℕ) (before after : Counts) (seen : ℕ → Sight) (passed : List PassedReplica) (reply : ReadReply) → ComeFirst start settings.replicas passed
+    → length passed < settings.replicas → MayHave seen passed → ShowsAt ((start + length passed) % settings.replicas) reply → ReadPasses W settings lane v start before after seen passed reply
+shown_passes W settings lane v start before after seen passed reply order fewer stood shows = go reply shows
+  where
+    to : (j : ℕ) → j ≡ (start + length passed) % settings.replicas → (causes : List PassedReplica) × PassesTo W settings lane v start before after seen passed causes j
+    to j next = (passed, record { passes = passes_none W settings lane v start before after passed order; stood = stood; fewer = fewer; next = next })
 
-pub shown_no_arm : (j : ℕ) (passed : List PassedReplica) (reply : ReadReply) → ShowsAt j reply → ReadNoArm passed reply
-shown_no_arm j passed (read.Photo i) next = tt
-shown_no_arm j passed (read.Gone i) next = tt
-shown_no_arm j passed (read.WrongCookie i) next = tt
-shown_no_arm j passed (read.Unseen i causes) next = absurd next
-shown_no_arm j passed (read.Unreadable causes) next = absurd next
+    go : (r : ReadReply) → ShowsAt ((start + length passed) % settings.replicas) r → ReadPasses W settings lane v start before after seen passed r
+    go (read.Photo j) next = to j next
+    go (read.Gone j) next = to j next
+    go (read.WrongCookie j) next = to j next
+    go (read.Unseen j causes) next = absurd next
+    go (read.Unreadable causes) next = absurd next
 
 pub shown_stops : {D P A : Type 0} (store : Open D P A) (v j : ℕ) (pair : Pair) (reply : ReadReply) → ShowsAt j reply → StopsUnseen store v pair reply
 shown_stops store v j pair (read.Photo i) next = tt
@@ -783,18 +806,18 @@ arm_goes_on settings lane v before mid after causes arms later disks most same =
     everywhere (p ∷ ps) = (ap (λ ns. slice_index ns (slot_of settings v p.replica)) same, everywhere ps)
 
 -- a read that goes on stops behind the replica at which it stopped
-pub stops_further : {D P A : Type 0} (W : Type 0) (settings : Settings) (lane v start : ℕ) (before after : Counts) (store : Open D P A) (pair : Pair) (replica : ℕ) (causes passed : List PassedReplica) (reply : ReadReply) (j : ℕ) (more : List PassedReplica)
+pub stops_further : {D P A : Type 0} (W : Cause → Type 0) (settings : Settings) (lane v start : ℕ) (before after : Counts) (seen : ℕ → Sight) (store : Open D P A) (pair : Pair) (replica : ℕ) (causes passed : List PassedReplica) (reply : ReadReply) (j : ℕ) (more : List PassedReplica)
     → replica ≡ (start + length causes) % settings.replicas → (length passed ≡ length causes + 1) ⊎ ((length passed ≡ length causes) × IsSeenAt store v pair replica)
-    → ReadPasses W settings lane v start before after passed reply → StopsUnseen store v pair reply → reply ≡ read.Unseen j more → length causes + 1 ≤ length more
-stops_further W settings lane v start before after store pair replica causes passed reply j more next on passes stops is =
-    let to : PassesTo W settings lane v start before after passed more j = subst (λ (r : ReadReply). ReadPasses W settings lane v start before after passed r) is passes in
+    → ReadPasses W settings lane v start before after seen passed reply → StopsUnseen store v pair reply → reply ≡ read.Unseen j more → length causes + 1 ≤ length more
+stops_further W settings lane v start before after seen store pair replica causes passed reply j more next on passes stops is =
+    let to : PassesTo W settings lane v start before after seen passed more j = subst (λ (r : ReadReply). ReadPasses W settings lane v start before after seen passed r) is passes in
     let unseen : IsSeenAt store v pair j → ⊥ = subst (λ (r : ReadReply). StopsUnseen store v pair r) is stops in
     let longer = no_shorter passed more to.passes.begins in
     elim on [
       | inl one ↦ omega (arith, one, longer)
-      | inr seen ↦ elim (cases_order (length more) (length causes)) [
-        | inl same ↦ absurd (unseen (subst (λ i. IsSeenAt store v pair i) (next ∙ ap (λ n. (start + n) % settings.replicas) (sym same) ∙ sym to.next) seen.1))
-        | inr (inl less) ↦ absurd (omega (arith, longer, less, seen.0))
+      | inr looked ↦ elim (cases_order (length more) (length causes)) [
+        | inl same ↦ absurd (unseen (subst (λ i. IsSeenAt store v pair i) (next ∙ ap (λ n. (start + n) % settings.replicas) (sym same) ∙ sym to.next) looked.1))
+        | inr (inl less) ↦ absurd (omega (arith, longer, less, looked.0))
         | inr (inr greater) ↦ omega (arith, greater)
       ]
     ]
@@ -822,14 +845,6 @@ says_on settings settings' k t v pair cookie bytes r same volumes says =
     subst (λ (s : Settings). ReadSays cookie (outcomes_of s (volume_at k v) pair) bytes r) same
     (subst (λ (vs : List VolumeKnown). ReadSays cookie (outcomes_of settings' (slice_index_or vs v empty_volume) pair) bytes r) volumes says)
 
--- no replica was passed over for the arm, neither before nor now
-pub no_arm_round : (W : Type 0) (settings : Settings) (lane v start : ℕ) (before after : Counts) (passed : List PassedReplica) (r : ReadReply) → ReadPasses W settings lane v start before after passed r → PassesNoArm passed → ReadNoArm passed r → ReadNoArm [] r
-no_arm_round W settings lane v start before after passed (read.Photo j) passes first none = tt
-no_arm_round W settings lane v start before after passed (read.Gone j) passes first none = tt
-no_arm_round W settings lane v start before after passed (read.WrongCookie j) passes first none = tt
-no_arm_round W settings lane v start before after passed (read.Unseen j causes) passes first none = no_arm_on passed causes passes.passes.begins first none
-no_arm_round W settings lane v start before after passed (read.Unreadable causes) passes first none = no_arm_on passed causes passes.0.begins first none
-
 -- WHAT WAS READ IS WHAT WAS FOUND
 
 pub found_says : (cookie : Cookie) (outcomes : List Outcome) (bytes : List ℕ) (r : ReadReply) (f : Found) → IsFoundAs r f → ReadSays cookie outcomes bytes r → FoundSays cookie outcomes bytes f
@@ -839,23 +854,24 @@ found_says cookie outcomes bytes (read.WrongCookie j) f is h = subst (λ (x : Fo
 found_says cookie outcomes bytes (read.Unreadable causes) f is h = subst (λ (x : Found). FoundSays cookie outcomes bytes x) (sym is) tt
 found_says cookie outcomes bytes (read.Unseen j causes) f is h = absurd is
 
-pub found_passes : (W : Type 0) (settings : Settings) (lane v start : ℕ) (before after : Counts) (r : ReadReply) (f : Found) → IsFoundAs r f → ReadPasses W settings lane v start before after [] r → FoundPasses W settings lane v start before after f
-found_passes W settings lane v start before after (read.Photo j) f is h = subst (λ (x : Found). FoundPasses W settings lane v start before after x) (sym is) h
-found_passes W settings lane v start before after (read.Gone j) f is h = subst (λ (x : Found). FoundPasses W settings lane v start before after x) (sym is) h
-found_passes W settings lane v start before after (read.WrongCookie j) f is h = subst (λ (x : Found). FoundPasses W settings lane v start before after x) (sym is) h
-found_passes W settings lane v start before after (read.Unreadable causes) f is h = subst (λ (x : Found). FoundPasses W settings lane v start before after x) (sym is) h
-found_passes W settings lane v start before after (read.Unseen j causes) f is h = absurd is
+pub found_passes : (W : Cause → Type 0) (settings : Settings) (lane v start : ℕ) (before after : Counts) (seen : ℕ → Sight) (r : ReadReply) (f : Found) → IsFoundAs r f → ReadPasses W settings lane v start before after seen [] r → FoundPasses W settings lane v start before after seen f
+found_passes W settings lane v start before after seen (read.Photo j) f is h = subst (λ (x : Found). FoundPasses W settings lane v start before after seen x) (sym is) h
+found_passes W settings lane v start before after seen (read.Gone j) f is h = subst (λ (x : Found). FoundPasses W settings lane v start before after seen x) (sym is) h
+found_passes W settings lane v start before after seen (read.WrongCookie j) f is h = subst (λ (x : Found). FoundPasses W settings lane v start before after seen x) (sym is) h
+found_passes W settings lane v start before after seen (read.Unreadable causes) f is h = subst (λ (x : Found). FoundPasses W settings lane v start before after seen x) (sym is) h
+found_passes W settings lane v start before after seen (read.Unseen j causes) f is h = absurd is
 
-pub found_no_arm : (r : ReadReply) (f : Found) → IsFoundAs r f → ReadNoArm [] r → FoundNoArm f
-found_no_arm (read.Photo j) f is h = subst (λ (x : Found). FoundNoArm x) (sym is) tt
-found_no_arm (read.Gone j) f is h = subst (λ (x : Found). FoundNoArm x) (sym is) tt
-found_no_arm (read.WrongCookie j) f is h = subst (λ (x : Found). FoundNoArm x) (sym is) tt
-found_no_arm (read.Unreadable causes) f is h = subst (λ (x : Found). FoundNoArm x) (sym is) h
-found_no_arm (read.Unseen j causes) f is h = absurd is
+-- a photo has at most as many bytes as the largest
+pub found_bytes : (bytes : List ℕ) (r : ReadReply) (f : Found) → IsFoundAs r f → HasBytes bytes r → (j : ℕ) → f ≡ found.Photo j → length bytes ≤ MAX_PHOTO
+found_bytes bytes (read.Photo i) f is has j here = has
+found_bytes bytes (read.Gone i) f is has j here = let both : found.Gone i ≡ found.Photo j = sym is ∙ here in cc
+found_bytes bytes (read.WrongCookie i) f is has j here = let both : found.WrongCookie i ≡ found.Photo j = sym is ∙ here in cc
+found_bytes bytes (read.Unreadable causes) f is has j here = let both : found.Unreadable causes ≡ found.Photo j = sym is ∙ here in cc
+found_bytes bytes (read.Unseen i causes) f is has j here = absurd is
 
 -- what is legal to show to a reader of a URL is legal for its command
 pub get_command : (settings : Settings) (k t : Known) (tag : CoreTag) (url : Url) (start v : ℕ) (answer : Reply) → replica_on settings url.volume url.machine ≡ Some start → home_of k url.pair ≡ Some v → v ≡ url.volume
-    → LegalShow settings k tag start url.pair url.cookie answer t → ShowsFrom settings start v answer ⊎ (answer ≡ reply.NoMem) → LegalCommand settings k tag (command.Get url) answer t
+    → LegalShow settings k tag start url.pair url.cookie answer t → ShowsOf settings v answer ⊎ (answer ≡ reply.NoMem) → LegalCommand settings k tag (command.Get url) answer t
 get_command settings k t tag url start v answer there home same legal shows =
     go shows
   where
@@ -868,9 +884,9 @@ get_command settings k t tag url start v answer there home same legal shows =
     so : (r : Reply) → answer ≡ r → (LegalShow settings k tag start url.pair url.cookie r t → LegalGetAt settings k tag url (Some start) r t) → LegalCommand settings k tag (command.Get url) answer t
     so r is gets = subst (λ (a : Reply). LegalCommand settings k tag (command.Get url) a t) (sym is) (at r (gets (subst (λ (a : Reply). LegalShow settings k tag start url.pair url.cookie a t) is legal)))
 
-    go : ShowsFrom settings start v answer ⊎ (answer ≡ reply.NoMem) → LegalCommand settings k tag (command.Get url) answer t
-    go (inl (inl (m, p, d, bytes, on, is))) = so (reply.Photo v m p d bytes) is (λ h. (h, same, elsewhere))
+    go : ShowsOf settings v answer ⊎ (answer ≡ reply.NoMem) → LegalCommand settings k tag (command.Get url) answer t
+    go (inl (inl (m, p, d, bytes, on, few, is))) = so (reply.Photo v m p d bytes) is (λ h. (h, same, elsewhere))
     go (inl (inr (inl (m, p, d, on, is)))) = so (reply.Gone v m p d) is (λ h. (h, same, elsewhere))
     go (inl (inr (inr (inl (m, p, d, on, is))))) = so (reply.WrongCookie v m p d) is (λ h. (h, same, elsewhere))
-    go (inl (inr (inr (inr (p, d, causes, order, is))))) = so (reply.Unreadable v p d causes) is (λ h. (h, same, elsewhere))
+    go (inl (inr (inr (inr (p, d, causes, is))))) = so (reply.Unreadable v p d causes) is (λ h. (h, same, elsewhere))
     go (inr is) = so reply.NoMem is (λ h. (h, tt, elsewhere))

@@ -1,22 +1,9 @@
--- Arms that are sure stay so, and no reply blames them.
-use Rattle.std.proofs.Common.{◌≡◌, ℕ, zero, suc, ◌+◌, true, Bool, List, [], ◌∷◌, ◌++◌, length, take, map, Some, refl, sym, ap, subst, ◌∙◌, inl, inr, arith}
-use Rattle.std.proofs.lemmas.List.{get_or_past, take-append-drop}
-use Rattle.std.specs.Prelude.{slice_get, slice_index, slice_set}
-use Rattle.std.specs.List.{AllByRecursion}
+-- Arms that are sure stay so.
+use Rattle.std.proofs.Common.{◌≡◌, ℕ, zero, suc, true, Bool, List, [], ◌∷◌, Some, refl, sym, ap, subst, ◌∙◌}
+use Rattle.std.specs.Prelude.{slice_get, slice_set}
 use Rattle.hay_disk.specs.Counts.{StaysSure}
-use Rattle.hay_needle.specs.declared.settings.Settings.{Settings}
-use Rattle.hay_reply.specs.declared.Cause.{Cause}
-use Rattle.hay_reply.specs.declared.Cause.TheVariants.{Arm, Disk, Damage}
-use Rattle.hay_reply.specs.declared.Passed.{Passed}
-use Rattle.hay_reply.specs.declared.Reply.{Reply}
-use Rattle.hay_reply.specs.declared.Reply.TheVariants as reply
-use Rattle.hay_reader.specs.Causes.{IsDamage, passed_now}
-use Rattle.hay_reader.specs.Shown.{NoArm}
-use Rattle.hay_reader.specs.declared.causes.PassedReplica.{PassedReplica}
-use Rattle.hay_reader.specs.declared.seat.ReadReply.{ReadReply}
-use Rattle.hay_reader.specs.declared.seat.ReadReply.TheVariants as read
-use Rattle.hay_cluster.specs.Causes.{BlamesNoArm, CauseCameUp, Counts, IsCaused, IsNoArm, PassedOver, StaySure}
-use Rattle.hay_cluster.specs.Reads.{PassesNoArm, ReadNoArm, passed_at}
+use Rattle.hay_cluster.specs.Causes.{StaySure}
+use Rattle.hay_cluster.specs.Passing.{IsSureArm}
 
 -- THE ARMS
 
@@ -41,12 +28,21 @@ module _ {A : Type 0} (is_sure : A → Bool) (faults : A → ℕ) where
   pub used_sure : (old xs : List A) (i : ℕ) (x x' : A) → xs ≡ old → slice_get xs i ≡ Some x → Stays x x' → StaySure is_sure faults old (slice_set xs i x')
   used_sure old xs i x x' same at stays = subst (λ (ys : List A). StaySure is_sure faults ys (slice_set xs i x')) same (set_sure xs i x x' at stays)
 
-  -- what holds of an arm holds of the one that it became
-  pub sure_on : (xs ys : List A) (i : ℕ) (x : A) → StaySure is_sure faults xs ys → slice_get xs i ≡ Some x → is_sure x ≡ true → (y : A) × (slice_get ys i ≡ Some y) × (is_sure y ≡ true)
-  sure_on [] ys i x stay at sure = absurd cc
-  sure_on (z ∷ xs) [] i x stay at sure = absurd stay
-  sure_on (z ∷ xs) (y ∷ ys) zero x stay at sure = let same : z ≡ x = cc in (y, refl, (stay.0 (ap is_sure same ∙ sure)).0)
-  sure_on (z ∷ xs) (y ∷ ys) (suc i) x stay at sure = sure_on xs ys i x stay.1 at sure
+  -- a lane whose arm is sure has one that is
+  pub arm_on : (xs ys : List A) (lane : ℕ) → StaySure is_sure faults xs ys → IsSureArm is_sure xs lane → IsSureArm is_sure ys lane
+  arm_on [] ys lane stay sure = absurd cc
+  arm_on (x ∷ xs) [] lane stay sure = absurd stay
+  arm_on (x ∷ xs) (y ∷ ys) zero stay sure = let one : is_sure x ≡ true = cc in ap Some (stay.0 one).0
+  arm_on (x ∷ xs) (y ∷ ys) (suc i) stay sure = arm_on xs ys i stay.1 sure
+
+  -- it is the one that stands there
+  arm_there : (xs : List A) (lane : ℕ) (x : A) → slice_get xs lane ≡ Some x → IsSureArm is_sure xs lane → is_sure x ≡ true
+  arm_there [] lane x at sure = absurd cc
+  arm_there (y ∷ xs) zero x at sure = let same : y ≡ x = cc in let one : is_sure y ≡ true = cc in sym (ap is_sure same) ∙ one
+  arm_there (y ∷ xs) (suc i) x at sure = arm_there xs i x at sure
+
+  pub arm_at : (old xs : List A) (lane : ℕ) (x : A) → xs ≡ old → slice_get xs lane ≡ Some x → IsSureArm is_sure old lane → is_sure x ≡ true
+  arm_at old xs lane x same at sure = arm_there xs lane x at (subst (λ (ys : List A). IsSureArm is_sure ys lane) (sym same) sure)
 
   pub sure_trans : (xs ys zs : List A) → StaySure is_sure faults xs ys → StaySure is_sure faults ys zs → StaySure is_sure faults xs zs
   sure_trans [] [] [] first second = tt
@@ -58,59 +54,3 @@ module _ {A : Type 0} (is_sure : A → Bool) (faults : A → ℕ) where
     where
       go : is_sure x ≡ true → (is_sure z ≡ true) × (faults z ≡ faults x)
       go sure = let one = first.0 sure in let two = second.0 one.0 in (two.0, two.1 ∙ one.1)
-
--- WHAT A READ TELLS
-
-no_arm : (over : List PassedReplica) → AllByRecursion (λ p. IsDamage p.cause) over → PassesNoArm over
-no_arm [] all = tt
-no_arm (p ∷ over) all = (one p.cause all.0, no_arm over all.1)
-  where
-    one : (cause : Cause) → IsDamage cause → IsNoArm cause
-    one (Arm f) damage = absurd damage
-    one (Disk f) damage = tt
-    one (Damage at) damage = tt
-
-pub read_no_arm : (passed : List PassedReplica) (r : ReadReply) → NoArm passed r → ReadNoArm passed r
-read_no_arm passed (read.Photo j) none = tt
-read_no_arm passed (read.Gone j) none = tt
-read_no_arm passed (read.WrongCookie j) none = tt
-read_no_arm passed (read.Unseen j causes) none = no_arm (passed_now passed causes) none
-read_no_arm passed (read.Unreadable causes) none = no_arm (passed_now passed causes) none
-
-no_arm_append : (xs ys : List PassedReplica) → PassesNoArm xs → PassesNoArm ys → PassesNoArm (xs ++ ys)
-no_arm_append [] ys first rest = rest
-no_arm_append (p ∷ xs) ys first rest = (first.0, no_arm_append xs ys first.1 rest)
-
--- neither those that were passed over before, nor the others
-pub no_arm_on : (passed causes : List PassedReplica) → take (length passed) causes ≡ passed → PassesNoArm passed → PassesNoArm (passed_now passed causes) → PassesNoArm causes
-no_arm_on passed causes begins first rest =
-    subst (λ (ps : List PassedReplica). PassesNoArm ps) (take-append-drop (length passed) causes)
-    (subst (λ (ps : List PassedReplica). PassesNoArm (ps ++ passed_now passed causes)) (sym begins) (no_arm_append passed (passed_now passed causes) first rest))
-
-told_each : (settings : Settings) (v : ℕ) (over : List PassedReplica) → AllByRecursion (λ p. IsNoArm p.cause) over → AllByRecursion (λ passed. IsNoArm passed.cause) (map (passed_at settings v) over)
-told_each settings v [] all = tt
-told_each settings v (p ∷ over) all = (all.0, told_each settings v over all.1)
-
-pub unreadable_told : (settings : Settings) (v front rows : ℕ) (told : List Passed) (over : List PassedReplica) → told ≡ map (passed_at settings v) over → AllByRecursion (λ p. IsNoArm p.cause) over
-    → BlamesNoArm (reply.Unreadable v front rows told)
-unreadable_told settings v front rows told over is none = λ v' front' rows' causes same.
-    let one : told ≡ causes = cc in
-    subst (λ (all : List Passed). AllByRecursion (λ passed. IsNoArm passed.cause) all) (sym is ∙ one) (told_each settings v over none)
-
--- WHAT ANY OTHER CALL TELLS
-
--- a cause that any lane may have is no arm
-pub unblamed : (settings : Settings) (before after : Counts) (said : Reply) → ((lane : ℕ) → IsCaused settings lane before after said) → BlamesNoArm said
-unblamed settings before after said causes = λ v front rows told is.
-    let lane = length before.arms + length after.arms in
-    go v lane (get_or_past after.arms lane 0 (omega arith)) told (PassedOver.each (subst (λ (r : Reply). IsCaused settings lane before after r) is (causes lane)))
-  where
-    one : (v lane m : ℕ) → slice_index after.arms lane ≡ 0 → (cause : Cause) → CauseCameUp settings lane v before after m cause → IsNoArm cause
-    one v lane m none (Arm f) came = elim (came.0) [ inl rose ↦ (let low = came.1 in absurd (omega (arith, none, rose, low))) | inr end ↦ (let low = came.1 in absurd (omega (arith, none, end, low))) ]
-    one v lane m none (Disk f) came = tt
-    one v lane m none (Damage at) came = tt
-
-    go : (v lane : ℕ) → slice_index after.arms lane ≡ 0 → (told : List Passed) → AllByRecursion (λ passed. CauseCameUp settings lane v before after passed.machine passed.cause) told
-        → AllByRecursion (λ passed. IsNoArm passed.cause) told
-    go v lane none [] all = tt
-    go v lane none (p ∷ told) all = (one v lane p.machine none p.cause all.0, go v lane none told all.1)

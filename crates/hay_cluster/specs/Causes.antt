@@ -1,17 +1,13 @@
 -- What an answer and a fault say of the counts of faults, from before the call to behind it.
 use Rattle.std.specs.Prelude.{◌≡◌, ◌<◌, ℕ, Bool, List, Option, Some, None, slice_index, slice_set}
-use Rattle.std.specs.List.{AllByRecursion, AllZip}
+use Rattle.std.specs.List.{AllZip}
 use Rattle.hay_needle.specs.declared.settings.Settings.{Settings}
 use Rattle.hay_disk.specs.Counts.{IsNext, Rose, StaysSure}
 use Rattle.hay_script.specs.declared.Command.{Command}
 use Rattle.hay_script.specs.declared.Command.TheVariants as asks
-use Rattle.hay_reply.specs.declared.Cause.{Cause}
-use Rattle.hay_reply.specs.declared.Cause.TheVariants.{Arm, Disk, Damage}
-use Rattle.hay_reply.specs.declared.Passed.{Passed}
 use Rattle.hay_reply.specs.declared.Reply.{Reply}
 use Rattle.hay_reply.specs.declared.Reply.TheVariants as reply
-use Rattle.hay_legal.specs.Known.{CameUp, EachPair, disk_count, machine_of, replica_on, slot_of}
-use Rattle.hay_legal.specs.Plain.{ArmRises}
+use Rattle.hay_legal.specs.Known.{disk_count, machine_of, replica_on, slot_of}
 use Rattle.hay_logical.specs.Seen.{SeesAt}
 use Rattle.hay_logical.specs.declared.fault.LogicalFault.{LogicalFault}
 use Rattle.hay_logical.specs.declared.fault.LogicalFault.TheVariants as refusal
@@ -38,51 +34,40 @@ pub record RoseAt (settings : Settings) (v m : ℕ) (before after : List ℕ) (c
   pub rose : Rose (slice_index before (slot_of settings v replica)) (slice_index after (slot_of settings v replica))
   pub told : count ≡ slice_index after (slot_of settings v replica)
 
--- a printed count came up while a replica was passed over
-abbrev pub CauseCameUp : Settings → ℕ → ℕ → Counts → Counts → ℕ → Cause → Type 0
-CauseCameUp settings lane v before after m (Arm count) = CameUp (slice_index before.arms lane) count (slice_index after.arms lane)
-CauseCameUp settings lane v before after m (Disk count) = RoseAt settings v m before.disks after.disks count
-CauseCameUp settings lane v before after m (Damage at) = Unit {0}
-
--- Each replica that was passed over was so for its cause, and of two failures of the arm the later one has the greater count.
-pub record PassedOver (settings : Settings) (lane v : ℕ) (before after : Counts) (causes : List Passed) : Type 0 where
-  pub rises : EachPair (λ a b. ArmRises a.cause b.cause) causes
-  pub each : AllByRecursion (λ passed. CauseCameUp settings lane v before after passed.machine passed.cause) causes
-
--- A reply tells of a failure only where the count that it prints rose.
-abbrev pub IsCaused : Settings → ℕ → Counts → Counts → Reply → Type 0
-IsCaused settings lane before after (reply.Failed v m count) = RoseAt settings v m before.disks after.disks count
-IsCaused settings lane before after (reply.FailedDir count) = RoseIn 0 before.disks after.disks count
-IsCaused settings lane before after (reply.Unreadable v front rows causes) = PassedOver settings lane v before after causes
-IsCaused settings lane before after (reply.Stored v p d c) = Unit {0}
-IsCaused settings lane before after (reply.Deleted v p d) = Unit {0}
-IsCaused settings lane before after (reply.Photo v m p d bytes) = Unit {0}
-IsCaused settings lane before after (reply.Gone v m p d) = Unit {0}
-IsCaused settings lane before after (reply.Absent v p d) = Unit {0}
-IsCaused settings lane before after (reply.WrongCookie v m p d) = Unit {0}
-IsCaused settings lane before after (reply.Unknown d) = Unit {0}
-IsCaused settings lane before after (reply.Moved v d) = Unit {0}
-IsCaused settings lane before after (reply.Url d url) = Unit {0}
-IsCaused settings lane before after (reply.Full tries) = Unit {0}
-IsCaused settings lane before after (reply.ReadOnly tries) = Unit {0}
-IsCaused settings lane before after reply.ReadOnlyDir = Unit {0}
-IsCaused settings lane before after (reply.Damaged v m at) = Unit {0}
-IsCaused settings lane before after (reply.Flushed v m n) = Unit {0}
-IsCaused settings lane before after (reply.Begun v m g) = Unit {0}
-IsCaused settings lane before after (reply.Stepped v m n) = Unit {0}
-IsCaused settings lane before after (reply.Compacted v m g) = Unit {0}
-IsCaused settings lane before after (reply.Busy v m g) = Unit {0}
-IsCaused settings lane before after (reply.Idle v m) = Unit {0}
-IsCaused settings lane before after (reply.Worn v m) = Unit {0}
-IsCaused settings lane before after (reply.Drained m) = Unit {0}
-IsCaused settings lane before after (reply.Undrained m) = Unit {0}
-IsCaused settings lane before after (reply.Fused v m n) = Unit {0}
-IsCaused settings lane before after (reply.FusedDir n) = Unit {0}
-IsCaused settings lane before after reply.Nowhere = Unit {0}
-IsCaused settings lane before after (reply.Restarted d) = Unit {0}
-IsCaused settings lane before after reply.BadLine = Unit {0}
-IsCaused settings lane before after reply.Unbuilt = Unit {0}
-IsCaused settings lane before after reply.NoMem = Unit {0}
+-- A reply tells of a disk's failure only where the count that it prints rose. Of the replicas that a read passes over Passing tells.
+abbrev pub IsCaused : Settings → List ℕ → List ℕ → Reply → Type 0
+IsCaused settings before after (reply.Failed v m count) = RoseAt settings v m before after count
+IsCaused settings before after (reply.FailedDir count) = RoseIn 0 before after count
+IsCaused settings before after (reply.Unreadable v front rows causes) = Unit {0}
+IsCaused settings before after (reply.Stored v p d c) = Unit {0}
+IsCaused settings before after (reply.Deleted v p d) = Unit {0}
+IsCaused settings before after (reply.Photo v m p d bytes) = Unit {0}
+IsCaused settings before after (reply.Gone v m p d) = Unit {0}
+IsCaused settings before after (reply.Absent v p d) = Unit {0}
+IsCaused settings before after (reply.WrongCookie v m p d) = Unit {0}
+IsCaused settings before after (reply.Unknown d) = Unit {0}
+IsCaused settings before after (reply.Moved v d) = Unit {0}
+IsCaused settings before after (reply.Url d url) = Unit {0}
+IsCaused settings before after (reply.Full tries) = Unit {0}
+IsCaused settings before after (reply.ReadOnly tries) = Unit {0}
+IsCaused settings before after reply.ReadOnlyDir = Unit {0}
+IsCaused settings before after (reply.Damaged v m at) = Unit {0}
+IsCaused settings before after (reply.Flushed v m n) = Unit {0}
+IsCaused settings before after (reply.Begun v m g) = Unit {0}
+IsCaused settings before after (reply.Stepped v m n) = Unit {0}
+IsCaused settings before after (reply.Compacted v m g) = Unit {0}
+IsCaused settings before after (reply.Busy v m g) = Unit {0}
+IsCaused settings before after (reply.Idle v m) = Unit {0}
+IsCaused settings before after (reply.Worn v m) = Unit {0}
+IsCaused settings before after (reply.Drained m) = Unit {0}
+IsCaused settings before after (reply.Undrained m) = Unit {0}
+IsCaused settings before after (reply.Fused v m n) = Unit {0}
+IsCaused settings before after (reply.FusedDir n) = Unit {0}
+IsCaused settings before after reply.Nowhere = Unit {0}
+IsCaused settings before after (reply.Restarted d) = Unit {0}
+IsCaused settings before after reply.BadLine = Unit {0}
+IsCaused settings before after reply.Unbuilt = Unit {0}
+IsCaused settings before after reply.NoMem = Unit {0}
 
 -- So does an opening. The shelf has no part in what is done to disks.
 abbrev pub HasFaultCause : Settings → List ℕ → List ℕ → ClusterFault → Type 0
@@ -258,15 +243,6 @@ IsReplicaCause settings work v replica before after fault =
     RefusesOn work (machine_of settings v replica) fault × RoseWhereFailed settings v before after fault × IsThere settings v fault
 
 -- ARMS THAT ARE SURE
-
-abbrev pub IsNoArm : Cause → Type 0
-IsNoArm (Arm count) = ⊥
-IsNoArm (Disk count) = Unit {0}
-IsNoArm (Damage at) = Unit {0}
-
--- no arm is told as the cause of a reply
-abbrev pub BlamesNoArm : Reply → Type 0
-BlamesNoArm said = (v front rows : ℕ) (causes : List Passed) → said ≡ reply.Unreadable v front rows causes → AllByRecursion (λ passed. IsNoArm passed.cause) causes
 
 -- each arm that was sure is still, and its count is as it was
 abbrev pub StaySure : {A : Type 0} → (A → Bool) → (A → ℕ) → List A → List A → Type 0

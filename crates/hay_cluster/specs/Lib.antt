@@ -7,6 +7,7 @@ pub mod Maintenance
 pub mod Opening
 pub mod Outside
 pub mod Parts
+pub mod Passing
 pub mod Puts
 pub mod Reads
 pub mod Seen

@@ -1,5 +1,5 @@
 -- What a read of the store shows.
-use Rattle.std.specs.Prelude.{◌≡◌, ◌≢◌, ℕ, ◌+◌, ◌%◌, ◌<◌, List, [], length, map, take, slice_get, slice_index, Some}
+use Rattle.std.specs.Prelude.{◌≡◌, ◌≢◌, ℕ, Bool, ◌+◌, ◌%◌, ◌<◌, List, [], length, map, take, slice_get, slice_index, Some}
 use Rattle.std.specs.List.{AllByRecursion, range_with_len}
 use Rattle.hay_needle.specs.declared.needle.Cookie.{Cookie}
 use Rattle.hay_needle.specs.declared.needle.Outcome.{Outcome}
@@ -32,7 +32,8 @@ use Rattle.hay_reader.specs.declared.seat.ReadReply.{ReadReply}
 use Rattle.hay_reader.specs.declared.seat.ReadReply.TheVariants as read
 use Rattle.hay_cluster.specs.declared.reading.Found.{Found}
 use Rattle.hay_cluster.specs.declared.reading.Found.TheVariants as found
-use Rattle.hay_cluster.specs.Causes.{Counts, IsNoArm, RoseIn}
+use Rattle.hay_cluster.specs.Causes.{Counts, RoseIn}
+use Rattle.hay_cluster.specs.Passing.{IsSureArm}
 use Rattle.hay_logical.specs.Sights.{Sight}
 use Rattle.hay_logical.specs.Sights.Sight.{Live, Unseen}
 use Rattle.hay_cluster.specs.Sights.{IsAbsent, MayStand}
@@ -59,65 +60,63 @@ counts_of faults arm_faults store = record { disks = map faults (disks_of store)
 abbrev pub IsWhole : {D P A : Type 0} → Type 0 → (D → Files) → Type 0 → (D → ℕ) → (D → ℕ) → (A → ℕ) → Open D P A → Type 0
 IsWhole DiskTells files Tells faults fuses arm_faults store = DiskTells × (k : Known) × Stands files Tells faults fuses arm_faults store k
 
--- Why a replica was passed over between two counts: the lane's arm failed, or the replica's disk did, whose count rose to this. No
--- needle of a whole store is damaged.
-abbrev pub IsPassedFor : Type 0 → ℕ → ℕ → ℕ → List ℕ → List ℕ → Cause → Type 0
-IsPassedFor Whole slot arm arm' disks disks' (Arm f) = HasArmCause arm arm' (Arm f)
-IsPassedFor Whole slot arm arm' disks disks' (Disk f) = RoseIn slot disks disks' f
-IsPassedFor Whole slot arm arm' disks disks' (Damage at) = Whole → ⊥
+-- What is never the cause in a read of this store with a lane's arm: the arm, where it is sure, and damage, where the store is whole.
+abbrev pub NeverIn : {D P A : Type 0} → Type 0 → (D → Files) → Type 0 → (D → ℕ) → (D → ℕ) → (A → ℕ) → (A → Bool) → Open D P A → ℕ → Cause → Type 0
+NeverIn DiskTells files Tells faults fuses arm_faults is_sure store lane (Arm f) = IsSureArm is_sure store.arms lane
+NeverIn DiskTells files Tells faults fuses arm_faults is_sure store lane (Disk f) = ⊥
+NeverIn DiskTells files Tells faults fuses arm_faults is_sure store lane (Damage at) = IsWhole DiskTells files Tells faults fuses arm_faults store
+
+-- Why a replica was passed over between two counts: the lane's arm failed, or the replica's disk did, whose count rose to this, or its
+-- needle is damaged.
+abbrev pub IsPassedFor : (Cause → Type 0) → ℕ → ℕ → ℕ → List ℕ → List ℕ → Cause → Type 0
+IsPassedFor Never slot arm arm' disks disks' (Arm f) = HasArmCause arm arm' (Arm f) × (Never (Arm f) → ⊥)
+IsPassedFor Never slot arm arm' disks disks' (Disk f) = RoseIn slot disks disks' f
+IsPassedFor Never slot arm arm' disks disks' (Damage at) = Never (Damage at) → ⊥
 
 -- The replicas that come first were passed over, some of them before, and each of the others with its cause between two counts.
-pub record PassesFrom (Whole : Type 0) (settings : Settings) (lane v start : ℕ) (before after : Counts) (passed causes : List PassedReplica) : Type 0 where
+pub record PassesFrom (Never : Cause → Type 0) (settings : Settings) (lane v start : ℕ) (before after : Counts) (passed causes : List PassedReplica) : Type 0 where
   pub begins : take (length passed) causes ≡ passed
   pub order : ComeFirst start settings.replicas causes
-  pub each : AllByRecursion (λ over. IsPassedFor Whole (slot_of settings v over.replica) (slice_index before.arms lane) (slice_index after.arms lane) before.disks after.disks over.cause) (passed_now passed causes)
+  pub each : AllByRecursion (λ over. IsPassedFor Never (slot_of settings v over.replica) (slice_index before.arms lane) (slice_index after.arms lane) before.disks after.disks over.cause) (passed_now passed causes)
   pub rises : EachPair (λ a b. ArmRises a.cause b.cause) (passed_now passed causes)
 
+-- each replica that was passed over may have the photo of a pair that is seen so
+abbrev pub MayHave : (ℕ → Sight) → List PassedReplica → Type 0
+MayHave seen causes = AllByRecursion (λ over. MayStand (seen over.replica)) causes
+
 -- Those that come before this replica were passed over, and no others.
-pub record PassesTo (Whole : Type 0) (settings : Settings) (lane v start : ℕ) (before after : Counts) (passed causes : List PassedReplica) (j : ℕ) : Type 0 where
-  pub passes : PassesFrom Whole settings lane v start before after passed causes
+pub record PassesTo (Never : Cause → Type 0) (settings : Settings) (lane v start : ℕ) (before after : Counts) (seen : ℕ → Sight) (passed causes : List PassedReplica) (j : ℕ) : Type 0 where
+  pub passes : PassesFrom Never settings lane v start before after passed causes
+  pub stood : MayHave seen causes
   pub fewer : length causes < settings.replicas
   pub next : j ≡ (start + length causes) % settings.replicas
 
-abbrev pub ReadPasses : Type 0 → Settings → ℕ → ℕ → ℕ → Counts → Counts → List PassedReplica → ReadReply → Type 0
-ReadPasses Whole settings lane v start before after passed (read.Photo j) =
-    (causes : List PassedReplica) × PassesTo Whole settings lane v start before after passed causes j
-ReadPasses Whole settings lane v start before after passed (read.Gone j) =
-    (causes : List PassedReplica) × PassesTo Whole settings lane v start before after passed causes j
-ReadPasses Whole settings lane v start before after passed (read.WrongCookie j) =
-    (causes : List PassedReplica) × PassesTo Whole settings lane v start before after passed causes j
-ReadPasses Whole settings lane v start before after passed (read.Unseen j causes) = PassesTo Whole settings lane v start before after passed causes j
-ReadPasses Whole settings lane v start before after passed (read.Unreadable causes) =
-    PassesFrom Whole settings lane v start before after passed causes × (length causes ≡ settings.replicas)
+-- every replica was
+pub record PassesAll (Never : Cause → Type 0) (settings : Settings) (lane v start : ℕ) (before after : Counts) (seen : ℕ → Sight) (passed causes : List PassedReplica) : Type 0 where
+  pub passes : PassesFrom Never settings lane v start before after passed causes
+  pub stood : MayHave seen causes
+  pub all : length causes ≡ settings.replicas
 
-abbrev pub FoundPasses : Type 0 → Settings → ℕ → ℕ → ℕ → Counts → Counts → Found → Type 0
-FoundPasses Whole settings lane v start before after (found.Photo j) =
-    (causes : List PassedReplica) × PassesTo Whole settings lane v start before after [] causes j
-FoundPasses Whole settings lane v start before after (found.Gone j) =
-    (causes : List PassedReplica) × PassesTo Whole settings lane v start before after [] causes j
-FoundPasses Whole settings lane v start before after (found.WrongCookie j) =
-    (causes : List PassedReplica) × PassesTo Whole settings lane v start before after [] causes j
-FoundPasses Whole settings lane v start before after (found.Unreadable causes) =
-    PassesFrom Whole settings lane v start before after [] causes × (length causes ≡ settings.replicas)
-FoundPasses Whole settings lane v start before after found.NoMemory = Unit {0}
+-- what a read of a pair that is seen so has passed over, some of them before
+abbrev pub ReadPasses : (Cause → Type 0) → Settings → ℕ → ℕ → ℕ → Counts → Counts → (ℕ → Sight) → List PassedReplica → ReadReply → Type 0
+ReadPasses Never settings lane v start before after seen passed (read.Photo j) =
+    (causes : List PassedReplica) × PassesTo Never settings lane v start before after seen passed causes j
+ReadPasses Never settings lane v start before after seen passed (read.Gone j) =
+    (causes : List PassedReplica) × PassesTo Never settings lane v start before after seen passed causes j
+ReadPasses Never settings lane v start before after seen passed (read.WrongCookie j) =
+    (causes : List PassedReplica) × PassesTo Never settings lane v start before after seen passed causes j
+ReadPasses Never settings lane v start before after seen passed (read.Unseen j causes) = PassesTo Never settings lane v start before after seen passed causes j
+ReadPasses Never settings lane v start before after seen passed (read.Unreadable causes) = PassesAll Never settings lane v start before after seen passed causes
 
--- no replica was passed over for the arm
-abbrev pub PassesNoArm : List PassedReplica → Type 0
-PassesNoArm causes = AllByRecursion (λ over. IsNoArm over.cause) causes
-
-abbrev pub ReadNoArm : List PassedReplica → ReadReply → Type 0
-ReadNoArm passed (read.Unseen j causes) = PassesNoArm (passed_now passed causes)
-ReadNoArm passed (read.Unreadable causes) = PassesNoArm (passed_now passed causes)
-ReadNoArm passed (read.Photo j) = Unit {0}
-ReadNoArm passed (read.Gone j) = Unit {0}
-ReadNoArm passed (read.WrongCookie j) = Unit {0}
-
-abbrev pub FoundNoArm : Found → Type 0
-FoundNoArm (found.Unreadable causes) = PassesNoArm causes
-FoundNoArm (found.Photo j) = Unit {0}
-FoundNoArm (found.Gone j) = Unit {0}
-FoundNoArm (found.WrongCookie j) = Unit {0}
-FoundNoArm found.NoMemory = Unit {0}
+abbrev pub FoundPasses : (Cause → Type 0) → Settings → ℕ → ℕ → ℕ → Counts → Counts → (ℕ → Sight) → Found → Type 0
+FoundPasses Never settings lane v start before after seen (found.Photo j) =
+    (causes : List PassedReplica) × PassesTo Never settings lane v start before after seen [] causes j
+FoundPasses Never settings lane v start before after seen (found.Gone j) =
+    (causes : List PassedReplica) × PassesTo Never settings lane v start before after seen [] causes j
+FoundPasses Never settings lane v start before after seen (found.WrongCookie j) =
+    (causes : List PassedReplica) × PassesTo Never settings lane v start before after seen [] causes j
+FoundPasses Never settings lane v start before after seen (found.Unreadable causes) = PassesAll Never settings lane v start before after seen [] causes
+FoundPasses Never settings lane v start before after seen found.NoMemory = Unit {0}
 
 -- PLACES THAT ARE SEEN
 
@@ -173,19 +172,19 @@ IsSightCause (fault.Busy m generation) cause = ⊥
 IsSightCause (fault.Worn m) cause = ⊥
 IsSightCause fault.Idle cause = ⊥
 
--- what a read found of a pair that is seen so on each replica: none was passed over that has no photo
+-- what a read found of a pair that is seen so on each replica
 abbrev pub ReadSees : (ℕ → Sight) → ReadReply → Type 0
 ReadSees seen (read.Photo j) = seen j ≡ Live
 ReadSees seen (read.Gone j) = IsAbsent (seen j)
 ReadSees seen (read.WrongCookie j) = seen j ≡ Live
-ReadSees seen (read.Unseen j causes) = (seen j ≡ Unseen) × AllByRecursion (λ over. MayStand (seen over.replica)) causes
-ReadSees seen (read.Unreadable causes) = AllByRecursion (λ over. MayStand (seen over.replica)) causes
+ReadSees seen (read.Unseen j causes) = seen j ≡ Unseen
+ReadSees seen (read.Unreadable causes) = Unit {0}
 
 abbrev pub FoundSees : (ℕ → Sight) → Found → Type 0
 FoundSees seen (found.Photo j) = seen j ≡ Live
 FoundSees seen (found.Gone j) = IsAbsent (seen j)
 FoundSees seen (found.WrongCookie j) = seen j ≡ Live
-FoundSees seen (found.Unreadable causes) = AllByRecursion (λ over. MayStand (seen over.replica)) causes
+FoundSees seen (found.Unreadable causes) = Unit {0}
 FoundSees seen found.NoMemory = Unit {0}
 
 -- OUTCOMES

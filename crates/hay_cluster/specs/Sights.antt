@@ -1,6 +1,5 @@
 -- What is seen of the photos of a store, whatever its disks tell, and how each command changes that.
 use Rattle.std.specs.Prelude.{◌≡◌, ◌≢◌, ◌⊎◌, ℕ, List, Option, None, Some}
-use Rattle.std.specs.List.{AllByRecursion}
 use Rattle.hay_needle.specs.declared.needle.Pair.{Pair}
 use Rattle.hay_needle.specs.declared.settings.Settings.{Settings}
 use Rattle.hay_script.specs.declared.Command.{Command}
@@ -127,12 +126,11 @@ DeleteSights settings pair (Missing v m) old new = ⊥
 DeleteSights settings pair (Unreadable v causes) old new = ⊥
 DeleteSights settings pair (Swapped v m) old new = ⊥
 
--- A read looks at replicas of its pair, and shows what it then sees of one of them. It passes none over that has no photo.
+-- A read looks at replicas of its pair, and shows what it then sees of one of them.
 abbrev pub ReadSights : Settings → Pair → Told → StoreSeen → StoreSeen → Type 0
 ReadSights settings pair (Shown v m) old new = ChangesPhotos v (LooksAtPair pair) old new × SeesOn settings v pair (λ seen. seen ≡ Live) new m
 ReadSights settings pair (Missing v m) old new = ChangesPhotos v (LooksAtPair pair) old new × SeesOn settings v pair IsAbsent new m
-ReadSights settings pair (Unreadable v causes) old new =
-    ChangesPhotos v (LooksAtPair pair) old new × AllByRecursion (λ passed. SeesOn settings v pair MayStand new passed.machine) causes
+ReadSights settings pair (Unreadable v causes) old new = ChangesPhotos v (LooksAtPair pair) old new
 ReadSights settings pair Wanting old new = LooksAtHome (home_seen old pair) pair old new
 ReadSights settings pair Nothing old new = KeepsPhotos old new
 ReadSights settings pair (Stored v) old new = ⊥

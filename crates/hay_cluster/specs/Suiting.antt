@@ -1,8 +1,9 @@
 -- What a reply may be to each command, over whatever disks: what of it the command, its line's number and the settings fix.
-use Rattle.std.specs.Prelude.{◌≡◌, ◌≢◌, ◌⊎◌, ℕ, ◌<◌, ◌≤◌, ◌%◌, true, List, [], ◌∷◌, map, Option, Some, None}
+use Rattle.std.specs.Prelude.{◌≡◌, ◌≢◌, ◌⊎◌, ℕ, ◌<◌, ◌≤◌, ◌%◌, true, List, [], ◌∷◌, length, map, Option, Some, None}
 use Rattle.std.specs.List.{AllZip, list_any}
 use Rattle.hay_needle.specs.declared.needle.Pair.{Pair}
 use Rattle.hay_needle.specs.declared.settings.Settings.{Settings}
+use Rattle.hay_needle.specs.declared.total.TheConstants.{MAX_PHOTO}
 use Rattle.hay_url.specs.declared.Url.{Url as UrlParts}
 use Rattle.hay_url.specs.Url.{cookie_of}
 use Rattle.hay_script.specs.declared.Command.{Command}
@@ -14,7 +15,7 @@ use Rattle.hay_reply.specs.declared.Passed.{Passed}
 use Rattle.hay_reply.specs.declared.Reply.{Reply}
 use Rattle.hay_reply.specs.declared.Reply.TheVariants.{Stored, Deleted, Photo, Gone, Absent, WrongCookie, Unknown, Moved, Url, Full, ReadOnly, ReadOnlyDir, Failed, FailedDir, Unreadable, Damaged, Flushed, Begun, Stepped, Compacted, Busy, Idle, Worn, Drained, Undrained, Fused, FusedDir, Nowhere, NoMem}
 use Rattle.hay_legal.specs.Known.{all_tries, machine_of, replica_on}
-use Rattle.hay_legal.specs.Plain.{as_closed, order_from, wants_room}
+use Rattle.hay_legal.specs.Plain.{as_closed, wants_room}
 
 -- the volume has a replica on this machine
 abbrev pub IsOn : Settings → ℕ → ℕ → Type 0
@@ -55,27 +56,26 @@ SuitsPut settings pair said =
 
 -- READS
 
--- what is shown of a volume to a reader that starts at this replica; where every replica was passed over, they are named in the order
--- in which they were tried
-abbrev pub ShowsFrom : Settings → ℕ → ℕ → Reply → Type 0
-ShowsFrom settings start v said =
-    ((m : ℕ) × (p : ℕ) × (d : ℕ) × (bytes : List ℕ) × IsOn settings v m × (said ≡ Photo v m p d bytes))
+-- what is shown of a volume: a photo has at most as many bytes as the largest
+abbrev pub ShowsOf : Settings → ℕ → Reply → Type 0
+ShowsOf settings v said =
+    ((m : ℕ) × (p : ℕ) × (d : ℕ) × (bytes : List ℕ) × IsOn settings v m × (length bytes ≤ MAX_PHOTO) × (said ≡ Photo v m p d bytes))
     ⊎ ((m : ℕ) × (p : ℕ) × (d : ℕ) × IsOn settings v m × (said ≡ Gone v m p d))
     ⊎ ((m : ℕ) × (p : ℕ) × (d : ℕ) × IsOn settings v m × (said ≡ WrongCookie v m p d))
-    ⊎ ((p : ℕ) × (d : ℕ) × (causes : List Passed) × (map (λ passed. passed.machine) causes ≡ map (machine_of settings v) (order_from settings start)) × (said ≡ Unreadable v p d causes))
+    ⊎ ((p : ℕ) × (d : ℕ) × (causes : List Passed) × (said ≡ Unreadable v p d causes))
 
-abbrev pub SuitsRead : Settings → ℕ → Reply → Type 0
-SuitsRead settings start said =
+abbrev pub SuitsRead : Settings → Reply → Type 0
+SuitsRead settings said =
     ((d : ℕ) × (said ≡ Unknown d))
-    ⊎ ((v : ℕ) × (v < settings.volumes) × ShowsFrom settings start v said)
+    ⊎ ((v : ℕ) × (v < settings.volumes) × ShowsOf settings v said)
     ⊎ (said ≡ NoMem)
 
 -- a get shows the URL's volume, or names another
-abbrev pub SuitsGet : Settings → UrlParts → ℕ → Reply → Type 0
-SuitsGet settings url start said =
+abbrev pub SuitsGet : Settings → UrlParts → Reply → Type 0
+SuitsGet settings url said =
     ((d : ℕ) × (said ≡ Unknown d))
     ⊎ ((v : ℕ) × (d : ℕ) × (v < settings.volumes) × (v ≢ url.volume) × (said ≡ Moved v d))
-    ⊎ ShowsFrom settings start url.volume said
+    ⊎ ShowsOf settings url.volume said
 
 -- DELETES AND URLS
 
@@ -144,8 +144,8 @@ SuitsFuse None done said = said ≡ Nowhere
 -- A reply is one that the command of this line may be given. A restart is not answered by one.
 abbrev pub Suits : Settings → ℕ → Command → Reply → Type 0
 Suits settings line (asks.Put pair photo) said = SuitsPut settings pair said
-Suits settings line (asks.Read pair cookie) said = SuitsRead settings (start_at settings line) said
-Suits settings line (asks.Get url) said = AtReplica (replica_on settings url.volume url.machine) (SuitsGet settings url) said
+Suits settings line (asks.Read pair cookie) said = SuitsRead settings said
+Suits settings line (asks.Get url) said = AtReplica (replica_on settings url.volume url.machine) (λ replica. SuitsGet settings url) said
 Suits settings line (asks.Del pair) said = SuitsDel settings said
 Suits settings line (asks.Url pair) said = SuitsUrl settings (start_at settings line) pair said
 Suits settings line (asks.Flush v m) said = AtReplica (replica_on settings v m) (λ replica. SuitsFlush settings v m) said

@@ -1,11 +1,13 @@
 //! A store, and how it is opened, stopped and closed.
-ghost use Rattle.std.specs.Prelude.{◌≡◌, ◌≢◌, ◌<◌, ℕ, true, length, map, slice_get};
+ghost use Rattle.std.specs.Prelude.{◌≡◌, ◌≢◌, ◌<◌, ℕ, length, map};
 ghost use Rattle.hay_legal.specs.declared.known.Known.{Known};
 ghost use Rattle.hay_legal.specs.Known.{NoneFalls};
 ghost use Rattle.hay_script.specs.Script.{IsWithin};
 ghost use Rattle.hay_reply.specs.Fits.{FitsReply};
-ghost use Rattle.hay_cluster.specs.Causes.{BlamesNoArm, EndsRuns, IsCaused, LeavesFuses, StaySure};
+ghost use Rattle.hay_cluster.specs.Causes.{EndsRuns, IsCaused, LeavesFuses, StaySure};
 ghost use Rattle.hay_cluster.specs.Leaving.{LeavesContents};
+ghost use Rattle.hay_cluster.specs.Passing.{IsSureArm, PassesBefore};
+ghost use Rattle.hay_cluster.specs.Reads.{counts_of};
 ghost use Rattle.hay_cluster.specs.Seen.{Answers, store_seen};
 ghost use Rattle.hay_cluster.specs.Sights.{LeavesSights};
 ghost use Rattle.hay_cluster.specs.State.{Answered, Stands};
@@ -64,15 +66,12 @@ impl<D: Disk, A: Arm<D::Piece>> Cluster<D, A> {
         ensures legal { D.Tells → (k : Known) →
             Stands D.files D.Piece.Tells D.fault_count D.fuse_count A.fault_count self.old k →
             Answered D.files D.Piece.Tells D.fault_count D.fuse_count A.fault_count k tag command.now result self.new }
-        // A reply tells of a failure only where the count that it prints rose in this call.
-        ensures causes { IsCaused self.old.settings tag.lane
-            (record { disks = map D.fault_count (disks_of self.old); arms = map A.fault_count self.old.arms })
-            (record { disks = map D.fault_count (disks_of self.new); arms = map A.fault_count self.new.arms }) result }
+        // A reply tells of a disk's failure only where the count that it prints rose in this call.
+        ensures causes { IsCaused self.old.settings (map D.fault_count (disks_of self.old)) (map D.fault_count (disks_of self.new)) result }
         // A reply is one that its command may be given.
         ensures suits { Suits self.old.settings tag.line command.now result }
         ensures fits { FitsReply result }
-        // A sure arm stays so, and is not told of.
-        ensures sure { (arm : A) → slice_get self.old.arms tag.lane ≡ Some arm → A.is_sure arm ≡ true → BlamesNoArm result }
+        // A sure arm stays so.
         ensures sure_arms { StaySure A.is_sure A.fault_count self.old.arms self.new.arms }
         ensures counts { NoneFalls (map D.fault_count (disks_of self.old)) (map D.fault_count (disks_of self.new)) }
         // A fuse is set by its command alone, on the disk that it names.
@@ -84,6 +83,9 @@ impl<D: Disk, A: Arm<D::Piece>> Cluster<D, A> {
         ensures seen { Answers self.old.settings tag command.now result (store_seen self.old) (store_seen self.new) }
         // So it is with the photos.
         ensures sights { LeavesSights self.old.settings command.now result (store_seen self.old) (store_seen self.new) }
+        // The replicas that a read tries before the one that answers were passed over, each for its cause.
+        ensures passes { PassesBefore self.old.settings (IsSureArm A.is_sure self.old.arms tag.lane) tag command.now
+            (counts_of D.fault_count A.fault_count self.old) (counts_of D.fault_count A.fault_count self.new) (store_seen self.new) result }
         // A delete ends a compaction only where the count of its replica's disk rose in this call.
         ensures ended { EndsRuns self.old.settings result (store_seen self.old) (store_seen self.new) (map D.fault_count (disks_of self.old)) (map D.fault_count (disks_of self.new)) }
         ensures settings { self.new.settings ≡ self.old.settings }

@@ -44,9 +44,7 @@ impl<D: Disk, A: Arm<D::Piece>> Cluster<D, A> {
         requires up { IsUp self.old }
         ensures legal { D.Tells → (k : Known) → Stands D.files D.Piece.Tells D.fault_count D.fuse_count A.fault_count self.old k →
             Answered D.files D.Piece.Tells D.fault_count D.fuse_count A.fault_count k tag (asks.Put pair bytes.now) result self.new }
-        ensures causes { (lane : ℕ) → IsCaused self.old.settings lane
-            (record { disks = map D.fault_count (disks_of self.old); arms = map A.fault_count self.old.arms })
-            (record { disks = map D.fault_count (disks_of self.new); arms = map A.fault_count self.new.arms }) result }
+        ensures causes { IsCaused self.old.settings (map D.fault_count (disks_of self.old)) (map D.fault_count (disks_of self.new)) result }
         ensures suits { Suits self.old.settings tag.line (asks.Put pair bytes.now) result }
         ensures fits { FitsReply result }
         ensures counts { NoneFalls (map D.fault_count (disks_of self.old)) (map D.fault_count (disks_of self.new)) }
@@ -116,9 +114,7 @@ impl<D: Disk, A: Arm<D::Piece>> Cluster<D, A> {
         ensures legal { D.Tells → (k : Known) → Stands D.files D.Piece.Tells D.fault_count D.fuse_count A.fault_count self.old k → home_of k pair ≡ None →
             IsTried self.old.settings k pair (length bytes.now) tried →
             Answered D.files D.Piece.Tells D.fault_count D.fuse_count A.fault_count k tag (asks.Put pair bytes.now) result self.new }
-        ensures causes { (lane : ℕ) → IsCaused self.old.settings lane
-            (record { disks = map D.fault_count (disks_of self.old); arms = map A.fault_count self.old.arms })
-            (record { disks = map D.fault_count (disks_of self.new); arms = map A.fault_count self.new.arms }) result }
+        ensures causes { IsCaused self.old.settings (map D.fault_count (disks_of self.old)) (map D.fault_count (disks_of self.new)) result }
         ensures suits { Suits self.old.settings tag.line (asks.Put pair bytes.now) result }
         ensures fits { FitsReply result }
         ensures counts { NoneFalls (map D.fault_count (disks_of self.old)) (map D.fault_count (disks_of self.new)) }
@@ -153,9 +149,7 @@ impl<D: Disk, A: Arm<D::Piece>> Cluster<D, A> {
         requires up { IsUp self.old }
         ensures legal { D.Tells → (k : Known) → Stands D.files D.Piece.Tells D.fault_count D.fuse_count A.fault_count self.old k →
             home_of k pair ≡ None → taker_of self.old.settings k pair (length bytes.now) ≡ Some volume → Answered D.files D.Piece.Tells D.fault_count D.fuse_count A.fault_count k tag (asks.Put pair bytes.now) result self.new }
-        ensures causes { (lane : ℕ) → IsCaused self.old.settings lane
-            (record { disks = map D.fault_count (disks_of self.old); arms = map A.fault_count self.old.arms })
-            (record { disks = map D.fault_count (disks_of self.new); arms = map A.fault_count self.new.arms }) result }
+        ensures causes { IsCaused self.old.settings (map D.fault_count (disks_of self.old)) (map D.fault_count (disks_of self.new)) result }
         ensures suits { Suits self.old.settings tag.line (asks.Put pair bytes.now) result }
         ensures fits { FitsReply result }
         ensures counts { NoneFalls (map D.fault_count (disks_of self.old)) (map D.fault_count (disks_of self.new)) }
@@ -189,9 +183,7 @@ impl<D: Disk, A: Arm<D::Piece>> Cluster<D, A> {
         ensures stored { D.Tells → (k : Known) → Stands D.files D.Piece.Tells D.fault_count D.fuse_count A.fault_count self.old k →
             refusal_of self.old.settings k (length bytes.now) volume ≡ None →
             StoredAs D.files D.Piece.Tells D.fault_count D.fuse_count A.fault_count self.old.settings k tag pair bytes.now volume result self.new }
-        ensures causes { (lane : ℕ) → IsCaused self.old.settings lane
-            (record { disks = map D.fault_count (disks_of self.old); arms = map A.fault_count self.old.arms })
-            (record { disks = map D.fault_count (disks_of self.new); arms = map A.fault_count self.new.arms }) result }
+        ensures causes { IsCaused self.old.settings (map D.fault_count (disks_of self.old)) (map D.fault_count (disks_of self.new)) result }
         ensures suits { Suits self.old.settings tag.line (asks.Put pair bytes.now) result }
         ensures fits { FitsReply result }
         ensures counts { NoneFalls (map D.fault_count (disks_of self.old)) (map D.fault_count (disks_of self.new)) }

@@ -1,26 +1,28 @@
 //! Reads, and gets by URL.
-ghost use Rattle.std.specs.Prelude.{◌≡◌, ◌⊎◌, ◌≤◌, ◌<◌, ◌+◌, ◌%◌, ◌^◌, ℕ, true, List, [], Some, Err, length, map, slice_get, slice_index, IfOk, IfErr, IfSome, IfNone, OnErr, OnOk};
+ghost use Rattle.std.specs.Prelude.{◌≡◌, ◌⊎◌, ◌≤◌, ◌<◌, ◌+◌, ◌%◌, ◌^◌, ℕ, List, [], Some, Err, length, map, slice_index, IfOk, IfErr, IfSome, IfNone, OnErr, OnOk};
 ghost use Rattle.std.specs.List.{AllByRecursion};
 ghost use Rattle.hay_script.specs.declared.Command.TheVariants as asks;
 ghost use Rattle.hay_legal.specs.declared.known.Known.{Known};
 ghost use Rattle.std.specs.Option.{ForSome};
 ghost use Rattle.std.specs.Vec.{vec_capacity};
 ghost use Rattle.hay_reply.specs.Fits.{FitsPassed, FitsReply, IsLarge};
-ghost use Rattle.hay_reader.specs.Causes.{ComeFirst, passed_now};
+ghost use Rattle.hay_reader.specs.Causes.{ComeFirst};
 ghost use Rattle.hay_reader.specs.Shown.{HasBytes, ShowsAt};
 ghost use Rattle.hay_legal.specs.Known.{NoneFalls, home_of, slot_of, volume_at};
+ghost use Rattle.hay_legal.specs.Known as known;
 ghost use Rattle.hay_legal.specs.Plain.{start_of};
-ghost use Rattle.hay_cluster.specs.Causes.{BlamesNoArm, IsCaused, StaySure};
-ghost use Rattle.hay_cluster.specs.Reads.{CannotSee, FoundNoArm, FoundPasses, FoundSays, FoundSees, IsFoundAs, IsSeenAt, IsSeenByAt, IsSightCause, IsSightFault, IsWhole, PassesFrom, PassesNoArm, ReadNoArm, ReadPasses, ReadSays, ReadSees, ShownAs, StopsUnseen, counts_of, outcomes_of, passed_at};
+ghost use Rattle.hay_cluster.specs.Causes.{IsCaused, StaySure};
+ghost use Rattle.hay_cluster.specs.Passing.{IsSureArm, TriesBefore};
+ghost use Rattle.hay_cluster.specs.Reads.{CannotSee, FoundPasses, FoundSays, FoundSees, IsFoundAs, IsSeenAt, IsSeenByAt, IsSightCause, IsSightFault, IsWhole, MayHave, NeverIn, PassesFrom, ReadPasses, ReadSays, ReadSees, ShownAs, StopsUnseen, counts_of, outcomes_of, passed_at};
 ghost use Rattle.hay_cluster.specs.Leaving.{AnySlot, KeepsIn};
 ghost use Rattle.hay_cluster.specs.Parts.{Comes};
 ghost use Rattle.hay_cluster.specs.Seen.{Keeps, Shows, VolumeAt, home_seen, store_seen};
-ghost use Rattle.hay_cluster.specs.Sights.{ChangesPhotos, KeepsPhotos, MayStand, ReadSights, told_by};
+ghost use Rattle.hay_cluster.specs.Sights.{ChangesPhotos, KeepsPhotos, ReadSights, told_by};
 ghost use Rattle.hay_logical.specs.Sights.{LooksAtPair, SeesPair};
 ghost use Rattle.hay_logical.specs.Sights.Sight.{Unseen};
 ghost use Rattle.hay_cluster.specs.State.{Answered, Stands};
 ghost use Rattle.hay_cluster.specs.Store.{IsBuilt, IsUp, contents_in, disks_of};
-ghost use Rattle.hay_cluster.specs.Suiting.{ShowsFrom, Suits};
+ghost use Rattle.hay_cluster.specs.Suiting.{ShowsOf, Suits, start_at};
 
 use crate::closed::replica_on;
 use crate::cluster::Cluster;
@@ -62,12 +64,9 @@ impl<D: Disk, A: Arm<D::Piece>> Cluster<D, A> {
         requires up { IsUp self.old }
         ensures legal { D.Tells → (k : Known) → Stands D.files D.Piece.Tells D.fault_count D.fuse_count A.fault_count self.old k →
             Answered D.files D.Piece.Tells D.fault_count D.fuse_count A.fault_count k tag (asks.Read pair cookie) result self.new }
-        ensures causes { IsCaused self.old.settings tag.lane
-            (record { disks = map D.fault_count (disks_of self.old); arms = map A.fault_count self.old.arms })
-            (record { disks = map D.fault_count (disks_of self.new); arms = map A.fault_count self.new.arms }) result }
+        ensures causes { IsCaused self.old.settings (map D.fault_count (disks_of self.old)) (map D.fault_count (disks_of self.new)) result }
         ensures suits { Suits self.old.settings tag.line (asks.Read pair cookie) result }
         ensures fits { FitsReply result }
-        ensures sure { (arm : A) → slice_get self.old.arms tag.lane ≡ Some arm → A.is_sure arm ≡ true → BlamesNoArm result }
         ensures sure_arms { StaySure A.is_sure A.fault_count self.old.arms self.new.arms }
         ensures counts { NoneFalls (map D.fault_count (disks_of self.old)) (map D.fault_count (disks_of self.new)) }
         ensures fuses { map D.fuse_count (disks_of self.new) ≡ map D.fuse_count (disks_of self.old) }
@@ -75,6 +74,8 @@ impl<D: Disk, A: Arm<D::Piece>> Cluster<D, A> {
         ensures arm_counts { NoneFalls (map A.fault_count self.old.arms) (map A.fault_count self.new.arms) }
         ensures seen { Keeps (store_seen self.old) (store_seen self.new) }
         ensures sights { ReadSights self.old.settings pair (told_by result) (store_seen self.old) (store_seen self.new) }
+        ensures passes { TriesBefore self.old.settings (IsSureArm A.is_sure self.old.arms tag.lane) tag.lane (start_at self.old.settings tag.line) pair
+            (counts_of D.fault_count A.fault_count self.old) (counts_of D.fault_count A.fault_count self.new) (store_seen self.new) (told_by result) }
         ensures shows { Shows (store_seen self.old) pair result }
         ensures settings { self.new.settings ≡ self.old.settings }
         ensures up { IsUp self.new }
@@ -92,12 +93,9 @@ impl<D: Disk, A: Arm<D::Piece>> Cluster<D, A> {
         requires up { IsUp self.old }
         ensures legal { D.Tells → (k : Known) → Stands D.files D.Piece.Tells D.fault_count D.fuse_count A.fault_count self.old k →
             Answered D.files D.Piece.Tells D.fault_count D.fuse_count A.fault_count k tag (asks.Get url.now) result self.new }
-        ensures causes { IsCaused self.old.settings tag.lane
-            (record { disks = map D.fault_count (disks_of self.old); arms = map A.fault_count self.old.arms })
-            (record { disks = map D.fault_count (disks_of self.new); arms = map A.fault_count self.new.arms }) result }
+        ensures causes { IsCaused self.old.settings (map D.fault_count (disks_of self.old)) (map D.fault_count (disks_of self.new)) result }
         ensures suits { Suits self.old.settings tag.line (asks.Get url.now) result }
         ensures fits { FitsReply result }
-        ensures sure { (arm : A) → slice_get self.old.arms tag.lane ≡ Some arm → A.is_sure arm ≡ true → BlamesNoArm result }
         ensures sure_arms { StaySure A.is_sure A.fault_count self.old.arms self.new.arms }
         ensures counts { NoneFalls (map D.fault_count (disks_of self.old)) (map D.fault_count (disks_of self.new)) }
         ensures fuses { map D.fuse_count (disks_of self.new) ≡ map D.fuse_count (disks_of self.old) }
@@ -105,6 +103,8 @@ impl<D: Disk, A: Arm<D::Piece>> Cluster<D, A> {
         ensures arm_counts { NoneFalls (map A.fault_count self.old.arms) (map A.fault_count self.new.arms) }
         ensures seen { Keeps (store_seen self.old) (store_seen self.new) }
         ensures sights { ReadSights self.old.settings url.now.pair (told_by result) (store_seen self.old) (store_seen self.new) }
+        ensures passes { (start : ℕ) → known.replica_on self.old.settings url.now.volume url.now.machine ≡ Some start → TriesBefore self.old.settings (IsSureArm A.is_sure self.old.arms tag.lane) tag.lane start url.now.pair
+            (counts_of D.fault_count A.fault_count self.old) (counts_of D.fault_count A.fault_count self.new) (store_seen self.new) (told_by result) }
         ensures shows { Shows (store_seen self.old) url.now.pair result }
         ensures settings { self.new.settings ≡ self.old.settings }
         ensures up { IsUp self.new }
@@ -141,12 +141,9 @@ impl<D: Disk, A: Arm<D::Piece>> Cluster<D, A> {
         requires up { IsUp self.old }
         ensures shown { D.Tells → (k : Known) → Stands D.files D.Piece.Tells D.fault_count D.fuse_count A.fault_count self.old k → home_of k pair ≡ Some volume →
             ShownAs D.files D.Piece.Tells D.fault_count D.fuse_count A.fault_count self.old.settings k tag start pair cookie result self.new }
-        ensures here { ShowsFrom self.old.settings start volume result ⊎ (result ≡ Reply.NoMem) }
+        ensures here { ShowsOf self.old.settings volume result ⊎ (result ≡ Reply.NoMem) }
         ensures fits { FitsReply result }
-        ensures causes { IsCaused self.old.settings tag.lane
-            (record { disks = map D.fault_count (disks_of self.old); arms = map A.fault_count self.old.arms })
-            (record { disks = map D.fault_count (disks_of self.new); arms = map A.fault_count self.new.arms }) result }
-        ensures sure { (arm : A) → slice_get self.old.arms tag.lane ≡ Some arm → A.is_sure arm ≡ true → BlamesNoArm result }
+        ensures causes { IsCaused self.old.settings (map D.fault_count (disks_of self.old)) (map D.fault_count (disks_of self.new)) result }
         ensures sure_arms { StaySure A.is_sure A.fault_count self.old.arms self.new.arms }
         ensures counts { NoneFalls (map D.fault_count (disks_of self.old)) (map D.fault_count (disks_of self.new)) }
         ensures fuses { map D.fuse_count (disks_of self.new) ≡ map D.fuse_count (disks_of self.old) }
@@ -154,6 +151,8 @@ impl<D: Disk, A: Arm<D::Piece>> Cluster<D, A> {
         ensures arm_counts { NoneFalls (map A.fault_count self.old.arms) (map A.fault_count self.new.arms) }
         ensures seen { Keeps (store_seen self.old) (store_seen self.new) }
         ensures sights { ReadSights self.old.settings pair (told_by result) (store_seen self.old) (store_seen self.new) }
+        ensures passes { TriesBefore self.old.settings (IsSureArm A.is_sure self.old.arms tag.lane) tag.lane start pair
+            (counts_of D.fault_count A.fault_count self.old) (counts_of D.fault_count A.fault_count self.new) (store_seen self.new) (told_by result) }
         ensures shows { Shows (store_seen self.old) pair result }
         ensures settings { self.new.settings ≡ self.old.settings }
         ensures up { IsUp self.new }
@@ -220,9 +219,9 @@ impl<D: Disk, A: Arm<D::Piece>> Cluster<D, A> {
             (result.0 ≡ length (volume_at k volume).log)
             × FoundSays cookie (outcomes_of self.old.settings (volume_at k volume) pair) photo.new.items result.1
             × Comes D.files D.Piece.Tells D.fault_count D.fuse_count A.fault_count k k self.new }
-        ensures passes { FoundPasses (IsWhole D.Tells D.files D.Piece.Tells D.fault_count D.fuse_count A.fault_count self.old) self.old.settings lane volume start
-            (counts_of D.fault_count A.fault_count self.old) (counts_of D.fault_count A.fault_count self.new) result.1 }
-        ensures sure { (arm : A) → slice_get self.old.arms lane ≡ Some arm → A.is_sure arm ≡ true → FoundNoArm result.1 }
+        ensures passes { FoundPasses (NeverIn D.Tells D.files D.Piece.Tells D.fault_count D.fuse_count A.fault_count A.is_sure self.old lane) self.old.settings lane volume start
+            (counts_of D.fault_count A.fault_count self.old) (counts_of D.fault_count A.fault_count self.new) ((store_seen self.new).places volume pair) result.1 }
+        ensures bytes { (replica : ℕ) → result.1 ≡ Found.Photo replica → length photo.new.items ≤ MAX_PHOTO }
         ensures sure_arms { StaySure A.is_sure A.fault_count self.old.arms self.new.arms }
         ensures counts { NoneFalls (map D.fault_count (disks_of self.old)) (map D.fault_count (disks_of self.new)) }
         ensures fuses { map D.fuse_count (disks_of self.new) ≡ map D.fuse_count (disks_of self.old) }
@@ -268,11 +267,10 @@ impl<D: Disk, A: Arm<D::Piece>> Cluster<D, A> {
             (result.0 ≡ length (volume_at k volume).log)
             × ReadSays cookie (outcomes_of self.old.settings (volume_at k volume) pair) photo.new.items result.1
             × Comes D.files D.Piece.Tells D.fault_count D.fuse_count A.fault_count k k self.new }
-        ensures passes { ReadPasses (IsWhole D.Tells D.files D.Piece.Tells D.fault_count D.fuse_count A.fault_count self.old) self.old.settings lane volume start
-            (counts_of D.fault_count A.fault_count self.old) (counts_of D.fault_count A.fault_count self.new) [] result.1 }
+        ensures passes { ReadPasses (NeverIn D.Tells D.files D.Piece.Tells D.fault_count D.fuse_count A.fault_count A.is_sure self.old lane) self.old.settings lane volume start
+            (counts_of D.fault_count A.fault_count self.old) (counts_of D.fault_count A.fault_count self.new) ((store_seen self.new).places volume pair) [] result.1 }
         ensures stops { StopsUnseen self.old volume pair result.1 }
         ensures sees { ReadSees ((store_seen self.new).places volume pair) result.1 }
-        ensures sure { (arm : A) → slice_get self.old.arms lane ≡ Some arm → A.is_sure arm ≡ true → ReadNoArm [] result.1 }
         ensures bytes { HasBytes photo.new.items result.1 }
         ensures room { vec_capacity photo.old ≤ vec_capacity photo.new }
         ensures sure_arms { StaySure A.is_sure A.fault_count self.old.arms self.new.arms }
@@ -311,7 +309,7 @@ impl<D: Disk, A: Arm<D::Piece>> Cluster<D, A> {
         requires start { start < self.old.settings.replicas }
         requires first { ComeFirst start self.old.settings.replicas passed }
         requires fewer { length passed ≤ self.old.settings.replicas }
-        requires may_stand { AllByRecursion (λ over. MayStand ((store_seen self.old).places volume pair over.replica)) passed }
+        requires may_stand { MayHave ((store_seen self.old).places volume pair) passed }
         requires needle { ForSome needle (λ bytes. (length passed < self.old.settings.replicas)
             × IsSeenByAt D.Tells D.Piece.Tells self.old volume pair ((start + length passed) % self.old.settings.replicas) bytes.items) }
         requires empty { photo.old.items ≡ [] }
@@ -320,11 +318,10 @@ impl<D: Disk, A: Arm<D::Piece>> Cluster<D, A> {
         ensures says { D.Tells → (k : Known) → Stands D.files D.Piece.Tells D.fault_count D.fuse_count A.fault_count self.old k →
             ReadSays cookie (outcomes_of self.old.settings (volume_at k volume) pair) photo.new.items result
             × Comes D.files D.Piece.Tells D.fault_count D.fuse_count A.fault_count k k self.new }
-        ensures passes { ReadPasses (IsWhole D.Tells D.files D.Piece.Tells D.fault_count D.fuse_count A.fault_count self.old) self.old.settings lane volume start
-            (counts_of D.fault_count A.fault_count self.old) (counts_of D.fault_count A.fault_count self.new) passed result }
+        ensures passes { ReadPasses (NeverIn D.Tells D.files D.Piece.Tells D.fault_count D.fuse_count A.fault_count A.is_sure self.old lane) self.old.settings lane volume start
+            (counts_of D.fault_count A.fault_count self.old) (counts_of D.fault_count A.fault_count self.new) ((store_seen self.new).places volume pair) passed result }
         ensures stops { StopsUnseen self.old volume pair result }
         ensures sees { ReadSees ((store_seen self.new).places volume pair) result }
-        ensures sure { (arm : A) → slice_get self.old.arms lane ≡ Some arm → A.is_sure arm ≡ true → ReadNoArm passed result }
         ensures most { (slice_index (map A.fault_count self.new.arms) lane ≡ slice_index (map A.fault_count self.old.arms) lane)
             ⊎ (slice_index (map A.fault_count self.new.arms) lane < 2 ^ 64) }
         ensures bytes { HasBytes photo.new.items result }
@@ -396,18 +393,17 @@ impl<D: Disk, A: Arm<D::Piece>> Cluster<D, A> {
         requires start { start < self.old.settings.replicas }
         requires first { ComeFirst start self.old.settings.replicas passed }
         requires fewer { length passed ≤ self.old.settings.replicas }
-        requires may_stand { AllByRecursion (λ over. MayStand ((store_seen self.old).places volume pair over.replica)) passed }
+        requires may_stand { MayHave ((store_seen self.old).places volume pair) passed }
         requires empty { photo.old.items ≡ [] }
         requires room { MAX_PHOTO ≤ vec_capacity photo.old }
         requires up { IsUp self.old }
         ensures says { D.Tells → (k : Known) → Stands D.files D.Piece.Tells D.fault_count D.fuse_count A.fault_count self.old k →
             ReadSays cookie (outcomes_of self.old.settings (volume_at k volume) pair) photo.new.items result
             × Comes D.files D.Piece.Tells D.fault_count D.fuse_count A.fault_count k k self.new }
-        ensures passes { ReadPasses (IsWhole D.Tells D.files D.Piece.Tells D.fault_count D.fuse_count A.fault_count self.old) self.old.settings lane volume start
-            (counts_of D.fault_count A.fault_count self.old) (counts_of D.fault_count A.fault_count self.new) passed result }
+        ensures passes { ReadPasses (NeverIn D.Tells D.files D.Piece.Tells D.fault_count D.fuse_count A.fault_count A.is_sure self.old lane) self.old.settings lane volume start
+            (counts_of D.fault_count A.fault_count self.old) (counts_of D.fault_count A.fault_count self.new) ((store_seen self.new).places volume pair) passed result }
         ensures stops { StopsUnseen self.old volume pair result }
         ensures sees { ReadSees ((store_seen self.new).places volume pair) result }
-        ensures sure { (arm : A) → slice_get self.old.arms lane ≡ Some arm → A.is_sure arm ≡ true → ReadNoArm passed result }
         ensures most { (slice_index (map A.fault_count self.new.arms) lane ≡ slice_index (map A.fault_count self.old.arms) lane)
             ⊎ (slice_index (map A.fault_count self.new.arms) lane < 2 ^ 64) }
         ensures bytes { HasBytes photo.new.items result }
@@ -444,15 +440,14 @@ impl<D: Disk, A: Arm<D::Piece>> Cluster<D, A> {
         requires replica { replica < self.old.settings.replicas }
         requires few { length causes < 4 }
         requires apart { AllByRecursion (λ over. over.replica ≡ replica → ⊥) causes }
-        requires may_stand { AllByRecursion (λ over. MayStand ((store_seen self.old).places volume pair over.replica)) causes }
+        requires may_stand { MayHave ((store_seen self.old).places volume pair) causes }
         requires up { IsUp self.old }
         ensures stands { D.Tells → (k : Known) → Stands D.files D.Piece.Tells D.fault_count D.fuse_count A.fault_count self.old k →
             Comes D.files D.Piece.Tells D.fault_count D.fuse_count A.fault_count k k self.new }
         ensures passes { (lane start : ℕ) → ComeFirst start self.old.settings.replicas causes → replica ≡ (start + length causes) % self.old.settings.replicas →
-            IfOk result (λ sight. PassesFrom (IsWhole D.Tells D.files D.Piece.Tells D.fault_count D.fuse_count A.fault_count self.old) self.old.settings lane volume start
+            IfOk result (λ sight. PassesFrom (NeverIn D.Tells D.files D.Piece.Tells D.fault_count D.fuse_count A.fault_count A.is_sure self.old lane) self.old.settings lane volume start
             (counts_of D.fault_count A.fault_count self.old) (counts_of D.fault_count A.fault_count self.new) causes sight.0) }
         ensures on { IfOk result (λ sight. (length sight.0 ≡ length causes + 1) ⊎ ((length sight.0 ≡ length causes) × IsSeenAt self.new volume pair replica)) }
-        ensures no_arm { IfOk result (λ sight. PassesNoArm (passed_now causes sight.0)) }
         ensures needle { (IsSeenAt self.old volume pair replica → ⊥) →
             IfOk result (λ sight. IfSome sight.1 (λ needle. (sight.0 ≡ causes) × IsSeenByAt D.Tells D.Piece.Tells self.new volume pair replica needle.items)) }
         ensures over { IfOk result (λ sight. IfNone sight.1 (length sight.0 ≡ length causes + 1)) }
@@ -464,7 +459,7 @@ impl<D: Disk, A: Arm<D::Piece>> Cluster<D, A> {
         ensures arms { self.new.arms ≡ self.old.arms }
         ensures seen { Keeps (store_seen self.old) (store_seen self.new) }
         ensures looks { ChangesPhotos volume (LooksAtPair pair) (store_seen self.old) (store_seen self.new) }
-        ensures may_stand { IfOk result (λ sight. AllByRecursion (λ over. MayStand ((store_seen self.new).places volume pair over.replica)) sight.0) }
+        ensures may_stand { IfOk result (λ sight. MayHave ((store_seen self.new).places volume pair) sight.0) }
         ensures settings { self.new.settings ≡ self.old.settings }
         ensures up { IsUp self.new }
     {

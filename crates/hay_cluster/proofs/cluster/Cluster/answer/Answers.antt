@@ -2,8 +2,10 @@ use Rattle.std.proofs.Common.{ℕ, List, length, sym, subst, true, false, ◌≡
 use Rattle.hay_script.specs.declared.Command.{Command}
 use Rattle.hay_cluster.specs.Suiting.{Suits}
 use Rattle.hay_cluster.proofs.Answering.{same_falls}
-use Rattle.hay_cluster.proofs.Sure.{same_sure, unblamed}
+use Rattle.hay_cluster.proofs.Sure.{same_sure}
 use Rattle.hay_cluster.specs.Leaving.{LeavesContents}
+use Rattle.hay_cluster.specs.Passing.{IsSureArm, PassesBefore}
+use Rattle.hay_cluster.specs.Reads.{counts_of}
 use Rattle.hay_cluster.specs.Store.{contents_in}
 use Rattle.hay_cluster.proofs.Leaving.{same_contents}
 use Rattle.hay_cluster.specs.Seen.{Answers, AnswersPut, store_seen, Shows}
@@ -15,16 +17,16 @@ use Rattle.hay_legal.specs.Known.{replica_on}
 use Rattle.hay_cluster.proofs.cluster.Cluster.answer.Goals as goal
 
 pub returns-in-Drain-clause-causes : goal.returns-in-Drain-clause-causes
-returns-in-Drain-clause-causes g c = c.drain.ensures.causes c.args.tag.lane
+returns-in-Drain-clause-causes g c = c.drain.ensures.causes
 
 pub returns-in-Undrain-clause-causes : goal.returns-in-Undrain-clause-causes
-returns-in-Undrain-clause-causes g c = c.undrain.ensures.causes c.args.tag.lane
+returns-in-Undrain-clause-causes g c = c.undrain.ensures.causes
 
 pub returns-in-Fuse-clause-causes : goal.returns-in-Fuse-clause-causes
-returns-in-Fuse-clause-causes g c = c.fuse.ensures.causes c.args.tag.lane
+returns-in-Fuse-clause-causes g c = c.fuse.ensures.causes
 
 pub returns-in-FuseDir-clause-causes : goal.returns-in-FuseDir-clause-causes
-returns-in-FuseDir-clause-causes g c = c.fuse_dir.ensures.causes c.args.tag.lane
+returns-in-FuseDir-clause-causes g c = c.fuse_dir.ensures.causes
 
 pub returns-in-Put-clause-arm_counts : goal.returns-in-Put-clause-arm_counts
 returns-in-Put-clause-arm_counts g c = same_falls g.A.Arm.fault_count (c.args.self.now).arms (c.put.new.self).arms c.put.ensures.arms
@@ -48,115 +50,79 @@ pub returns-in-FuseDir-clause-arm_counts : goal.returns-in-FuseDir-clause-arm_co
 returns-in-FuseDir-clause-arm_counts g c = same_falls g.A.Arm.fault_count (c.args.self.now).arms (c.fuse_dir.new.self).arms c.fuse_dir.ensures.arms
 
 pub returns-in-Flush-clause-causes : goal.returns-in-Flush-clause-causes
-returns-in-Flush-clause-causes g c = c.maintain.ensures.causes c.args.tag.lane
+returns-in-Flush-clause-causes g c = c.maintain.ensures.causes
 
 pub returns-in-Flush-clause-arm_counts : goal.returns-in-Flush-clause-arm_counts
 returns-in-Flush-clause-arm_counts g c = same_falls g.A.Arm.fault_count (c.args.self.now).arms (c.maintain.new.self).arms c.maintain.ensures.arms
 
 pub returns-in-Begin-clause-causes : goal.returns-in-Begin-clause-causes
-returns-in-Begin-clause-causes g c = c.maintain-in-Begin.ensures.causes c.args.tag.lane
+returns-in-Begin-clause-causes g c = c.maintain-in-Begin.ensures.causes
 
 pub returns-in-Begin-clause-arm_counts : goal.returns-in-Begin-clause-arm_counts
 returns-in-Begin-clause-arm_counts g c = same_falls g.A.Arm.fault_count (c.args.self.now).arms (c.maintain-in-Begin.new.self).arms c.maintain-in-Begin.ensures.arms
 
 pub returns-in-Step-clause-causes : goal.returns-in-Step-clause-causes
-returns-in-Step-clause-causes g c = c.maintain-in-Step.ensures.causes c.args.tag.lane
+returns-in-Step-clause-causes g c = c.maintain-in-Step.ensures.causes
 
 pub returns-in-Step-clause-arm_counts : goal.returns-in-Step-clause-arm_counts
 returns-in-Step-clause-arm_counts g c = same_falls g.A.Arm.fault_count (c.args.self.now).arms (c.maintain-in-Step.new.self).arms c.maintain-in-Step.ensures.arms
 
 pub returns-in-Finish-clause-causes : goal.returns-in-Finish-clause-causes
-returns-in-Finish-clause-causes g c = c.maintain-in-Finish.ensures.causes c.args.tag.lane
+returns-in-Finish-clause-causes g c = c.maintain-in-Finish.ensures.causes
 
 pub returns-in-Finish-clause-arm_counts : goal.returns-in-Finish-clause-arm_counts
 returns-in-Finish-clause-arm_counts g c = same_falls g.A.Arm.fault_count (c.args.self.now).arms (c.maintain-in-Finish.new.self).arms c.maintain-in-Finish.ensures.arms
 
 pub returns-in-Compact-clause-causes : goal.returns-in-Compact-clause-causes
-returns-in-Compact-clause-causes g c = c.maintain-in-Compact.ensures.causes c.args.tag.lane
+returns-in-Compact-clause-causes g c = c.maintain-in-Compact.ensures.causes
 
 pub returns-in-Compact-clause-arm_counts : goal.returns-in-Compact-clause-arm_counts
 returns-in-Compact-clause-arm_counts g c = same_falls g.A.Arm.fault_count (c.args.self.now).arms (c.maintain-in-Compact.new.self).arms c.maintain-in-Compact.ensures.arms
 
-pub returns-in-Put-clause-sure : goal.returns-in-Put-clause-sure
-returns-in-Put-clause-sure g c = λ arm at sure. unblamed (c.args.self.now).settings _ _ c.put.result c.put.ensures.causes
-
 pub returns-in-Put-clause-sure_arms : goal.returns-in-Put-clause-sure_arms
 returns-in-Put-clause-sure_arms g c = same_sure g.A.Arm.is_sure g.A.Arm.fault_count (c.args.self.now).arms (c.put.new.self).arms c.put.ensures.arms
-
-pub returns-in-Del-clause-sure : goal.returns-in-Del-clause-sure
-returns-in-Del-clause-sure g c = λ arm at sure. unblamed (c.args.self.now).settings _ _ c.delete.result c.delete.ensures.causes
 
 pub returns-in-Del-clause-sure_arms : goal.returns-in-Del-clause-sure_arms
 returns-in-Del-clause-sure_arms g c = same_sure g.A.Arm.is_sure g.A.Arm.fault_count (c.args.self.now).arms (c.delete.new.self).arms c.delete.ensures.arms
 
-pub returns-in-Url-clause-sure : goal.returns-in-Url-clause-sure
-returns-in-Url-clause-sure g c = λ arm at sure. unblamed (c.args.self.now).settings _ _ c.url.result c.url.ensures.causes
-
 pub returns-in-Url-clause-sure_arms : goal.returns-in-Url-clause-sure_arms
 returns-in-Url-clause-sure_arms g c = same_sure g.A.Arm.is_sure g.A.Arm.fault_count (c.args.self.now).arms (c.url.new.self).arms c.url.ensures.arms
-
-pub returns-in-Flush-clause-sure : goal.returns-in-Flush-clause-sure
-returns-in-Flush-clause-sure g c = λ arm at sure. unblamed (c.args.self.now).settings _ _ c.maintain.result c.maintain.ensures.causes
 
 pub returns-in-Flush-clause-sure_arms : goal.returns-in-Flush-clause-sure_arms
 returns-in-Flush-clause-sure_arms g c = same_sure g.A.Arm.is_sure g.A.Arm.fault_count (c.args.self.now).arms (c.maintain.new.self).arms c.maintain.ensures.arms
 
-pub returns-in-Drain-clause-sure : goal.returns-in-Drain-clause-sure
-returns-in-Drain-clause-sure g c = λ arm at sure. unblamed (c.args.self.now).settings _ _ c.drain.result c.drain.ensures.causes
-
 pub returns-in-Drain-clause-sure_arms : goal.returns-in-Drain-clause-sure_arms
 returns-in-Drain-clause-sure_arms g c = same_sure g.A.Arm.is_sure g.A.Arm.fault_count (c.args.self.now).arms (c.drain.new.self).arms c.drain.ensures.arms
-
-pub returns-in-Undrain-clause-sure : goal.returns-in-Undrain-clause-sure
-returns-in-Undrain-clause-sure g c = λ arm at sure. unblamed (c.args.self.now).settings _ _ c.undrain.result c.undrain.ensures.causes
 
 pub returns-in-Undrain-clause-sure_arms : goal.returns-in-Undrain-clause-sure_arms
 returns-in-Undrain-clause-sure_arms g c = same_sure g.A.Arm.is_sure g.A.Arm.fault_count (c.args.self.now).arms (c.undrain.new.self).arms c.undrain.ensures.arms
 
-pub returns-in-Fuse-clause-sure : goal.returns-in-Fuse-clause-sure
-returns-in-Fuse-clause-sure g c = λ arm at sure. unblamed (c.args.self.now).settings _ _ c.fuse.result c.fuse.ensures.causes
-
 pub returns-in-Fuse-clause-sure_arms : goal.returns-in-Fuse-clause-sure_arms
 returns-in-Fuse-clause-sure_arms g c = same_sure g.A.Arm.is_sure g.A.Arm.fault_count (c.args.self.now).arms (c.fuse.new.self).arms c.fuse.ensures.arms
-
-pub returns-in-FuseDir-clause-sure : goal.returns-in-FuseDir-clause-sure
-returns-in-FuseDir-clause-sure g c = λ arm at sure. unblamed (c.args.self.now).settings _ _ c.fuse_dir.result c.fuse_dir.ensures.causes
 
 pub returns-in-FuseDir-clause-sure_arms : goal.returns-in-FuseDir-clause-sure_arms
 returns-in-FuseDir-clause-sure_arms g c = same_sure g.A.Arm.is_sure g.A.Arm.fault_count (c.args.self.now).arms (c.fuse_dir.new.self).arms c.fuse_dir.ensures.arms
 
-pub returns-in-Compact-clause-sure : goal.returns-in-Compact-clause-sure
-returns-in-Compact-clause-sure g c = λ arm at sure. unblamed (c.args.self.now).settings _ _ c.maintain-in-Compact.result c.maintain-in-Compact.ensures.causes
-
 pub returns-in-Compact-clause-sure_arms : goal.returns-in-Compact-clause-sure_arms
 returns-in-Compact-clause-sure_arms g c = same_sure g.A.Arm.is_sure g.A.Arm.fault_count (c.args.self.now).arms (c.maintain-in-Compact.new.self).arms c.maintain-in-Compact.ensures.arms
-
-pub returns-in-Begin-clause-sure : goal.returns-in-Begin-clause-sure
-returns-in-Begin-clause-sure g c = λ arm at sure. unblamed (c.args.self.now).settings _ _ c.maintain-in-Begin.result c.maintain-in-Begin.ensures.causes
 
 pub returns-in-Begin-clause-sure_arms : goal.returns-in-Begin-clause-sure_arms
 returns-in-Begin-clause-sure_arms g c = same_sure g.A.Arm.is_sure g.A.Arm.fault_count (c.args.self.now).arms (c.maintain-in-Begin.new.self).arms c.maintain-in-Begin.ensures.arms
 
-pub returns-in-Step-clause-sure : goal.returns-in-Step-clause-sure
-returns-in-Step-clause-sure g c = λ arm at sure. unblamed (c.args.self.now).settings _ _ c.maintain-in-Step.result c.maintain-in-Step.ensures.causes
-
 pub returns-in-Step-clause-sure_arms : goal.returns-in-Step-clause-sure_arms
 returns-in-Step-clause-sure_arms g c = same_sure g.A.Arm.is_sure g.A.Arm.fault_count (c.args.self.now).arms (c.maintain-in-Step.new.self).arms c.maintain-in-Step.ensures.arms
-
-pub returns-in-Finish-clause-sure : goal.returns-in-Finish-clause-sure
-returns-in-Finish-clause-sure g c = λ arm at sure. unblamed (c.args.self.now).settings _ _ c.maintain-in-Finish.result c.maintain-in-Finish.ensures.causes
 
 pub returns-in-Finish-clause-sure_arms : goal.returns-in-Finish-clause-sure_arms
 returns-in-Finish-clause-sure_arms g c = same_sure g.A.Arm.is_sure g.A.Arm.fault_count (c.args.self.now).arms (c.maintain-in-Finish.new.self).arms c.maintain-in-Finish.ensures.arms
 
 pub returns-in-Put-clause-causes : goal.returns-in-Put-clause-causes
-returns-in-Put-clause-causes g c = c.put.ensures.causes c.args.tag.lane
+returns-in-Put-clause-causes g c = c.put.ensures.causes
 
 pub returns-in-Del-clause-causes : goal.returns-in-Del-clause-causes
-returns-in-Del-clause-causes g c = c.delete.ensures.causes c.args.tag.lane
+returns-in-Del-clause-causes g c = c.delete.ensures.causes
 
 pub returns-in-Url-clause-causes : goal.returns-in-Url-clause-causes
-returns-in-Url-clause-causes g c = c.url.ensures.causes c.args.tag.lane
+returns-in-Url-clause-causes g c = c.url.ensures.causes
 
 pub returns-in-Drain-clause-suits : goal.returns-in-Drain-clause-suits
 returns-in-Drain-clause-suits g c = subst (λ (asked : Command). Suits (c.args.self.now).settings c.args.tag.line asked c.drain.result) (sym c.in-Drain.is) (c.drain.ensures.suits c.args.tag.line)
@@ -395,3 +361,73 @@ returns-in-FuseDir-clause-sights g c =
 
 pub returns-in-FuseDir-clause-ended : goal.returns-in-FuseDir-clause-ended
 returns-in-FuseDir-clause-ended g c = λ v p d is. absurd (let same : FusedDir c.in-FuseDir.calls ≡ Deleted v p d = sym (c.fuse_dir.ensures.suits c.args.tag.line) ∙ is in cc)
+
+pub returns-in-Put-clause-passes : goal.returns-in-Put-clause-passes
+returns-in-Put-clause-passes g c =
+    subst (λ (asked : Command). PassesBefore (c.args.self.now).settings (IsSureArm g.A.Arm.is_sure (c.args.self.now).arms c.args.tag.lane) c.args.tag asked
+    (counts_of g.D.Disk.fault_count g.A.Arm.fault_count c.args.self.now) (counts_of g.D.Disk.fault_count g.A.Arm.fault_count c.put.new.self) (store_seen c.put.new.self) c.put.result) (sym c.in-Put.is) tt
+
+pub returns-in-Read-clause-passes : goal.returns-in-Read-clause-passes
+returns-in-Read-clause-passes g c =
+    subst (λ (asked : Command). PassesBefore (c.args.self.now).settings (IsSureArm g.A.Arm.is_sure (c.args.self.now).arms c.args.tag.lane) c.args.tag asked
+    (counts_of g.D.Disk.fault_count g.A.Arm.fault_count c.args.self.now) (counts_of g.D.Disk.fault_count g.A.Arm.fault_count c.read.new.self) (store_seen c.read.new.self) c.read.result) (sym c.in-Read.is) c.read.ensures.passes
+
+pub returns-in-Get-clause-passes : goal.returns-in-Get-clause-passes
+returns-in-Get-clause-passes g c =
+    subst (λ (asked : Command). PassesBefore (c.args.self.now).settings (IsSureArm g.A.Arm.is_sure (c.args.self.now).arms c.args.tag.lane) c.args.tag asked
+    (counts_of g.D.Disk.fault_count g.A.Arm.fault_count c.args.self.now) (counts_of g.D.Disk.fault_count g.A.Arm.fault_count c.get.new.self) (store_seen c.get.new.self) c.get.result) (sym c.in-Get.is) c.get.ensures.passes
+
+pub returns-in-Del-clause-passes : goal.returns-in-Del-clause-passes
+returns-in-Del-clause-passes g c =
+    subst (λ (asked : Command). PassesBefore (c.args.self.now).settings (IsSureArm g.A.Arm.is_sure (c.args.self.now).arms c.args.tag.lane) c.args.tag asked
+    (counts_of g.D.Disk.fault_count g.A.Arm.fault_count c.args.self.now) (counts_of g.D.Disk.fault_count g.A.Arm.fault_count c.delete.new.self) (store_seen c.delete.new.self) c.delete.result) (sym c.in-Del.is) tt
+
+pub returns-in-Url-clause-passes : goal.returns-in-Url-clause-passes
+returns-in-Url-clause-passes g c =
+    subst (λ (asked : Command). PassesBefore (c.args.self.now).settings (IsSureArm g.A.Arm.is_sure (c.args.self.now).arms c.args.tag.lane) c.args.tag asked
+    (counts_of g.D.Disk.fault_count g.A.Arm.fault_count c.args.self.now) (counts_of g.D.Disk.fault_count g.A.Arm.fault_count c.url.new.self) (store_seen c.url.new.self) c.url.result) (sym c.in-Url.is) tt
+
+pub returns-in-Flush-clause-passes : goal.returns-in-Flush-clause-passes
+returns-in-Flush-clause-passes g c =
+    subst (λ (asked : Command). PassesBefore (c.args.self.now).settings (IsSureArm g.A.Arm.is_sure (c.args.self.now).arms c.args.tag.lane) c.args.tag asked
+    (counts_of g.D.Disk.fault_count g.A.Arm.fault_count c.args.self.now) (counts_of g.D.Disk.fault_count g.A.Arm.fault_count c.maintain.new.self) (store_seen c.maintain.new.self) c.maintain.result) (sym c.in-Flush.is) tt
+
+pub returns-in-Drain-clause-passes : goal.returns-in-Drain-clause-passes
+returns-in-Drain-clause-passes g c =
+    subst (λ (asked : Command). PassesBefore (c.args.self.now).settings (IsSureArm g.A.Arm.is_sure (c.args.self.now).arms c.args.tag.lane) c.args.tag asked
+    (counts_of g.D.Disk.fault_count g.A.Arm.fault_count c.args.self.now) (counts_of g.D.Disk.fault_count g.A.Arm.fault_count c.drain.new.self) (store_seen c.drain.new.self) c.drain.result) (sym c.in-Drain.is) tt
+
+pub returns-in-Undrain-clause-passes : goal.returns-in-Undrain-clause-passes
+returns-in-Undrain-clause-passes g c =
+    subst (λ (asked : Command). PassesBefore (c.args.self.now).settings (IsSureArm g.A.Arm.is_sure (c.args.self.now).arms c.args.tag.lane) c.args.tag asked
+    (counts_of g.D.Disk.fault_count g.A.Arm.fault_count c.args.self.now) (counts_of g.D.Disk.fault_count g.A.Arm.fault_count c.undrain.new.self) (store_seen c.undrain.new.self) c.undrain.result) (sym c.in-Undrain.is) tt
+
+pub returns-in-Fuse-clause-passes : goal.returns-in-Fuse-clause-passes
+returns-in-Fuse-clause-passes g c =
+    subst (λ (asked : Command). PassesBefore (c.args.self.now).settings (IsSureArm g.A.Arm.is_sure (c.args.self.now).arms c.args.tag.lane) c.args.tag asked
+    (counts_of g.D.Disk.fault_count g.A.Arm.fault_count c.args.self.now) (counts_of g.D.Disk.fault_count g.A.Arm.fault_count c.fuse.new.self) (store_seen c.fuse.new.self) c.fuse.result) (sym c.in-Fuse.is) tt
+
+pub returns-in-FuseDir-clause-passes : goal.returns-in-FuseDir-clause-passes
+returns-in-FuseDir-clause-passes g c =
+    subst (λ (asked : Command). PassesBefore (c.args.self.now).settings (IsSureArm g.A.Arm.is_sure (c.args.self.now).arms c.args.tag.lane) c.args.tag asked
+    (counts_of g.D.Disk.fault_count g.A.Arm.fault_count c.args.self.now) (counts_of g.D.Disk.fault_count g.A.Arm.fault_count c.fuse_dir.new.self) (store_seen c.fuse_dir.new.self) c.fuse_dir.result) (sym c.in-FuseDir.is) tt
+
+pub returns-in-Compact-clause-passes : goal.returns-in-Compact-clause-passes
+returns-in-Compact-clause-passes g c =
+    subst (λ (asked : Command). PassesBefore (c.args.self.now).settings (IsSureArm g.A.Arm.is_sure (c.args.self.now).arms c.args.tag.lane) c.args.tag asked
+    (counts_of g.D.Disk.fault_count g.A.Arm.fault_count c.args.self.now) (counts_of g.D.Disk.fault_count g.A.Arm.fault_count c.maintain-in-Compact.new.self) (store_seen c.maintain-in-Compact.new.self) c.maintain-in-Compact.result) (sym c.in-Compact.is) tt
+
+pub returns-in-Begin-clause-passes : goal.returns-in-Begin-clause-passes
+returns-in-Begin-clause-passes g c =
+    subst (λ (asked : Command). PassesBefore (c.args.self.now).settings (IsSureArm g.A.Arm.is_sure (c.args.self.now).arms c.args.tag.lane) c.args.tag asked
+    (counts_of g.D.Disk.fault_count g.A.Arm.fault_count c.args.self.now) (counts_of g.D.Disk.fault_count g.A.Arm.fault_count c.maintain-in-Begin.new.self) (store_seen c.maintain-in-Begin.new.self) c.maintain-in-Begin.result) (sym c.in-Begin.is) tt
+
+pub returns-in-Step-clause-passes : goal.returns-in-Step-clause-passes
+returns-in-Step-clause-passes g c =
+    subst (λ (asked : Command). PassesBefore (c.args.self.now).settings (IsSureArm g.A.Arm.is_sure (c.args.self.now).arms c.args.tag.lane) c.args.tag asked
+    (counts_of g.D.Disk.fault_count g.A.Arm.fault_count c.args.self.now) (counts_of g.D.Disk.fault_count g.A.Arm.fault_count c.maintain-in-Step.new.self) (store_seen c.maintain-in-Step.new.self) c.maintain-in-Step.result) (sym c.in-Step.is) tt
+
+pub returns-in-Finish-clause-passes : goal.returns-in-Finish-clause-passes
+returns-in-Finish-clause-passes g c =
+    subst (λ (asked : Command). PassesBefore (c.args.self.now).settings (IsSureArm g.A.Arm.is_sure (c.args.self.now).arms c.args.tag.lane) c.args.tag asked
+    (counts_of g.D.Disk.fault_count g.A.Arm.fault_count c.args.self.now) (counts_of g.D.Disk.fault_count g.A.Arm.fault_count c.maintain-in-Finish.new.self) (store_seen c.maintain-in-Finish.new.self) c.maintain-in-Finish.result) (sym c.in-Finish.is) tt

@@ -6,13 +6,13 @@ use Rattle.hay_reader.specs.Causes.{ComeFirst}
 use Rattle.hay_reader.specs.declared.seat.ReadReply.{ReadReply}
 use Rattle.hay_cluster.specs.Causes.{StaySure}
 use Rattle.hay_cluster.specs.Leaving.{AnySlot, KeepsIn}
-use Rattle.hay_cluster.specs.Reads.{IsWhole, PassesFrom, PassesNoArm, PassesTo, ReadNoArm, ReadPasses, IsSeenAt, IsSeenByAt, StopsUnseen, counts_of, outcomes_of, ReadSees}
+use Rattle.hay_cluster.specs.Reads.{NeverIn, PassesFrom, PassesTo, ReadPasses, IsSeenAt, IsSeenByAt, StopsUnseen, counts_of, outcomes_of}
 use Rattle.hay_cluster.specs.Store.{Open, contents_in, disks_of}
 use Rattle.hay_cluster.proofs.Answering.{same_falls}
 use Rattle.hay_cluster.proofs.Leaving.{keeps-on, same_contents}
 use Rattle.hay_cluster.proofs.Moves.{falls_trans}
-use Rattle.hay_cluster.proofs.Showing.{arm_goes_on, comes_on, found_no_arm, found_passes, found_says, no_arm_round, passes_on, read_on, says_on, sight_goes_on, stops_further, stops_same}
-use Rattle.hay_cluster.proofs.Sure.{no_arm_on, sure_on, sure_trans}
+use Rattle.hay_cluster.proofs.Showing.{arm_goes_on, comes_on, found_bytes, found_passes, found_says, never_on, passes_on, read_on, says_on, sight_goes_on, stops_further, stops_same}
+use Rattle.hay_cluster.proofs.Sure.{arm_on, sure_trans}
 use Rattle.hay_cluster.proofs.Sighting.{kept_looks, looks_further, photos_kept, same_photos}
 use Rattle.hay_cluster.proofs.ReadSights.{found_sees, next_apart}
 use Rattle.hay_cluster.proofs.Seeing.{keeps_on, keeps_same}
@@ -26,7 +26,6 @@ pub loop-init : goal.loop-init
 loop-init g c = record {
   says = λ tells k stands. let says = c.read_first-front.ensures.says tells k stands in (says.1, says.2);
   passes = c.read_first-front.ensures.passes;
-  sure = c.read_first-front.ensures.sure;
   stops = stops_same c.args.self.now c.read_first-front.new.self c.args.volume c.args.pair _ c.read_first-front.ensures.volumes c.read_first-front.ensures.stops;
   tries = λ j causes is. omega arith;
   bytes = c.read_first-front.ensures.bytes;
@@ -55,8 +54,8 @@ returns-in_default-see_or_pass-clause-counts g c =
 pub read_more-read-requires-clause-first : goal.read_more-read-requires-clause-first
 read_more-read-requires-clause-first g c =
     let inv = c.loop.invariant in
-    let stop : PassesTo (IsWhole g.D.Disk.Tells g.D.Disk.files g.D.Piece.Piece.Tells g.D.Disk.fault_count g.D.Disk.fuse_count g.A.Arm.fault_count c.args.self.now) (c.args.self.now).settings c.args.lane c.args.volume c.args.start (counts_of g.D.Disk.fault_count g.A.Arm.fault_count c.args.self.now) (counts_of g.D.Disk.fault_count g.A.Arm.fault_count c.loop.self) [] c.in-Unseen.causes c.in-Unseen.replica =
-    subst (λ (r : ReadReply). ReadPasses (IsWhole g.D.Disk.Tells g.D.Disk.files g.D.Piece.Piece.Tells g.D.Disk.fault_count g.D.Disk.fuse_count g.A.Arm.fault_count c.args.self.now) (c.args.self.now).settings c.args.lane c.args.volume c.args.start (counts_of g.D.Disk.fault_count g.A.Arm.fault_count c.args.self.now) (counts_of g.D.Disk.fault_count g.A.Arm.fault_count c.loop.self) [] r) c.in-Unseen.is inv.passes in
+    let stop : PassesTo (NeverIn g.D.Disk.Tells g.D.Disk.files g.D.Piece.Piece.Tells g.D.Disk.fault_count g.D.Disk.fuse_count g.A.Arm.fault_count g.A.Arm.is_sure c.args.self.now c.args.lane) (c.args.self.now).settings c.args.lane c.args.volume c.args.start (counts_of g.D.Disk.fault_count g.A.Arm.fault_count c.args.self.now) (counts_of g.D.Disk.fault_count g.A.Arm.fault_count c.loop.self) ((store_seen c.loop.self).places c.args.volume c.args.pair) [] c.in-Unseen.causes c.in-Unseen.replica =
+    subst (λ (r : ReadReply). ReadPasses (NeverIn g.D.Disk.Tells g.D.Disk.files g.D.Piece.Piece.Tells g.D.Disk.fault_count g.D.Disk.fuse_count g.A.Arm.fault_count g.A.Arm.is_sure c.args.self.now c.args.lane) (c.args.self.now).settings c.args.lane c.args.volume c.args.start (counts_of g.D.Disk.fault_count g.A.Arm.fault_count c.args.self.now) (counts_of g.D.Disk.fault_count g.A.Arm.fault_count c.loop.self) ((store_seen c.loop.self).places c.args.volume c.args.pair) [] r) c.in-Unseen.is inv.passes in
     let order : ComeFirst c.args.start (c.loop.self.settings).replicas c.in-Unseen.causes = subst (λ (s : Settings). ComeFirst c.args.start s.replicas c.in-Unseen.causes) (sym inv.settings) stop.passes.order in
     let next : c.in-Unseen.replica ≡ (c.args.start + length c.in-Unseen.causes) % (c.loop.self.settings).replicas = stop.next ∙ ap (λ (s : Settings). (c.args.start + length c.in-Unseen.causes) % s.replicas) (sym inv.settings) in
     let sight = c.in-Ok.ensures.passes c.args.lane c.args.start order next in
@@ -65,8 +64,8 @@ read_more-read-requires-clause-first g c =
 pub read_more-read-requires-clause-fewer : goal.read_more-read-requires-clause-fewer
 read_more-read-requires-clause-fewer g c =
     let inv = c.loop.invariant in
-    let stop : PassesTo (IsWhole g.D.Disk.Tells g.D.Disk.files g.D.Piece.Piece.Tells g.D.Disk.fault_count g.D.Disk.fuse_count g.A.Arm.fault_count c.args.self.now) (c.args.self.now).settings c.args.lane c.args.volume c.args.start (counts_of g.D.Disk.fault_count g.A.Arm.fault_count c.args.self.now) (counts_of g.D.Disk.fault_count g.A.Arm.fault_count c.loop.self) [] c.in-Unseen.causes c.in-Unseen.replica =
-    subst (λ (r : ReadReply). ReadPasses (IsWhole g.D.Disk.Tells g.D.Disk.files g.D.Piece.Piece.Tells g.D.Disk.fault_count g.D.Disk.fuse_count g.A.Arm.fault_count c.args.self.now) (c.args.self.now).settings c.args.lane c.args.volume c.args.start (counts_of g.D.Disk.fault_count g.A.Arm.fault_count c.args.self.now) (counts_of g.D.Disk.fault_count g.A.Arm.fault_count c.loop.self) [] r) c.in-Unseen.is inv.passes in
+    let stop : PassesTo (NeverIn g.D.Disk.Tells g.D.Disk.files g.D.Piece.Piece.Tells g.D.Disk.fault_count g.D.Disk.fuse_count g.A.Arm.fault_count g.A.Arm.is_sure c.args.self.now c.args.lane) (c.args.self.now).settings c.args.lane c.args.volume c.args.start (counts_of g.D.Disk.fault_count g.A.Arm.fault_count c.args.self.now) (counts_of g.D.Disk.fault_count g.A.Arm.fault_count c.loop.self) ((store_seen c.loop.self).places c.args.volume c.args.pair) [] c.in-Unseen.causes c.in-Unseen.replica =
+    subst (λ (r : ReadReply). ReadPasses (NeverIn g.D.Disk.Tells g.D.Disk.files g.D.Piece.Piece.Tells g.D.Disk.fault_count g.D.Disk.fuse_count g.A.Arm.fault_count g.A.Arm.is_sure c.args.self.now c.args.lane) (c.args.self.now).settings c.args.lane c.args.volume c.args.start (counts_of g.D.Disk.fault_count g.A.Arm.fault_count c.args.self.now) (counts_of g.D.Disk.fault_count g.A.Arm.fault_count c.loop.self) ((store_seen c.loop.self).places c.args.volume c.args.pair) [] r) c.in-Unseen.is inv.passes in
     let order : ComeFirst c.args.start (c.loop.self.settings).replicas c.in-Unseen.causes = subst (λ (s : Settings). ComeFirst c.args.start s.replicas c.in-Unseen.causes) (sym inv.settings) stop.passes.order in
     let next : c.in-Unseen.replica ≡ (c.args.start + length c.in-Unseen.causes) % (c.loop.self.settings).replicas = stop.next ∙ ap (λ (s : Settings). (c.args.start + length c.in-Unseen.causes) % s.replicas) (sym inv.settings) in
     let fewer = stop.fewer in
@@ -76,8 +75,8 @@ read_more-read-requires-clause-fewer g c =
 pub read_more-read-requires-clause-needle : goal.read_more-read-requires-clause-needle
 read_more-read-requires-clause-needle g c = λ bytes is.
     let inv = c.loop.invariant in
-    let stop : PassesTo (IsWhole g.D.Disk.Tells g.D.Disk.files g.D.Piece.Piece.Tells g.D.Disk.fault_count g.D.Disk.fuse_count g.A.Arm.fault_count c.args.self.now) (c.args.self.now).settings c.args.lane c.args.volume c.args.start (counts_of g.D.Disk.fault_count g.A.Arm.fault_count c.args.self.now) (counts_of g.D.Disk.fault_count g.A.Arm.fault_count c.loop.self) [] c.in-Unseen.causes c.in-Unseen.replica =
-    subst (λ (r : ReadReply). ReadPasses (IsWhole g.D.Disk.Tells g.D.Disk.files g.D.Piece.Piece.Tells g.D.Disk.fault_count g.D.Disk.fuse_count g.A.Arm.fault_count c.args.self.now) (c.args.self.now).settings c.args.lane c.args.volume c.args.start (counts_of g.D.Disk.fault_count g.A.Arm.fault_count c.args.self.now) (counts_of g.D.Disk.fault_count g.A.Arm.fault_count c.loop.self) [] r) c.in-Unseen.is inv.passes in
+    let stop : PassesTo (NeverIn g.D.Disk.Tells g.D.Disk.files g.D.Piece.Piece.Tells g.D.Disk.fault_count g.D.Disk.fuse_count g.A.Arm.fault_count g.A.Arm.is_sure c.args.self.now c.args.lane) (c.args.self.now).settings c.args.lane c.args.volume c.args.start (counts_of g.D.Disk.fault_count g.A.Arm.fault_count c.args.self.now) (counts_of g.D.Disk.fault_count g.A.Arm.fault_count c.loop.self) ((store_seen c.loop.self).places c.args.volume c.args.pair) [] c.in-Unseen.causes c.in-Unseen.replica =
+    subst (λ (r : ReadReply). ReadPasses (NeverIn g.D.Disk.Tells g.D.Disk.files g.D.Piece.Piece.Tells g.D.Disk.fault_count g.D.Disk.fuse_count g.A.Arm.fault_count g.A.Arm.is_sure c.args.self.now c.args.lane) (c.args.self.now).settings c.args.lane c.args.volume c.args.start (counts_of g.D.Disk.fault_count g.A.Arm.fault_count c.args.self.now) (counts_of g.D.Disk.fault_count g.A.Arm.fault_count c.loop.self) ((store_seen c.loop.self).places c.args.volume c.args.pair) [] r) c.in-Unseen.is inv.passes in
     let unseen : IsSeenAt c.loop.self c.args.volume c.args.pair c.in-Unseen.replica → ⊥ = subst (λ (r : ReadReply). StopsUnseen c.loop.self c.args.volume c.args.pair r) c.in-Unseen.is inv.stops in
     let seen = subst (λ o. IfSome o (λ needle. (c.in-Ok.passed ≡ c.in-Unseen.causes) × IsSeenByAt g.D.Disk.Tells g.D.Piece.Piece.Tells c.see_or_pass.new.self c.args.volume c.args.pair c.in-Unseen.replica needle.items)) is (c.in-Ok.ensures.needle unseen) in
     let replicas : ((c.see_or_pass.new.self).settings).replicas ≡ ((c.args.self.now).settings).replicas = ap (λ (s : Settings). s.replicas) (c.see_or_pass.ensures.settings ∙ inv.settings) in
@@ -90,22 +89,24 @@ read_more-read-requires-clause-needle g c = λ bytes is.
 pub loop-preserved : goal.loop-preserved
 loop-preserved g c =
     let inv = c.loop.invariant in
-    let stop : PassesTo (IsWhole g.D.Disk.Tells g.D.Disk.files g.D.Piece.Piece.Tells g.D.Disk.fault_count g.D.Disk.fuse_count g.A.Arm.fault_count c.args.self.now) (c.args.self.now).settings c.args.lane c.args.volume c.args.start (counts_of g.D.Disk.fault_count g.A.Arm.fault_count c.args.self.now) (counts_of g.D.Disk.fault_count g.A.Arm.fault_count c.loop.self) [] c.in-Unseen.causes c.in-Unseen.replica =
-    subst (λ (r : ReadReply). ReadPasses (IsWhole g.D.Disk.Tells g.D.Disk.files g.D.Piece.Piece.Tells g.D.Disk.fault_count g.D.Disk.fuse_count g.A.Arm.fault_count c.args.self.now) (c.args.self.now).settings c.args.lane c.args.volume c.args.start (counts_of g.D.Disk.fault_count g.A.Arm.fault_count c.args.self.now) (counts_of g.D.Disk.fault_count g.A.Arm.fault_count c.loop.self) [] r) c.in-Unseen.is inv.passes in
+    let stop : PassesTo (NeverIn g.D.Disk.Tells g.D.Disk.files g.D.Piece.Piece.Tells g.D.Disk.fault_count g.D.Disk.fuse_count g.A.Arm.fault_count g.A.Arm.is_sure c.args.self.now c.args.lane) (c.args.self.now).settings c.args.lane c.args.volume c.args.start (counts_of g.D.Disk.fault_count g.A.Arm.fault_count c.args.self.now) (counts_of g.D.Disk.fault_count g.A.Arm.fault_count c.loop.self) ((store_seen c.loop.self).places c.args.volume c.args.pair) [] c.in-Unseen.causes c.in-Unseen.replica =
+    subst (λ (r : ReadReply). ReadPasses (NeverIn g.D.Disk.Tells g.D.Disk.files g.D.Piece.Piece.Tells g.D.Disk.fault_count g.D.Disk.fuse_count g.A.Arm.fault_count g.A.Arm.is_sure c.args.self.now c.args.lane) (c.args.self.now).settings c.args.lane c.args.volume c.args.start (counts_of g.D.Disk.fault_count g.A.Arm.fault_count c.args.self.now) (counts_of g.D.Disk.fault_count g.A.Arm.fault_count c.loop.self) ((store_seen c.loop.self).places c.args.volume c.args.pair) [] r) c.in-Unseen.is inv.passes in
     let order : ComeFirst c.args.start (c.loop.self.settings).replicas c.in-Unseen.causes = subst (λ (s : Settings). ComeFirst c.args.start s.replicas c.in-Unseen.causes) (sym inv.settings) stop.passes.order in
     let next : c.in-Unseen.replica ≡ (c.args.start + length c.in-Unseen.causes) % (c.loop.self.settings).replicas = stop.next ∙ ap (λ (s : Settings). (c.args.start + length c.in-Unseen.causes) % s.replicas) (sym inv.settings) in
     let sight = c.in-Ok.ensures.passes c.args.lane c.args.start order next in
-    let here = subst (λ (s : Settings). PassesFrom (IsWhole g.D.Disk.Tells g.D.Disk.files g.D.Piece.Piece.Tells g.D.Disk.fault_count g.D.Disk.fuse_count g.A.Arm.fault_count c.loop.self) s c.args.lane c.args.volume c.args.start (counts_of g.D.Disk.fault_count g.A.Arm.fault_count c.loop.self) (counts_of g.D.Disk.fault_count g.A.Arm.fault_count c.see_or_pass.new.self) c.in-Unseen.causes c.in-Ok.passed) inv.settings sight in
+    let here = subst (λ (s : Settings). PassesFrom (NeverIn g.D.Disk.Tells g.D.Disk.files g.D.Piece.Piece.Tells g.D.Disk.fault_count g.D.Disk.fuse_count g.A.Arm.fault_count g.A.Arm.is_sure c.loop.self c.args.lane) s c.args.lane c.args.volume c.args.start (counts_of g.D.Disk.fault_count g.A.Arm.fault_count c.loop.self) (counts_of g.D.Disk.fault_count g.A.Arm.fault_count c.see_or_pass.new.self) c.in-Unseen.causes c.in-Ok.passed) inv.settings sight in
     let fewer = stop.fewer in
     let same : (c.see_or_pass.new.self).settings ≡ (c.args.self.now).settings = c.see_or_pass.ensures.settings ∙ inv.settings in
-    let passed = passes_on (IsWhole g.D.Disk.Tells g.D.Disk.files g.D.Piece.Piece.Tells g.D.Disk.fault_count g.D.Disk.fuse_count g.A.Arm.fault_count c.args.self.now) (IsWhole g.D.Disk.Tells g.D.Disk.files g.D.Piece.Piece.Tells g.D.Disk.fault_count g.D.Disk.fuse_count g.A.Arm.fault_count c.loop.self) (c.args.self.now).settings c.args.lane c.args.volume c.args.start (counts_of g.D.Disk.fault_count g.A.Arm.fault_count c.args.self.now) (counts_of g.D.Disk.fault_count g.A.Arm.fault_count c.loop.self) (counts_of g.D.Disk.fault_count g.A.Arm.fault_count c.see_or_pass.new.self) [] c.in-Unseen.causes c.in-Ok.passed
-    (λ w. let came = (inv.says w.0 w.1 w.2).1 in (w.0, came.known, came.stands))
+    let passed = passes_on (NeverIn g.D.Disk.Tells g.D.Disk.files g.D.Piece.Piece.Tells g.D.Disk.fault_count g.D.Disk.fuse_count g.A.Arm.fault_count g.A.Arm.is_sure c.args.self.now c.args.lane) (NeverIn g.D.Disk.Tells g.D.Disk.files g.D.Piece.Piece.Tells g.D.Disk.fault_count g.D.Disk.fuse_count g.A.Arm.fault_count g.A.Arm.is_sure c.loop.self c.args.lane) (c.args.self.now).settings c.args.lane c.args.volume c.args.start (counts_of g.D.Disk.fault_count g.A.Arm.fault_count c.args.self.now) (counts_of g.D.Disk.fault_count g.A.Arm.fault_count c.loop.self) (counts_of g.D.Disk.fault_count g.A.Arm.fault_count c.see_or_pass.new.self) [] c.in-Unseen.causes c.in-Ok.passed
+    (never_on g.D.Disk.Tells g.D.Disk.files g.D.Piece.Piece.Tells g.D.Disk.fault_count g.D.Disk.fuse_count g.A.Arm.fault_count g.A.Arm.is_sure c.args.self.now c.loop.self c.args.lane
+    (arm_on g.A.Arm.is_sure g.A.Arm.fault_count (c.args.self.now).arms (c.loop.self).arms c.args.lane inv.sure_arms)
+    (λ w. let came = (inv.says w.0 w.1 w.2).1 in (w.0, came.known, came.stands)))
     (sight_goes_on (c.args.self.now).settings c.args.lane c.args.volume c.args.start (counts_of g.D.Disk.fault_count g.A.Arm.fault_count c.args.self.now) (counts_of g.D.Disk.fault_count g.A.Arm.fault_count c.loop.self) (counts_of g.D.Disk.fault_count g.A.Arm.fault_count c.see_or_pass.new.self) c.in-Unseen.causes c.in-Unseen.replica inv.arm_counts
     (ap (λ (xs : List g.row.A.Denot). map g.A.Arm.fault_count xs) c.see_or_pass.ensures.arms) inv.counts stop.passes.order fewer stop.next
     (subst (λ (s : Settings). (j : ℕ) → j < s.replicas → (j ≡ c.in-Unseen.replica → ⊥)
     → slice_index (map g.D.Disk.fault_count (disks_of c.see_or_pass.new.self)) (slot_of s c.args.volume j) ≡ slice_index (map g.D.Disk.fault_count (disks_of c.loop.self)) (slot_of s c.args.volume j)) inv.settings c.see_or_pass.ensures.others))
     stop.passes here in
-    let reads = subst (λ (s : Settings). ReadPasses (IsWhole g.D.Disk.Tells g.D.Disk.files g.D.Piece.Piece.Tells g.D.Disk.fault_count g.D.Disk.fuse_count g.A.Arm.fault_count c.see_or_pass.new.self) s c.args.lane c.args.volume c.args.start (counts_of g.D.Disk.fault_count g.A.Arm.fault_count c.see_or_pass.new.self) (counts_of g.D.Disk.fault_count g.A.Arm.fault_count c.read_more-read.new.self) c.in-Ok.passed c.read_more-read.result) same c.read_more-read.ensures.passes in
+    let reads = subst (λ (s : Settings). ReadPasses (NeverIn g.D.Disk.Tells g.D.Disk.files g.D.Piece.Piece.Tells g.D.Disk.fault_count g.D.Disk.fuse_count g.A.Arm.fault_count g.A.Arm.is_sure c.see_or_pass.new.self c.args.lane) s c.args.lane c.args.volume c.args.start (counts_of g.D.Disk.fault_count g.A.Arm.fault_count c.see_or_pass.new.self) (counts_of g.D.Disk.fault_count g.A.Arm.fault_count c.read_more-read.new.self) ((store_seen c.read_more-read.new.self).places c.args.volume c.args.pair) c.in-Ok.passed c.read_more-read.result) same c.read_more-read.ensures.passes in
     let falls = falls_trans (map g.D.Disk.fault_count (disks_of c.args.self.now)) (map g.D.Disk.fault_count (disks_of c.loop.self)) (map g.D.Disk.fault_count (disks_of c.see_or_pass.new.self)) inv.counts c.see_or_pass.ensures.counts in
     let arms : NoneFalls (map g.A.Arm.fault_count (c.args.self.now).arms) (map g.A.Arm.fault_count (c.see_or_pass.new.self).arms) =
     subst (λ (xs : List g.row.A.Denot). NoneFalls (map g.A.Arm.fault_count (c.args.self.now).arms) (map g.A.Arm.fault_count xs)) (sym c.see_or_pass.ensures.arms) inv.arm_counts in
@@ -117,22 +118,19 @@ loop-preserved g c =
           let came = comes_on g.D.Disk.files g.D.Piece.Piece.Tells g.D.Disk.fault_count g.D.Disk.fuse_count g.A.Arm.fault_count c.loop.self c.see_or_pass.new.self k first (c.see_or_pass.ensures.stands tells first.known first.stands) in
           let says = c.read_more-read.ensures.says tells came.known came.stands in
           (says_on (c.args.self.now).settings (c.see_or_pass.new.self).settings k came.known c.args.volume c.args.pair c.args.cookie _ c.read_more-read.result same (came.leaves).volumes says.0, comes_on g.D.Disk.files g.D.Piece.Piece.Tells g.D.Disk.fault_count g.D.Disk.fuse_count g.A.Arm.fault_count c.see_or_pass.new.self c.read_more-read.new.self k came says.1);
-      passes = read_on (IsWhole g.D.Disk.Tells g.D.Disk.files g.D.Piece.Piece.Tells g.D.Disk.fault_count g.D.Disk.fuse_count g.A.Arm.fault_count c.args.self.now) (IsWhole g.D.Disk.Tells g.D.Disk.files g.D.Piece.Piece.Tells g.D.Disk.fault_count g.D.Disk.fuse_count g.A.Arm.fault_count c.see_or_pass.new.self) (c.args.self.now).settings c.args.lane c.args.volume c.args.start (counts_of g.D.Disk.fault_count g.A.Arm.fault_count c.args.self.now) (counts_of g.D.Disk.fault_count g.A.Arm.fault_count c.see_or_pass.new.self) (counts_of g.D.Disk.fault_count g.A.Arm.fault_count c.read_more-read.new.self) [] c.in-Ok.passed c.read_more-read.result
+      passes = read_on (NeverIn g.D.Disk.Tells g.D.Disk.files g.D.Piece.Piece.Tells g.D.Disk.fault_count g.D.Disk.fuse_count g.A.Arm.fault_count g.A.Arm.is_sure c.args.self.now c.args.lane) (NeverIn g.D.Disk.Tells g.D.Disk.files g.D.Piece.Piece.Tells g.D.Disk.fault_count g.D.Disk.fuse_count g.A.Arm.fault_count g.A.Arm.is_sure c.see_or_pass.new.self c.args.lane) (c.args.self.now).settings c.args.lane c.args.volume c.args.start (counts_of g.D.Disk.fault_count g.A.Arm.fault_count c.args.self.now) (counts_of g.D.Disk.fault_count g.A.Arm.fault_count c.see_or_pass.new.self) (counts_of g.D.Disk.fault_count g.A.Arm.fault_count c.read_more-read.new.self) ((store_seen c.read_more-read.new.self).places c.args.volume c.args.pair) [] c.in-Ok.passed c.read_more-read.result
+          (never_on g.D.Disk.Tells g.D.Disk.files g.D.Piece.Piece.Tells g.D.Disk.fault_count g.D.Disk.fuse_count g.A.Arm.fault_count g.A.Arm.is_sure c.args.self.now c.see_or_pass.new.self c.args.lane
+          (arm_on g.A.Arm.is_sure g.A.Arm.fault_count (c.args.self.now).arms (c.see_or_pass.new.self).arms c.args.lane sure_arms)
           (λ w.
           let first = (inv.says w.0 w.1 w.2).1 in
           let came = c.see_or_pass.ensures.stands w.0 first.known first.stands in
-          (w.0, came.known, came.stands))
+          (w.0, came.known, came.stands)))
           (arm_goes_on (c.args.self.now).settings c.args.lane c.args.volume (counts_of g.D.Disk.fault_count g.A.Arm.fault_count c.args.self.now) (counts_of g.D.Disk.fault_count g.A.Arm.fault_count c.see_or_pass.new.self) (counts_of g.D.Disk.fault_count g.A.Arm.fault_count c.read_more-read.new.self) c.in-Ok.passed arms c.read_more-read.ensures.arm_counts falls c.read_more-read.ensures.most
           (ap (λ (ds : List g.row.D.Denot). map g.D.Disk.fault_count ds) c.read_more-read.ensures.disks))
           passed reads;
-      sure = λ arm at sure.
-          let kept = sure_on g.A.Arm.is_sure g.A.Arm.fault_count (c.args.self.now).arms (c.see_or_pass.new.self).arms c.args.lane arm sure_arms at sure in
-          let before : PassesNoArm c.in-Unseen.causes = subst (λ (r : ReadReply). ReadNoArm [] r) c.in-Unseen.is (inv.sure arm at sure) in
-          no_arm_round (IsWhole g.D.Disk.Tells g.D.Disk.files g.D.Piece.Piece.Tells g.D.Disk.fault_count g.D.Disk.fuse_count g.A.Arm.fault_count c.see_or_pass.new.self) (c.args.self.now).settings c.args.lane c.args.volume c.args.start (counts_of g.D.Disk.fault_count g.A.Arm.fault_count c.see_or_pass.new.self) (counts_of g.D.Disk.fault_count g.A.Arm.fault_count c.read_more-read.new.self) c.in-Ok.passed c.read_more-read.result reads
-          (no_arm_on c.in-Unseen.causes c.in-Ok.passed here.begins before c.in-Ok.ensures.no_arm) (c.read_more-read.ensures.sure kept.0 kept.1 kept.2);
       stops = stops_same c.see_or_pass.new.self c.read_more-read.new.self c.args.volume c.args.pair c.read_more-read.result c.read_more-read.ensures.volumes c.read_more-read.ensures.stops;
       tries = λ j more is.
-          let longer = stops_further (IsWhole g.D.Disk.Tells g.D.Disk.files g.D.Piece.Piece.Tells g.D.Disk.fault_count g.D.Disk.fuse_count g.A.Arm.fault_count c.see_or_pass.new.self) (c.args.self.now).settings c.args.lane c.args.volume c.args.start (counts_of g.D.Disk.fault_count g.A.Arm.fault_count c.see_or_pass.new.self) (counts_of g.D.Disk.fault_count g.A.Arm.fault_count c.read_more-read.new.self) c.see_or_pass.new.self c.args.pair c.in-Unseen.replica c.in-Unseen.causes c.in-Ok.passed c.read_more-read.result j more stop.next c.in-Ok.ensures.on reads c.read_more-read.ensures.stops is in
+          let longer = stops_further (NeverIn g.D.Disk.Tells g.D.Disk.files g.D.Piece.Piece.Tells g.D.Disk.fault_count g.D.Disk.fuse_count g.A.Arm.fault_count g.A.Arm.is_sure c.see_or_pass.new.self c.args.lane) (c.args.self.now).settings c.args.lane c.args.volume c.args.start (counts_of g.D.Disk.fault_count g.A.Arm.fault_count c.see_or_pass.new.self) (counts_of g.D.Disk.fault_count g.A.Arm.fault_count c.read_more-read.new.self) ((store_seen c.read_more-read.new.self).places c.args.volume c.args.pair) c.see_or_pass.new.self c.args.pair c.in-Unseen.replica c.in-Unseen.causes c.in-Ok.passed c.read_more-read.result j more stop.next c.in-Ok.ensures.on reads c.read_more-read.ensures.stops is in
           let so_far = inv.tries c.in-Unseen.replica c.in-Unseen.causes c.in-Unseen.is in
           omega (arith, longer, so_far);
       bytes = c.read_more-read.ensures.bytes;
@@ -158,8 +156,8 @@ pub found_of-requires : goal.found_of-requires
 found_of-requires g c = λ replica causes is. elim c.loop-test.branch [
   | else-loop-test w ↦
       let inv = c.loop.invariant in
-      let stop : PassesTo (IsWhole g.D.Disk.Tells g.D.Disk.files g.D.Piece.Piece.Tells g.D.Disk.fault_count g.D.Disk.fuse_count g.A.Arm.fault_count c.args.self.now) (c.args.self.now).settings c.args.lane c.args.volume c.args.start (counts_of g.D.Disk.fault_count g.A.Arm.fault_count c.args.self.now) (counts_of g.D.Disk.fault_count g.A.Arm.fault_count c.loop.self) [] causes replica =
-      subst (λ (r : ReadReply). ReadPasses (IsWhole g.D.Disk.Tells g.D.Disk.files g.D.Piece.Piece.Tells g.D.Disk.fault_count g.D.Disk.fuse_count g.A.Arm.fault_count c.args.self.now) (c.args.self.now).settings c.args.lane c.args.volume c.args.start (counts_of g.D.Disk.fault_count g.A.Arm.fault_count c.args.self.now) (counts_of g.D.Disk.fault_count g.A.Arm.fault_count c.loop.self) [] r) is inv.passes in
+      let stop : PassesTo (NeverIn g.D.Disk.Tells g.D.Disk.files g.D.Piece.Piece.Tells g.D.Disk.fault_count g.D.Disk.fuse_count g.A.Arm.fault_count g.A.Arm.is_sure c.args.self.now c.args.lane) (c.args.self.now).settings c.args.lane c.args.volume c.args.start (counts_of g.D.Disk.fault_count g.A.Arm.fault_count c.args.self.now) (counts_of g.D.Disk.fault_count g.A.Arm.fault_count c.loop.self) ((store_seen c.loop.self).places c.args.volume c.args.pair) [] causes replica =
+      subst (λ (r : ReadReply). ReadPasses (NeverIn g.D.Disk.Tells g.D.Disk.files g.D.Piece.Piece.Tells g.D.Disk.fault_count g.D.Disk.fuse_count g.A.Arm.fault_count g.A.Arm.is_sure c.args.self.now c.args.lane) (c.args.self.now).settings c.args.lane c.args.volume c.args.start (counts_of g.D.Disk.fault_count g.A.Arm.fault_count c.args.self.now) (counts_of g.D.Disk.fault_count g.A.Arm.fault_count c.loop.self) ((store_seen c.loop.self).places c.args.volume c.args.pair) [] r) is inv.passes in
       let fewer = stop.fewer in
       let so_far = inv.tries replica causes is in
       let same = ap (λ (st : Open g.row.D.Denot g.row.D-Piece.Denot g.row.A.Denot). (st.settings).replicas) c.self.view_is ∙ ap (λ (s : Settings). s.replicas) c.read_first-front.ensures.settings in
@@ -174,10 +172,7 @@ returns-clause-says g c = λ tells k stands.
     ((c.read_first-front.ensures.says tells k stands).0, found_says c.args.cookie (outcomes_of (c.args.self.now).settings (volume_at k c.args.volume) c.args.pair) _ c.loop.read c.found_of.result c.found_of.ensures says.0, says.1)
 
 pub returns-clause-passes : goal.returns-clause-passes
-returns-clause-passes g c = found_passes (IsWhole g.D.Disk.Tells g.D.Disk.files g.D.Piece.Piece.Tells g.D.Disk.fault_count g.D.Disk.fuse_count g.A.Arm.fault_count c.args.self.now) (c.args.self.now).settings c.args.lane c.args.volume c.args.start (counts_of g.D.Disk.fault_count g.A.Arm.fault_count c.args.self.now) (counts_of g.D.Disk.fault_count g.A.Arm.fault_count c.loop.self) c.loop.read c.found_of.result c.found_of.ensures c.loop.invariant.passes
-
-pub returns-clause-sure : goal.returns-clause-sure
-returns-clause-sure g c = λ arm at sure. found_no_arm c.loop.read c.found_of.result c.found_of.ensures (c.loop.invariant.sure arm at sure)
+returns-clause-passes g c = found_passes (NeverIn g.D.Disk.Tells g.D.Disk.files g.D.Piece.Piece.Tells g.D.Disk.fault_count g.D.Disk.fuse_count g.A.Arm.fault_count g.A.Arm.is_sure c.args.self.now c.args.lane) (c.args.self.now).settings c.args.lane c.args.volume c.args.start (counts_of g.D.Disk.fault_count g.A.Arm.fault_count c.args.self.now) (counts_of g.D.Disk.fault_count g.A.Arm.fault_count c.loop.self) ((store_seen c.loop.self).places c.args.volume c.args.pair) c.loop.read c.found_of.result c.found_of.ensures c.loop.invariant.passes
 
 pub returns-in_default-see_or_pass-clause-contents : goal.returns-in_default-see_or_pass-clause-contents
 returns-in_default-see_or_pass-clause-contents g c = λ tells.
@@ -186,13 +181,15 @@ returns-in_default-see_or_pass-clause-contents g c = λ tells.
 
 pub see_or_pass-requires-clause-apart : goal.see_or_pass-requires-clause-apart
 see_or_pass-requires-clause-apart g c =
-    let stop : PassesTo (IsWhole g.D.Disk.Tells g.D.Disk.files g.D.Piece.Piece.Tells g.D.Disk.fault_count g.D.Disk.fuse_count g.A.Arm.fault_count c.args.self.now) (c.args.self.now).settings c.args.lane c.args.volume c.args.start (counts_of g.D.Disk.fault_count g.A.Arm.fault_count c.args.self.now) (counts_of g.D.Disk.fault_count g.A.Arm.fault_count c.loop.self) [] c.in-Unseen.causes c.in-Unseen.replica =
-    subst (λ (r : ReadReply). ReadPasses (IsWhole g.D.Disk.Tells g.D.Disk.files g.D.Piece.Piece.Tells g.D.Disk.fault_count g.D.Disk.fuse_count g.A.Arm.fault_count c.args.self.now) (c.args.self.now).settings c.args.lane c.args.volume c.args.start (counts_of g.D.Disk.fault_count g.A.Arm.fault_count c.args.self.now) (counts_of g.D.Disk.fault_count g.A.Arm.fault_count c.loop.self) [] r) c.in-Unseen.is c.loop.invariant.passes in
+    let stop : PassesTo (NeverIn g.D.Disk.Tells g.D.Disk.files g.D.Piece.Piece.Tells g.D.Disk.fault_count g.D.Disk.fuse_count g.A.Arm.fault_count g.A.Arm.is_sure c.args.self.now c.args.lane) (c.args.self.now).settings c.args.lane c.args.volume c.args.start (counts_of g.D.Disk.fault_count g.A.Arm.fault_count c.args.self.now) (counts_of g.D.Disk.fault_count g.A.Arm.fault_count c.loop.self) ((store_seen c.loop.self).places c.args.volume c.args.pair) [] c.in-Unseen.causes c.in-Unseen.replica =
+    subst (λ (r : ReadReply). ReadPasses (NeverIn g.D.Disk.Tells g.D.Disk.files g.D.Piece.Piece.Tells g.D.Disk.fault_count g.D.Disk.fuse_count g.A.Arm.fault_count g.A.Arm.is_sure c.args.self.now c.args.lane) (c.args.self.now).settings c.args.lane c.args.volume c.args.start (counts_of g.D.Disk.fault_count g.A.Arm.fault_count c.args.self.now) (counts_of g.D.Disk.fault_count g.A.Arm.fault_count c.loop.self) ((store_seen c.loop.self).places c.args.volume c.args.pair) [] r) c.in-Unseen.is c.loop.invariant.passes in
     next_apart (c.args.self.now).settings c.args.start c.in-Unseen.causes c.in-Unseen.replica stop.passes.order stop.fewer stop.next
 
 pub see_or_pass-requires-clause-may_stand : goal.see_or_pass-requires-clause-may_stand
 see_or_pass-requires-clause-may_stand g c =
-    (subst (λ (r : ReadReply). ReadSees ((store_seen c.loop.self).places c.args.volume c.args.pair) r) c.in-Unseen.is c.loop.invariant.sees).1
+    let stop : PassesTo (NeverIn g.D.Disk.Tells g.D.Disk.files g.D.Piece.Piece.Tells g.D.Disk.fault_count g.D.Disk.fuse_count g.A.Arm.fault_count g.A.Arm.is_sure c.args.self.now c.args.lane) (c.args.self.now).settings c.args.lane c.args.volume c.args.start (counts_of g.D.Disk.fault_count g.A.Arm.fault_count c.args.self.now) (counts_of g.D.Disk.fault_count g.A.Arm.fault_count c.loop.self) ((store_seen c.loop.self).places c.args.volume c.args.pair) [] c.in-Unseen.causes c.in-Unseen.replica =
+    subst (λ (r : ReadReply). ReadPasses (NeverIn g.D.Disk.Tells g.D.Disk.files g.D.Piece.Piece.Tells g.D.Disk.fault_count g.D.Disk.fuse_count g.A.Arm.fault_count g.A.Arm.is_sure c.args.self.now c.args.lane) (c.args.self.now).settings c.args.lane c.args.volume c.args.start (counts_of g.D.Disk.fault_count g.A.Arm.fault_count c.args.self.now) (counts_of g.D.Disk.fault_count g.A.Arm.fault_count c.loop.self) ((store_seen c.loop.self).places c.args.volume c.args.pair) [] r) c.in-Unseen.is c.loop.invariant.passes in
+    stop.stood
 
 pub returns-in_default-see_or_pass-clause-seen : goal.returns-in_default-see_or_pass-clause-seen
 returns-in_default-see_or_pass-clause-seen g c =
@@ -205,3 +202,9 @@ returns-in_default-see_or_pass-clause-looks g c =
 pub returns-clause-sees : goal.returns-clause-sees
 returns-clause-sees g c =
     found_sees ((store_seen c.loop.self).places c.args.volume c.args.pair) c.loop.read c.found_of.result c.found_of.ensures c.loop.invariant.sees
+
+pub returns-in_default-see_or_pass-clause-bytes : goal.returns-in_default-see_or_pass-clause-bytes
+returns-in_default-see_or_pass-clause-bytes g c = λ j is. absurd cc
+
+pub returns-clause-bytes : goal.returns-clause-bytes
+returns-clause-bytes g c = found_bytes c.loop.photo.items c.loop.read c.found_of.result c.found_of.ensures c.loop.invariant.bytes

@@ -1,5 +1,4 @@
-use Rattle.std.proofs.Common.{◌≡◌, ◌≤◌, ℕ, true, List, [], length, map, Some}
-use Rattle.std.specs.Prelude.{slice_get}
+use Rattle.std.proofs.Common.{◌≡◌, ◌≤◌, ℕ, List, [], length, map}
 use Rattle.std.specs.Vec.{vec_capacity}
 use Rattle.hay_needle.specs.declared.total.TheConstants.{MAX_PHOTO}
 use Rattle.hay_legal.specs.declared.known.Known.{Known}
@@ -8,7 +7,7 @@ use Rattle.hay_reader.specs.Shown.{HasBytes}
 use Rattle.hay_reader.specs.declared.causes.PassedReplica.{PassedReplica}
 use Rattle.hay_reader.specs.declared.seat.ReadReply.TheVariants as read
 use Rattle.hay_cluster.specs.Causes.{StaySure}
-use Rattle.hay_cluster.specs.Reads.{IsWhole, ReadNoArm, ReadPasses, ReadSays, ReadSees, StopsUnseen, counts_of, outcomes_of}
+use Rattle.hay_cluster.specs.Reads.{NeverIn, ReadPasses, ReadSays, ReadSees, StopsUnseen, counts_of, outcomes_of}
 use Rattle.hay_cluster.specs.Leaving.{AnySlot, KeepsIn}
 use Rattle.hay_cluster.specs.Parts.{Comes}
 use Rattle.hay_logical.specs.Sights.{LooksAtPair}
@@ -22,9 +21,8 @@ abbrev pub invariant-loop : goal.invariant-loop
 invariant-loop g l = record {
   says : g.D.Disk.Tells → (k : Known) → Stands g.D.Disk.files g.D.Piece.Piece.Tells g.D.Disk.fault_count g.D.Disk.fuse_count g.A.Arm.fault_count l.fn.self k →
       ReadSays l.cookie (outcomes_of l.fn.self.settings (volume_at k l.volume) l.pair) l.photo.items l.read × Comes g.D.Disk.files g.D.Piece.Piece.Tells g.D.Disk.fault_count g.D.Disk.fuse_count g.A.Arm.fault_count k k l.self;
-  passes : ReadPasses (IsWhole g.D.Disk.Tells g.D.Disk.files g.D.Piece.Piece.Tells g.D.Disk.fault_count g.D.Disk.fuse_count g.A.Arm.fault_count l.fn.self) l.fn.self.settings l.lane l.volume l.start
-      (counts_of g.D.Disk.fault_count g.A.Arm.fault_count l.fn.self) (counts_of g.D.Disk.fault_count g.A.Arm.fault_count l.self) [] l.read;
-  sure : (arm : g.row.A.Denot) → slice_get l.fn.self.arms l.lane ≡ Some arm → g.A.Arm.is_sure arm ≡ true → ReadNoArm [] l.read;
+  passes : ReadPasses (NeverIn g.D.Disk.Tells g.D.Disk.files g.D.Piece.Piece.Tells g.D.Disk.fault_count g.D.Disk.fuse_count g.A.Arm.fault_count g.A.Arm.is_sure l.fn.self l.lane) l.fn.self.settings l.lane l.volume l.start
+      (counts_of g.D.Disk.fault_count g.A.Arm.fault_count l.fn.self) (counts_of g.D.Disk.fault_count g.A.Arm.fault_count l.self) ((store_seen l.self).places l.volume l.pair) [] l.read;
   stops : StopsUnseen l.self l.volume l.pair l.read;
   tries : (j : ℕ) (causes : List PassedReplica) → l.read ≡ read.Unseen j causes → l.counter ≤ length causes;
   bytes : HasBytes l.photo.items l.read;

@@ -1,4 +1,5 @@
 use Rattle.std.proofs.Common.{◌≡◌, ◌<◌, ℕ, Option, Some, None, map, refl, sym, ap, subst, ◌∙◌, inl, inr}
+use Rattle.std.proofs.lemmas.Option.{same_Some}
 use Rattle.hay_needle.specs.declared.settings.Settings.{Settings}
 use Rattle.hay_reply.specs.declared.Reply.TheVariants as reply
 use Rattle.hay_legal.specs.Known.{home_of, replica_on}
@@ -8,7 +9,10 @@ use Rattle.hay_cluster.proofs.Answering.{answered, stays}
 use Rattle.hay_cluster.proofs.Moves.{none_falls}
 use Rattle.hay_cluster.proofs.Showing.{get_command}
 use Rattle.hay_cluster.proofs.Sure.{same_sure}
-use Rattle.hay_cluster.specs.Suiting.{ShowsFrom, SuitsGet}
+use Rattle.hay_cluster.specs.Suiting.{ShowsOf, SuitsGet}
+use Rattle.hay_cluster.specs.Passing.{IsSureArm, TriesBefore}
+use Rattle.hay_cluster.specs.Reads.{counts_of}
+use Rattle.hay_cluster.specs.Sights.{told_by}
 use Rattle.hay_cluster.proofs.Suiting.{at_no_memory, at_none, at_replica}
 use Rattle.hay_cluster.proofs.Sighting.{keeps_photos}
 use Rattle.hay_cluster.proofs.Seeing.{keeps_all}
@@ -87,20 +91,20 @@ returns-then-volume-url-clause-sure_arms g c = same_sure g.A.Arm.is_sure g.A.Arm
 pub returns-in_default-clause-suits : goal.returns-in_default-clause-suits
 returns-in_default-clause-suits g c =
     let same = ap (λ (st : Open g.row.D.Denot g.row.D-Piece.Denot g.row.A.Denot). st.settings) c.self.view_is in
-    at_none (replica_on (c.args.self.now).settings (c.args.url.now).volume (c.args.url.now).machine) (SuitsGet (c.args.self.now).settings c.args.url.now)
+    at_none (replica_on (c.args.self.now).settings (c.args.url.now).volume (c.args.url.now).machine) (λ replica. SuitsGet (c.args.self.now).settings c.args.url.now)
     (ap (λ (s : Settings). replica_on s (c.args.url.now).volume (c.args.url.now).machine) (sym same) ∙ sym c.replica_on.ensures.is ∙ c.in_default.is)
 
 pub returns-in_default-home-clause-suits : goal.returns-in_default-home-clause-suits
 returns-in_default-home-clause-suits g c =
     let same = ap (λ (st : Open g.row.D.Denot g.row.D-Piece.Denot g.row.A.Denot). st.settings) c.self.view_is in
     let there : replica_on (c.args.self.now).settings (c.args.url.now).volume (c.args.url.now).machine ≡ Some c.in-Some.start = ap (λ (s : Settings). replica_on s (c.args.url.now).volume (c.args.url.now).machine) (sym same) ∙ sym c.replica_on.ensures.is ∙ c.in-Some.is in
-    at_replica _ (SuitsGet (c.args.self.now).settings c.args.url.now) c.in-Some.start (reply.Unknown c.rows.result) there (inl (c.rows.result, refl))
+    at_replica _ (λ replica. SuitsGet (c.args.self.now).settings c.args.url.now) c.in-Some.start (reply.Unknown c.rows.result) there (inl (c.rows.result, refl))
 
 pub returns-then-volume-url-clause-suits : goal.returns-then-volume-url-clause-suits
 returns-then-volume-url-clause-suits g c =
     let same = ap (λ (st : Open g.row.D.Denot g.row.D-Piece.Denot g.row.A.Denot). st.settings) c.self.view_is in
     let there : replica_on (c.args.self.now).settings (c.args.url.now).volume (c.args.url.now).machine ≡ Some c.in-Some.start = ap (λ (s : Settings). replica_on s (c.args.url.now).volume (c.args.url.now).machine) (sym same) ∙ sym c.replica_on.ensures.is ∙ c.in-Some.is in
-    at_replica _ (SuitsGet (c.args.self.now).settings c.args.url.now) c.in-Some.start (reply.Moved c.in-Some-home.volume c.rows-then-volume-url.result) there
+    at_replica _ (λ replica. SuitsGet (c.args.self.now).settings c.args.url.now) c.in-Some.start (reply.Moved c.in-Some-home.volume c.rows-then-volume-url.result) there
     (inr (inl (c.in-Some-home.volume, c.rows-then-volume-url.result, (c.in-Some-home.ensures).within, c.if-volume-url.true, refl)))
 
 pub returns-clause-suits : goal.returns-clause-suits
@@ -108,9 +112,9 @@ returns-clause-suits g c =
     let same = ap (λ (st : Open g.row.D.Denot g.row.D-Piece.Denot g.row.A.Denot). st.settings) c.self.view_is in
     let there : replica_on (c.args.self.now).settings (c.args.url.now).volume (c.args.url.now).machine ≡ Some c.in-Some.start = ap (λ (s : Settings). replica_on s (c.args.url.now).volume (c.args.url.now).machine) (sym same) ∙ sym c.replica_on.ensures.is ∙ c.in-Some.is in
     elim c.show.ensures.here [
-      | inl shows ↦ at_replica _ (SuitsGet (c.args.self.now).settings c.args.url.now) c.in-Some.start c.show.result there
-          (inr (inr (subst (λ v. ShowsFrom (c.args.self.now).settings c.in-Some.start v c.show.result) c.if-volume-url.false shows)))
-      | inr none ↦ at_no_memory _ (SuitsGet (c.args.self.now).settings c.args.url.now) c.in-Some.start c.show.result there none
+      | inl shows ↦ at_replica _ (λ replica. SuitsGet (c.args.self.now).settings c.args.url.now) c.in-Some.start c.show.result there
+          (inr (inr (subst (λ v. ShowsOf (c.args.self.now).settings v c.show.result) c.if-volume-url.false shows)))
+      | inr none ↦ at_no_memory _ (λ replica. SuitsGet (c.args.self.now).settings c.args.url.now) c.in-Some.start c.show.result there none
     ]
 
 pub returns-in_default-home-clause-shows : goal.returns-in_default-home-clause-shows
@@ -145,3 +149,20 @@ returns-then-volume-url-clause-seen g c =
 pub returns-then-volume-url-clause-sights : goal.returns-then-volume-url-clause-sights
 returns-then-volume-url-clause-sights g c =
     keeps_photos (store_seen c.args.self.now)
+
+pub returns-in_default-clause-passes : goal.returns-in_default-clause-passes
+returns-in_default-clause-passes g c = λ start there. tt
+
+pub returns-in_default-home-clause-passes : goal.returns-in_default-home-clause-passes
+returns-in_default-home-clause-passes g c = λ start there. tt
+
+pub returns-then-volume-url-clause-passes : goal.returns-then-volume-url-clause-passes
+returns-then-volume-url-clause-passes g c = λ start there. tt
+
+pub returns-clause-passes : goal.returns-clause-passes
+returns-clause-passes g c = λ start there.
+    let same = ap (λ (st : Open g.row.D.Denot g.row.D-Piece.Denot g.row.A.Denot). st.settings) c.self.view_is in
+    let here : replica_on (c.args.self.now).settings (c.args.url.now).volume (c.args.url.now).machine ≡ Some c.in-Some.start = ap (λ (s : Settings). replica_on s (c.args.url.now).volume (c.args.url.now).machine) (sym same) ∙ sym c.replica_on.ensures.is ∙ c.in-Some.is in
+    let first : c.in-Some.start ≡ start = same_Some c.in-Some.start start (sym here ∙ there) in
+    subst (λ s. TriesBefore (c.args.self.now).settings (IsSureArm g.A.Arm.is_sure (c.args.self.now).arms c.args.tag.lane) c.args.tag.lane s (c.args.url.now).pair
+    (counts_of g.D.Disk.fault_count g.A.Arm.fault_count c.args.self.now) (counts_of g.D.Disk.fault_count g.A.Arm.fault_count c.show.new.self) (store_seen c.show.new.self) (told_by c.show.result)) first c.show.ensures.passes

@@ -22,7 +22,7 @@ returns-in-Err-clause-stored g c = λ tells k stands takes.
     own c.requires.volume stands takes moved.was (IfErr-at_err _ c.in-Err.is c.put_in.ensures.causes) (IfErr-at_err _ c.in-Err.is moved.does.1) moved.comes c.put_refusal.ensures.is
 
 pub returns-in-Err-clause-causes : goal.returns-in-Err-clause-causes
-returns-in-Err-clause-causes g c = λ lane. put_caused (c.args.self.now).settings lane c.args.volume (record { disks = map g.D.Disk.fault_count (disks_of c.args.self.now); arms = map g.A.Arm.fault_count (c.args.self.now).arms }) (record { disks = map g.D.Disk.fault_count (disks_of c.put_in.new.self); arms = map g.A.Arm.fault_count (c.put_in.new.self).arms }) c.in-Err.fault c.put_refusal.result (IfErr-at_err _ c.in-Err.is c.put_in.ensures.causes) c.put_refusal.ensures.is
+returns-in-Err-clause-causes g c = put_caused (c.args.self.now).settings c.args.volume (map g.D.Disk.fault_count (disks_of c.args.self.now)) (map g.D.Disk.fault_count (disks_of c.put_in.new.self)) c.in-Err.fault c.put_refusal.result (IfErr-at_err _ c.in-Err.is c.put_in.ensures.causes) c.put_refusal.ensures.is
 
 pub returns-in-Ok-clause-stored : goal.returns-in-Ok-clause-stored
 returns-in-Ok-clause-stored g c = λ tells k stands takes.

@@ -45,10 +45,10 @@ returns-in-Ok-clause-legal g c = λ tells k stands home taker.
     (λ _. c.settle.ensures.thawed tells k stands (λ frozen. absurd (ok_not_err c.in-Ok.field-0 settling.Frozen (sym c.in-Ok.is ∙ frozen)))) came.leaves stored.stores) stored.stands
 
 pub returns-in-Ok-clause-causes : goal.returns-in-Ok-clause-causes
-returns-in-Ok-clause-causes g c = λ lane.
-    subst (λ (s : Settings). IsCaused s lane (record { disks = map g.D.Disk.fault_count (disks_of c.args.self.now); arms = map g.A.Arm.fault_count (c.args.self.now).arms }) (record { disks = map g.D.Disk.fault_count (disks_of c.put_at.new.self); arms = map g.A.Arm.fault_count (c.put_at.new.self).arms }) c.put_at.result) c.settle.ensures.settings
-    (cause_earlier (c.settle.new.self).settings lane (record { disks = map g.D.Disk.fault_count (disks_of c.args.self.now); arms = map g.A.Arm.fault_count (c.args.self.now).arms }) (record { disks = map g.D.Disk.fault_count (disks_of c.settle.new.self); arms = map g.A.Arm.fault_count (c.settle.new.self).arms }) (record { disks = map g.D.Disk.fault_count (disks_of c.put_at.new.self); arms = map g.A.Arm.fault_count (c.put_at.new.self).arms }) c.put_at.result
-    c.settle.ensures.counts (ap (λ xs. map g.A.Arm.fault_count xs) c.settle.ensures.arms) (c.put_at.ensures.causes lane))
+returns-in-Ok-clause-causes g c =
+    subst (λ (s : Settings). IsCaused s (map g.D.Disk.fault_count (disks_of c.args.self.now)) (map g.D.Disk.fault_count (disks_of c.put_at.new.self)) c.put_at.result) c.settle.ensures.settings
+    (cause_earlier (c.settle.new.self).settings (map g.D.Disk.fault_count (disks_of c.args.self.now)) (map g.D.Disk.fault_count (disks_of c.settle.new.self)) (map g.D.Disk.fault_count (disks_of c.put_at.new.self)) c.put_at.result
+    c.settle.ensures.counts c.put_at.ensures.causes)
 
 pub returns-in-Ok-clause-counts : goal.returns-in-Ok-clause-counts
 returns-in-Ok-clause-counts g c =

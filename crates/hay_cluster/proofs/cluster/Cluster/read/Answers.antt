@@ -3,7 +3,9 @@ use Rattle.hay_legal.specs.Known.{home_of}
 use Rattle.hay_legal.specs.Plain.{LegalShow}
 use Rattle.hay_cluster.proofs.Answering.{answered}
 use Rattle.hay_cluster.proofs.Sure.{same_sure}
-use Rattle.hay_cluster.specs.Suiting.{ShowsFrom}
+use Rattle.hay_cluster.specs.Passing.{IsSureArm, TriesBefore}
+use Rattle.hay_cluster.specs.Reads.{counts_of}
+use Rattle.hay_cluster.specs.Sights.{told_by}
 use Rattle.hay_cluster.proofs.Sighting.{keeps_photos}
 use Rattle.hay_cluster.proofs.Seeing.{keeps_all}
 use Rattle.hay_cluster.specs.Seen.{store_seen}
@@ -25,7 +27,7 @@ returns-in_default-clause-suits g c = inl (c.rows.result, refl)
 pub returns-clause-suits : goal.returns-clause-suits
 returns-clause-suits g c =
     elim c.show.ensures.here [
-      | inl shows ↦ inr (inl (c.in-Some.volume, (c.in-Some.ensures).within, subst (λ start. ShowsFrom (c.args.self.now).settings start c.in-Some.volume c.show.result) c.start_of-start.ensures.is shows))
+      | inl shows ↦ inr (inl (c.in-Some.volume, (c.in-Some.ensures).within, shows))
       | inr none ↦ inr (inr none)
     ]
 
@@ -42,3 +44,9 @@ returns-in_default-clause-seen g c =
 pub returns-in_default-clause-sights : goal.returns-in_default-clause-sights
 returns-in_default-clause-sights g c =
     keeps_photos (store_seen c.args.self.now)
+
+pub returns-clause-passes : goal.returns-clause-passes
+returns-clause-passes g c =
+    subst (λ start. TriesBefore (c.args.self.now).settings (IsSureArm g.A.Arm.is_sure (c.args.self.now).arms c.args.tag.lane) c.args.tag.lane start c.args.pair
+    (counts_of g.D.Disk.fault_count g.A.Arm.fault_count c.args.self.now) (counts_of g.D.Disk.fault_count g.A.Arm.fault_count c.show.new.self) (store_seen c.show.new.self) (told_by c.show.result)) c.start_of-start.ensures.is
+    c.show.ensures.passes

@@ -1,6 +1,5 @@
 use Rattle.std.proofs.Common.{◌≡◌, ◌<◌, ◌≤◌, ◌⊎◌, ◌^◌, List, length, map, sym, ap, subst, ◌∙◌, arith, refl}
-use Rattle.std.specs.Prelude.{slice_get, slice_index_or, slice_set}
-use Rattle.std.proofs.lemmas.Option.{same_Some}
+use Rattle.std.specs.Prelude.{slice_index_or, slice_set}
 use Rattle.std.proofs.lemmas.List.{with_items_is}
 use borrow.Author.Rules.{scaled_Fits}
 use Rattle.hay_needle.specs.declared.settings.Settings.{Settings}
@@ -12,16 +11,16 @@ use Rattle.hay_reader.specs.Causes.{ComeFirst}
 use Rattle.hay_reader.specs.Shown.{ReadsRow}
 use Rattle.hay_reader.proofs.Outcomes.{answers_row}
 use Rattle.hay_cluster.specs.Causes.{Counts}
-use Rattle.hay_cluster.specs.Reads.{IsWhole, counts_of, outcomes_of}
+use Rattle.hay_cluster.specs.Reads.{MayHave, NeverIn, counts_of, outcomes_of}
 use Rattle.hay_cluster.specs.State.{Stands}
 use Rattle.hay_cluster.specs.Store.{Open, disks_of}
 use Rattle.hay_cluster.proofs.Lists.{length-set}
 use Rattle.hay_cluster.proofs.Moves.{volume_of, volume_stood}
 use Rattle.hay_cluster.proofs.Showing.{answers_say, counts_at, later_set, row_may_mean, row_read, row_stops, seat_comes}
-use Rattle.hay_cluster.proofs.Sure.{read_no_arm, used_sure}
+use Rattle.hay_cluster.proofs.Sure.{arm_at, used_sure}
 use Rattle.hay_cluster.specs.Seen.{store_seen}
 use Rattle.hay_cluster.proofs.Sighting.{photos_at}
-use Rattle.hay_cluster.proofs.ReadSights.{may_stand_as, row_sees, sees_in}
+use Rattle.hay_cluster.proofs.ReadSights.{row_sees, sees_in}
 use Rattle.hay_logical.specs.Sights.{Sights, sight}
 use Rattle.hay_map.specs.Rows.{row_at}
 use Rattle.hay_map.specs.Places.{place_in}
@@ -103,14 +102,15 @@ returns-clause-passes g c =
     (c.args.self.now).arms store.arms c.args.lane arm c.show_more.new.self (ap (λ (st : Open g.row.D.Denot g.row.D-Piece.Denot g.row.A.Denot). st.arms) c.self.view_is) seat c.show_more.ensures.reads in
     let after : Counts = record { disks = map g.D.Disk.fault_count (disks_of store); arms = map g.A.Arm.fault_count (slice_set store.arms c.args.lane c.show_more.new.self) } in
     rw items
-    (row_read (IsWhole g.D.Disk.Tells g.D.Disk.files g.D.Piece.Piece.Tells g.D.Disk.fault_count g.D.Disk.fuse_count g.A.Arm.fault_count c.args.self.now) g.D.Piece.Piece.Tells (g.A.Arm.is_sure arm) (c.args.self.now).settings c.args.lane c.args.volume c.args.start (counts_of g.D.Disk.fault_count g.A.Arm.fault_count c.args.self.now) after
+    (row_read (NeverIn g.D.Disk.Tells g.D.Disk.files g.D.Piece.Piece.Tells g.D.Disk.fault_count g.D.Disk.fuse_count g.A.Arm.fault_count g.A.Arm.is_sure c.args.self.now c.args.lane) g.D.Piece.Piece.Tells (g.A.Arm.is_sure arm) (c.args.self.now).settings c.args.lane c.args.volume c.args.start (counts_of g.D.Disk.fault_count g.A.Arm.fault_count c.args.self.now) after
     c.look-row.result.row c.args.pair c.args.cookie long
-    (λ whole.
+    (λ place whole.
     let here = subst (λ (st : Open g.row.D.Denot g.row.D-Piece.Denot g.row.A.Denot). Stands g.D.Disk.files g.D.Piece.Piece.Tells g.D.Disk.fault_count g.D.Disk.fuse_count g.A.Arm.fault_count st whole.1) (sym c.self.view_is) whole.2 in
     let known = c.look-row.ensures.known whole.0 (volume_at whole.1 c.args.volume) (volume_stood g.D.Disk.files g.D.Piece.Piece.Tells g.D.Disk.fault_count g.D.Disk.fuse_count g.A.Arm.fault_count store whole.1 c.args.volume volume here at) in (
       outcomes_of (c.args.self.now).settings (volume_at whole.1 c.args.volume) c.args.pair,
       row_may_mean g.D.Disk.files g.D.Piece.Piece.Tells volume.replicas c.look-row.result.row (c.args.self.now).settings (volume_at whole.1 c.args.volume) c.args.pair long (was.all ∙ ap (λ (s : Settings). s.replicas) same) known.1,
-    )) c.args.passed c.show_more.new.out.items c.show_more.result reads)
+    )) (λ f sure. arm_at g.A.Arm.is_sure g.A.Arm.fault_count (c.args.self.now).arms store.arms c.args.lane arm (ap (λ (st : Open g.row.D.Denot g.row.D-Piece.Denot g.row.A.Denot). st.arms) c.self.view_is) seat sure)
+    ((store_seen store).places c.args.volume c.args.pair) (λ j. ap (λ (l : List (Place g.row.D-Piece.Denot)). sight (place_in l j)) c.look-row.ensures.row ∙ sym (ap (λ (seen : Sights). seen c.args.pair j) (photos_at store store refl c.args.volume volume at))) c.args.passed (subst (λ (st : Open g.row.D.Denot g.row.D-Piece.Denot g.row.A.Denot). MayHave ((store_seen st).places c.args.volume c.args.pair) c.args.passed) (sym c.self.view_is) c.requires.may_stand) c.show_more.new.out.items c.show_more.result reads)
 
 pub returns-clause-arm_counts : goal.returns-clause-arm_counts
 returns-clause-arm_counts g c =
@@ -136,16 +136,6 @@ invariant_of-self g c =
       volumes = c.self.invariant.volumes;
       lanes = length-set c.self.inside.seats.items c.args.lane c.show_more.new.self ∙ c.self.invariant.lanes;
     })
-
-pub returns-clause-sure : goal.returns-clause-sure
-returns-clause-sure g c = λ one at sure.
-    let store : Open g.row.D.Denot g.row.D-Piece.Denot g.row.A.Denot = record { settings = c.self.inside.settings; directory = c.self.inside.directory; volumes = c.self.inside.volumes.items; arms = c.self.inside.seats.items } in
-    let inside : c.args.lane < length c.self.inside.seats.items = omega (arith, c.requires.lane, c.self.invariant.lanes) in
-    let arm : g.row.A.Denot = slice_index_or c.as_mut_slice.result.now c.args.lane c.index-as_mut_slice-lane.result in
-    let seat : At store.arms c.args.lane arm = subst (λ (xs : List (g.row.A.Denot)). At xs c.args.lane arm) c.as_mut_slice.ensures.value
-    (at_read c.as_mut_slice.result.now c.args.lane c.index-as_mut_slice-lane.result (let long = ap length c.as_mut_slice.ensures.value in omega (arith, inside, long))) in
-    let same : arm ≡ one = same_Some arm one (sym seat ∙ ap (λ (st : Open g.row.D.Denot g.row.D-Piece.Denot g.row.A.Denot). slice_get st.arms c.args.lane) c.self.view_is ∙ at) in
-    read_no_arm c.args.passed c.show_more.result (c.show_more.ensures.sure (ap g.A.Arm.is_sure same ∙ sure))
 
 pub returns-clause-sure_arms : goal.returns-clause-sure_arms
 returns-clause-sure_arms g c =
@@ -196,8 +186,6 @@ returns-clause-sees g c =
     let at : At store.volumes c.args.volume volume = subst (λ (w : Volume g.row.D.Denot g.row.D-Piece.Denot). At store.volumes c.args.volume w) (sym c.index-as_slice-volume.is)
     (subst (λ (vs : List (Volume g.row.D.Denot g.row.D-Piece.Denot)). At vs c.args.volume (slice_index_or c.as_slice.result.now c.args.volume volume)) c.as_slice.ensures.value
     (at_read c.as_slice.result.now c.args.volume volume (let long = ap length c.as_slice.ensures.value in omega (arith, within, long)))) in
-    let before = may_stand_as ((store_seen c.args.self.now).places c.args.volume c.args.pair) (λ j. sight (place_in c.look-row.result.row j)) c.args.passed
-    (λ j. ap (λ (l : List (Place g.row.D-Piece.Denot)). sight (place_in l j)) c.look-row.ensures.row ∙ sym (ap (λ (seen : Sights). seen c.args.pair j) (photos_at c.args.self.now store c.self.view_is c.args.volume volume at))) c.requires.may_stand in
     sees_in c.look-row.result.row (row_at volume.rows c.args.pair) ((store_seen store).places c.args.volume c.args.pair) c.show_more.result c.look-row.ensures.row
     (λ j. ap (λ (seen : Sights). seen c.args.pair j) (photos_at store store refl c.args.volume volume at))
-    (row_sees g.D.Piece.Piece.Tells _ c.args.start c.look-row.result.row c.args.cookie c.args.passed c.show_more.new.out.items c.show_more.result before c.show_more.ensures.reads)
+    (row_sees g.D.Piece.Piece.Tells _ c.args.start c.look-row.result.row c.args.cookie c.args.passed c.show_more.new.out.items c.show_more.result c.show_more.ensures.reads)
