@@ -1,10 +1,9 @@
 -- Texts that have their causes, turn after turn.
-use Rattle.std.proofs.Common.{◌≡◌, ◌≢◌, ◌⊎◌, inl, inr, ℕ, List, [], ◌∷◌, ◌++◌, Option, Some, None, refl, sym, ap, subst, ◌∙◌, append_assoc, map}
+use Rattle.std.proofs.Common.{◌≡◌, ◌≢◌, ◌⊎◌, inl, inr, ℕ, List, [], ◌∷◌, ◌++◌, Option, Some, None, refl, sym, ap, subst, ◌∙◌, append_assoc}
 use Rattle.std.specs.Prelude.{flat_map, Result, Err, OnErr, IsErrOf}
 use Rattle.std.specs.List.{AllByRecursion}
 use Rattle.std.proofs.lemmas.List.{append-nil}
 use Rattle.std.proofs.lemmas.Result.{IfErr-at_err, on_err_weaker}
-use Rattle.hay_disk.specs.Disk.{Files}
 use Rattle.hay_disk.specs.Streams.{Wrote, WrotePart}
 use Rattle.hay_needle.specs.declared.settings.Settings.{Settings}
 use Rattle.hay_script.specs.declared.Command.{Command}
@@ -22,7 +21,8 @@ use Rattle.hay_cluster.specs.declared.fault.ClusterFault.{ClusterFault}
 use Rattle.hay_cluster.specs.declared.fault.ClusterFault.TheVariants as refusal
 use Rattle.hay_cluster.specs.Leaving.{LeavesContents}
 use Rattle.hay_cluster.specs.Outside.{AreSoundBelow, IsDamagedDisk, IsUndamaged}
-use Rattle.hay_cluster.specs.Causes.{BlamesNoArm, EndsRuns, HasFaultCause, IsCaused, LeavesFuses}
+use Rattle.hay_cluster.specs.Causes.{EndsRuns, HasFaultCause, IsCaused, LeavesFuses}
+use Rattle.hay_cluster.specs.Passing.{PassesBefore}
 use Rattle.hay_cluster.specs.Seen.{Answers, OpensSeen, TellsSeen}
 use Rattle.hay_cluster.specs.Sights.{LeavesSights}
 use Rattle.hay_cluster.specs.Suiting.{Suits}
@@ -82,13 +82,14 @@ module _ (Tells : Type 0) where
 
   pub caused_reply : (Writes : Writing) (settings : Settings) (before after : Tally) (number : ℕ) (command : Command) (reply : Reply) (written written' : Option (List ℕ))
       → ((pick : ℕ) → command ≢ asks.Restart pick) → IsLaterTally before after → LeavesFuses settings command before.fuses after.fuses
-      → FitsReply reply → Suits settings number command reply → IsCaused settings 0 before.counts after.counts reply → (HasSureArm before 0 → BlamesNoArm reply)
+      → FitsReply reply → Suits settings number command reply → IsCaused settings before.counts.disks after.counts.disks reply
+      → PassesBefore settings (HasSureArm before 0) (plain_tag number) command before.counts after.counts after.seen reply
       → Answers settings (plain_tag number) command reply before.seen after.seen
       → LeavesSights settings command reply before.seen after.seen → EndsRuns settings reply before.seen after.seen before.counts.disks after.counts.disks
       → (Tells → LeavesContents settings command reply (before.seen).volumes (after.seen).volumes before.contents after.contents)
       → Writes written (numbered_line number reply) written'
       → Caused Tells Writes settings before after (Alone number (item.Command command) ∷ []) written written'
-  caused_reply Writes settings before after number command reply written written' other none fuses fits suits cause sure seen sights ended contents wrote =
+  caused_reply Writes settings before after number command reply written written' other none fuses fits suits cause passes seen sights ended contents wrote =
       caused_one Writes settings before after (Alone number (item.Command command)) (numbered_line number reply) written written' none (
         fuses,
         inr (record {
@@ -97,7 +98,7 @@ module _ (Tells : Type 0) where
           fits = fits;
           suits = suits;
           caused = cause;
-          sure = sure;
+          passes = passes;
           answers = seen;
           sights = sights;
           ended = ended;

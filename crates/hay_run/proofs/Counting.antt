@@ -51,11 +51,6 @@ StaySure-lanes is_sure faults (x ∷ a) (y ∷ b) h (suc lane) is = StaySure-lan
 StaySure-lanes is_sure faults [] (y ∷ b) h lane is = absurd h
 StaySure-lanes is_sure faults (x ∷ a) [] h lane is = absurd h
 
-pub arm_of : {A : Type 0} (is_sure : A → Bool) (arms : List A) (lane : ℕ) → slice_get (map is_sure arms) lane ≡ Some true → (arm : A) × (slice_get arms lane ≡ Some arm) × (is_sure arm ≡ true)
-arm_of is_sure [] lane is = absurd cc
-arm_of is_sure (x ∷ arms) zero is = (x, refl, cc)
-arm_of is_sure (x ∷ arms) (suc lane) is = arm_of is_sure arms lane is
-
 pub lane_of : {A : Type 0} (is_sure : A → Bool) (arms : List A) (lane : ℕ) (arm : A) → slice_get arms lane ≡ Some arm → is_sure arm ≡ true → slice_get (map is_sure arms) lane ≡ Some true
 lane_of is_sure [] lane arm there is = absurd cc
 lane_of is_sure (x ∷ arms) zero arm there is = let same : x ≡ arm = cc in ap (λ s. Some s) (ap is_sure same ∙ is)

@@ -1,41 +1,53 @@
 -- Causes of texts that no run has, each as a lemma.
-use Rattle.std.proofs.Common.{◌≡◌, ◌≢◌, ℕ, zero, suc, ◌+◌, ◌*◌, ◌-◌, ◌^◌, ◌<◌, ◌≤◌, List, [], ◌∷◌, ◌++◌, length, Some, None, refl, sym, ap, subst, ◌∙◌, inl, inr, arith}
+use Rattle.std.proofs.Common.{◌≡◌, ◌≢◌, ◌⊎◌, ℕ, zero, suc, ◌+◌, ◌*◌, ◌-◌, ◌%◌, ◌^◌, ◌<◌, ◌≤◌, List, [], ◌∷◌, ◌++◌, length, Some, None, refl, sym, ap, subst, ◌∙◌, inl, inr, arith}
+use Rattle.std.proofs.Math.Nat.{mod-eq_of_lt, mod-lt}
+use Rattle.std.proofs.lemmas.Bool.{cases_eq}
 use Rattle.std.proofs.lemmas.List.{append_cancel_left, append_cancel_right}
 use Rattle.std.specs.Prelude.{Bool, true, false, codes, decimal, map, replicate, slice_index, slice_index_or, slice_set}
-use Rattle.std.specs.List.{AllByRecursion, AllZip}
+use Rattle.std.specs.List.{AllByRecursion, AllZip, range_with_len}
 use Rattle.hay_disk.specs.Counts.{IsNext, Rose}
 use Rattle.hay_needle.specs.declared.needle.Cookie.{Cookie}
 use Rattle.hay_needle.specs.declared.needle.Pair.{Pair}
 use Rattle.hay_needle.specs.declared.settings.Settings.{Settings}
-use Rattle.hay_needle.specs.Sizes.{needle_total}
+use Rattle.hay_needle.specs.declared.total.TheConstants.{MAX_PHOTO}
+use Rattle.hay_needle.specs.declared.needle.Version.TheVariants.{Two}
+use Rattle.hay_needle.specs.Sizes.{max_photo, needle_total}
+use Rattle.hay_url.specs.declared.Url.{Url as UrlParts}
 use Rattle.hay_script.specs.declared.Command.{Command}
 use Rattle.hay_script.specs.declared.Command.TheVariants as asks
+use Rattle.hay_reply.specs.declared.Cause.{Cause}
+use Rattle.hay_reply.specs.declared.Cause.TheVariants.{Arm}
 use Rattle.hay_reply.specs.declared.Note.TheVariants.{OpenDamaged}
+use Rattle.hay_reply.specs.declared.Passed.{Passed}
 use Rattle.hay_reply.specs.declared.ClosedBy.{ClosedBy}
 use Rattle.hay_reply.specs.declared.Refused.{Refused}
 use Rattle.hay_reply.specs.declared.Refused.TheVariants.{NoRoom}
 use Rattle.hay_reply.specs.declared.Reply.{Reply}
-use Rattle.hay_reply.specs.declared.Reply.TheVariants.{Absent, Begun, Deleted, Failed, Flushed, Full, Gone, Idle, Nowhere, ReadOnly, Stepped, Stored, Unknown}
+use Rattle.hay_reply.specs.declared.Reply.TheVariants.{Absent, Begun, Compacted, Damaged, Deleted, Failed, Flushed, Full, Gone, Idle, Photo, ReadOnly, Stepped, Stored, Unknown, Unreadable}
 use Rattle.hay_reply.specs.Fits.{FitsReply}
 use Rattle.hay_reply.specs.Replies.{numbered_line, reply_text}
 use Rattle.hay_reply.specs.Reading.{reply_of, words_of}
 use Rattle.hay_reply.proofs.Back.{back_reply}
 use Rattle.hay_legal.specs.Known.{disk_count, machine_of, replica_on, slot_of, tries_by}
-use Rattle.hay_legal.specs.Plain.{as_closed}
+use Rattle.hay_legal.specs.Plain.{as_closed, order_from}
 use Rattle.hay_legal.specs.Stands.{Contents, Outside}
 use Rattle.hay_logical.specs.declared.fault.LogicalFault.{LogicalFault}
 use Rattle.hay_logical.specs.declared.fault.LogicalFault.TheVariants as refusal
 use Rattle.hay_logical.specs.declared.unsure.Unsure.{Unsure}
 use Rattle.hay_logical.specs.Fits.{At}
 use Rattle.hay_logical.specs.Seen.{BeginRefusedSeen, PutSeen, ReplicaSeen, RoomSeen, SeesAt, SeesRoom, StepRefusedSeen, StepsTo, VolumeSeen}
-use Rattle.hay_logical.specs.Sights.{Looks, SeesAll, Sight}
-use Rattle.hay_logical.specs.Sights.Sight.{Live, Unseen}
-use Rattle.hay_cluster.specs.Causes.{EndsRuns, LeavesFuses}
+use Rattle.hay_logical.specs.Sights.{Looks, SeesAll, Sight, Sights, SwapsSights, gone_sight}
+use Rattle.hay_logical.specs.Sights.Sight.{Gone as WasGone, Live, Never, Unseen}
+use Rattle.hay_cluster.specs.Causes.{Counts, EndsRuns, LeavesFuses}
 use Rattle.hay_cluster.specs.Leaving.{IsApartOn, LeavesByPut, MayAddRow, MayPut}
 use Rattle.hay_cluster.specs.Maintenance.{IsRefusedAs}
+use Rattle.hay_cluster.specs.Passing.{CauseCameUp, PassesBefore, PassesOver, TriesTo}
 use Rattle.hay_cluster.specs.Seen.{Answers, AnswersPut, Closes, GetsHome, IsFrozenBy, IsThawed, MovesVolume, OpensSeen, OpensVolumeSeen, RefusesPhoto, StoreSeen, TakesPhotoAt, VolumeAt, home_seen, is_drained}
-use Rattle.hay_cluster.specs.Sights.{IsAbsent, LeavesSights}
-use Rattle.hay_run.specs.Causing.{BeginsAt, IsNoteCaused, IsReplyText, IsRestartText, Tally, plain_tag}
+use Rattle.hay_cluster.specs.Sights.{ChangesPhotos, IsAbsent, LeavesSights, MayStand, SeesOn}
+use Rattle.hay_cluster.specs.Store.{IsBuilt}
+use Rattle.hay_cluster.specs.Suiting.{Suits, start_at}
+use Rattle.hay_cluster.proofs.Machines.{replica_found}
+use Rattle.hay_run.specs.Causing.{BeginsAt, HasSureArm, IsNoteCaused, IsReplyText, IsRestartText, Tally, plain_tag}
 use Rattle.hay_run.specs.Runs.{IsFirstRefusal}
 
 -- a flush that changed what reads give of a disk but the replica's
@@ -108,6 +120,12 @@ same_reply number a b fits fits' same =
 abbrev pub Says : Type 0 → Settings → Tally → Tally → Command → ℕ → Reply → Type 0
 Says Tells settings before after command number said = FitsReply said × IsReplyText Tells settings before after command number (numbered_line number said)
 
+-- one that the command may be given
+suits_so : (Tells : Type 0) (settings : Settings) (before after : Tally) (command : Command) (number : ℕ) (said : Reply) → Says Tells settings before after command number said
+    → Suits settings number command said
+suits_so Tells settings before after command number said (large, told) =
+    subst (λ (r : Reply). Suits settings number command r) (sym (same_reply number said told.said large told.fits told.is)) told.suits
+
 -- how it is answered, then
 answers_so : (Tells : Type 0) (settings : Settings) (before after : Tally) (command : Command) (number : ℕ) (said : Reply) → Says Tells settings before after command number said
     → Answers settings (plain_tag number) command said before.seen after.seen
@@ -119,6 +137,13 @@ sights_so : (Tells : Type 0) (settings : Settings) (before after : Tally) (comma
     → LeavesSights settings command said before.seen after.seen
 sights_so Tells settings before after command number said (large, told) =
     subst (λ (r : Reply). LeavesSights settings command r before.seen after.seen) (sym (same_reply number said told.said large told.fits told.is)) told.sights
+
+-- and which replicas were passed over
+passes_so : (Tells : Type 0) (settings : Settings) (before after : Tally) (command : Command) (number : ℕ) (said : Reply) → Says Tells settings before after command number said
+    → PassesBefore settings (HasSureArm before 0) (plain_tag number) command before.counts after.counts after.seen said
+passes_so Tells settings before after command number said (large, told) =
+    let P : Reply → Type 0 = λ r. PassesBefore settings (HasSureArm before 0) (plain_tag number) command before.counts after.counts after.seen r in
+    subst P (sym (same_reply number said told.said large told.fits told.is)) told.passes
 
 -- and which compactions it ended
 ended_so : (Tells : Type 0) (settings : Settings) (before after : Tally) (command : Command) (number : ℕ) (said : Reply) → Says Tells settings before after command number said
@@ -338,6 +363,60 @@ stepped_over_more_than_stand Tells settings before after v m cells n number r se
         too_far told change.before change.after many change.becomes (subst (λ k. (change.before).end < (change.before).next + k * needle_total 0) many here)
     done (inr (inr (at, fault, on, refused, moves))) = stepped_is_no_refusal v m n fault refused
 
+-- a step that examined less than was asked for, where more cells are left than so many of the largest photos take
+pub stepped_short_of_what_is_left : (Tells : Type 0) (settings : Settings) (before after : Tally) (v m cells n number : ℕ) (r : ReplicaSeen) → SeesReplica settings before.seen v m r
+    → n < cells → r.next + n * needle_total (max_photo Two) < r.end → Says Tells settings before after (asks.Step v m cells) number (Stepped v m n) → ⊥
+stepped_short_of_what_is_left Tells settings before after v m cells n number r sees fewer left says =
+    done (answers_so Tells settings before after (asks.Step v m cells) number (Stepped v m n) says)
+  where
+    too_short : (a b : ReplicaSeen) → StepsTo cells n a b → a.next + n * needle_total (max_photo Two) < a.end → ⊥
+    too_short a b steps short =
+        let most = steps.most in
+        elim (steps.all) [ inl all ↦ omega (arith, fewer, all) | inr behind ↦ omega (arith, most, behind, short) ]
+
+    done : Answers settings (plain_tag number) (asks.Step v m cells) (Stepped v m n) before.seen after.seen → ⊥
+    done (inl (none, nowhere, keeps)) = cc
+    done (inr (inl (at, told, on, is, moves))) =
+        let change = moves.moves.1 in
+        let same = same_replica settings before.seen v m at r change.before moves.before sees on moves.was change.was in
+        let many : told ≡ n = cc in
+        let steps : StepsTo cells n change.before change.after = subst (λ k. StepsTo cells k change.before change.after) many change.becomes in
+        too_short change.before change.after steps (subst (λ (o : ReplicaSeen). o.next + n * needle_total (max_photo Two) < o.end) same left)
+    done (inr (inr (at, fault, on, refused, moves))) = stepped_is_no_refusal v m n fault refused
+
+-- damage that a step met elsewhere than at its next cell or behind it
+pub damaged_outside_the_cells : (Tells : Type 0) (settings : Settings) (before after : Tally) (v m cells m' place number : ℕ) (r : ReplicaSeen) → SeesReplica settings before.seen v m r
+    → (place < r.next) ⊎ (r.end ≤ place) → Says Tells settings before after (asks.Step v m cells) number (Damaged v m' place) → ⊥
+damaged_outside_the_cells Tells settings before after v m cells m' place number r sees outside says =
+    told (answers_so Tells settings before after (asks.Step v m cells) number (Damaged v m' place) says)
+  where
+    beyond : (low end : ℕ) → (place < low) ⊎ (end ≤ place) → low ≤ place → place < end → ⊥
+    beyond low end (inl less) from below = omega (arith, less, from)
+    beyond low end (inr more) from below = omega (arith, more, below)
+
+    refused : (fault : LogicalFault) (at : ℕ) (old new : VolumeSeen) → ((met : ReplicaSeen) → At old.replicas at met → r ≡ met) → IsRefusedAs v m fault (Damaged v m' place)
+        → StepRefusedSeen settings v at old new fault → ⊥
+    refused (refusal.Damaged m'' there) at old new same is (ended, (met, on, meets)) =
+        let one : there ≡ place = cc in
+        let from : met.next ≤ place = subst (λ k. met.next ≤ k) one meets.1 in
+        let below : place < met.end = subst (λ k. k < met.end) one meets.2 in
+        beyond met.next met.end (subst (λ (o : ReplicaSeen). (place < o.next) ⊎ (o.end ≤ place)) (same met on) outside) from below
+    refused refusal.Idle at old new same is seen = cc
+    refused (refusal.ReadOnly by) at old new same (inl is) seen = cc
+    refused (refusal.ReadOnly by) at old new same (inr is) seen = cc
+    refused (refusal.Failed m'' f) at old new same is seen = cc
+    refused (refusal.Busy m'' generation) at old new same is seen = cc
+    refused (refusal.Worn m'') at old new same is seen = cc
+    refused refusal.NoMemory at old new same is seen = cc
+    refused (refusal.Full m'' end need capacity) at old new same is seen = is
+    refused (refusal.Gone front) at old new same is seen = is
+
+    told : Answers settings (plain_tag number) (asks.Step v m cells) (Damaged v m' place) before.seen after.seen → ⊥
+    told (inl (none, nowhere, keeps)) = cc
+    told (inr (inl (at, n, on, is, moves))) = cc
+    told (inr (inr (at, fault, on, is, moves))) =
+        refused fault at moves.before moves.after (λ met there. same_replica settings before.seen v m at r met moves.before sees on moves.was there) is moves.moves
+
 -- a flush that was done while the volume is frozen
 pub flushed_while_frozen : (Tells : Type 0) (settings : Settings) (before after : Tally) (v m n by number : ℕ) → IsFrozenBy before.seen v by
     → Says Tells settings before after (asks.Flush v m) number (Flushed v m n) → ⊥
@@ -454,6 +533,11 @@ deleted_where_none_stands Tells settings before after pair v p d number none say
         let live = (deletes.finds).live in
         still_none ((before.seen).places v pair live.0) (deletes.found pair live.0) (none live.0 live.1) (((deletes.finds).looks).each live.0) live.2
 
+-- nor where none does, whatever it finds
+still_absent : (old new : Sight) → IsAbsent old → Looks old new → IsAbsent new
+still_absent old new none (inl same) = subst IsAbsent (sym same) none
+still_absent old new none (inr (unseen, found)) = absurd (subst IsAbsent unseen none)
+
 -- a deletion that failed behind its looks, and left the volume open
 pub failed_delete_leaves_it_open : (Tells : Type 0) (settings : Settings) (before after : Tally) (pair : Pair) (v m n number : ℕ) (volume : VolumeSeen) → SeesAll pair settings.replicas ((before.seen).places v)
     → At (after.seen).volumes v volume → volume.frozen ≡ None → Says Tells settings before after (asks.Del pair) number (Failed v m n) → ⊥
@@ -481,3 +565,198 @@ pub deleted_and_ended_a_compaction : (Tells : Type 0) (settings : Settings) (bef
     → Says Tells settings before after (asks.Del pair) number (Deleted v p d) → ⊥
 deleted_and_ended_a_compaction Tells settings before after pair v p d j goal number stood ended still says =
     still (ended_so Tells settings before after (asks.Del pair) number (Deleted v p d) says v p d refl j goal stood ended)
+
+-- PHOTOS BEHIND A COMPACTION
+
+-- the command ends a compaction on this replica, or is one whole
+abbrev pub IsSwap : Command → ℕ → ℕ → Type 0
+IsSwap command v m = (command ≡ asks.Compact v m) ⊎ (command ≡ asks.Finish v m)
+
+swaps_so : (Tells : Type 0) (settings : Settings) (before after : Tally) (work : Command) (v m g number : ℕ) → IsSwap work v m
+    → Says Tells settings before after work number (Compacted v m g)
+    → (at : ℕ) × (replica_on settings v m ≡ Some at) × ChangesPhotos v (SwapsSights at) before.seen after.seen
+swaps_so Tells settings before after work v m g number (inl is) says =
+    let P : Command → Type 0 = λ c. Says Tells settings before after c number (Compacted v m g) in
+    sights_so Tells settings before after (asks.Compact v m) number (Compacted v m g) (subst P is says)
+swaps_so Tells settings before after work v m g number (inr is) says =
+    let P : Command → Type 0 = λ c. Says Tells settings before after c number (Compacted v m g) in
+    sights_so Tells settings before after (asks.Finish v m) number (Compacted v m g) (subst P is says)
+
+-- no photo comes to stand in new files where none stood
+swap_keeps_absent : (at : ℕ) (pair : Pair) (j : ℕ) (old new : Sights) → SwapsSights at old new → IsAbsent (old pair j) → IsAbsent (new pair j)
+swap_keeps_absent at pair j old new swaps none =
+    elim (cases_eq j at) [
+      | inl same ↦ subst (λ k. IsAbsent (new pair k)) (sym same) (here (old pair at) refl (subst (λ k. IsAbsent (old pair k)) same none))
+      | inr other ↦ subst IsAbsent (sym (swaps.others pair j other)) none
+    ]
+  where
+    here : (s : Sight) → old pair at ≡ s → IsAbsent s → IsAbsent (new pair at)
+    here Never is absent = subst IsAbsent (sym (swaps.never pair is)) tt
+    here Live is absent = absurd absent
+    here WasGone is absent = subst IsAbsent (sym (swaps.gone pair is)) tt
+    here Unseen is absent = absurd absent
+
+-- nor is one left that was not looked at
+swap_keeps_seen : (at replicas : ℕ) (pair : Pair) (old new : Sights) → SwapsSights at old new → SeesAll pair replicas old → SeesAll pair replicas new
+swap_keeps_seen at replicas pair old new swaps seen j within unseen =
+    elim (cases_eq j at) [
+      | inl same ↦ swaps.seen pair (subst (λ k. new pair k ≡ Unseen) same unseen)
+      | inr other ↦ seen j within (sym (swaps.others pair j other) ∙ unseen)
+    ]
+
+gone_is_absent : (s : Sight) → IsAbsent (gone_sight s)
+gone_is_absent Never = tt
+gone_is_absent Live = tt
+gone_is_absent WasGone = tt
+gone_is_absent Unseen = tt
+
+-- a photo of a pair that was deleted before a compaction
+pub photo_of_a_deleted_pair_behind_a_compaction : (Tells : Type 0) (settings : Settings) (a b c d : Tally) (work : Command) (pair : Pair) (cookie : Cookie)
+    (v m g p rows m' f rows' first second third : ℕ) (photo : List ℕ) → IsSwap work v m
+    → Says Tells settings a b (asks.Del pair) first (Deleted v p rows) → Says Tells settings b c work second (Compacted v m g)
+    → Says Tells settings c d (asks.Read pair cookie) third (Photo v m' f rows' photo) → ⊥
+photo_of_a_deleted_pair_behind_a_compaction Tells settings a b c d work pair cookie v m g p rows m' f rows' first second third photo swap deletes compacts shows =
+    shown (sights_so Tells settings a b (asks.Del pair) first (Deleted v p rows) deletes) (swaps_so Tells settings b c work v m g second swap compacts)
+    (sights_so Tells settings c d (asks.Read pair cookie) third (Photo v m' f rows' photo) shows)
+  where
+    shown : LeavesSights settings (asks.Del pair) (Deleted v p rows) a.seen b.seen → (at : ℕ) × (replica_on settings v m ≡ Some at) × ChangesPhotos v (SwapsSights at) b.seen c.seen
+        → LeavesSights settings (asks.Read pair cookie) (Photo v m' f rows' photo) c.seen d.seen → ⊥
+    shown deleted (at, on, swaps) (looked, (j, there, live)) =
+        let erases = (deleted.changes).erases in
+        let first_none : IsAbsent ((b.seen).places v pair j) = subst IsAbsent (sym (erases.gone j)) (gone_is_absent ((deleted.changes).found pair j)) in
+        let second_none = swap_keeps_absent at pair j ((b.seen).places v) ((c.seen).places v) swaps.changes first_none in
+        let third_none = still_absent ((c.seen).places v pair j) ((d.seen).places v pair j) second_none ((looked.changes).each j) in
+        subst IsAbsent live third_none
+
+-- a deletion that failed behind a compaction, of a photo stored before it, and left the volume open to a put
+pub failed_delete_leaves_it_open_behind_a_compaction : (Tells : Type 0) (settings : Settings) (a b c d e : Tally) (work : Command) (pair other : Pair) (photo photo' : List ℕ)
+    (cookie cookie' : Cookie) (v m g p rows m' n p' rows' first second third fourth : ℕ) → IsSwap work v m
+    → Says Tells settings a b (asks.Put pair photo) first (Stored v p rows cookie) → Says Tells settings b c work second (Compacted v m g)
+    → Says Tells settings c d (asks.Del pair) third (Failed v m' n) → Says Tells settings d e (asks.Put other photo') fourth (Stored v p' rows' cookie') → ⊥
+failed_delete_leaves_it_open_behind_a_compaction Tells settings a b c d e work pair other photo photo' cookie cookie' v m g p rows m' n p' rows' first second third fourth
+    swap stores compacts fails stores' =
+    let stored : LeavesSights settings (asks.Put pair photo) (Stored v p rows cookie) a.seen b.seen =
+    sights_so Tells settings a b (asks.Put pair photo) first (Stored v p rows cookie) stores in
+    let swaps = swaps_so Tells settings b c work v m g second swap compacts in
+    let seen : SeesAll pair settings.replicas ((b.seen).places v) =
+    (λ j within unseen. let live : (b.seen).places v pair j ≡ Live = (stored.changes).live j within in cc) in
+    let answers : AnswersPut settings (plain_tag fourth) other (length photo') (Stored v p' rows' cookie') d.seen e.seen =
+    answers_so Tells settings d e (asks.Put other photo') fourth (Stored v p' rows' cookie') stores' in
+    let took = takes settings other (length photo') v d.seen answers.0.0 answers.0.1 in
+    let thawed = took.0.0 in
+    failed_delete_leaves_it_open Tells settings c d pair v m' n third thawed.0
+    (swap_keeps_seen swaps.0 settings.replicas pair ((b.seen).places v) ((c.seen).places v) (swaps.2).changes seen) thawed.1 thawed.2.0 fails
+
+-- REPLICAS THAT ARE PASSED OVER
+
+-- the first of those that are tried answers, or is one of those before
+tried_first : (f : ℕ → ℕ) (n j : ℕ) (front rest : List ℕ) → 0 < n → map f (range_with_len 0 n) ≡ front ++ j ∷ rest → (j ≡ f 0) ⊎ ((others : List ℕ) × (front ≡ f 0 ∷ others))
+tried_first f zero j front rest some is = absurd (omega (arith, some))
+tried_first f (suc n) j [] rest some is = inl cc
+tried_first f (suc n) j (i ∷ front) rest some is = inr (front, (let same : i ≡ f 0 = cc in ap (λ k. k ∷ front) same))
+
+first_cause : (A B : Passed → Type 0) (m : ℕ) (ms : List ℕ) (causes : List Passed) → map (λ passed. passed.machine) causes ≡ m ∷ ms → AllByRecursion A causes → AllByRecursion B causes
+    → (cause : Passed) × (cause.machine ≡ m) × A cause × B cause
+first_cause A B m ms [] order each stood = absurd cc
+first_cause A B m ms (cause ∷ causes) order each stood = (cause, cc, each.0, stood.0)
+
+-- where another replica answers, the first one was passed over
+pub record PassesFirst (settings : Settings) (Sure : Type 0) (lane start v : ℕ) (pair : Pair) (before after : Counts) (seen : StoreSeen) : Type 0 where
+  pub cause : Cause
+  pub came : CauseCameUp settings Sure lane v before after (machine_of settings v start) cause
+  pub stood : MayStand (seen.places v pair start)
+
+passes_first : (settings : Settings) (Sure : Type 0) (lane start v m j : ℕ) (pair : Pair) (before after : Counts) (seen : StoreSeen) → IsBuilt settings → v < settings.volumes
+    → start < settings.replicas → replica_on settings v m ≡ Some j → j ≢ start → TriesTo settings Sure lane start v m pair before after seen
+    → PassesFirst settings Sure lane start v pair before after seen
+passes_first settings Sure lane start v m j pair before after seen built volume within on other tries =
+    elim (tried_first (λ i. (start + i) % settings.replicas) settings.replicas tries.replica tries.front tries.rest (omega (arith, within)) tries.tries) [
+      | inl same ↦ absurd (other (answers ∙ same ∙ first))
+      | inr (others, is) ↦ passed others is
+    ]
+  where
+    first : (start + 0) % settings.replicas ≡ start
+    first = let same : start + 0 ≡ start = omega arith in ap (λ k. k % settings.replicas) same ∙ mod-eq_of_lt within
+
+    answers : j ≡ tries.replica
+    answers = let same : Some j ≡ Some tries.replica = sym on ∙ tries.there in cc
+
+    passed : (others : List ℕ) → tries.front ≡ (start + 0) % settings.replicas ∷ others → PassesFirst settings Sure lane start v pair before after seen
+    passed others is =
+        let passes = tries.passes in
+        let order : map (λ passed. passed.machine) tries.causes ≡ machine_of settings v ((start + 0) % settings.replicas) ∷ map (machine_of settings v) others =
+        passes.order ∙ ap (λ (js : List ℕ). map (machine_of settings v) js) is in
+        let one = first_cause (λ passed. CauseCameUp settings Sure lane v before after passed.machine passed.cause) (λ passed. SeesOn settings v pair MayStand seen passed.machine)
+        (machine_of settings v ((start + 0) % settings.replicas)) (map (machine_of settings v) others) tries.causes order passes.each passes.stood in
+        let machine : (one.0).machine ≡ machine_of settings v start = one.1 ∙ ap (machine_of settings v) first in
+        let sees = one.3 in
+        let same : Some sees.0 ≡ Some start = sym sees.1 ∙ ap (replica_on settings v) machine ∙ replica_found settings v start volume within built.no_more_replicas in
+        let here : sees.0 ≡ start = cc in
+        record {
+          cause = (one.0).cause;
+          came = subst (λ k. CauseCameUp settings Sure lane v before after k (one.0).cause) machine one.2;
+          stood = subst (λ k. MayStand (seen.places v pair k)) here sees.2;
+        }
+
+none_stands : (s : Sight) → IsAbsent s → MayStand s → ⊥
+none_stands Never absent may = may
+none_stands Live absent may = absent
+none_stands WasGone absent may = may
+none_stands Unseen absent may = absent
+
+-- a photo that another replica showed than the first in the order of the line, of which it was seen that it has none
+pub photo_behind_a_replica_without_one : (Tells : Type 0) (settings : Settings) (before after : Tally) (pair : Pair) (cookie : Cookie) (v m f d j number : ℕ) (photo : List ℕ)
+    → IsBuilt settings → v < settings.volumes → replica_on settings v m ≡ Some j → j ≢ start_at settings number → IsAbsent ((before.seen).places v pair (start_at settings number))
+    → Says Tells settings before after (asks.Read pair cookie) number (Photo v m f d photo) → ⊥
+photo_behind_a_replica_without_one Tells settings before after pair cookie v m f d j number photo built volume on other none says =
+    read (passes_so Tells settings before after (asks.Read pair cookie) number (Photo v m f d photo) says)
+    (sights_so Tells settings before after (asks.Read pair cookie) number (Photo v m f d photo) says)
+  where
+    start : ℕ
+    start = start_at settings number
+
+    read : TriesTo settings (HasSureArm before 0) 0 start v m pair before.counts after.counts after.seen
+        → LeavesSights settings (asks.Read pair cookie) (Photo v m f d photo) before.seen after.seen → ⊥
+    read tries (looked, shown) =
+        let some = built.some_replicas in
+        let passed = passes_first settings (HasSureArm before 0) 0 start v m j pair before.counts after.counts after.seen built volume
+        (mod-lt number (omega (arith, some))) on other tries in
+        none_stands ((after.seen).places v pair start) (still_absent ((before.seen).places v pair start) ((after.seen).places v pair start) none ((looked.changes).each start)) passed.stood
+
+-- so of a get that another machine than the URL's answered
+pub photo_of_a_url_behind_a_replica_without_one : (Tells : Type 0) (settings : Settings) (before after : Tally) (url : UrlParts) (m f d i j number : ℕ) (photo : List ℕ)
+    → IsBuilt settings → url.volume < settings.volumes → i < settings.replicas → replica_on settings url.volume url.machine ≡ Some i → replica_on settings url.volume m ≡ Some j → j ≢ i
+    → IsAbsent ((before.seen).places url.volume url.pair i) → Says Tells settings before after (asks.Get url) number (Photo url.volume m f d photo) → ⊥
+photo_of_a_url_behind_a_replica_without_one Tells settings before after url m f d i j number photo built volume within there on other none says =
+    get (passes_so Tells settings before after (asks.Get url) number (Photo url.volume m f d photo) says i there)
+    (sights_so Tells settings before after (asks.Get url) number (Photo url.volume m f d photo) says)
+  where
+    get : TriesTo settings (HasSureArm before 0) 0 i url.volume m url.pair before.counts after.counts after.seen
+        → LeavesSights settings (asks.Get url) (Photo url.volume m f d photo) before.seen after.seen → ⊥
+    get tries (looked, shown) =
+        let passed = passes_first settings (HasSureArm before 0) 0 i url.volume m j url.pair before.counts after.counts after.seen built volume within on other tries in
+        let was = (before.seen).places url.volume url.pair i in
+        let is = (after.seen).places url.volume url.pair i in
+        none_stands is (still_absent was is none ((looked.changes).each i)) passed.stood
+
+-- a failure of an arm that was sure
+pub unreadable_for_a_sure_arm : (Tells : Type 0) (settings : Settings) (before after : Tally) (pair : Pair) (cookie : Cookie) (v f d m n number : ℕ) (causes : List Passed)
+    → HasSureArm before 0 → Says Tells settings before after (asks.Read pair cookie) number (Unreadable v f d (record { machine = m; cause = Arm n } ∷ causes)) → ⊥
+unreadable_for_a_sure_arm Tells settings before after pair cookie v f d m n number causes sure says =
+    let passes : PassesOver settings (HasSureArm before 0) 0 v pair before.counts after.counts after.seen (order_from settings (start_at settings number)) (record { machine = m; cause = Arm n } ∷ causes) =
+    passes_so Tells settings before after (asks.Read pair cookie) number (Unreadable v f d (record { machine = m; cause = Arm n } ∷ causes)) says in
+    passes.each.0.0 sure
+
+-- a photo longer than the largest
+pub photo_longer_than_the_largest : (Tells : Type 0) (settings : Settings) (before after : Tally) (pair : Pair) (cookie : Cookie) (v m f d number : ℕ) (photo : List ℕ)
+    → MAX_PHOTO < length photo → Says Tells settings before after (asks.Read pair cookie) number (Photo v m f d photo) → ⊥
+photo_longer_than_the_largest Tells settings before after pair cookie v m f d number photo longer says =
+    read (suits_so Tells settings before after (asks.Read pair cookie) number (Photo v m f d photo) says)
+  where
+    read : Suits settings number (asks.Read pair cookie) (Photo v m f d photo) → ⊥
+    read (inl (rows, is)) = cc
+    read (inr (inl (w, below, inl (m', p, d', bytes, on, short, is)))) = let same : photo ≡ bytes = cc in omega (arith, longer, short, ap length same)
+    read (inr (inl (w, below, inr (inl (m', p, d', on, is))))) = cc
+    read (inr (inl (w, below, inr (inr (inl (m', p, d', on, is)))))) = cc
+    read (inr (inl (w, below, inr (inr (inr (p, d', causes, is)))))) = cc
+    read (inr (inr is)) = cc

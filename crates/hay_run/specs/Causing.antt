@@ -21,10 +21,11 @@ use Rattle.hay_legal.specs.Known.{NoneFalls, disk_count}
 use Rattle.hay_legal.specs.Stands.{Contents, Outside}
 use Rattle.hay_legal.specs.Statuses.{Ending, IsFront, read_contents}
 use Rattle.hay_legal.specs.Statuses.Ending.{ReadAll, OutputFault, InputFault, NoMemory, NotOpened, TooLong}
-use Rattle.hay_cluster.specs.Causes.{BlamesNoArm, Counts, EndsRuns, IsCaused, LeavesFuses, RoseIn}
+use Rattle.hay_cluster.specs.Causes.{Counts, EndsRuns, IsCaused, LeavesFuses, RoseIn}
 use Rattle.hay_cluster.specs.Draws.{drawn_in}
 use Rattle.hay_cluster.specs.Leaving.{LeavesContents}
 use Rattle.hay_cluster.specs.Outside.{AreSoundBelow, FormatsVoid, IsDamagedDisk, IsKept, IsUndamaged, KeepsContents}
+use Rattle.hay_cluster.specs.Passing.{PassesBefore}
 use Rattle.hay_cluster.specs.Seen.{Answers, OpensSeen, StoreSeen, TellsSeen, store_seen}
 use Rattle.hay_cluster.specs.Sights.{LeavesSights}
 use Rattle.hay_cluster.specs.Store.{Open, contents_in, disks_of}
@@ -84,15 +85,16 @@ abbrev pub plain_tag : ℕ → CoreTag
 plain_tag number = record { lane = 0; line = number }
 
 -- The text of another command: a reply with numbers of their types, which the command of this line may be given, which tells of a
--- failure only where the count that it prints rose, and never of an arm that is sure; by which it is known what was seen of the store in
--- memory before it and how it changed that, and which disks have what they had.
+-- disk's failure only where the count that it prints rose, and what a replica shows only where each one that is tried before it was
+-- passed over for its cause, never for an arm that was sure; by which it is known what was seen of the store in memory before it and how
+-- it changed that, and which disks have what they had.
 pub record IsReplyText (Tells : Type 0) (settings : Settings) (before after : Tally) (command : Command) (number : ℕ) (text : List ℕ) : Type 0 where
   pub plain : (pick : ℕ) → command ≢ asks.Restart pick
   pub said : Reply
   pub fits : FitsReply said
   pub suits : Suits settings number command said
-  pub caused : IsCaused settings 0 before.counts after.counts said
-  pub sure : HasSureArm before 0 → BlamesNoArm said
+  pub caused : IsCaused settings before.counts.disks after.counts.disks said
+  pub passes : PassesBefore settings (HasSureArm before 0) (plain_tag number) command before.counts after.counts after.seen said
   pub answers : Answers settings (plain_tag number) command said before.seen after.seen
   pub sights : LeavesSights settings command said before.seen after.seen
   pub ended : EndsRuns settings said before.seen after.seen before.counts.disks after.counts.disks
