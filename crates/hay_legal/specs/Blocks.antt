@@ -128,7 +128,19 @@ is_put logged = is_put_of logged.entry
 abbrev pub entry_for : Settings → Command → Option Entry
 entry_for settings (command.Put pair bytes) = Some (entry.Put pair (cookie_of settings.secret pair.key) bytes)
 entry_for settings (command.Del pair) = Some (entry.Del pair)
-entry_for settings _ = None
+entry_for settings (command.Read pair cookie) = None
+entry_for settings (command.Get url) = None
+entry_for settings (command.Url pair) = None
+entry_for settings (command.Flush v m) = None
+entry_for settings (command.Compact v m) = None
+entry_for settings (command.Begin v m) = None
+entry_for settings (command.Step v m cells) = None
+entry_for settings (command.Finish v m) = None
+entry_for settings (command.Drain m) = None
+entry_for settings (command.Undrain m) = None
+entry_for settings (command.Fuse v m calls) = None
+entry_for settings (command.FuseDir calls) = None
+entry_for settings (command.Restart pick) = None
 
 abbrev pub entry_of_item : Settings → Item → Option Entry
 entry_of_item settings (asks.Command command) = entry_for settings command
@@ -197,7 +209,20 @@ is_compacted v m item = compacts item.item
   where
     compacts_by : Command → Bool
     compacts_by (command.Compact v' m') = (v' == v) && (m' == m)
-    compacts_by _ = false
+    compacts_by (command.Put pair bytes) = false
+    compacts_by (command.Read pair cookie) = false
+    compacts_by (command.Get url) = false
+    compacts_by (command.Del pair) = false
+    compacts_by (command.Url pair) = false
+    compacts_by (command.Flush v m) = false
+    compacts_by (command.Begin v m) = false
+    compacts_by (command.Step v m cells) = false
+    compacts_by (command.Finish v m) = false
+    compacts_by (command.Drain m) = false
+    compacts_by (command.Undrain m) = false
+    compacts_by (command.Fuse v m calls) = false
+    compacts_by (command.FuseDir calls) = false
+    compacts_by (command.Restart pick) = false
 
     compacts : Item → Bool
     compacts (asks.Command command) = compacts_by command
@@ -792,7 +817,35 @@ generation_print v m item = prints item.reply
     prints (Compacted v' m' g) = cond ((v' == v) && (m' == m)) (printed g true ∷ []) []
     prints (Busy v' m' g) = cond ((v' == v) && (m' == m)) (printed (g - 1) false ∷ []) []
     prints (Worn v' m') = cond ((v' == v) && (m' == m)) (printed 65535 false ∷ []) []
-    prints _ = []
+    prints (Stored v p d c) = []
+    prints (Deleted v p d) = []
+    prints (Photo v m p d bytes) = []
+    prints (Gone v m p d) = []
+    prints (Absent v p d) = []
+    prints (WrongCookie v m p d) = []
+    prints (Unknown d) = []
+    prints (Moved v d) = []
+    prints (Url d url) = []
+    prints (Full tries) = []
+    prints (ReadOnly tries) = []
+    prints ReadOnlyDir = []
+    prints (Failed v m f) = []
+    prints (FailedDir f) = []
+    prints (Unreadable v p d causes) = []
+    prints (Damaged v m at) = []
+    prints (Flushed v m n) = []
+    prints (Begun v m g) = []
+    prints (Stepped v m n) = []
+    prints (Idle v m) = []
+    prints (Drained m) = []
+    prints (Undrained m) = []
+    prints (Fused v m n) = []
+    prints (FusedDir n) = []
+    prints Nowhere = []
+    prints (Restarted d) = []
+    prints BadLine = []
+    prints Unbuilt = []
+    prints NoMem = []
 
 abbrev pub is_failed : Reply → Bool
 is_failed reply = failed (told reply)
@@ -946,13 +999,72 @@ is_full_on v (Closed v' m) = false
 -- the refusals of a reply that may be for want of room
 abbrev pub refusals_of : Reply → List Refused
 refusals_of (Full refused) = refused
-refusals_of _ = []
+refusals_of (Stored v p d c) = []
+refusals_of (Deleted v p d) = []
+refusals_of (Photo v m p d bytes) = []
+refusals_of (Gone v m p d) = []
+refusals_of (Absent v p d) = []
+refusals_of (WrongCookie v m p d) = []
+refusals_of (Unknown d) = []
+refusals_of (Moved v d) = []
+refusals_of (Url d url) = []
+refusals_of (ReadOnly tries) = []
+refusals_of ReadOnlyDir = []
+refusals_of (Failed v m f) = []
+refusals_of (FailedDir f) = []
+refusals_of (Unreadable v p d causes) = []
+refusals_of (Damaged v m at) = []
+refusals_of (Flushed v m n) = []
+refusals_of (Begun v m g) = []
+refusals_of (Stepped v m n) = []
+refusals_of (Compacted v m g) = []
+refusals_of (Busy v m g) = []
+refusals_of (Idle v m) = []
+refusals_of (Worn v m) = []
+refusals_of (Drained m) = []
+refusals_of (Undrained m) = []
+refusals_of (Fused v m n) = []
+refusals_of (FusedDir n) = []
+refusals_of Nowhere = []
+refusals_of (Restarted d) = []
+refusals_of BadLine = []
+refusals_of Unbuilt = []
+refusals_of NoMem = []
 
 -- a reply tells of the volume what depends on its front, and does not print it: want of room, or the records of a replica
 abbrev pub tells_unprinted : ℕ → Reply → Bool
 tells_unprinted v (Full refused) = list_any (is_full_on v) refused
 tells_unprinted v (Flushed v' m n) = v' == v
-tells_unprinted v _ = false
+tells_unprinted v (Stored w p d c) = false
+tells_unprinted v (Deleted w p d) = false
+tells_unprinted v (Photo w m p d bytes) = false
+tells_unprinted v (Gone w m p d) = false
+tells_unprinted v (Absent w p d) = false
+tells_unprinted v (WrongCookie w m p d) = false
+tells_unprinted v (Unknown d) = false
+tells_unprinted v (Moved w d) = false
+tells_unprinted v (Url d url) = false
+tells_unprinted v (ReadOnly tries) = false
+tells_unprinted v ReadOnlyDir = false
+tells_unprinted v (Failed w m f) = false
+tells_unprinted v (FailedDir f) = false
+tells_unprinted v (Unreadable w p d causes) = false
+tells_unprinted v (Damaged w m at) = false
+tells_unprinted v (Begun w m g) = false
+tells_unprinted v (Stepped w m n) = false
+tells_unprinted v (Compacted w m g) = false
+tells_unprinted v (Busy w m g) = false
+tells_unprinted v (Idle w m) = false
+tells_unprinted v (Worn w m) = false
+tells_unprinted v (Drained m) = false
+tells_unprinted v (Undrained m) = false
+tells_unprinted v (Fused w m n) = false
+tells_unprinted v (FusedDir n) = false
+tells_unprinted v Nowhere = false
+tells_unprinted v (Restarted d) = false
+tells_unprinted v BadLine = false
+tells_unprinted v Unbuilt = false
+tells_unprinted v NoMem = false
 
 -- what a line tells of the fronts of the volume: the one at which it met the volume, by its number, or the one that it prints
 abbrev pub fronts_told : (ℕ → ℕ) → ℕ → LaneItem → List Printed

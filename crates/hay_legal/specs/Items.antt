@@ -46,13 +46,17 @@ abbrev pub outside : ℕ → Line → List Asked × Option OpenBlock
 outside number line.Skip = ([], None)
 outside number (line.Plain command) = (Alone number (item.Command command) ∷ [], None)
 outside number (line.Lanes lanes) = ([], Some (empty_block lanes))
-outside number _ = (Alone number item.Bad ∷ [], None)
+outside number line.Bad = (Alone number item.Bad ∷ [], None)
+outside number (line.InLane lane command) = (Alone number item.Bad ∷ [], None)
+outside number line.End = (Alone number item.Bad ∷ [], None)
 
 abbrev pub inside : ℕ → OpenBlock → Line → List Asked × Option OpenBlock
 inside number block line.Skip = ([], Some block)
 inside number block line.End = (Block block.lines ∷ [], None)
 inside number block (line.InLane lane command) = ([], Some (with_command number lane command block))
-inside number block _ = ([], Some (with_bad number block))
+inside number block line.Bad = ([], Some (with_bad number block))
+inside number block (line.Plain command) = ([], Some (with_bad number block))
+inside number block (line.Lanes lanes) = ([], Some (with_bad number block))
 
 abbrev pub added : ℕ → Option OpenBlock → Line → List Asked × Option OpenBlock
 added number None line = outside number line

@@ -5,7 +5,7 @@ use Rattle.hay_needle.specs.declared.settings.Settings.{Settings}
 use Rattle.hay_script.specs.declared.Command.TheVariants as command
 use Rattle.hay_reply.specs.declared.ClosedBy.{ClosedBy}
 use Rattle.hay_reply.specs.declared.Reply.{Reply}
-use Rattle.hay_reply.specs.declared.Reply.TheVariants.{Failed, FailedDir, NoMem, Restarted, Drained, Undrained, ReadOnly, ReadOnlyDir, Begun, Compacted, Idle}
+use Rattle.hay_reply.specs.declared.Reply.TheVariants.{Failed, FailedDir, NoMem, Restarted, Drained, Undrained, ReadOnly, ReadOnlyDir, Begun, Compacted, Idle, Stored, Deleted, Photo, Gone, Absent, WrongCookie, Unknown, Moved, Url, Full, Unreadable, Damaged, Flushed, Stepped, Busy, Worn, Fused, FusedDir, Nowhere, BadLine, Unbuilt}
 use Rattle.hay_legal.specs.declared.known.HomeRow.{HomeRow}
 use Rattle.hay_legal.specs.declared.known.Known.{Known}
 use Rattle.hay_legal.specs.declared.turn.Item.{Item}
@@ -24,7 +24,35 @@ abbrev pub IsUntroubled : Reply → Type 0
 IsUntroubled (Failed v m f) = ⊥
 IsUntroubled (FailedDir f) = ⊥
 IsUntroubled NoMem = ⊥
-IsUntroubled _ = Unit {0}
+IsUntroubled (Stored v p d c) = Unit {0}
+IsUntroubled (Deleted v p d) = Unit {0}
+IsUntroubled (Photo v m p d bytes) = Unit {0}
+IsUntroubled (Gone v m p d) = Unit {0}
+IsUntroubled (Absent v p d) = Unit {0}
+IsUntroubled (WrongCookie v m p d) = Unit {0}
+IsUntroubled (Unknown d) = Unit {0}
+IsUntroubled (Moved v d) = Unit {0}
+IsUntroubled (Url d url) = Unit {0}
+IsUntroubled (Full tries) = Unit {0}
+IsUntroubled (ReadOnly tries) = Unit {0}
+IsUntroubled ReadOnlyDir = Unit {0}
+IsUntroubled (Unreadable v p d causes) = Unit {0}
+IsUntroubled (Damaged v m at) = Unit {0}
+IsUntroubled (Flushed v m n) = Unit {0}
+IsUntroubled (Begun v m g) = Unit {0}
+IsUntroubled (Stepped v m n) = Unit {0}
+IsUntroubled (Compacted v m g) = Unit {0}
+IsUntroubled (Busy v m g) = Unit {0}
+IsUntroubled (Idle v m) = Unit {0}
+IsUntroubled (Worn v m) = Unit {0}
+IsUntroubled (Drained m) = Unit {0}
+IsUntroubled (Undrained m) = Unit {0}
+IsUntroubled (Fused v m n) = Unit {0}
+IsUntroubled (FusedDir n) = Unit {0}
+IsUntroubled Nowhere = Unit {0}
+IsUntroubled (Restarted d) = Unit {0}
+IsUntroubled BadLine = Unit {0}
+IsUntroubled Unbuilt = Unit {0}
 
 -- a plain turn or a restart that is answered so
 abbrev pub GoesWell : Turn → Type 0

@@ -13,7 +13,7 @@ use Rattle.hay_script.specs.declared.Command.TheVariants as command
 use Rattle.hay_reply.specs.declared.Note.{Note}
 use Rattle.hay_reply.specs.declared.Note.TheVariants.{Kept, Lost}
 use Rattle.hay_reply.specs.declared.Reply.{Reply}
-use Rattle.hay_reply.specs.declared.Reply.TheVariants.{Stored, Deleted, Photo, Gone, WrongCookie, Unknown, Moved, Nowhere, Failed, FailedDir, Unreadable, Damaged, Restarted, NoMem}
+use Rattle.hay_reply.specs.declared.Reply.TheVariants.{Stored, Deleted, Photo, Gone, WrongCookie, Unknown, Moved, Nowhere, Failed, FailedDir, Unreadable, Damaged, Restarted, NoMem, Absent, Url, Full, ReadOnly, ReadOnlyDir, Flushed, Begun, Stepped, Compacted, Busy, Idle, Worn, Drained, Undrained, Fused, FusedDir, BadLine, Unbuilt}
 use Rattle.hay_core.specs.declared.entry.Entry.{Entry}
 use Rattle.hay_core.specs.declared.entry.Entry.TheVariants as entry
 use Rattle.hay_core.specs.declared.entry.CoreTag.{CoreTag}
@@ -378,7 +378,34 @@ BlamesNothing (Failed v m f) = ⊥
 BlamesNothing (FailedDir f) = ⊥
 BlamesNothing (Damaged v m at) = ⊥
 BlamesNothing (Unreadable v p d causes) = ⊥
-BlamesNothing _ = Unit {0}
+BlamesNothing (Stored v p d c) = Unit {0}
+BlamesNothing (Deleted v p d) = Unit {0}
+BlamesNothing (Photo v m p d bytes) = Unit {0}
+BlamesNothing (Gone v m p d) = Unit {0}
+BlamesNothing (Absent v p d) = Unit {0}
+BlamesNothing (WrongCookie v m p d) = Unit {0}
+BlamesNothing (Unknown d) = Unit {0}
+BlamesNothing (Moved v d) = Unit {0}
+BlamesNothing (Url d url) = Unit {0}
+BlamesNothing (Full tries) = Unit {0}
+BlamesNothing (ReadOnly tries) = Unit {0}
+BlamesNothing ReadOnlyDir = Unit {0}
+BlamesNothing (Flushed v m n) = Unit {0}
+BlamesNothing (Begun v m g) = Unit {0}
+BlamesNothing (Stepped v m n) = Unit {0}
+BlamesNothing (Compacted v m g) = Unit {0}
+BlamesNothing (Busy v m g) = Unit {0}
+BlamesNothing (Idle v m) = Unit {0}
+BlamesNothing (Worn v m) = Unit {0}
+BlamesNothing (Drained m) = Unit {0}
+BlamesNothing (Undrained m) = Unit {0}
+BlamesNothing (Fused v m n) = Unit {0}
+BlamesNothing (FusedDir n) = Unit {0}
+BlamesNothing Nowhere = Unit {0}
+BlamesNothing (Restarted d) = Unit {0}
+BlamesNothing BadLine = Unit {0}
+BlamesNothing Unbuilt = Unit {0}
+BlamesNothing NoMem = Unit {0}
 
 -- Where nothing failed, no reply blames a disk or an arm.
 abbrev pub NothingIsBlamed : Type 0
