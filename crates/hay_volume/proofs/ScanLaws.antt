@@ -15,6 +15,7 @@ use Rattle.hay_needle.specs.Needle.{Head, HeadBytes, NeedleBytes, BeginsWithNeed
 use Rattle.hay_needle.proofs.FieldLemmas.{IsBytes, field_8}
 use Rattle.hay_disk.specs.Gate.{magic_bytes, IsClosed, HasBytesAt}
 use Rattle.hay_volume.specs.Cells.{HasCells, StandsCell, IsBrokenAt, IsDamagedCell, cell_head}
+use Rattle.hay_volume.specs.Needles.{AreHeadsFrom}
 use Rattle.hay_volume.proofs.ReadLaws.{cell_of}
 use Rattle.hay_volume.proofs.CellLaws.{one_more}
 
@@ -130,3 +131,8 @@ found next head P is holds = subst (λ (o : Option CellHead). IfSome o P) is hol
 
 pub same_cell : (at : ℕ) (file later : List ℕ) (cell : Cell) → later ≡ file → StandsCell at later cell → StandsCell at file cell
 same_cell at file later cell same here = subst (λ (l : List ℕ). StandsCell at l cell) same here
+
+-- one head more
+pub heads_push : (at end next : ℕ) (heads : List CellHead) (head : CellHead) → AreHeadsFrom at heads end → head.at ≡ end → next ≡ end + needle_total head.size → AreHeadsFrom at (heads ++ head ∷ []) next
+heads_push at end next [] head row place is = (place ∙ sym row, omega (arith, row, is))
+heads_push at end next (first ∷ heads) head row place is = (row.0, heads_push (at + needle_total first.size) end next heads head row.1 place is)

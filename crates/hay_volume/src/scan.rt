@@ -10,6 +10,7 @@ ghost use Rattle.hay_needle.specs.Sizes.{needle_total};
 ghost use Rattle.hay_needle.specs.declared.needle.Cell.{Cell};
 ghost use Rattle.hay_needle.specs.declared.needle.Needle.{Needle};
 ghost use Rattle.hay_volume.specs.Cells.{HasCells, IsBrokenAt, IsDamagedCell, StandsCell, cell_head};
+ghost use Rattle.hay_volume.specs.Needles.{AreHeadsFrom};
 
 use crate::fault::CellFault;
 use crate::reading::{read_rest, read_up_to};
@@ -84,6 +85,7 @@ fn next_cell<D: Disk>(
     bytes: &mut Vec<u8>,
 ) -> Result<Option<CellHead>, CellFault>
     ensures cell { D.Tells → IfOk result (λ next. IfSome next (λ head. (cell : Cell) × StandsCell at (D.files disk.old file).now cell × (head ≡ cell_head cell))) }
+    ensures place { IfOk result (λ next. IfSome next (λ head. head.at ≡ at)) }
     ensures mark { D.Tells → IfOk result (λ next. IfNone next (IsClosed needle_magic at (D.files disk.old file).now)) }
     ensures damaged { D.Tells → (k : ℕ) → result ≡ Err (CellFault.Damaged k) → (k ≡ at) × IsBrokenAt at (D.files disk.old file).now }
     ensures same { D.Tells → D.files disk.new ≡ D.files disk.old }
@@ -113,6 +115,8 @@ impl VolumeFile {
         ensures cells { D.Tells → IfOk result (λ scan. (cells : List Cell) × HasCells at (D.files disk.old self.now.file).now cells scan.1 × (scan.0.items ≡ map cell_head cells)) }
         ensures mark { D.Tells → IfOk result (λ scan. IsClosed needle_magic scan.1 (D.files disk.old self.now.file).now) }
         ensures damaged { D.Tells → (k : ℕ) → result ≡ Err (CellFault.Damaged k) → IsDamagedCell at (D.files disk.old self.now.file).now k }
+        // On any disk they stand one behind another.
+        ensures row { IfOk result (λ scan. AreHeadsFrom at scan.0.items scan.1) }
 
         ensures same { D.Tells → D.files disk.new ≡ D.files disk.old }
         // No more is read than the needles and the end mark.

@@ -1,4 +1,4 @@
-use Rattle.std.proofs.Common.{◌∙◌, ap, sym, length}
+use Rattle.std.proofs.Common.{◌∙◌, ap, length}
 use Rattle.hay_needle.specs.declared.needle.Needle.{Needle}
 use Rattle.hay_volume.proofs.reading.sized_head.Goals as goal
 

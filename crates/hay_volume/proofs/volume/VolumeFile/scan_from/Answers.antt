@@ -4,7 +4,8 @@ use Rattle.hay_needle.specs.Sizes.{needle_total}
 use Rattle.hay_needle.specs.declared.needle.Cell.{Cell}
 use Rattle.hay_volume.specs.Cells.{StandsCell, cell_head}
 use Rattle.hay_volume.proofs.ReadLaws.{same_fault}
-use Rattle.hay_volume.proofs.ScanLaws.{IsScanned, damaged_here, found, same_cell, one_scanned, cell_within}
+use Rattle.hay_volume.specs.Needles.{AreHeadsFrom}
+use Rattle.hay_volume.proofs.ScanLaws.{IsScanned, damaged_here, found, heads_push, same_cell, one_scanned, cell_within}
 use Rattle.hay_volume.proofs.volume.VolumeFile.scan_from.Goals as goal
 
 pub returns-in_err-head-clause-damaged : goal.returns-in_err-head-clause-damaged
@@ -30,6 +31,10 @@ cells-preserved g c = record {
       let next = one_scanned c.args.at c.cells.end c.in-Some-checked_add.next (g.D.Disk.files c.args.disk.now c.args.self.now.file).now c.cells.heads.items c.in-Some.head cell.0 (c.cells.invariant.scanned tells)
       (same_cell c.cells.end (g.D.Disk.files c.args.disk.now c.args.self.now.file).now (g.D.Disk.files c.cells.disk c.args.self.now.file).now cell.0 (ap (λ files. (files c.args.self.now.file).now) (c.cells.invariant.same tells)) cell.1) cell.2 (omega (arith, c.in-Some-checked_add.ensures, c.total_of.ensures)) in
       subst (λ l. IsScanned c.args.at (g.D.Disk.files c.args.disk.now c.args.self.now.file).now l c.in-Some-checked_add.next) (sym c.in_ok-push.ensures.items) next;
+  row =
+      let place = found c.in_ok-head.field-0 c.in-Some.head (λ head. head.at ≡ c.cells.end) c.in-Some.is c.in_ok-head.ensures.place in
+      subst (λ l. AreHeadsFrom c.args.at l c.in-Some-checked_add.next) (sym c.in_ok-push.ensures.items)
+      (heads_push c.args.at c.cells.end c.in-Some-checked_add.next c.cells.heads.items c.in-Some.head c.cells.invariant.row place (omega (arith, c.in-Some-checked_add.ensures, c.total_of.ensures)));
   drawn = λ tells.
       let read = found c.in_ok-head.field-0 c.in-Some.head (λ head. g.D.Disk.drawn c.next_cell.new.disk c.args.self.now.file ≤ g.D.Disk.drawn c.cells.disk c.args.self.now.file + needle_total head.size) c.in-Some.is (c.in_ok-head.ensures.drawn_cell tells) in
       omega (arith, read, c.cells.invariant.drawn tells, c.in-Some-checked_add.ensures, c.total_of.ensures);
