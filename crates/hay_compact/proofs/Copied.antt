@@ -4,7 +4,7 @@ use Rattle.std.specs.Prelude.{All, map, option_map, slice_range}
 use Rattle.std.specs.Option.{option_or, option_eq}
 use Rattle.std.proofs.lemmas.Bool.{cases_Bool, true≢false, and_from, and_parts, not-true, eq-eqb, eqb-true}
 use Rattle.std.proofs.lemmas.List.{drop_at, length-append, map-append, take_at}
-use Rattle.std.proofs.lemmas.List.Elements.{All-append, All-cons, All-nil, All-push}
+use Rattle.std.proofs.lemmas.List.Elements.{All-append, All-cons, All-nil, All-push, All-weaker}
 use Rattle.hay_needle.specs.declared.needle.Cell.{Cell}
 use Rattle.hay_needle.specs.declared.needle.Cookie.{Cookie}
 use Rattle.hay_needle.specs.declared.needle.Row.{Row}
@@ -31,7 +31,7 @@ use Rattle.hay_index.specs.Records.{IsIndex}
 use Rattle.hay_open.specs.Stored.{cell_record, index_super, last_cell, volume_super}
 use Rattle.hay_compact.specs.declared.standing.LastCell.{LastCell}
 use Rattle.hay_compact.specs.Standing.{LastCells, last_in}
-use Rattle.hay_compact.specs.Copying.{Copying, HasPeeked, HasRead, IsCopy, IsHeadOf, IsLatest, IsMaking, IsSafe, Making, MovesOn, Stage, cell_total, kept_cell, live_among, renewed, renewed_needle}
+use Rattle.hay_compact.specs.Copying.{Copying, HasPeeked, HasRead, IsCopy, IsHeadOf, IsLatest, IsMaking, IsSafe, Making, MovesOn, RowWithin, Stage, cell_total, kept_cell, live_among, renewed, renewed_needle}
 use Rattle.hay_compact.proofs.LiveNeedles.{next_among}
 use Rattle.hay_compact.proofs.CellLists.{lacks_more, lacks_parts, last_cell-append, latest_live, other_dead}
 use Rattle.hay_compact.proofs.Copyings.{current_parts, end_next, needles_next, skips, within_next}
@@ -80,7 +80,7 @@ anew_long at bytes photo anew head h seen marked =
     length-marked anew (live head.pair head.cookie photo) marked ∙ ap (λ k. needle_total k + 8) size
 
 -- nothing bounds the new file
-pub anew_fits : (s : Stage) (anew : List ℕ) (head : CellHead) → HasRead s.next s.bytes head → IsSafe s.volume s.index s.next → length anew ≡ needle_total head.size + 8 → s.volume.end + length anew ≤ s.volume.capacity
+pub anew_fits : (s : Stage) (anew : List ℕ) (head : CellHead) → HasRead s.next s.bytes head → IsSafe s.generation s.volume s.index s.next → length anew ≡ needle_total head.size + 8 → s.volume.end + length anew ≤ s.volume.capacity
 anew_fits s anew head h safe long =
     let behind = safe.behind in
     let unbounded = safe.unbounded in
@@ -99,21 +99,28 @@ pub read_fits : (at next total : ℕ) (bytes : List ℕ) (head : CellHead) → H
 read_fits at next total bytes head h same is = omega (arith, read_long at bytes head h, h.inside)
 
 -- one more cell in the new file, behind which the current one's next cell stands
-pub stays_safe : (s : Stage) (volume : VolumeFile) (index : IndexFile) (row : Record) (head : CellHead) (total : ℕ) (anew : List ℕ) → HasRead s.next s.bytes head → length anew ≡ needle_total head.size + 8 → IsSafe s.volume s.index s.next
+pub stays_safe : (s : Stage) (volume : VolumeFile) (index : IndexFile) (row : Record) (head : CellHead) (total : ℕ) (anew : List ℕ) → HasRead s.next s.bytes head → length anew ≡ needle_total head.size + 8 → IsSafe s.generation s.volume s.index s.next
     → volume ≡ record s.volume { end = s.volume.end + (length anew - 8) }
-    → index ≡ record s.index { pending = s.index.pending ++ row ∷ [] } → row.size ≡ head.size → total ≡ needle_total head.size → IsSafe volume index (s.next + total)
-stays_safe s volume index row head total anew h long safe grown noted size is =
+    → index ≡ record s.index { pending = s.index.pending ++ row ∷ [] } → row.at ≡ s.volume.end → row.size ≡ head.size → total ≡ needle_total head.size → IsSafe s.generation volume index (s.next + total)
+stays_safe s volume index row head total anew h long safe grown noted at size is =
     let Small : Record → Type 0 = λ (r : Record). r.size ≤ max_photo Two in
     let end : volume.end ≡ s.volume.end + (length anew - 8) = ap (λ (v : VolumeFile). v.end) grown in
     let from = safe.from in
     let behind = safe.behind in
     let small = read_small s.next s.bytes head h in
     record {
+      named = ap (λ (v : VolumeFile). v.file) grown ∙ safe.named;
       unbounded = ap (λ (v : VolumeFile). v.capacity) grown ∙ safe.unbounded;
       from = omega arith;
       behind = omega arith;
       thawed = ap (λ (i : IndexFile). i.frozen) noted ∙ safe.thawed;
       small = subst (λ (i : IndexFile). All Small i.pending) (sym noted) (All-append Small s.index.pending (row ∷ []) safe.small (All-cons Small row [] (omega arith) (All-nil Small)));
+      within =
+          let total_is : needle_total row.size ≡ needle_total head.size = ap needle_total size in
+          let old : All (RowWithin volume.end) s.index.pending =
+          All-weaker (RowWithin s.volume.end) (RowWithin volume.end) (λ (r : Record) lies. (lies.0, omega (arith, lies.1, end))) s.index.pending safe.within in
+          subst (λ (i : IndexFile). All (RowWithin volume.end) i.pending) (sym noted)
+          (All-append (RowWithin volume.end) s.index.pending (row ∷ []) old (All-cons (RowWithin volume.end) row [] (omega (arith, at, from), omega (arith, at, end, long, total_is)) (All-nil (RowWithin volume.end))));
     }
 
 -- A CELL IS SKIPPED

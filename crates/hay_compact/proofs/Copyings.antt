@@ -3,22 +3,24 @@ use Rattle.std.proofs.Common.{◌≡◌, ◌≢◌, ◌≤◌, ◌<◌, ◌+◌,
 use Rattle.std.specs.Prelude.{map, sum_by}
 use Rattle.std.proofs.Math.Seq.{take-add}
 use Rattle.std.proofs.lemmas.Bool.{leb-true, le-leb}
-use Rattle.std.proofs.lemmas.List.{length-drop, drop-map, take_all}
+use Rattle.std.proofs.lemmas.List.{length-drop, drop-map, take_all, take_at}
 use Rattle.std.proofs.lemmas.List.Sums.{sum_by-cons, sum_by-append}
 use Rattle.hay_needle.specs.declared.needle.Cell.{Cell}
 use Rattle.hay_needle.specs.declared.needle.CellHead.{CellHead}
+use Rattle.hay_needle.specs.declared.needle.Needle.{Needle}
 use Rattle.hay_needle.specs.declared.settings.Super.{Super}
-use Rattle.hay_needle.specs.Needle.{Head, HeadBytes, head_of_cell, head_of_needle, needle_of_cell}
+use Rattle.hay_needle.specs.Needle.{BeginsWithNeedle, Head, HeadBytes, head_of_cell, head_of_needle, needle_of_cell}
 use Rattle.hay_needle.specs.Sizes.{needle_total}
 use Rattle.hay_needle.specs.Tables.{is_live}
 use Rattle.hay_needle.proofs.CopyLaws.{copies_pass}
 use Rattle.hay_disk.specs.Disk.{Files}
 use Rattle.hay_volume.specs.declared.volume.VolumeFile.{VolumeFile}
 use Rattle.hay_volume.specs.Cells.{HasCells, StandsCell, IsCellAt, cell_head, needles_of}
+use Rattle.hay_volume.specs.Needles.{LacksNeedleWithin}
 use Rattle.hay_volume.proofs.Readings.{cells_first, cell_begins, same_cell}
 use Rattle.hay_disk.specs.Gate.{HasBytesAt}
 use Rattle.hay_needle.proofs.Needles.{head_first, one_head}
-use Rattle.hay_compact.specs.Copying.{Copying, HasPeeked, Making, MovesOn, Stage, cell_total, end_of, live_among, renewed_needle}
+use Rattle.hay_compact.specs.Copying.{Copying, HasPeeked, HeadStands, Making, MovesOn, Stage, cell_total, end_of, live_among, renewed_needle}
 use Rattle.hay_compact.proofs.LiveNeedles.{next_among}
 use Rattle.hay_compact.proofs.CellLists.{after_front, cells_end}
 
@@ -196,3 +198,30 @@ has_room next end n room most file current head h heads fits all left short =
 
 pub peeked_of : (at end room most : ℕ) (head : CellHead) → head.size ≤ 16777216 → most ≡ min (end + 8) 18446744073709551615 → room ≡ most - at → needle_total head.size + 8 ≤ room → HasPeeked end at head
 peeked_of at end room most head small all left enough = record { small = small; within = omega arith; inside = omega arith }
+
+-- NEEDLES, WHATEVER ELSE THE FILE HAS
+
+-- the cell of a needle that begins at `at`
+abbrev pub needle_cell : ℕ → Needle → Cell
+needle_cell at n = record { at = at; version = n.version; pair = n.pair; cookie = n.photo.cookie; bytes = n.photo.bytes; deleted = n.deleted }
+
+pub needle_stands : (at : ℕ) (file : List ℕ) (n : Needle) → BeginsWithNeedle (drop at file) n → StandsCell at file (needle_cell at n)
+needle_stands at file n begins = record {
+  needle = begins.needle;
+  is = record { place = refl; is = begins.is };
+  stand = ap (λ (l : List ℕ). take (length begins.needle) l) begins.parts ∙ take_at begins.needle begins.rest (length begins.needle) refl;
+}
+
+-- where a head stands it is that of the needle
+pub needle_head : (at : ℕ) (file : List ℕ) (head : CellHead) (n : Needle) → HeadStands at head file → BeginsWithNeedle (drop at file) n → head ≡ cell_head (needle_cell at n)
+needle_head at file head n stands begins = read_head at file (needle_cell at n) head (needle_stands at file n begins) stands.place stands.is
+
+pub no_needle : (at end : ℕ) (file : List ℕ) → ((head : Head) → HeadBytes (take 36 (drop at file)) head → ⊥) → LacksNeedleWithin end at file
+no_needle at end file none n begins within = none (head_of_needle n) (head_first (drop at file) n begins)
+
+-- a head whose needle goes behind the end
+pub long_needle : (at end room more : ℕ) (file : List ℕ) (head : CellHead) → HeadStands at head file → end + 8 < 2 ^ 64 → more ≡ min (end + 8) 18446744073709551615 → room ≡ more - at → room < needle_total head.size + 8
+    → LacksNeedleWithin end at file
+long_needle at end room more file head stands fits added left short n begins within =
+    let size : needle_total head.size ≡ needle_total (length n.photo.bytes) = ap (λ (h : CellHead). needle_total h.size) (needle_head at file head n stands begins) in
+    omega (arith, size, within, short, left, added, fits)

@@ -25,6 +25,7 @@ use Rattle.hay_map.specs.declared.view.OpenCell.{OpenCell}
 use Rattle.hay_map.specs.Places.{gone_place}
 use Rattle.hay_map.specs.Rows.{last_place}
 use Rattle.hay_map.specs.Sealed.{SealedNeedle}
+use Rattle.hay_open.specs.Finds.{ArePlacesWithin, PlaceWithin}
 use Rattle.hay_open.specs.Stored.{FlagsFree, IsSealedCell, PlaceOf, Stored, VolumeRests, cell_record, last_cell, volume_super}
 use Rattle.hay_compact.specs.Standing.{LastCells, place_in}
 use Rattle.hay_compact.specs.Copying.{cell_total, photo_place}
@@ -363,3 +364,8 @@ place_after_swap {P = P} Tells was last places pair before is seen known =
     stands o place.Gone none void = gone_stands o none
     stands o (place.Live needle) none void = gone_stands o none
     stands o (place.Unseen at size) none void = gone_stands o none
+
+-- one place more within the file
+pub within_push : {P : Type 0} (end : ℕ) (cells : List (OpenCell P)) (cell : OpenCell P) → ArePlacesWithin end cells → PlaceWithin end cell.place → ArePlacesWithin end (cells ++ cell ∷ [])
+within_push end [] cell all one = (one, tt)
+within_push end (first ∷ cells) cell all one = (all.0, within_push end cells cell all.1 one)

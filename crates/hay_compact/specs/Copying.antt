@@ -7,7 +7,7 @@ use Rattle.hay_needle.specs.declared.needle.Pair.{Pair}
 use Rattle.hay_needle.specs.declared.needle.Version.TheVariants.{Two}
 use Rattle.hay_needle.specs.declared.settings.Super.{Super}
 use Rattle.hay_needle.specs.Copies.{CopiesAt}
-use Rattle.hay_needle.specs.Needle.{needle_of_cell}
+use Rattle.hay_needle.specs.Needle.{HeadBytes, head_of_cell, needle_of_cell}
 use Rattle.hay_needle.specs.Sizes.{max_photo, needle_total}
 use Rattle.hay_needle.specs.Super.{super_bytes}
 use Rattle.hay_needle.specs.Tables.{flag_last, is_live, lacks}
@@ -81,6 +81,11 @@ pub record HasPeeked (end at : ℕ) (head : CellHead) : Type 0 where
   pub within : at + needle_total head.size ≤ end
   pub inside : at + needle_total head.size + 8 < 2 ^ 64
 
+-- It stands at `at` in the file.
+pub record HeadStands (at : ℕ) (head : CellHead) (file : List ℕ) : Type 0 where
+  pub place : head.at ≡ at
+  pub is : HeadBytes (take 36 (drop at file)) (head_of_cell head)
+
 -- where a compaction met damage: at the next cell, which stands behind the superblock and before `end`
 abbrev pub IsNextWithin : ℕ → ℕ → ℕ → Type 0
 IsNextWithin end next at = (at ≡ next) × (64 ≤ at) × (at < end)
@@ -104,13 +109,20 @@ pub record Stage : Type 0 where
   pub next : ℕ
   pub bytes : List ℕ
 
--- What holds on any disk: the new volume file has its superblock and ends before the place of the next cell, and nothing bounds it.
-pub record IsSafe (volume : VolumeFile) (index : IndexFile) (next : ℕ) : Type 0 where
+-- the needle of a record lies behind the superblock and ends at `end` or before
+abbrev pub RowWithin : ℕ → Record → Type 0
+RowWithin end row = (64 ≤ row.at) × (row.at + needle_total row.size ≤ end)
+
+-- What holds on any disk: the new volume file has its superblock and ends before the place of the next cell, each record that is noted
+-- is of a needle in it, and nothing bounds it.
+pub record IsSafe (generation : ℕ) (volume : VolumeFile) (index : IndexFile) (next : ℕ) : Type 0 where
+  pub named : volume.file ≡ volume_file generation
   pub unbounded : volume.capacity ≡ 18446744073709551615
   pub from : 64 ≤ volume.end
   pub behind : volume.end ≤ next
   pub thawed : index.frozen ≡ false
   pub small : All (λ (row : Record). row.size ≤ max_photo Two) index.pending
+  pub within : All (RowWithin volume.end) index.pending
 
 -- The new volume file has the cells `fresh`, each of version 2, whose records are noted and not written, and of the cells `current`
 -- of the current volume file so many are examined. No piece stands on the new files, and no pair has a cell there that has none in the

@@ -12,7 +12,8 @@ ghost use Rattle.hay_volume.specs.Cells.{IsMarked, IsVolume, StandsCell, cell_he
 ghost use Rattle.hay_volume.specs.declared.fault.CellFault.{CellFault};
 ghost use Rattle.hay_volume.specs.declared.volume.VolumeFile.{VolumeFile};
 ghost use Rattle.hay_open.specs.Stored.{index_file, volume_file};
-ghost use Rattle.hay_compact.specs.Copying.{Copies, Copying, HasPeeked, HasRead, IsCopy, IsHeadOf, IsLatest};
+ghost use Rattle.hay_volume.specs.Needles.{LacksNeedleWithin};
+ghost use Rattle.hay_compact.specs.Copying.{Copies, Copying, HasPeeked, HeadStands, HasRead, IsCopy, IsHeadOf, IsLatest};
 ghost use Rattle.hay_compact.specs.Copying.{IsMaking, IsNextWithin, KeepsOtherFiles, Making, MovesOn, Repeats, live_among, renewed_needle};
 
 use crate::standing::{LastCell, Standing};
@@ -57,7 +58,7 @@ impl Model for Compactor {
 
     ghost view = { λ c. record { generation = c.generation; capacity = c.capacity; volume = c.volume; index = c.index; standing = c.standing; next = c.next; bytes = c.bytes.items } };
 
-    ghost invariant = { λ c. IsSafe c.volume c.index c.next };
+    ghost invariant = { λ c. IsSafe c.generation c.volume c.index c.next };
 }
 
 impl Compactor {
@@ -169,6 +170,10 @@ impl Compactor {
         ensures place { (k : ℕ) → result ≡ Err (CellFault.Damaged k) → IsNextWithin old.now.end self.now.next k }
         ensures whole { D.Tells → (sup : Super) (current fresh : List Cell) (examined k : ℕ) →
             Copying sup (D.files disk.old) old.now self.now current fresh examined → result ≡ Err (CellFault.Damaged k) → ⊥ }
+        // Where the disk tells, whatever it has, the head stands there, and there is no needle where damage is.
+        ensures head { D.Tells → IfOk result (λ next. IfSome next (λ head. HeadStands self.now.next head (D.files disk.old old.now.file).now)) }
+        ensures lacks { D.Tells → old.now.end + 8 < 2 ^ 64 → (k : ℕ) → result ≡ Err (CellFault.Damaged k) →
+            LacksNeedleWithin old.now.end k (D.files disk.old old.now.file).now }
         ensures memory { result ≡ Err CellFault.NoMemory → ⊥ }
 
         ensures same { D.Tells → D.files disk.new ≡ D.files disk.old }
@@ -220,6 +225,9 @@ impl Compactor {
             drop examined current ≡ c ∷ drop (examined + 1) current →
             IsHeadOf self.old.next cell c → result ≡ Err (CellFault.Damaged k) → ⊥ }
         ensures place { (k : ℕ) → result ≡ Err (CellFault.Damaged k) → IsNextWithin old.now.end self.old.next k }
+        // Where the disk tells and the head stands there, whatever else it has, there is no needle where damage is.
+        ensures lacks { D.Tells → HeadStands self.old.next cell (D.files disk.old old.now.file).now → (k : ℕ) → result ≡ Err (CellFault.Damaged k) →
+            LacksNeedleWithin old.now.end k (D.files disk.old old.now.file).now }
         ensures stands { D.Tells → IsErrOf result CellFault.NoMemory → (sup : Super) (current fresh : List Cell) (examined : ℕ) →
             Copying sup (D.files disk.old) old.now self.old current fresh examined →
             Copying sup (D.files disk.new) old.now self.new current fresh examined }

@@ -9,9 +9,10 @@ ghost use Rattle.hay_needle.specs.declared.needle.Cell.{Cell};
 ghost use Rattle.hay_needle.specs.declared.needle.Pair.{Pair};
 ghost use Rattle.hay_needle.specs.declared.settings.Super.{Super};
 ghost use Rattle.hay_index.specs.declared.record.Record.{Record};
-ghost use Rattle.hay_open.specs.Stored.{Stored, VolumeRests, cell_record};
+ghost use Rattle.hay_open.specs.Finds.{ArePlacesWithin};
+ghost use Rattle.hay_open.specs.Stored.{Stored, VolumeRests, cell_record, volume_file};
 ghost use Rattle.hay_volume.specs.Cells.{IsVolume};
-ghost use Rattle.hay_compact.specs.Copying.{AreOfVersionTwo, IsMaking, KeepsOtherFiles, Making};
+ghost use Rattle.hay_compact.specs.Copying.{AreOfVersionTwo, IsMaking, KeepsOtherFiles, Making, RowWithin};
 ghost use Rattle.hay_compact.specs.Finishing.{ArePhotos, ArePlacesSoFar, AreThePlaces, CanSeal, IsDue, IsFinished, IsSeen};
 
 use crate::compactor::Compactor;
@@ -47,10 +48,12 @@ impl Compactor {
         ensures thawed { IfOk result (λ finished. finished.index.frozen ≡ false) }
         ensures flushed { IfOk result (λ finished. finished.index.pending ≡ []) }
         ensures capacity { IfOk result (λ finished. finished.volume.capacity ≡ self.capacity) }
-        // On any disk the new volume file is no longer than what was examined.
+        // On any disk the new volume file is that of the generation, and no longer than what was examined.
+        ensures named { IfOk result (λ finished. finished.volume.file ≡ volume_file self.generation) }
         ensures from { IfOk result (λ finished. 64 ≤ finished.volume.end) }
         ensures shorter { IfOk result (λ finished. finished.volume.end ≤ self.next) }
         ensures photos { IfOk result (λ finished. ArePhotos finished.places.items) }
+        ensures within { IfOk result (λ finished. ArePlacesWithin finished.volume.end finished.places.items) }
         // Each cell of the new volume file is of version 2.
         ensures anew { D.Tells → IfOk result (λ finished. (superblock : List ℕ) (cells : List Cell) (end : ℕ) →
             IsVolume superblock (D.files disk.new finished.volume.file).now cells end → AreOfVersionTwo cells) }
@@ -100,6 +103,7 @@ fn seal_all<D: Disk>(
     ensures seen { D.Tells → IfOk result (λ places. (sup : Super) (s : Stored) → CanSeal sup (D.files disk.old file) standing.now s → records.now ≡ map cell_record s.cells
         → (pair : Pair) → IsSeen (last_place places.items pair place.Gone)) }
     ensures photos { IfOk result (λ places. ArePhotos places.items) }
+    ensures within { (end : ℕ) → All (RowWithin end) records.now → IfOk result (λ places. ArePlacesWithin end places.items) }
     ensures rests { D.Tells → (sup : Super) (s : Stored) → VolumeRests sup (D.files disk.old file) s → records.now ≡ map cell_record s.cells → VolumeRests sup (D.files disk.new file) s }
     ensures others { D.Tells → KeepsOthers file (D.files disk.old) (D.files disk.new) }
     ensures drawn { D.Tells → (n : ℕ) → D.drawn disk.new n ≡ D.drawn disk.old n }
@@ -126,6 +130,7 @@ fn seal_next<D: Disk>(
     ensures places { D.Tells → OnOk result ((sup : Super) (s : Stored) (rest : List Cell) → CanSeal sup (D.files disk.old file) standing.now s → IsDue s row rest
         → ArePlacesSoFar D.Piece.Tells s.cells rest places.old.items → ArePlacesSoFar D.Piece.Tells s.cells (drop 1 rest) places.new.items) }
     ensures photos { ArePhotos places.old.items → ArePhotos places.new.items }
+    ensures within { (end : ℕ) → RowWithin end row → ArePlacesWithin end places.old.items → ArePlacesWithin end places.new.items }
     ensures rests { D.Tells → (sup : Super) (s : Stored) (rest : List Cell) → VolumeRests sup (D.files disk.old file) s → IsDue s row rest → VolumeRests sup (D.files disk.new file) s }
     ensures others { D.Tells → KeepsOthers file (D.files disk.old) (D.files disk.new) }
     ensures drawn { D.Tells → (n : ℕ) → D.drawn disk.new n ≡ D.drawn disk.old n }

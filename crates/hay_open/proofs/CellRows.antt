@@ -1,5 +1,5 @@
 -- Cells that stand, and their records.
-use Rattle.std.proofs.Common.{◌≡◌, ℕ, zero, suc, ◌+◌, ◌≤◌, List, [], ◌∷◌, ◌++◌, length, map, take, drop, Some, refl, sym, ap, subst, ◌∙◌, arith, length-append, length-drop, length-take}
+use Rattle.std.proofs.Common.{◌≡◌, ℕ, zero, suc, ◌+◌, ◌*◌, ◌<◌, ◌≤◌, get_or, List, [], ◌∷◌, ◌++◌, length, map, take, drop, Some, refl, sym, ap, subst, ◌∙◌, arith, length-append, length-drop, length-take}
 use Rattle.std.specs.List.{slice_get, sum_by}
 use Rattle.std.proofs.lemmas.List.Sums.{sum_by-cons}
 use Rattle.hay_needle.specs.declared.needle.Cell.{Cell}
@@ -9,6 +9,7 @@ use Rattle.hay_needle.specs.Needle.{head_of_needle, needle_of_cell}
 use Rattle.hay_needle.specs.Sizes.{needle_total}
 use Rattle.hay_needle.proofs.Needles.{head_first, length-needle}
 use Rattle.hay_volume.specs.Cells.{AreCellsAt, HasCells, StandsCell, cell_head}
+use Rattle.hay_volume.specs.Needles.{AreHeadsFrom}
 use Rattle.hay_volume.proofs.Readings.{cell_begins, cells_first}
 use Rattle.hay_index.specs.declared.record.Record.{Record}
 use Rattle.hay_index.specs.Records.{AreInRow, place_behind}
@@ -45,6 +46,22 @@ row_within at zero (first ∷ rows) r row there =
     (omega arith, omega (arith, behind_far (at + needle_total first.size) rows))
 row_within at (suc k) (first ∷ rows) r row there =
     let rest = row_within (at + needle_total first.size) k rows r row.1 there in (omega (arith, rest.0), rest.1)
+
+-- HEADS
+
+pub heads_row : (at end : ℕ) (heads : List CellHead) → AreHeadsFrom at heads end → AreInRow at (map head_record heads) × (place_behind at (map head_record heads) ≡ end)
+heads_row at end [] row = (tt, row)
+heads_row at end (head ∷ heads) row = let rest = heads_row (at + needle_total head.size) end heads row.1 in ((row.0, rest.0), rest.1)
+
+-- so many needles take as many bytes at least
+pub heads_far : (at end : ℕ) (heads : List CellHead) → AreHeadsFrom at heads end → at + length heads * 48 ≤ end
+heads_far at end [] row = omega (arith, row)
+heads_far at end (head ∷ heads) row = omega (arith, heads_far (at + needle_total head.size) end heads row.1)
+
+heads_at : (k : ℕ) (heads : List CellHead) (d : CellHead) → k < length heads → slice_get (map head_record heads) k ≡ Some (head_record (get_or heads k d))
+heads_at k [] d within = absurd (omega (arith, within))
+heads_at zero (head ∷ heads) d within = refl
+heads_at (suc k) (head ∷ heads) d within = heads_at k heads d (omega (arith, within))
 
 -- CELLS
 
@@ -120,6 +137,12 @@ pub get_behind : {A : Type 0} (n k : ℕ) (xs : List A) → slice_get (drop n xs
 get_behind zero k xs = let e : 0 + k ≡ k = omega arith in ap (λ i. slice_get xs i) (sym e)
 get_behind (suc n) k [] = refl
 get_behind (suc n) k (x ∷ xs) = let e : suc n + k ≡ suc (n + k) = omega arith in get_behind n k xs ∙ ap (λ i. slice_get (x ∷ xs) i) (sym e)
+
+-- the record of a head, behind the recorded ones
+pub head_row : (recorded k : ℕ) (rows : List Record) (slice heads : List CellHead) (d : CellHead) → drop recorded rows ≡ map head_record heads → slice ≡ heads → k < length slice
+    → slice_get rows (recorded + k) ≡ Some (head_record (get_or slice k d))
+head_row recorded k rows slice heads d behind same within =
+    sym (get_behind recorded k rows) ∙ ap (λ (l : List Record). slice_get l k) (behind ∙ ap (λ (l : List CellHead). map head_record l) (sym same)) ∙ heads_at k slice d within
 
 -- a list at the element of a number
 pub split_at : {A : Type 0} (k : ℕ) (xs : List A) (x : A) → slice_get xs k ≡ Some x → xs ≡ take k xs ++ x ∷ drop (k + 1) xs

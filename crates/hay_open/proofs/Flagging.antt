@@ -7,7 +7,7 @@ use Rattle.hay_index.specs.Records.{AreInRow, place_behind}
 use Rattle.hay_map.specs.declared.place.Place.{Place}
 use Rattle.hay_map.specs.declared.place.Place.TheVariants as place
 use Rattle.hay_map.specs.declared.view.OpenCell.{OpenCell}
-use Rattle.hay_open.specs.Finds.{AddsAt, AreOfRows, IsOfRow, MayFlagPlace, StandsAt, unseen_cell}
+use Rattle.hay_open.specs.Finds.{AddsAt, AreOfRows, ArePlacesWithin, IsOfRow, MayFlagPlace, PlaceWithin, StandsAt, unseen_cell}
 use Rattle.hay_open.specs.Listing.{RowFlagsFree}
 use Rattle.hay_open.proofs.CellRows.{row_within}
 
@@ -62,3 +62,16 @@ module _ {P : Type 0} where
       → AllByRecursion (λ cell. MayFlagPlace file end cell.place) cells
   flag_each rows file end [] row ends free all = tt
   flag_each rows file end (cell ∷ cells) row ends free all = (flag_place rows file end cell.place row ends free all.0, flag_each rows file end cells row ends free all.1)
+
+  place_within : (rows : List Record) (end : ℕ) (p : Place P) → AreInRow 64 rows → place_behind 64 rows ≤ end → IsOfRow rows p → PlaceWithin end p
+  place_within rows end (place.Live needle) row ends (i, r, there, here) =
+      let within = row_within 64 i rows r row there in (omega (arith, within.0, here), omega (arith, within.1, ends, here))
+  place_within rows end place.None row ends is = tt
+  place_within rows end place.Gone row ends is = tt
+  place_within rows end (place.Unseen at size) row ends (i, r, there, here, long) =
+      let within = row_within 64 i rows r row there in rw (here, long) (within.0, omega (arith, within.1, ends))
+
+  -- each needle lies before the end
+  pub within_each : (rows : List Record) (end : ℕ) (cells : List (OpenCell P)) → AreInRow 64 rows → place_behind 64 rows ≤ end → AreOfRows rows cells → ArePlacesWithin end cells
+  within_each rows end [] row ends all = tt
+  within_each rows end (cell ∷ cells) row ends all = (place_within rows end cell.place row ends all.0, within_each rows end cells row ends all.1)

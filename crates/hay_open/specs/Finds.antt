@@ -100,6 +100,16 @@ MayFlagPlace file end place.Gone = Unit {0}
 MayFlagPlace file end place.None = Unit {0}
 MayFlagPlace file end (place.Unseen at size) = (at + needle_total size ≤ end) × (file.sealed (at + 28) ≡ false)
 
+-- A needle that a place has lies behind the superblock, and ends at `end` or before.
+abbrev pub PlaceWithin : {P : Type 0} → ℕ → Place P → Type 0
+PlaceWithin end (place.Live needle) = (64 ≤ needle.at) × (needle.at + needle_total 0 ≤ end)
+PlaceWithin end place.Gone = Unit {0}
+PlaceWithin end place.None = Unit {0}
+PlaceWithin end (place.Unseen at size) = (64 ≤ at) × (at + needle_total size ≤ end)
+
+abbrev pub ArePlacesWithin : {P : Type 0} → ℕ → List (OpenCell P) → Type 0
+ArePlacesWithin end cells = AllByRecursion (λ cell. PlaceWithin end cell.place) cells
+
 -- Each needle that was found lies before the end of the cells, and may be flagged.
 abbrev pub MayFlagEach : {P : Type 0} → Files → Opened P → Type 0
 MayFlagEach files opened = AllByRecursion (λ cell. MayFlagPlace (files opened.volume.file) opened.volume.end cell.place) opened.cells.items

@@ -38,6 +38,12 @@ pub record ListsCells (volume : List ℕ) (listing : Listing) (cells : List Cell
   pub rows : listing.rows.items ≡ map cell_record cells
   pub heads : listing.orphans.items ≡ map cell_head (drop listing.recorded cells)
 
+-- On any disk the rows are in the row of places, up to the end of the cells, and those behind the recorded ones are of the heads.
+pub record LiesInRow (listing : Listing) : Type 0 where
+  pub row : AreInRow 64 listing.rows.items
+  pub ends : place_behind 64 listing.rows.items ≡ listing.end
+  pub behind : drop listing.recorded listing.rows.items ≡ map head_record listing.orphans.items
+
 -- The rows of the listing are in the row of places, and those behind the recorded ones are of cells that stand there.
 pub record HoldsRows (volume : List ℕ) (listing : Listing) : Type 0 where
   pub row : AreInRow 64 listing.rows.items

@@ -1,12 +1,14 @@
 //! Formatting a void disk.
 
-ghost use Rattle.std.specs.Prelude.{◌≡◌, ◌≤◌, ◌<◌, ℕ, List, [], false, IfOk, OnOk, Err, IsErrOf};
+ghost use Rattle.std.specs.Prelude.{◌≡◌, ◌≤◌, ◌<◌, ℕ, List, [], false, IfOk, OnOk, Err, IsErrOf, ◌+◌, ◌*◌, length};
 ghost use Rattle.hay_needle.specs.declared.settings.Super.{Super};
 ghost use Rattle.hay_disk.specs.Counts.{IsCounted};
 ghost use Rattle.hay_disk.specs.Disk.{IsFree, IsSolid, MayLeave};
+ghost use Rattle.hay_needle.specs.Sizes.{needle_total};
 ghost use Rattle.hay_open.specs.Damage.{IsReadingDamage};
-ghost use Rattle.hay_open.specs.Finds.{OpenedAs};
+ghost use Rattle.hay_open.specs.Finds.{ArePlacesWithin, OpenedAs};
 ghost use Rattle.hay_open.specs.Stored.{IsVoid, OpensAs, Stored, fresh_stored};
+ghost use Rattle.hay_open.specs.Stored as stored;
 
 use crate::fault::Refusal;
 use crate::files::{HEAD_FILE, head_super, index_file, index_super, volume_file, volume_super};
@@ -32,7 +34,9 @@ pub(crate) fn format_disk<D: Disk>(
     ensures open { IfOk result (λ opened. opened.index.frozen ≡ false) }
     ensures capacity { IfOk result (λ opened. opened.volume.capacity ≡ sup.now.settings.capacity) }
     ensures most { IfOk result (λ opened. opened.head.generation ≤ 65535) }
-    ensures from { IfOk result (λ opened. 64 ≤ opened.volume.end) }
+    ensures number { IfOk result (λ opened. opened.volume.file ≡ stored.volume_file opened.head.generation) }
+    ensures from { IfOk result (λ opened. 64 + length opened.index.pending * needle_total 0 ≤ opened.volume.end) }
+    ensures within { IfOk result (λ opened. ArePlacesWithin opened.volume.end opened.cells.items) }
     ensures solid { D.Tells → OnOk result ((n : ℕ) → IsSolid (D.files disk.new n)) }
     ensures others { D.Tells → (n : ℕ) → 2 < n → D.files disk.new n ≡ D.files disk.old n }
     ensures void { D.Tells → IsErrOf result Refusal.NoMemory → D.files disk.new 0 ≡ D.files disk.old 0 }

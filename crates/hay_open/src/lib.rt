@@ -9,16 +9,18 @@
 //! file; the index; the head of the last recorded needle; the cells behind that needle.
 #![tactic(auto)]
 
-ghost use Rattle.std.specs.Prelude.{◌≡◌, ◌⊎◌, ◌≤◌, ◌<◌, ◌+◌, ℕ, List, false, Err, IfOk, IfErr, OnOk, OnErr, IsErrOf};
+ghost use Rattle.std.specs.Prelude.{◌≡◌, ◌⊎◌, ◌≤◌, ◌<◌, ◌+◌, ℕ, List, false, Err, IfOk, IfErr, OnOk, OnErr, IsErrOf, ◌*◌, length};
 ghost use Rattle.hay_needle.specs.declared.settings.Super.{Super};
 ghost use Rattle.hay_needle.specs.declared.needle.Pair.{Pair};
 ghost use Rattle.hay_disk.specs.Counts.{Rose};
 ghost use Rattle.hay_disk.specs.Disk.{IsFree, IsSolid, MayLeave};
 ghost use Rattle.hay_map.specs.declared.place.Place.TheVariants as place;
 ghost use Rattle.hay_map.specs.Rows.{last_place};
+ghost use Rattle.hay_needle.specs.Sizes.{needle_total};
 ghost use Rattle.hay_open.specs.Damage.{IsOpeningDamage};
-ghost use Rattle.hay_open.specs.Finds.{IsReady, MayFlagEach, OpenedAs, ReadsWhole, drawn_most};
+ghost use Rattle.hay_open.specs.Finds.{ArePlacesWithin, IsReady, MayFlagEach, OpenedAs, ReadsWhole, drawn_most};
 ghost use Rattle.hay_open.specs.Stored.{Stored, IsVoid, OpensAs, PlaceOf, fresh_stored, last_cell};
+ghost use Rattle.hay_open.specs.Stored as stored;
 
 mod fault;
 mod files;
@@ -73,7 +75,10 @@ pub fn open_replica<D: Disk>(
     ensures open { IfOk result (λ opened. opened.index.frozen ≡ false) }
     ensures capacity { IfOk result (λ opened. opened.volume.capacity ≡ sup.now.settings.capacity) }
     ensures most { IfOk result (λ opened. opened.head.generation ≤ 65535) }
-    ensures from { IfOk result (λ opened. 64 ≤ opened.volume.end) }
+    // The cells that have no record stand there, and so does each needle that a place has.
+    ensures number { IfOk result (λ opened. opened.volume.file ≡ stored.volume_file opened.head.generation) }
+    ensures from { IfOk result (λ opened. 64 + length opened.index.pending * needle_total 0 ≤ opened.volume.end) }
+    ensures within { IfOk result (λ opened. ArePlacesWithin opened.volume.end opened.cells.items) }
     ensures solid { D.Tells → OnOk result ((n : ℕ) → IsSolid (D.files disk.new n)) }
 
     // A disk that is not void keeps its bytes, and all of it stays on the disk. Of one that is void only the files 0, 1 and 2

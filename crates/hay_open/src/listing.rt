@@ -1,11 +1,12 @@
 //! Reading what the files of a replica list: the generation, the records of its index, and the cells that have no record.
 
-ghost use Rattle.std.specs.Prelude.{◌≡◌, ◌⊎◌, ◌≤◌, ◌+◌, ◌++◌, ℕ, [], false, List, length, map, take, slice_get, Some, Err, OnOk, IfOk, IfErr, IsErrOf};
+ghost use Rattle.std.specs.Prelude.{◌≡◌, ◌⊎◌, ◌≤◌, ◌+◌, ◌++◌, ℕ, [], false, List, length, map, take, slice_get, Some, Err, OnOk, IfOk, IfErr, IsErrOf, ◌*◌, ◌<◌, ◌^◌, ◌-◌};
 ghost use Rattle.hay_disk.specs.Counts.{IsCounted};
 ghost use Rattle.hay_disk.specs.Disk.{KeepsOthers};
 ghost use Rattle.hay_disk.specs.Gate.{IsClosed};
 ghost use Rattle.hay_needle.specs.Needle.{needle_magic};
 ghost use Rattle.hay_needle.specs.declared.needle.Cell.{Cell};
+ghost use Rattle.hay_needle.specs.Sizes.{needle_total};
 ghost use Rattle.hay_needle.specs.Super.{super_bytes};
 ghost use Rattle.hay_head.specs.Head.{IsDamagedHead, IsHead};
 ghost use Rattle.hay_head.specs.Rows.{IsSuperFaultAt};
@@ -14,10 +15,11 @@ ghost use Rattle.hay_index.specs.Records.{AreInRow, IsIndex};
 ghost use Rattle.hay_index.specs.Records as index_specs;
 ghost use Rattle.hay_volume.specs.Cells.{HasCells, cell_head};
 ghost use Rattle.hay_volume.specs.Cells as volume_specs;
+ghost use Rattle.hay_volume.specs.Needles.{AreHeadsFrom};
 ghost use Rattle.hay_open.specs.Damage.{FitsNeedle, HasOrphans, IsDamagedFront, IsDamagedRest, IsMisfit, IsRecorded, LastFits};
 ghost use Rattle.hay_open.specs.Damage as damage;
 ghost use Rattle.hay_open.specs.Finds.{drawn_most};
-ghost use Rattle.hay_open.specs.Listing.{IsListing, IsMisfitIn, ListsCells, head_record};
+ghost use Rattle.hay_open.specs.Listing.{IsListing, IsMisfitIn, LiesInRow, ListsCells, head_record};
 ghost use Rattle.hay_open.specs.Stored.{Stored, IsStored};
 ghost use Rattle.hay_open.specs.Stored as stored;
 
@@ -217,7 +219,8 @@ fn scan<D: Disk>(
 ) -> Result<(Vec<CellHead>, u64), Refusal>
     ensures cells { D.Tells → IfOk result (λ scan. (cells : List Cell) × HasCells at (D.files disk.old file).now cells scan.1 × (scan.0.items ≡ map cell_head cells)) }
     ensures mark { D.Tells → IfOk result (λ scan. IsClosed needle_magic scan.1 (D.files disk.old file).now) }
-    ensures behind { IfOk result (λ scan. at ≤ scan.1) }
+    ensures row { IfOk result (λ scan. AreHeadsFrom at scan.0.items scan.1) }
+    ensures start { OnOk result (at < 2 ^ 64 - 1) }
     ensures damaged { D.Tells → (number k : ℕ) → result ≡ Err (Refusal.Damaged number k) → (number ≡ file) × volume_specs.IsDamagedCell at (D.files disk.old file).now k }
     ensures same { D.Tells → D.files disk.new ≡ D.files disk.old }
     ensures drawn { D.Tells → IfOk result (λ scan. D.drawn disk.new file + at ≤ D.drawn disk.old file + scan.1 + 8) }
@@ -227,8 +230,8 @@ fn scan<D: Disk>(
     let from = VolumeFile::adopt(file, at, at);
     match from.scan_from(alloc, disk, at) {
         Ok((cells, end)) => {
-            if end < at {
-                // No disk that tells what it holds has cells that end before they begin.
+            if at == u64::MAX {
+                // No disk that tells what it holds has a file that goes on there.
                 return Err(Refusal::Damaged { file, at });
             }
             Ok((cells, end))
@@ -271,7 +274,9 @@ pub(crate) fn read_listing<D: Disk>(
     ensures open { IfOk result (λ listing. listing.index.frozen ≡ false) }
     ensures within { IfOk result (λ listing. listing.recorded ≤ length listing.rows.items) }
     ensures most { IfOk result (λ listing. listing.head.generation ≤ 65535) }
-    ensures from { IfOk result (λ listing. 64 ≤ listing.end) }
+    ensures number { IfOk result (λ listing. listing.volume ≡ stored.volume_file listing.head.generation) }
+    ensures row { IfOk result LiesInRow }
+    ensures from { IfOk result (λ listing. 64 + length listing.index.pending * needle_total 0 ≤ listing.end) }
     ensures damaged { D.Tells → (file at : ℕ) → result ≡ Err (Refusal.Damaged file at) →
         IsDamagedFront sup.now (λ n. (D.files disk.old n).now) file at
         ⊎ ((generation : ℕ) × (records : List Record) × (end : ℕ) × IsRecorded sup.now (λ n. (D.files disk.old n).now) generation records end

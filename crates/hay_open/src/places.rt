@@ -16,7 +16,7 @@ ghost use Rattle.hay_map.specs.declared.place.Place.{Place};
 ghost use Rattle.hay_map.specs.declared.place.Place.TheVariants as place;
 ghost use Rattle.hay_map.specs.Rows.{last_place};
 ghost use Rattle.hay_open.specs.Finds.{AddsAt, AreCellsOf, AreOfRows, IsOrphanOf, StandsAt, unseen_cell};
-ghost use Rattle.hay_open.specs.Listing.{ArePlaced, GivesPieces, HoldsRows, ListsCells};
+ghost use Rattle.hay_open.specs.Listing.{ArePlaced, GivesPieces, HoldsRows, ListsCells, head_record};
 ghost use Rattle.hay_open.specs.Stored.{PlaceOf, cell_record, last_cell};
 
 use crate::fault::Refusal;
@@ -112,6 +112,7 @@ fn open_orphans<D: Disk>(
     listing: &Listing,
     cells: &mut Vec<OpenCell<D::Piece>>,
 ) -> Result<(), Refusal>
+    requires behind { drop listing.now.recorded listing.now.rows.items ≡ map head_record listing.now.orphans.items }
     requires row { D.Tells → AreInRow 64 listing.now.rows.items }
     requires orphans { D.Tells → (from : ℕ) × (orphans : List Cell) × HasCells from (D.files disk.old listing.now.volume).now orphans (place_behind 64 listing.now.rows.items)
         × (listing.now.orphans.items ≡ map cell_head orphans) × (drop listing.now.recorded listing.now.rows.items ≡ map cell_record orphans) }
@@ -121,7 +122,7 @@ fn open_orphans<D: Disk>(
         OnOk result ((pair : Pair) → PlaceOf D.Piece.Tells (last_cell whole pair) (last_place cells.new.items pair place.None)) }
     ensures seen { D.Tells → (orphans : List Cell) (from end : ℕ) → HasCells from (D.files disk.old listing.now.volume).now orphans end → listing.now.orphans.items ≡ map cell_head orphans →
         OnOk result ((seen : List (OpenCell D.Piece)) × (cells.new.items ≡ cells.old.items ++ seen) × AllZip (IsOrphanOf D.Piece.Tells) orphans seen) }
-    ensures rows { D.Tells → OnOk result (AreOfRows listing.now.rows.items cells.old.items → AreOfRows listing.now.rows.items cells.new.items) }
+    ensures rows { OnOk result (AreOfRows listing.now.rows.items cells.old.items → AreOfRows listing.now.rows.items cells.new.items) }
     ensures pieces { D.Tells → GivesPieces listing.now.volume listing.now.rows.items (place_behind 64 listing.now.rows.items) (D.files disk.old) (D.files disk.new) }
     ensures undamaged { D.Tells → (number at : ℕ) → result ≡ Err (Refusal.Damaged number at) → ⊥ }
     ensures drawn { D.Tells → (n : ℕ) → D.drawn disk.new n ≡ D.drawn disk.old n }
@@ -141,13 +142,14 @@ pub(crate) fn open_cells<D: Disk>(
     listing: &Listing,
 ) -> Result<Vec<OpenCell<D::Piece>>, Refusal>
     requires within { listing.now.recorded ≤ length listing.now.rows.items }
+    requires behind { drop listing.now.recorded listing.now.rows.items ≡ map head_record listing.now.orphans.items }
     requires holds { D.Tells → HoldsRows (D.files disk.old listing.now.volume).now listing.now }
     requires solid { D.Tells → IsSolid (D.files disk.old listing.now.volume) }
     ensures places { D.Tells → (whole : List Cell) → ListsCells (D.files disk.old listing.now.volume).now listing.now whole →
         IfOk result (λ cells. (pair : Pair) → PlaceOf D.Piece.Tells (last_cell whole pair) (last_place cells.items pair place.None)) }
     ensures seen { D.Tells → (orphans : List Cell) (from end : ℕ) → HasCells from (D.files disk.old listing.now.volume).now orphans end → listing.now.orphans.items ≡ map cell_head orphans →
         IfOk result (λ cells. AreCellsOf D.Piece.Tells (take listing.now.recorded listing.now.rows.items) orphans cells.items) }
-    ensures rows { D.Tells → IfOk result (λ cells. AreOfRows listing.now.rows.items cells.items) }
+    ensures rows { IfOk result (λ cells. AreOfRows listing.now.rows.items cells.items) }
     ensures pieces { D.Tells → GivesPieces listing.now.volume listing.now.rows.items (place_behind 64 listing.now.rows.items) (D.files disk.old) (D.files disk.new) }
     ensures undamaged { D.Tells → (number at : ℕ) → result ≡ Err (Refusal.Damaged number at) → ⊥ }
     ensures drawn { D.Tells → (n : ℕ) → D.drawn disk.new n ≡ D.drawn disk.old n }

@@ -1,14 +1,16 @@
 //! Opening a disk that is not void.
 
-ghost use Rattle.std.specs.Prelude.{◌≡◌, ◌⊎◌, ◌≤◌, ◌+◌, ℕ, false, Err, IfOk, OnOk, IsErrOf};
+ghost use Rattle.std.specs.Prelude.{◌≡◌, ◌⊎◌, ◌≤◌, ◌+◌, ℕ, false, Err, IfOk, OnOk, IsErrOf, ◌*◌, length};
 ghost use Rattle.hay_needle.specs.declared.needle.Pair.{Pair};
 ghost use Rattle.hay_disk.specs.Counts.{IsCounted};
 ghost use Rattle.hay_disk.specs.Disk.{IsFree, IsSolid};
 ghost use Rattle.hay_map.specs.declared.place.Place.TheVariants as place;
 ghost use Rattle.hay_map.specs.Rows.{last_place};
+ghost use Rattle.hay_needle.specs.Sizes.{needle_total};
 ghost use Rattle.hay_open.specs.Damage.{IsDamagedFront, IsReadingDamage};
-ghost use Rattle.hay_open.specs.Finds.{IsReady, MayFlagEach, OpenedAs, ReadsWhole, drawn_most};
+ghost use Rattle.hay_open.specs.Finds.{ArePlacesWithin, IsReady, MayFlagEach, OpenedAs, ReadsWhole, drawn_most};
 ghost use Rattle.hay_open.specs.Stored.{Stored, IsStored, PlaceOf, last_cell};
+ghost use Rattle.hay_open.specs.Stored as stored;
 
 use crate::fault::Refusal;
 use crate::listing::{Listing, read_listing};
@@ -38,7 +40,9 @@ pub(crate) fn read_disk<D: Disk>(
     ensures open { IfOk result (λ opened. opened.index.frozen ≡ false) }
     ensures capacity { IfOk result (λ opened. opened.volume.capacity ≡ sup.now.settings.capacity) }
     ensures most { IfOk result (λ opened. opened.head.generation ≤ 65535) }
-    ensures from { IfOk result (λ opened. 64 ≤ opened.volume.end) }
+    ensures number { IfOk result (λ opened. opened.volume.file ≡ stored.volume_file opened.head.generation) }
+    ensures from { IfOk result (λ opened. 64 + length opened.index.pending * needle_total 0 ≤ opened.volume.end) }
+    ensures within { IfOk result (λ opened. ArePlacesWithin opened.volume.end opened.cells.items) }
     ensures kept { D.Tells → (n : ℕ) → (D.files disk.new n).now ≡ (D.files disk.old n).now }
     ensures solid { D.Tells → (n : ℕ) → IsSolid (D.files disk.new n) }
     ensures damaged { D.Tells → (file at : ℕ) → result ≡ Err (Refusal.Damaged file at) → IsReadingDamage sup.now (λ n. (D.files disk.old n).now) file at }

@@ -1,7 +1,8 @@
-use Rattle.std.proofs.Common.{◌≡◌, ◌∙◌, List, length, drop, refl, ap, arith, subst, Err}
+use Rattle.std.proofs.Common.{◌≡◌, ◌∙◌, List, length, drop, refl, ap, arith, subst, sym, Err}
 use Rattle.std.proofs.lemmas.Result.{err_from_is_err_and}
 use Rattle.hay_needle.specs.declared.needle.Cell.{Cell}
 use Rattle.hay_disk.specs.declared.disk.DiskFault.{DiskFault}
+use Rattle.hay_open.specs.Finds.{ArePlacesWithin}
 use Rattle.hay_compact.specs.Finishing.{ArePlacesSoFar}
 use Rattle.hay_compact.proofs.Sealings.{all_places, all_seen, can_seal_still, due_at, no_places, one_less, rose_later, seen_all}
 use Rattle.hay_compact.proofs.finish.seal_all.Goals as goal
@@ -13,6 +14,7 @@ loop-row-init g c = record {
   others = λ tells other apart. refl;
   drawn = λ tells n. refl;
   faults = omega arith;
+  within = λ end rows. subst (λ cells. ArePlacesWithin end cells) (sym c.new-places.ensures.items) tt;
   photos = λ k d h. absurd (omega (arith, h, ap (λ l. length l) c.new-places.ensures.items));
   fuses = refl;
 }
@@ -54,6 +56,7 @@ loop-row-preserved g c = record {
   drawn = λ tells n. c.seal_next.ensures.drawn tells n ∙ c.loop-row.invariant.drawn tells n;
   faults = omega (arith, c.seal_next.ensures.counted.later, c.loop-row.invariant.faults);
   photos = c.seal_next.ensures.photos c.loop-row.invariant.photos;
+  within = λ end rows. c.seal_next.ensures.within end (rows c.loop-row.row-index (record { pair = record { key = 0; alt = 0 }; at = 0; size = 0 }) c.loop-row-test.true) (c.loop-row.invariant.within end rows);
   fuses = c.seal_next.ensures.fuses ∙ c.loop-row.invariant.fuses;
 }
 

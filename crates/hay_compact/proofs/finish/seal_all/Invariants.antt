@@ -1,8 +1,10 @@
 use Rattle.std.proofs.Common.{◌≡◌, ◌≤◌, ℕ, drop}
-use Rattle.std.specs.Prelude.{map}
+use Rattle.std.specs.Prelude.{All, map}
 use Rattle.hay_needle.specs.declared.settings.Super.{Super}
 use Rattle.hay_disk.specs.Disk.{KeepsOthers}
 use Rattle.hay_open.specs.Stored.{Stored, VolumeRests, cell_record}
+use Rattle.hay_open.specs.Finds.{ArePlacesWithin}
+use Rattle.hay_compact.specs.Copying.{RowWithin}
 use Rattle.hay_compact.specs.Finishing.{ArePhotos, ArePlacesSoFar, CanSeal}
 use Rattle.hay_compact.proofs.finish.seal_all.Given as goal
 
@@ -15,5 +17,6 @@ invariant-loop-row g l = record {
   drawn : g.D.Disk.Tells → (n : ℕ) → g.D.Disk.drawn l.disk n ≡ g.D.Disk.drawn l.fn.disk n;
   faults : g.D.Disk.fault_count l.fn.disk ≤ g.D.Disk.fault_count l.disk;
   photos : ArePhotos l.places.items;
+  within : (end : ℕ) → All (RowWithin end) l.records → ArePlacesWithin end l.places.items;
   fuses : g.D.Disk.fuse_count l.disk ≡ g.D.Disk.fuse_count l.fn.disk;
 }

@@ -2,9 +2,10 @@ use Rattle.std.proofs.Common.{◌∙◌, List, ap, arith, refl, subst, sym}
 use Rattle.std.proofs.lemmas.List.Elements.{All-push}
 use Rattle.hay_map.specs.Sealed.{SealedNeedle}
 use Rattle.hay_map.specs.declared.view.OpenCell.{OpenCell}
+use Rattle.hay_open.specs.Finds.{ArePlacesWithin}
 use Rattle.hay_compact.specs.Finishing.{ArePhotos, IsLive}
 use Rattle.hay_compact.proofs.Copied.{is_next, not_next}
-use Rattle.hay_compact.proofs.Sealings.{places_pass, places_sealed, rests_sealed, due_inside}
+use Rattle.hay_compact.proofs.Sealings.{places_pass, places_sealed, rests_sealed, due_inside, within_push}
 use Rattle.hay_compact.proofs.finish.seal_next.Goals as goal
 
 pub returns-then-ne-clause-places : goal.returns-then-ne-clause-places
@@ -40,3 +41,11 @@ pub returns-clause-photos : goal.returns-clause-photos
 returns-clause-photos g c = λ all.
     subst (λ (cells : List (OpenCell _)). ArePhotos cells) (sym c.in_ok-push.ensures.items)
     (All-push (λ (cell : OpenCell _). IsLive cell.place) c.args.places.now.items _ all tt)
+
+pub returns-clause-within : goal.returns-clause-within
+returns-clause-within g c = λ end lies all.
+    subst (λ (cells : List (OpenCell _)). ArePlacesWithin end cells) (sym c.in_ok-push.ensures.items)
+    (within_push end c.args.places.now.items _ all (
+      omega (arith, lies.0, ap (λ (n : SealedNeedle). n.at) c.new.ensures),
+      omega (arith, lies.1, ap (λ (n : SealedNeedle). n.at) c.new.ensures),
+    ))

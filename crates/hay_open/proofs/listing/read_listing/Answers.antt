@@ -1,4 +1,5 @@
-use Rattle.std.proofs.Common.{◌≡◌, ◌≤◌, ◌+◌, ◌++◌, ◌∙◌, List, [], length, arith, map, inl, inr, Err, Some, ap, sym, subst}
+use Rattle.std.proofs.Common.{◌≡◌, ◌≤◌, ◌+◌, ◌++◌, ◌∙◌, List, [], length, arith, map, drop, inl, inr, Err, Some, refl, ap, sym, subst}
+use Rattle.std.proofs.lemmas.List.{drop_at, length-map}
 use Rattle.std.specs.List.{slice_get, sum_by}
 use Rattle.std.proofs.lemmas.Result.{err_from_is_err_and}
 use Rattle.hay_disk.specs.Gate.{IsClosed}
@@ -7,12 +8,13 @@ use Rattle.hay_needle.specs.Sizes.{needle_total}
 use Rattle.hay_needle.specs.declared.needle.CellHead.{CellHead}
 use Rattle.hay_index.specs.declared.index.IndexFile.{IndexFile}
 use Rattle.hay_index.specs.declared.record.Record.{Record}
+use Rattle.hay_index.specs.Records.{AreInRow, place_behind}
 use Rattle.hay_volume.specs.Cells.{HasCells, IsDamagedCell}
 use Rattle.hay_open.specs.Damage.{IsRecorded, LastFits, scan_start}
 use Rattle.hay_open.specs.Finds.{drawn_most}
 use Rattle.hay_open.specs.Listing.{head_record}
 use Rattle.hay_open.specs.Stored.{cell_record, volume_file}
-use Rattle.hay_open.proofs.CellRows.{behind_sum, has_end, map_heads}
+use Rattle.hay_open.proofs.CellRows.{behind_join, behind_sum, has_end, heads_far, heads_row, map_heads, row_join}
 use Rattle.hay_open.proofs.Listings.{orphans_found, scan_whole, stored_behind, stored_fits, stored_recorded, stored_same}
 use Rattle.hay_open.proofs.Misfits.{fits_is_no_misfit, misfit_is, misfit_there}
 use Rattle.hay_open.proofs.Reading.{same_refusal, there}
@@ -146,3 +148,29 @@ returns-clause-drawn g c = λ tells.
     let last = c.in_ok-check_last.ensures.drawn tells in
     let more = c.in_ok-orphans.ensures.drawn tells in
     subst (λ (l : List Record). drawn c.scan.new.disk c.volume_file-volume.result ≤ drawn c.args.disk.now c.volume_file-volume.result + drawn_most l) (sym pending) (omega (arith, front, last, more, end))
+
+pub returns-clause-row : goal.returns-clause-row
+returns-clause-row g c =
+    let records : List Record = c.in_ok-head.field-0.records.items in
+    let heads : List CellHead = c.in_ok-orphans.orphans.items in
+    let more : List Record = map head_record heads in
+    let is : c.scan_start.result ≡ scan_start records = c.scan_start.ensures.is ∙ ap (λ (l : List Record). scan_start l) c.as_slice-2.ensures.value in
+    let start : c.scan_start.result ≡ place_behind 64 records = omega (arith, is, c.in_ok-orphans.ensures.start) in
+    let list : c.note_orphans.new.rows.items ≡ records ++ more = c.in_ok-note_orphans.ensures.rows ∙ ap (λ (l : List CellHead). records ++ map head_record l) c.as_slice-3.ensures.value in
+    let behind = heads_row c.scan_start.result c.in_ok-orphans.end heads c.in_ok-orphans.ensures.row in
+    let many : c.len-recorded.result ≡ length records = omega (arith, c.len-recorded.ensures, c.in_ok-head.field-0.records.ok.0) in
+    record {
+      row = subst (λ (l : List Record). AreInRow 64 l) (sym list) (row_join 64 records more c.in_ok-head.ensures.row (subst (λ n. AreInRow n more) start behind.0));
+      ends = ap (λ (l : List Record). place_behind 64 l) list ∙ behind_join 64 records more ∙ ap (λ n. place_behind n more) (sym start) ∙ behind.1;
+      behind = ap (λ (l : List Record). drop c.len-recorded.result l) list ∙ ap (λ n. drop n (records ++ more)) many ∙ drop_at records more (length records) refl;
+    }
+
+pub returns-clause-from : goal.returns-clause-from
+returns-clause-from g c =
+    let heads : List CellHead = c.in_ok-orphans.orphans.items in
+    let noted = c.in_ok-note_orphans.ensures.noted in
+    let none : c.in_ok-head.field-0.index.pending ≡ [] = ap (λ (i : IndexFile). i.pending) c.in_ok-head.ensures.index in
+    let pending : c.note_orphans.new.index.pending ≡ map head_record heads =
+    ap (λ (i : IndexFile). i.pending) noted ∙ ap (λ (l : List Record). l ++ map head_record c.as_slice-3.result.now) none ∙ ap (λ (l : List CellHead). map head_record l) c.as_slice-3.ensures.value in
+    let far = heads_far c.scan_start.result c.in_ok-orphans.end heads c.in_ok-orphans.ensures.row in
+    omega (arith, far, c.scan_start.ensures.from, ap (λ (l : List Record). length l) pending, length-map heads head_record)

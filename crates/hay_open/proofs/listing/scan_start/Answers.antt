@@ -1,4 +1,4 @@
-use Rattle.std.proofs.Common.{◌≡◌, ◌≤◌, ◌+◌, arith, sym}
+use Rattle.std.proofs.Common.{arith, sym}
 use Rattle.hay_index.proofs.RowLaws.{behind_last}
 use Rattle.hay_open.proofs.CellRows.{behind_sum}
 use Rattle.hay_open.proofs.listing.scan_start.Goals as goal

@@ -17,9 +17,9 @@ returns-clause-places g c = λ tells whole lists.
     c.in_ok-open_orphans.ensures.places tells whole lists (recorded_placed g.D.Piece.Piece.Tells whole c.args.listing.now.recorded rows c.add_recorded.new.cells.items lists.rows (recorded_only c.args.listing.now.recorded c.add_recorded.new.cells.items c.in_ok-cells.cells.items c.as_slice.result.now rows c.add_recorded.ensures c.in_ok-cells.ensures.items c.as_slice.ensures.value))
 
 pub returns-clause-rows : goal.returns-clause-rows
-returns-clause-rows g c = λ tells.
+returns-clause-rows g c =
     let rows = c.args.listing.now.rows.items in
-    c.in_ok-open_orphans.ensures.rows tells (rows_first rows c.args.listing.now.recorded c.add_recorded.new.cells.items (recorded_only c.args.listing.now.recorded c.add_recorded.new.cells.items c.in_ok-cells.cells.items c.as_slice.result.now rows c.add_recorded.ensures c.in_ok-cells.ensures.items c.as_slice.ensures.value))
+    c.in_ok-open_orphans.ensures.rows (rows_first rows c.args.listing.now.recorded c.add_recorded.new.cells.items (recorded_only c.args.listing.now.recorded c.add_recorded.new.cells.items c.in_ok-cells.cells.items c.as_slice.result.now rows c.add_recorded.ensures c.in_ok-cells.ensures.items c.as_slice.ensures.value))
 
 pub returns-clause-seen : goal.returns-clause-seen
 returns-clause-seen g c = λ tells orphans from end has heads.

@@ -5,7 +5,7 @@ use Rattle.hay_volume.specs.Cells.{StandsCell}
 use Rattle.hay_index.specs.Records.{place_behind}
 use Rattle.hay_open.specs.Finds.{StandsAt}
 use Rattle.hay_open.specs.Listing.{ArePlaced, head_record}
-use Rattle.hay_open.proofs.CellRows.{heads_length}
+use Rattle.hay_open.proofs.CellRows.{head_row, heads_length}
 use Rattle.hay_open.proofs.Flagging.{rows_more}
 use Rattle.hay_open.proofs.Listings.{orphan_at, orphan_there, orphan_whole}
 use Rattle.hay_open.proofs.PieceLaws.{gives_none, gives_one, gives_more}
@@ -22,7 +22,7 @@ loop-head-init g c =
       pieces = λ tells. gives_none c.args.listing.now.volume (place_behind 64 c.args.listing.now.rows.items) c.args.listing.now.rows.items (g.D.Disk.files c.args.disk.now);
       placed = λ tells whole lists before. subst (λ n. ArePlaced g.D.Piece.Piece.Tells whole n c.args.cells.now.items) end before;
       seen = λ tells orphans from end has heads. orphans_none g.D.Piece.Piece.Tells orphans c.args.cells.now.items;
-      of = λ tells before. before;
+      of = λ before. before;
       drawn = λ tells n. refl;
       faults = omega arith;
       fuses = refl;
@@ -86,13 +86,12 @@ loop-head-preserved g c = record {
       (subst (λ n. StandsAt n added.0) (ap (λ (h : CellHead). h.at) cell.is) added.2)
       (added.3 tells cell.cell (subst (λ l. StandsCell head.at l cell.cell) (sym (c.loop-head.invariant.pieces tells).now) cell.stands) cell.is)
       (c.loop-head.invariant.seen tells orphans from end has heads) added.1;
-  of = λ tells before.
+  of = λ before.
       let listing = c.args.listing.now in
-      let given = c.requires.orphans tells in
-      let file = (g.D.Disk.files c.args.disk.now listing.volume).now in
       let head = get_or c.as_slice-head-items.result.now c.loop-head.head-index none in
-      let one = orphan_there given.0 (place_behind 64 listing.rows.items) listing.recorded c.loop-head.head-index file given.1 listing.rows.items c.as_slice-head-items.result.now listing.orphans.items none given.2 given.3 given.4 c.as_slice-head-items.ensures.value c.loop-head-test.true in
-      rows_more listing.rows.items (listing.recorded + c.loop-head.head-index) (head_record head) c.loop-head.cells.items c.open_orphan.new.cells.items one.row (c.loop-head.invariant.of tells before) c.in_ok-open_orphan.ensures.at;
+      rows_more listing.rows.items (listing.recorded + c.loop-head.head-index) (head_record head) c.loop-head.cells.items c.open_orphan.new.cells.items
+      (head_row listing.recorded c.loop-head.head-index listing.rows.items c.as_slice-head-items.result.now listing.orphans.items none c.requires.behind c.as_slice-head-items.ensures.value c.loop-head-test.true)
+      (c.loop-head.invariant.of before) c.in_ok-open_orphan.ensures.at;
   drawn = λ tells n. c.open_orphan.ensures.drawn tells n ∙ c.loop-head.invariant.drawn tells n;
   faults = omega (arith, c.open_orphan.ensures.counted.later, c.loop-head.invariant.faults);
   fuses = c.open_orphan.ensures.fuses ∙ c.loop-head.invariant.fuses;

@@ -14,7 +14,7 @@ invariant-loop-head g l = record {
       → ArePlaced g.D.Piece.Piece.Tells whole (l.listing.recorded + l.head-index) l.cells.items;
   seen : g.D.Disk.Tells → (orphans : List Cell) (from end : ℕ) → HasCells from (g.D.Disk.files l.fn.disk l.listing.volume).now orphans end → l.listing.orphans.items ≡ map cell_head orphans
       → AddsOrphans g.D.Piece.Piece.Tells orphans l.head-index l.fn.cells.items l.cells.items;
-  of : g.D.Disk.Tells → AreOfRows l.listing.rows.items l.fn.cells.items → AreOfRows l.listing.rows.items l.cells.items;
+  of : AreOfRows l.listing.rows.items l.fn.cells.items → AreOfRows l.listing.rows.items l.cells.items;
   drawn : g.D.Disk.Tells → (n : ℕ) → g.D.Disk.drawn l.disk n ≡ g.D.Disk.drawn l.fn.disk n;
   faults : g.D.Disk.fault_count l.fn.disk ≤ g.D.Disk.fault_count l.disk;
   fuses : g.D.Disk.fuse_count l.disk ≡ g.D.Disk.fuse_count l.fn.disk;

@@ -1,4 +1,4 @@
-use Rattle.std.proofs.Common.{◌≡◌, ◌≤◌, ◌+◌, ◌∙◌, ℕ, List, length, map, take, drop, inl, inr, Err, ap, arith, sym, subst, length-drop}
+use Rattle.std.proofs.Common.{◌≡◌, ◌≤◌, ◌+◌, ◌*◌, ◌∙◌, ℕ, List, length, map, take, drop, inl, inr, Err, ap, arith, sym, subst, length-drop}
 use Rattle.std.proofs.lemmas.Result.{err_from_is_err_and}
 use Rattle.hay_disk.specs.Disk.{Files}
 use Rattle.hay_disk.specs.Gate.{IsGate}
@@ -11,11 +11,11 @@ use Rattle.hay_volume.specs.Cells.{HasCells}
 use Rattle.std.proofs.Math.Seq.{take-append_seam}
 use Rattle.std.specs.List.{AllByRecursion}
 use Rattle.hay_open.specs.Damage.{HasOrphans}
-use Rattle.hay_open.specs.Finds.{AreCellsOf, MayFlagPlace, drawn_most}
+use Rattle.hay_open.specs.Finds.{AreCellsOf, ArePlacesWithin, MayFlagPlace, drawn_most}
 use Rattle.hay_open.specs.Listing.{GivesPieces, HoldsRows, ListsCells}
 use Rattle.hay_open.specs.Stored.{HeadRests, cell_record, volume_file, index_file}
 use Rattle.hay_open.proofs.Opening.{listing_holds, rows_end, lists_cells, lists_stored, ready_head, ready_index, ready_volume, rests_index, rests_volume}
-use Rattle.hay_open.proofs.Flagging.{flag_each}
+use Rattle.hay_open.proofs.Flagging.{flag_each, within_each}
 use Rattle.hay_open.proofs.PieceLaws.{all_free}
 use Rattle.hay_open.proofs.Reading.{same_refusal, there}
 use Rattle.hay_open.proofs.CellRows.{heads_length}
@@ -136,7 +136,7 @@ returns-clause-flags g c = λ tells.
     let gives = subst (λ (fs : Files). GivesPieces listing.volume listing.rows.items (place_behind 64 listing.rows.items) fs (f c.open_cells.new.disk)) (c.read_listing.ensures.same tells) (c.open_cells.ensures.pieces tells) in
     let flags = gives.flags (all_free listing.rows.items (f c.args.disk.now listing.volume) (c.requires.free tells listing.volume)) in
     subst (λ (v : VolumeFile). AllByRecursion (λ cell. MayFlagPlace (f c.open_cells.new.disk v.file) v.end cell.place) c.in_ok-cells.cells.items) (sym c.adopt.ensures)
-    (flag_each listing.rows.items (f c.open_cells.new.disk listing.volume) listing.end c.in_ok-cells.cells.items holds.row (omega (arith, rows_end c.args.sup.now contents listing made)) flags (c.in_ok-cells.ensures.rows tells))
+    (flag_each listing.rows.items (f c.open_cells.new.disk listing.volume) listing.end c.in_ok-cells.cells.items holds.row (omega (arith, rows_end c.args.sup.now contents listing made)) flags c.in_ok-cells.ensures.rows)
 
 pub returns-clause-drawn : goal.returns-clause-drawn
 returns-clause-drawn g c = λ tells.
@@ -144,3 +144,13 @@ returns-clause-drawn g c = λ tells.
     let read = c.in_ok-listing.ensures.drawn tells in
     subst (λ (v : VolumeFile). g.D.Disk.drawn c.open_cells.new.disk v.file ≤ g.D.Disk.drawn c.args.disk.now v.file + drawn_most listing.index.pending) (sym c.adopt.ensures)
     (omega (arith, read, c.open_cells.ensures.drawn tells listing.volume))
+
+pub returns-clause-from : goal.returns-clause-from
+returns-clause-from g c = subst (λ (v : VolumeFile). 64 + length c.in_ok-listing.listing.index.pending * 48 ≤ v.end) (sym c.adopt.ensures) c.in_ok-listing.ensures.from
+
+pub returns-clause-within : goal.returns-clause-within
+returns-clause-within g c =
+    let listing = c.in_ok-listing.listing in
+    let lies = c.in_ok-listing.ensures.row in
+    subst (λ (v : VolumeFile). ArePlacesWithin v.end c.in_ok-cells.cells.items) (sym c.adopt.ensures)
+    (within_each listing.rows.items listing.end c.in_ok-cells.cells.items lies.row (omega (arith, lies.ends)) c.in_ok-cells.ensures.rows)

@@ -42,7 +42,7 @@ invariant_of-self-in-Ok g c =
     let seen = photo_seen c.args.cell.size c.as_slice.result.now s.bytes c.as_slice.ensures.value in
     let long = ap length c.as_slice-2.ensures.value ∙ anew_long s.next s.bytes photo c.encode_marked.new.out.items c.args.cell peeked seen c.in_ok-encode_marked.ensures in
     stays_safe s c.append_loose.new.self c.note.new.self row c.args.cell c.total_of.result c.as_slice-2.result.now peeked long c.self.invariant
-    c.in-Ok.ensures.moved c.in_ok-note.ensures.ok refl c.total_of.ensures
+    c.in-Ok.ensures.moved c.in_ok-note.ensures.ok c.end.ensures refl c.total_of.ensures
 
 pub returns-in-Ok-clause-making : goal.returns-in-Ok-clause-making
 returns-in-Ok-clause-making g c = λ tells.

@@ -1,8 +1,9 @@
-use Rattle.std.proofs.Common.{◌≡◌, ◌∙◌, ◌+◌, Some, true, Err, ap, arith, inl, inr, refl, sym, subst}
+use Rattle.std.proofs.Common.{◌≡◌, ◌∙◌, ◌+◌, ℕ, List, drop, Some, true, Err, ap, arith, inl, inr, refl, sym, subst}
 use Rattle.std.proofs.lemmas.Result.{err_from_is_err_and}
+use Rattle.hay_needle.specs.Needle.{BeginsWithNeedle}
 use Rattle.hay_volume.proofs.ReadLaws.{same_fault}
 use Rattle.hay_compact.specs.Copying.{IsLatest, MovesOn, Stage}
-use Rattle.hay_compact.proofs.Copyings.{next_stands}
+use Rattle.hay_compact.proofs.Copyings.{needle_cell, needle_head, needle_stands, next_stands}
 use Rattle.hay_compact.proofs.Copied.{copy_skips, copying_read, is_next, making_read, not_next, same_error}
 use Rattle.hay_volume.specs.declared.fault.CellFault.{CellFault}
 use Rattle.hay_compact.proofs.compactor.Compactor.copy.Goals as goal
@@ -62,3 +63,12 @@ returns-in_err-read-clause-place g c = λ k wrong.
     let next = ap (λ (s : Stage). s.next) c.self.view_is in
     let within = c.requires.peeked.within in
     (at, omega (arith, at, next, c.self.invariant.from, c.self.invariant.behind), omega (arith, at, within))
+
+pub returns-in_err-read-clause-lacks : goal.returns-in_err-read-clause-lacks
+returns-in_err-read-clause-lacks g c = λ tells head k wrong n begins within.
+    let fault = err_from_is_err_and c.from_residual.result c.from_residual.ensures.1 in
+    let was = ap (λ x. Err x) (same_fault c.from_residual.result fault.0 c.in_err-read.field-0.0 k k fault.1 fault.2 wrong refl) in
+    let at = c.in_err-read.ensures.place k was in
+    let file : List ℕ = (g.D.Disk.files c.args.disk.now c.args.old.now.file).now in
+    let here : BeginsWithNeedle (drop c.args.self.now.next file) n = subst (λ j. BeginsWithNeedle (drop j file) n) at begins in
+    c.in_err-read.ensures.whole tells k (needle_cell c.args.self.now.next n) (needle_stands c.args.self.now.next file n here) (needle_head c.args.self.now.next file c.args.cell n head here) was

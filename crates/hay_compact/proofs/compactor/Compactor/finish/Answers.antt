@@ -1,10 +1,11 @@
 use Rattle.std.proofs.Common.{◌≡◌, ◌∙◌, ap, arith, subst, sym}
+use Rattle.std.specs.Prelude.{All}
 use Rattle.hay_index.specs.declared.index.IndexFile.{IndexFile}
 use Rattle.hay_volume.specs.declared.volume.VolumeFile.{VolumeFile}
 use Rattle.hay_needle.specs.Super.{super_bytes}
 use Rattle.hay_volume.specs.Cells.{IsVolume}
 use Rattle.hay_open.specs.Stored.{VolumeRests, volume_super}
-use Rattle.hay_compact.specs.Copying.{IsMaking, Making, Stage, stored_of}
+use Rattle.hay_compact.specs.Copying.{IsMaking, Making, RowWithin, Stage, stored_of}
 use Rattle.hay_compact.specs.Finishing.{IsFinished}
 use Rattle.hay_compact.proofs.Finishes.{all_anew, files_apart, finished_of, ready_to_seal}
 use Rattle.hay_compact.proofs.compactor.Compactor.finish.Goals as goal
@@ -94,3 +95,9 @@ returns-clause-shorter g c =
 
 pub returns-clause-flushed : goal.returns-clause-flushed
 returns-clause-flushed g c = ap (λ (i : IndexFile). i.pending) c.in_ok-flush_loose.ensures.moved
+
+pub returns-clause-within : goal.returns-clause-within
+returns-clause-within g c =
+    let noted = c.as_slice-2.ensures.value ∙ c.in_ok-records.ensures.items ∙ c.as_slice.ensures in
+    let end : c.adopt.result.end ≡ c.self.inside.volume.end = ap (λ (v : VolumeFile). v.end) c.adopt.ensures ∙ c.end.ensures in
+    c.in_ok-places.ensures.within c.adopt.result.end (subst (λ n. All (RowWithin n) c.as_slice-2.result.now) (sym end) (subst (λ l. All (RowWithin c.self.inside.volume.end) l) (sym noted) c.self.invariant.within))

@@ -3,8 +3,9 @@ use Rattle.std.specs.Prelude.{IfNone, IfSome}
 use Rattle.std.proofs.lemmas.Bool.{true≢false}
 use Rattle.hay_needle.specs.Needle.{Head, HeadBytes, head_of_cell}
 use Rattle.hay_needle.specs.declared.needle.CellHead.{CellHead}
-use Rattle.hay_compact.specs.Copying.{HasPeeked, Stage}
-use Rattle.hay_compact.proofs.Copyings.{has_next, has_room, no_damage, peeked_of, read_head}
+use Rattle.hay_volume.specs.Needles.{LacksNeedleWithin}
+use Rattle.hay_compact.specs.Copying.{HasPeeked, HeadStands, Stage}
+use Rattle.hay_compact.proofs.Copyings.{has_next, has_room, long_needle, no_damage, no_needle, peeked_of, read_head}
 use Rattle.hay_compact.proofs.compactor.Compactor.peek.Goals as goal
 
 pub returns-then-ready-clause-all : goal.returns-then-ready-clause-all
@@ -77,3 +78,37 @@ returns-then-room-total_of-clause-place g c = λ k is.
     let at : c.self.inside.next ≡ k = cc in
     let left : c.args.old.now.end ≤ c.self.inside.next → ⊥ = λ end. true≢false (sym (c.ready.ensures.end.1 (omega (arith, end, next))) ∙ c.if-ready.false) in
     (sym at ∙ next, omega (arith, at, c.self.invariant.from, c.self.invariant.behind), omega (arith, at, left))
+
+pub returns-in_default-clause-lacks : goal.returns-in_default-clause-lacks
+returns-in_default-clause-lacks g c = λ tells room k is.
+    let file = (g.D.Disk.files c.args.disk.now c.args.old.now.file).now in
+    let at : c.self.inside.next ≡ k = cc in
+    let NoHead : (n : ℕ) → Option CellHead → Type 0 = λ n o. IfNone o ((head : Head) → HeadBytes (take 36 (drop c.self.inside.next (g.D.Disk.files c.args.disk.now n).now)) head → ⊥) in
+    subst (λ j. LacksNeedleWithin c.args.old.now.end j file) at
+    (no_needle c.self.inside.next c.args.old.now.end file (subst (λ n. NoHead n None) c.file.ensures (subst (NoHead c.file.result) c.in_default.is (c.in_ok-head.ensures.none tells))))
+
+pub returns-then-room-total_of-clause-lacks : goal.returns-then-room-total_of-clause-lacks
+returns-then-room-total_of-clause-lacks g c = λ tells room k is.
+    let file = (g.D.Disk.files c.args.disk.now c.args.old.now.file).now in
+    let at : c.self.inside.next ≡ k = cc in
+    let head = c.in-Some.head in
+    let stands = subst (λ (o : Option CellHead). IfSome o (λ h. HeadBytes (take 36 (drop c.self.inside.next (g.D.Disk.files c.args.disk.now c.file.result).now)) (head_of_cell h))) c.in-Some.is (c.in_ok-head.ensures.stands tells) in
+    let there : HeadStands c.self.inside.next head (g.D.Disk.files c.args.disk.now c.args.old.now.file).now = record {
+      place = subst (λ (o : Option CellHead). IfSome o (λ h. h.at ≡ c.self.inside.next)) c.in-Some.is c.in_ok-head.ensures.place;
+      is = subst (λ n. HeadBytes (take 36 (drop c.self.inside.next (g.D.Disk.files c.args.disk.now n).now)) (head_of_cell head)) c.file.ensures stands;
+    } in
+    let short = c.if-room-total_of.true in
+    let total = c.total_of.ensures in
+    subst (λ j. LacksNeedleWithin c.args.old.now.end j file) at
+    (long_needle c.self.inside.next c.args.old.now.end c.saturating_sub-room.result c.saturating_add.result file head there room
+    (omega (arith, c.saturating_add.ensures, c.end.ensures)) c.saturating_sub-room.ensures (omega arith))
+
+pub returns-clause-head : goal.returns-clause-head
+returns-clause-head g c = λ tells.
+    let head = c.in-Some.head in
+    let stands = subst (λ (o : Option CellHead). IfSome o (λ h. HeadBytes (take 36 (drop c.self.inside.next (g.D.Disk.files c.args.disk.now c.file.result).now)) (head_of_cell h))) c.in-Some.is (c.in_ok-head.ensures.stands tells) in
+    let there : HeadStands c.self.inside.next head (g.D.Disk.files c.args.disk.now c.args.old.now.file).now = record {
+      place = subst (λ (o : Option CellHead). IfSome o (λ h. h.at ≡ c.self.inside.next)) c.in-Some.is c.in_ok-head.ensures.place;
+      is = subst (λ n. HeadBytes (take 36 (drop c.self.inside.next (g.D.Disk.files c.args.disk.now n).now)) (head_of_cell head)) c.file.ensures stands;
+    } in
+    subst (λ (s : Stage). HeadStands s.next head (g.D.Disk.files c.args.disk.now c.args.old.now.file).now) c.self.view_is there
