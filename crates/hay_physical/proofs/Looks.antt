@@ -1,5 +1,5 @@
 -- What a look at a cell has seen.
-use Rattle.std.proofs.Common.{◌≡◌, ℕ, List, sym, ◌∙◌, ap, refl, subst, ◌+◌, inl, inr, arith}
+use Rattle.std.proofs.Common.{◌≡◌, ℕ, List, length, sym, ◌∙◌, ap, refl, subst, ◌+◌, inl, inr, arith}
 use Rattle.std.specs.Prelude.{Result, Ok, Err, OnOk}
 use Rattle.hay_needle.specs.declared.needle.Cell.{Cell}
 use Rattle.hay_needle.specs.declared.needle.CellHead.{CellHead}
@@ -12,7 +12,7 @@ use Rattle.hay_map.specs.declared.place.Place.{Place}
 use Rattle.hay_map.specs.declared.place.Place.TheVariants as place
 use Rattle.hay_physical.specs.declared.fault.ReplicaFault.{ReplicaFault}
 use Rattle.hay_physical.specs.Copies.{Copy}
-use Rattle.hay_physical.specs.Replicas.{IsSightOf, IsUnsealed, MayDelete, MayDeletePlace, MayFlag, MayLook}
+use Rattle.hay_physical.specs.Replicas.{IsSightOf, IsToldBy, IsUnsealed, MayDelete, MayDeletePlace, MayFlag, MayLook}
 
 -- the bytes that were read are a cell, which stands where they stand
 pub stands_there : (at : ℕ) (out file : List ℕ) (cell : Cell) → IsCellAt at out cell → HasBytesAt at out file → StandsCell at file cell
@@ -50,3 +50,10 @@ sight_deletes files r at cell (place.Live needle) there may is = subst (λ k. Ma
 sight_deletes files r at cell place.Gone there may is = tt
 sight_deletes files r at cell place.None there may is = tt
 sight_deletes files r at cell (place.Unseen other size) there may is = absurd is
+
+-- what is seen is told by the needle that stands there
+pub told_by : {P : Type 0} (size at : ℕ) (file : List ℕ) (cell : Cell) (p : Place P) → StandsCell at file cell → length cell.bytes ≡ size → IsSightOf cell p → IsToldBy size at file p
+told_by size at file cell (place.Live needle) stands long is = (record { cell = cell; stands = stands; size_is = long; deleted_is = is.0 }, is.1 ∙ stands.is.place)
+told_by size at file cell place.Gone stands long is = record { cell = cell; stands = stands; size_is = long; deleted_is = is }
+told_by size at file cell place.None stands long is = absurd is
+told_by size at file cell (place.Unseen there more) stands long is = absurd is

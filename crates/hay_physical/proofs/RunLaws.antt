@@ -129,12 +129,13 @@ settled_still old new settled head copier frozen = record {
   dropped = λ now. ap copier_goal copier ∙ settled.dropped (sym frozen ∙ now);
 }
 
-pub bounded_still : (capacity : ℕ) (old new : OpenFiles) → IsBounded capacity old → new.head ≡ old.head → new.volume.capacity ≡ old.volume.capacity → old.volume.end ≤ new.volume.end → new.copier ≡ old.copier → IsBounded capacity new
-bounded_still capacity old new bounded head volume grows copier =
+pub bounded_still : (capacity : ℕ) (old new : OpenFiles) → IsBounded capacity old → new.head ≡ old.head → new.volume.file ≡ old.volume.file → new.volume.capacity ≡ old.volume.capacity → old.volume.end ≤ new.volume.end → new.copier ≡ old.copier → IsBounded capacity new
+bounded_still capacity old new bounded head file volume grows copier =
     let most = bounded.most in
     let from = bounded.from in
     let within = bounded.within in
     record {
+      file = file ∙ bounded.file ∙ ap (λ (h : Head). volume_file h.generation) (sym head);
       volume = volume ∙ bounded.volume;
       next = λ most is. bounded.next most (ap copier_capacity (sym copier) ∙ is);
       most = omega (arith, ap (λ (h : Head). h.generation) head);
@@ -142,8 +143,9 @@ bounded_still capacity old new bounded head volume grows copier =
       within = omega (arith, ap copier_next copier);
     }
 
-pub bounded_ended : (capacity : ℕ) (new : OpenFiles) (faults : ℕ) → new.volume.capacity ≡ capacity → new.head.generation ≤ 65535 → 64 ≤ new.volume.end → new.copier ≡ Ended faults → IsBounded capacity new
-bounded_ended capacity new faults volume most from ended = record {
+pub bounded_ended : (capacity : ℕ) (new : OpenFiles) (faults : ℕ) → new.volume.file ≡ volume_file new.head.generation → new.volume.capacity ≡ capacity → new.head.generation ≤ 65535 → 64 ≤ new.volume.end → new.copier ≡ Ended faults → IsBounded capacity new
+bounded_ended capacity new faults file volume most from ended = record {
+  file = file;
   volume = volume;
   next = λ most is. absurd (let e : None ≡ Some most = sym (ap copier_capacity ended) ∙ is in cc);
   most = most;
@@ -154,11 +156,13 @@ bounded_ended capacity new faults volume most from ended = record {
 -- and nothing else changed
 pub bounded_dropped : (capacity : ℕ) (old new : OpenFiles) (faults : ℕ) → IsBounded capacity old → KeepsFiles old new → new.copier ≡ Ended faults → IsBounded capacity new
 bounded_dropped capacity old new faults bounded keeps ended =
-    bounded_ended capacity new faults (ap (λ (o : OpenFiles). o.volume.capacity) keeps ∙ bounded.volume)
+    bounded_ended capacity new faults (subst (λ (o : OpenFiles). o.volume.file ≡ volume_file o.head.generation) (sym keeps) bounded.file)
+    (ap (λ (o : OpenFiles). o.volume.capacity) keeps ∙ bounded.volume)
     (subst (λ (o : OpenFiles). o.head.generation ≤ 65535) (sym keeps) bounded.most) (subst (λ (o : OpenFiles). 64 ≤ o.volume.end) (sym keeps) bounded.from) ended
 
 pub bounded_stage : (capacity : ℕ) (old new : OpenFiles) (stage : Stage) → IsBounded capacity old → KeepsFiles old new → new.copier ≡ Standing stage → stage.capacity ≡ capacity → stage.next ≤ old.volume.end → IsBounded capacity new
 bounded_stage capacity old new stage bounded keeps stands same within = record {
+  file = subst (λ (o : OpenFiles). o.volume.file ≡ volume_file o.head.generation) (sym keeps) bounded.file;
   volume = ap (λ (o : OpenFiles). o.volume.capacity) keeps ∙ bounded.volume;
   next = λ most is. let e : Some stage.capacity ≡ Some most = sym (ap copier_capacity stands) ∙ is in let f : most ≡ stage.capacity = cc in f ∙ same;
   most = subst (λ (o : OpenFiles). o.head.generation ≤ 65535) (sym keeps) bounded.most;
@@ -175,17 +179,17 @@ bounded_next capacity old new stage later bounded keeps was is same within =
 pub examined_within : (capacity : ℕ) (opened : OpenFiles) (stage : Stage) → IsBounded capacity opened → opened.copier ≡ Standing stage → stage.next ≤ opened.volume.end
 examined_within capacity opened stage bounded is = subst (λ k. k ≤ opened.volume.end) (ap copier_next is) bounded.within
 
-pub bounded_kept : (capacity : ℕ) (old new : OpenFiles) → IsBounded capacity old → new.volume.capacity ≡ old.volume.capacity → old.volume.end ≤ new.volume.end → KeepsCopier old new → IsBounded capacity new
-bounded_kept capacity old new bounded volume grows keeps =
+pub bounded_kept : (capacity : ℕ) (old new : OpenFiles) → IsBounded capacity old → new.volume.file ≡ old.volume.file → new.volume.capacity ≡ old.volume.capacity → old.volume.end ≤ new.volume.end → KeepsCopier old new → IsBounded capacity new
+bounded_kept capacity old new bounded file volume grows keeps =
     elim (cases_Bool new.frozen) [
-      | inr going ↦ bounded_still capacity old new bounded keeps.head volume grows (keeps.same going)
+      | inr going ↦ bounded_still capacity old new bounded keeps.head file volume grows (keeps.same going)
       | inl frozen ↦ elim (cases_Bool old.frozen) [
-        | inl before ↦ bounded_still capacity old new bounded keeps.head volume grows (keeps.stays before)
+        | inl before ↦ bounded_still capacity old new bounded keeps.head file volume grows (keeps.stays before)
         | inr going ↦
             let ended = keeps.dropped going frozen in
             let most = bounded.most in
             let from = bounded.from in
-            bounded_ended capacity new ended.0 (volume ∙ bounded.volume) (omega (arith, ap (λ (h : Head). h.generation) keeps.head)) (omega arith) ended.1
+            bounded_ended capacity new ended.0 (file ∙ bounded.file ∙ ap (λ (h : Head). volume_file h.generation) (sym keeps.head)) (volume ∙ bounded.volume) (omega (arith, ap (λ (h : Head). h.generation) keeps.head)) (omega arith) ended.1
       ]
     ]
 

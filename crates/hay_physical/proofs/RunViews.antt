@@ -4,13 +4,13 @@ use Rattle.std.specs.Prelude.{option_map}
 use Rattle.std.proofs.lemmas.Bool.{cases_Bool}
 use Rattle.hay_needle.specs.declared.needle.CellHead.{CellHead}
 use Rattle.hay_needle.specs.declared.settings.Super.{Super}
-use Rattle.hay_disk.specs.Disk.{Files}
-use Rattle.hay_open.specs.Stored.{Stored}
+use Rattle.hay_disk.specs.Disk.{Files, FileState}
+use Rattle.hay_open.specs.Stored.{Stored, volume_file}
 use Rattle.hay_compact.specs.Copying.{KeepsOtherFiles}
 use Rattle.hay_physical.specs.declared.state.OpenFiles.{OpenFiles}
 use Rattle.hay_physical.specs.declared.state.Phase.{Phase}
 use Rattle.hay_physical.specs.declared.state.Phase.TheVariants.{Open}
-use Rattle.hay_physical.specs.Copies.{CanBegin, Copy, copier_goal, goal_of, phase_generation, phase_goal}
+use Rattle.hay_physical.specs.Copies.{CanBegin, Copy, copier_goal, goal_of, phase_generation, phase_goal, volume_bytes}
 use Rattle.hay_physical.specs.Replicas.{FilesReady, IsBounded, IsBoundedPhase, IsCopierReady, IsSettled, IsSettledPhase, MayDelete, MayFlag, PhaseReady, Stands}
 use Rattle.hay_physical.specs.Runs.{FilesPeek, FilesRun, HasNext, HasRun, KeepsFiles, PeekStands, Run, RunStands}
 use Rattle.hay_physical.proofs.RunLaws.{flag_beside, next_besides_volume, not_ended, run_deleted, stand_beside}
@@ -212,3 +212,16 @@ delete_run None files r sup disk between new phase opened flagged next s pair at
 delete_run None files r sup disk between new phase opened flagged next s pair at faults after view is f copier volume stand others last repeats (inr ended) keeps has = inr (ap copier_goal ended.0)
 delete_run (Some run) files r sup disk between new phase opened flagged next s pair at faults after view is f copier volume stand others last repeats ends keeps has =
     deleted_by next.copier files sup disk between new opened flagged next s pair at faults after run refl f copier volume stand others last repeats ends keeps (files_run files r sup disk phase opened s run view is has)
+
+-- the bytes of the current volume file
+pub files_bytes : {D : Type 0} (files : D → Files) (r : Copy D) (sup : Super) (disk : D) (phase : Phase) (opened : OpenFiles) (capacity : ℕ) → record { sup = sup; disk = disk; phase = phase } ≡ r → phase ≡ Open opened
+    → IsBounded capacity opened → (files disk opened.volume.file).now ≡ volume_bytes files r
+files_bytes files r sup disk phase opened capacity view is bounded =
+    ap (λ n. (files disk n).now) bounded.file ∙ ap (λ (p : Phase). (files disk (volume_file (phase_generation p))).now) (sym is) ∙ ap (λ (x : Copy _). volume_bytes files x) view
+
+-- what changed no current file has left them
+pub bytes_beside : {D : Type 0} (files : D → Files) (r : Copy D) (sup : Super) (disk new : D) (phase : Phase) (opened next : OpenFiles) → record { sup = sup; disk = disk; phase = phase } ≡ r → phase ≡ Open opened
+    → KeepsFiles opened next → files new (volume_file opened.head.generation) ≡ files disk (volume_file opened.head.generation) → volume_bytes files (record { sup = sup; disk = new; phase = Open next }) ≡ volume_bytes files r
+bytes_beside files r sup disk new phase opened next view is keeps same =
+    ap (λ (o : OpenFiles). (files new (volume_file o.head.generation)).now) keeps ∙ ap (λ (f : FileState). f.now) same
+    ∙ ap (λ (p : Phase). (files disk (volume_file (phase_generation p))).now) (sym is) ∙ ap (λ (x : Copy _). volume_bytes files x) view

@@ -2,6 +2,7 @@
 use Rattle.std.specs.Prelude.{◌≡◌, ◌<◌, ℕ, Bool, true, false, List, length, Option, Some, None, ⊤}
 use Rattle.hay_needle.specs.declared.settings.Super.{Super}
 use Rattle.hay_disk.specs.Disk.{Files}
+use Rattle.hay_open.specs.Stored.{volume_file}
 use Rattle.hay_physical.specs.declared.state.Copier.{Copier}
 use Rattle.hay_physical.specs.declared.state.Copier.TheVariants.{Ended, Standing}
 use Rattle.hay_physical.specs.declared.state.Phase.{Phase}
@@ -152,3 +153,7 @@ KeepsEnd r r' = (generation_of r' ≡ generation_of r) × (end_of r' ≡ end_of 
 -- what reads of its disk give
 abbrev pub contents_of : {D : Type 0} → (D → Files) → D → ℕ → List ℕ
 contents_of files disk n = (files disk n).now
+
+-- what reads of its current volume file give
+abbrev pub volume_bytes : {D : Type 0} → (D → Files) → Copy D → List ℕ
+volume_bytes files r = contents_of files r.disk (volume_file (generation_of r))

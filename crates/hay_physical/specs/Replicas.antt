@@ -8,6 +8,7 @@ use Rattle.hay_needle.specs.Sizes.{needle_total}
 use Rattle.hay_needle.specs.Super.{super_bytes}
 use Rattle.hay_disk.specs.Disk.{Files, FileState, IsFree, IsImage, IsOutside, IsSolid, IsSolidIn, MayLeave}
 use Rattle.hay_volume.specs.Cells.{StandsCell, live_cell, with_flag}
+use Rattle.hay_volume.specs.Needles.{HasNeedleOf}
 use Rattle.hay_index.specs.Records.{IsIndex, index_magic}
 use Rattle.hay_needle.specs.Needle.{needle_magic}
 use Rattle.hay_disk.specs.Gate.{IsGate}
@@ -94,9 +95,10 @@ abbrev pub IsSettledPhase : Phase → Type 0
 IsSettledPhase Closed = ⊤
 IsSettledPhase (Open opened) = IsSettled opened
 
--- On any disk the volume file has this capacity, and so has the one that a copier makes. The generation is 65535 at most, and the
--- copier has examined nothing behind the cells.
+-- On any disk the volume file is that of the generation and has this capacity, and so has the one that a copier makes. The generation is
+-- 65535 at most, and the copier has examined nothing behind the cells.
 pub record IsBounded (capacity : ℕ) (opened : OpenFiles) : Type 0 where
+  pub file : opened.volume.file ≡ volume_file opened.head.generation
   pub volume : opened.volume.capacity ≡ capacity
   pub next : (most : ℕ) → copier_capacity opened.copier ≡ Some most → most ≡ capacity
   pub most : opened.head.generation ≤ 65535
@@ -267,3 +269,10 @@ IsSightOf cell (place.Live needle) = (cell.deleted ≡ false) × (needle.at ≡ 
 IsSightOf cell place.Gone = cell.deleted ≡ true
 IsSightOf cell place.None = ⊥
 IsSightOf cell (place.Unseen at size) = ⊥
+
+-- The place is that of the needle of a photo of this size which stands at `at` in the volume file.
+abbrev pub IsToldBy : {P : Type 0} → ℕ → ℕ → List ℕ → Place P → Type 0
+IsToldBy size at file (place.Live needle) = HasNeedleOf size false at file × (needle.at ≡ at)
+IsToldBy size at file place.Gone = HasNeedleOf size true at file
+IsToldBy size at file place.None = ⊥
+IsToldBy size at file (place.Unseen there long) = ⊥

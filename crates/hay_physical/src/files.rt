@@ -104,7 +104,7 @@ impl OpenFiles {
         ensures flags { D.Tells → (place : ℕ) → MayFlag (D.files disk.old self.old.volume.file) self.old.volume.end place
             → MayFlag (D.files disk.new self.new.volume.file) self.new.volume.end place }
         ensures flag { D.Tells → IfOk result (λ needle. MayFlag (D.files disk.new self.new.volume.file) self.new.volume.end needle.at) }
-        ensures place { D.Tells → IfOk result (λ needle. needle.at ≡ self.old.volume.end) }
+        ensures place { IfOk result (λ needle. needle.at ≡ self.old.volume.end) }
         ensures moved { OnOk result (self.new.volume.end ≡ self.old.volume.end + needle_total (length bytes.now)) }
         ensures noted { OnOk result (length self.new.index.pending ≡ length self.old.index.pending + 1) }
         ensures volume { (self.new.volume.file ≡ self.old.volume.file) × (self.old.volume.end ≤ self.new.volume.end) }
@@ -208,6 +208,7 @@ impl OpenFiles {
         ensures kept { D.Tells → OnErr result (D.files disk.new ≡ D.files disk.old) }
         ensures ready { D.Tells → OnOk result (FilesReady (D.files disk.new) self.new) }
         ensures flags { D.Tells → (place : ℕ) → MayFlag (D.files disk.old self.old.volume.file) at place → MayFlag (D.files disk.new self.old.volume.file) at place }
+        ensures place { IfOk result (λ needle. needle.at ≡ at) }
         ensures flag { D.Tells → IfOk result (λ needle. (needle.at ≡ at) × MayFlag (D.files disk.new self.old.volume.file) self.old.volume.end at) }
         ensures seals { D.Tells → Seals at (needle_total size) 28 (D.files disk.old self.old.volume.file) (D.files disk.new self.old.volume.file) }
         ensures never_frozen { IsErrOf result ReplicaFault.Frozen → ⊥ }

@@ -1,6 +1,6 @@
 //! A replica, closed or open.
 
-ghost use Rattle.std.specs.Prelude.{◌≡◌, ◌⊎◌, ◌≤◌, ◌<◌, ◌+◌, ℕ, List, Bool, true, false, length, Option, None, Err, IfOk, IfErr, OnOk, OnErr, IsErrOf};
+ghost use Rattle.std.specs.Prelude.{◌≡◌, ◌⊎◌, ◌≤◌, ◌<◌, ◌+◌, ◌*◌, ℕ, List, Bool, true, false, length, Option, None, Err, IfOk, IfErr, OnOk, OnErr, IsErrOf};
 ghost use Rattle.hay_needle.specs.declared.settings.Super.{Super};
 ghost use Rattle.hay_needle.specs.Sizes.{needle_total};
 ghost use Rattle.hay_needle.specs.declared.needle.Cookie.{Cookie};
@@ -11,6 +11,7 @@ ghost use Rattle.hay_volume.specs.Cells.{live_cell};
 ghost use Rattle.hay_map.specs.declared.place.Place.TheVariants as place;
 ghost use Rattle.hay_map.specs.Rows.{last_place};
 ghost use Rattle.hay_open.specs.Damage.{IsOpeningDamage};
+ghost use Rattle.hay_open.specs.Finds.{ArePlacesWithin};
 ghost use Rattle.hay_open.specs.Stored.{IsSealedCell, IsVoid, OpensAs, PlaceOf, Stored, fresh_stored, last_cell};
 ghost use Rattle.hay_physical.specs.declared.state.Phase.TheVariants.{Closed};
 ghost use Rattle.hay_physical.specs.Runs.{HasLastAt, HasRun, Run, longer, loosened};
@@ -88,7 +89,9 @@ impl<D: Disk> Replica<D> {
         ensures stuck { OnOk result (is_stuck self.new ≡ false) }
         ensures alone { goal_of self.new ≡ None }
         ensures most { OnOk result (generation_of self.new ≤ 65535) }
-        ensures from { OnOk result (64 ≤ end_of self.new) }
+        // On any disk the cells that have no record stand before the end, and so does each needle that a place has.
+        ensures from { OnOk result (64 + bare_of self.new * needle_total 0 ≤ end_of self.new) }
+        ensures within { IfOk result (λ cells. ArePlacesWithin (end_of self.new) cells.items) }
         // Whatever the disk had, each photo that was found can be deleted.
         ensures can_delete { D.Tells → IfOk result (λ cells. (pair : Pair) → MayDeletePlace D.files self.new (last_place cells.items pair place.None)) }
         // Each that was not looked at can be seen, and its needle is apart from the flags of others. Each cell that stands can be
@@ -199,6 +202,8 @@ impl<D: Disk> Replica<D> {
         ensures dropped { IsFrozen self.new → goal_of self.new ≡ None }
         ensures goal { IsUp self.new → goal_of self.new ≡ goal_of self.old }
         ensures moved { OnOk result (end_of self.new ≡ end_of self.old + needle_total (length bytes.now)) }
+        ensures grows { end_of self.old ≤ end_of self.new }
+        ensures there { IfOk result (λ needle. needle.at ≡ end_of self.old) }
         ensures bare { OnOk result (bare_of self.new ≡ bare_of self.old + 1) }
         ensures place { IsUp self.new → next_of self.new ≡ next_of self.old }
         ensures generation { generation_of self.new ≡ generation_of self.old }

@@ -6,10 +6,12 @@ ghost use Rattle.hay_needle.specs.Sizes.{needle_total};
 ghost use Rattle.hay_needle.specs.declared.needle.Pair.{Pair};
 ghost use Rattle.hay_map.specs.declared.place.Place.TheVariants as place;
 ghost use Rattle.hay_map.specs.Rows.{last_place};
+ghost use Rattle.hay_volume.specs.Needles.{LacksNeedleWithin};
+ghost use Rattle.hay_open.specs.Finds.{ArePlacesWithin};
 ghost use Rattle.hay_open.specs.Stored.{Stored, index_file, volume_file};
-ghost use Rattle.hay_compact.specs.Copying.{IsLatest, IsNextWithin};
+ghost use Rattle.hay_compact.specs.Copying.{HeadStands, IsLatest, IsNextWithin};
 ghost use Rattle.hay_compact.specs.Finishing.{ArePhotos, AreThePlaces, IsSeen};
-ghost use Rattle.hay_physical.specs.Copies.{CanBegin, IsFrozen, IsOpenCopy, IsUp, KeepsEnd, bare_of, copied_of, end_of, faults_at_end, generation_of, goal_of, is_frozen, is_stuck, next_of};
+ghost use Rattle.hay_physical.specs.Copies.{CanBegin, IsFrozen, IsOpenCopy, IsUp, KeepsEnd, bare_of, copied_of, end_of, faults_at_end, generation_of, goal_of, is_frozen, is_stuck, next_of, volume_bytes};
 ghost use Rattle.hay_physical.specs.Faults.{IsBeginFault, IsPeekFault, IsRunFault};
 ghost use Rattle.hay_physical.specs.Replicas.{Anywhere, Holds, KeepsSight, MayDelete, MayDeletePlace, ShowsCell, Stands};
 ghost use Rattle.hay_physical.specs.Runs.{EndsRun, HasNext, HasPair, HasRun, IsPeeked, IsTight, RemovedBoth, Run, Swaps, stepped};
@@ -54,6 +56,7 @@ impl<D: Disk> Replica<D> {
         ensures stuck { is_stuck self.new ≡ is_stuck self.old }
         ensures stays { KeepsEnd self.old self.new }
         ensures bare { bare_of self.new ≡ bare_of self.old }
+        ensures bytes { D.Tells → volume_bytes D.files self.new ≡ volume_bytes D.files self.old }
 
         ensures causes { IfErr result (IsBeginFault (D.fault_count self.old.disk) (D.fault_count self.new.disk)) }
         ensures counts { D.fault_count self.old.disk ≤ D.fault_count self.new.disk }
@@ -113,6 +116,9 @@ impl<D: Disk> Replica<D> {
         ensures whole { D.Tells → (s : Stored) (run : Run) → HasRun D.files self.old s (Some run) →
             (at : ℕ) → result ≡ Err (ReplicaFault.Damaged at) → ⊥ }
         ensures damaged { (at : ℕ) → result ≡ Err (ReplicaFault.Damaged at) → IsNextWithin (end_of self.old) (next_of self.old) at }
+        // Where the disk tells, whatever it has, the head stands there, and there is no needle where damage is.
+        ensures head { D.Tells → IfOk result (λ next. IfSome next (λ head. HeadStands (next_of self.new) head (volume_bytes D.files self.new))) }
+        ensures lacks { D.Tells → (at : ℕ) → result ≡ Err (ReplicaFault.Damaged at) → LacksNeedleWithin (end_of self.old) at (volume_bytes D.files self.old) }
         ensures memory { result ≡ Err ReplicaFault.NoMemory → ⊥ }
 
         // It stands where it stood, unless a failure or damage ended it.
@@ -130,6 +136,7 @@ impl<D: Disk> Replica<D> {
         ensures stuck { is_stuck self.new ≡ is_stuck self.old }
         ensures stays { KeepsEnd self.old self.new }
         ensures bare { bare_of self.new ≡ bare_of self.old }
+        ensures bytes { D.Tells → volume_bytes D.files self.new ≡ volume_bytes D.files self.old }
 
         ensures causes { IfErr result (IsPeekFault (D.fault_count self.old.disk) (D.fault_count self.new.disk)) }
         ensures counts { D.fault_count self.old.disk ≤ D.fault_count self.new.disk }
@@ -160,6 +167,9 @@ impl<D: Disk> Replica<D> {
         ensures whole { D.Tells → (s : Stored) (run : Run) → HasNext D.files self.old s run cell →
             (at : ℕ) → result ≡ Err (ReplicaFault.Damaged at) → ⊥ }
         ensures damaged { (at : ℕ) → result ≡ Err (ReplicaFault.Damaged at) → IsNextWithin (end_of self.old) (next_of self.old) at }
+        // Where the disk tells and the head stands there, there is no needle where damage is.
+        ensures lacks { D.Tells → HeadStands (next_of self.old) cell (volume_bytes D.files self.old) → (at : ℕ) → result ≡ Err (ReplicaFault.Damaged at) →
+            LacksNeedleWithin (end_of self.old) at (volume_bytes D.files self.old) }
         ensures memory { D.Tells → IsErrOf result ReplicaFault.NoMemory → (s : Stored) (run : Run) → HasRun D.files self.old s (Some run) → HasRun D.files self.new s (Some run) }
         ensures goal { OnOk result (goal_of self.new ≡ goal_of self.old) }
         ensures moved { OnOk result (next_of self.new ≡ next_of self.old + needle_total cell.size) }
@@ -173,6 +183,7 @@ impl<D: Disk> Replica<D> {
         ensures stuck { is_stuck self.new ≡ is_stuck self.old }
         ensures stays { KeepsEnd self.old self.new }
         ensures bare { bare_of self.new ≡ bare_of self.old }
+        ensures bytes { D.Tells → volume_bytes D.files self.new ≡ volume_bytes D.files self.old }
 
         ensures causes { IfErr result (IsPeekFault (D.fault_count self.old.disk) (D.fault_count self.new.disk)) }
         ensures counts { D.fault_count self.old.disk ≤ D.fault_count self.new.disk }
@@ -210,6 +221,8 @@ impl<D: Disk> Replica<D> {
         ensures up { OnOk result (IsUp self.new) }
         ensures going { OnOk result (is_stuck self.new ≡ false) }
         ensures can_delete { D.Tells → IfOk result (λ places. (pair : Pair) → MayDeletePlace D.files self.new (last_place places.items pair place.Gone)) }
+        // On any disk each place lies within the new file.
+        ensures within { IfOk result (λ places. ArePlacesWithin (end_of self.new) places.items) }
         ensures photos { IfOk result (λ places. ArePhotos places.items) }
         // Each place is one that was looked at, and each cell of the new file can be seen.
         ensures seen { D.Tells → IfOk result (λ places. (pair : Pair) → IsSeen (last_place places.items pair place.Gone)) }

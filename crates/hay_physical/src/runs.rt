@@ -1,13 +1,15 @@
 //! A compaction of an open replica.
 
-ghost use Rattle.std.specs.Prelude.{◌≡◌, ◌⊎◌, ◌≤◌, ◌<◌, ◌+◌, ℕ, [], Some, None, true, false, length, Err, IfOk, IfErr, IfSome, IfNone, OnOk, OnErr, IsErrOf};
+ghost use Rattle.std.specs.Prelude.{◌≡◌, ◌⊎◌, ◌≤◌, ◌<◌, ◌+◌, ◌^◌, ℕ, [], Some, None, true, false, length, Err, IfOk, IfErr, IfSome, IfNone, OnOk, OnErr, IsErrOf};
 ghost use Rattle.hay_needle.specs.Sizes.{needle_total};
 ghost use Rattle.hay_needle.specs.declared.needle.Pair.{Pair};
 ghost use Rattle.hay_needle.specs.declared.settings.Super.{Super};
 ghost use Rattle.hay_map.specs.declared.place.Place.TheVariants as place;
 ghost use Rattle.hay_map.specs.Rows.{last_place};
+ghost use Rattle.hay_volume.specs.Needles.{LacksNeedleWithin};
+ghost use Rattle.hay_open.specs.Finds.{ArePlacesWithin};
 ghost use Rattle.hay_open.specs.Stored.{Stored};
-ghost use Rattle.hay_compact.specs.Copying.{IsLatest, IsNextWithin, KeepsOtherFiles, Stage};
+ghost use Rattle.hay_compact.specs.Copying.{HeadStands, IsLatest, IsNextWithin, KeepsOtherFiles, Stage};
 ghost use Rattle.hay_compact.specs.Finishing.{ArePhotos, AreThePlaces, IsSeen};
 ghost use Rattle.hay_physical.specs.Copies.{copier_copied, copier_faults, copier_goal, copier_next};
 ghost use Rattle.hay_physical.specs.Faults.{IsBeginFault, IsPeekFault, IsRunFault};
@@ -105,6 +107,10 @@ impl OpenFiles {
         ensures whole { D.Tells → (sup : Super) (s : Stored) (run : Run) → FilesRun sup (D.files disk.old) self.old s run →
             (at : ℕ) → result ≡ Err (ReplicaFault.Damaged at) → ⊥ }
         ensures damaged { (at : ℕ) → result ≡ Err (ReplicaFault.Damaged at) → IsNextWithin self.old.volume.end (copier_next self.old.copier) at }
+        // Where the disk tells, the head stands there, and there is no needle where damage is.
+        ensures head { D.Tells → IfOk result (λ next. IfSome next (λ head. HeadStands (copier_next self.new.copier) head (D.files disk.new self.old.volume.file).now)) }
+        ensures lacks { D.Tells → self.old.volume.end + 8 < 2 ^ 64 → (at : ℕ) → result ≡ Err (ReplicaFault.Damaged at) →
+            LacksNeedleWithin self.old.volume.end at (D.files disk.old self.old.volume.file).now }
         ensures memory { result ≡ Err ReplicaFault.NoMemory → ⊥ }
 
         // It stands where it stood, unless a failure or damage ended it.
@@ -156,6 +162,8 @@ impl OpenFiles {
         ensures whole { D.Tells → (sup : Super) (s : Stored) (run : Run) → FilesPeek sup (D.files disk.old) self.old s run cell →
             (at : ℕ) → result ≡ Err (ReplicaFault.Damaged at) → ⊥ }
         ensures damaged { (at : ℕ) → result ≡ Err (ReplicaFault.Damaged at) → IsNextWithin self.old.volume.end (copier_next self.old.copier) at }
+        ensures lacks { D.Tells → HeadStands (copier_next self.old.copier) cell (D.files disk.old self.old.volume.file).now → (at : ℕ) → result ≡ Err (ReplicaFault.Damaged at) →
+            LacksNeedleWithin self.old.volume.end at (D.files disk.old self.old.volume.file).now }
         ensures memory { D.Tells → IsErrOf result ReplicaFault.NoMemory → (sup : Super) (s : Stored) (run : Run) → FilesRun sup (D.files disk.old) self.old s run →
             FilesRun sup (D.files disk.new) self.new s run }
         ensures moved { OnOk result (copier_next self.new.copier ≡ copier_next self.old.copier + needle_total cell.size) }
@@ -281,6 +289,7 @@ impl OpenFiles {
         ensures ready { D.Tells → self.new.frozen ≡ false → FilesReady (D.files disk.new) self.new }
         ensures flags { D.Tells → IfOk result (λ places. (pair : Pair) → MayFlagPlace (D.files disk.new) self.new (last_place places.items pair place.Gone)) }
         ensures bounded { (capacity : ℕ) → IsBounded capacity self.old → IsBounded capacity self.new }
+        ensures within { IfOk result (λ places. ArePlacesWithin self.new.volume.end places.items) }
         ensures photos { IfOk result (λ places. ArePhotos places.items) }
         ensures seen { D.Tells → IfOk result (λ places. (pair : Pair) → IsSeen (last_place places.items pair place.Gone)) }
         ensures volume { D.Tells → self.old.frozen ≡ false → OnErr result (D.files disk.new self.old.volume.file ≡ D.files disk.old self.old.volume.file) }

@@ -10,9 +10,10 @@ ghost use Rattle.hay_disk.specs.Gate.{HasBytesAt};
 ghost use Rattle.hay_volume.specs.Cells.{HasPlace, IsCellAt, StandsCell, cell_head};
 ghost use Rattle.hay_compact.specs.Finishing.{IsSeen};
 ghost use Rattle.hay_open.specs.Stored.{PlaceOf, Stored};
-ghost use Rattle.hay_physical.specs.Copies.{IsOpenCopy};
+ghost use Rattle.hay_volume.specs.Needles.{LacksNeedleOf};
+ghost use Rattle.hay_physical.specs.Copies.{IsOpenCopy, volume_bytes};
 ghost use Rattle.hay_physical.specs.Faults.{IsSightFault};
-ghost use Rattle.hay_physical.specs.Replicas.{Holds, IsSightOf, IsUnsealed, KeepsSight, MayDelete, MayDeletePlace, MayLook, MaySee, Stands, StandsIn, UnsealedBy};
+ghost use Rattle.hay_physical.specs.Replicas.{Holds, IsSightOf, IsToldBy, IsUnsealed, KeepsSight, MayDelete, MayDeletePlace, MayLook, MaySee, Stands, StandsIn, UnsealedBy};
 ghost use Rattle.hay_physical.specs.Runs.{HasRun, Run};
 
 use crate::fault::ReplicaFault;
@@ -149,6 +150,9 @@ impl<D: Disk> Replica<D> {
         ensures damaged { D.Tells → (k : ℕ) → result ≡ Err (ReplicaFault.Damaged k) →
             (cell : Cell) → StandsIn D.files self.old cell → cell.at ≡ at → length cell.bytes ≡ size → ⊥ }
         ensures place { (k : ℕ) → result ≡ Err (ReplicaFault.Damaged k) → k ≡ at }
+        // Where the disk tells, it is seen by the needle of the size that stands there, and is damaged where none does.
+        ensures told { D.Tells → IfOk result (IsToldBy size at (volume_bytes D.files self.old)) }
+        ensures lacks { D.Tells → (k : ℕ) → result ≡ Err (ReplicaFault.Damaged k) → LacksNeedleOf size at (volume_bytes D.files self.old) }
         ensures can_delete { D.Tells → IfOk result (λ place. MayDeletePlace D.files self.new place) }
 
         // A piece may be given out, and nothing else changes.

@@ -9,7 +9,8 @@ ghost use Rattle.hay_needle.specs.declared.needle.Pair.{Pair};
 ghost use Rattle.hay_needle.specs.declared.settings.Super.{Super};
 ghost use Rattle.hay_map.specs.declared.place.Place.TheVariants as place;
 ghost use Rattle.hay_map.specs.Rows.{last_place};
-ghost use Rattle.hay_open.specs.Stored.{Stored};
+ghost use Rattle.hay_open.specs.Finds.{ArePlacesWithin};
+ghost use Rattle.hay_open.specs.Stored.{Stored, volume_file};
 ghost use Rattle.hay_compact.specs.Copying.{IsMaking, Making, stored_of};
 ghost use Rattle.hay_compact.specs.Finishing.{ArePhotos, AreThePlaces, IsSeen};
 ghost use Rattle.hay_physical.specs.Faults.{IsRunFault};
@@ -41,7 +42,9 @@ impl OpenFiles {
         ensures open { OnOk result ((self.new.frozen ≡ false) × (self.new.index.frozen ≡ false)) }
         ensures behind { compactor.volume.end ≤ compactor.next }
         ensures most { self.old.head.generation ≤ 65535 → self.new.head.generation ≤ 65535 }
+        ensures named { self.old.volume.file ≡ volume_file self.old.head.generation → self.new.volume.file ≡ volume_file self.new.head.generation }
         ensures from { 64 ≤ self.old.volume.end → 64 ≤ self.new.volume.end }
+        ensures within { IfOk result (λ places. ArePlacesWithin self.new.volume.end places.items) }
         ensures limit { (capacity : ℕ) → self.old.volume.capacity ≡ capacity → compactor.capacity ≡ capacity → self.new.volume.capacity ≡ capacity }
         ensures moved { OnOk result (self.new.head.generation ≡ self.old.head.generation + 1) }
         ensures flushed { OnOk result (self.new.index.pending ≡ []) }

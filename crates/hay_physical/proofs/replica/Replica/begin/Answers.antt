@@ -3,10 +3,11 @@ use Rattle.hay_physical.proofs.Views.{files_stand, if_ok_both}
 use Rattle.hay_physical.proofs.RunViews.{beside_deletes, beside_stands, open_run}
 use Rattle.hay_physical.specs.Replicas.{Anywhere}
 use Rattle.hay_physical.proofs.Seeing.{beside_sight}
+use Rattle.hay_open.specs.Stored.{volume_file}
 use Rattle.std.proofs.Common.{sym}
 use Rattle.hay_physical.specs.Copies.{phase_generation}
 use Rattle.hay_physical.proofs.Views.{if_ok_so}
-use Rattle.hay_physical.proofs.RunViews.{files_begin, files_bounded, files_goal, files_say}
+use Rattle.hay_physical.proofs.RunViews.{bytes_beside, files_begin, files_bounded, files_goal, files_say}
 use Rattle.hay_physical.proofs.replica.Replica.begin.Goals as goal
 
 pub returns-clause-last : goal.returns-clause-last
@@ -66,3 +67,9 @@ pub returns-clause-failed : goal.returns-clause-failed
 returns-clause-failed g c = λ faults failed.
     let was = c.self.inside in
     files_begin c.args.self.now was.sup was.disk was.phase c.in-Open.files c.self.view_is c.in-Open.is (c.begin.ensures.failed faults failed)
+
+pub returns-clause-bytes : goal.returns-clause-bytes
+returns-clause-bytes g c = λ tells.
+    let was = c.self.inside in
+    bytes_beside g.D.Disk.files c.args.self.now was.sup was.disk c.begin.new.disk was.phase c.in-Open.files c.begin.new.self c.self.view_is c.in-Open.is c.begin.ensures.keeps
+    (c.begin.ensures.others tells (volume_file c.in-Open.files.head.generation) (λ e. omega arith) (λ e. omega arith))

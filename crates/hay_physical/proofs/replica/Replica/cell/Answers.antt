@@ -1,16 +1,18 @@
-use Rattle.std.proofs.Common.{refl, sym, subst, arith}
+use Rattle.std.proofs.Common.{ℕ, List, refl, sym, subst, arith}
+use Rattle.std.specs.Prelude.{IfOk}
 use Rattle.hay_needle.specs.Needle.{needle_of_cell}
 use Rattle.hay_needle.specs.Sizes.{needle_total}
 use Rattle.hay_disk.specs.Disk.{Files, IsSolid, MayLeave}
 use Rattle.hay_volume.specs.Cells.{StandsCell}
+use Rattle.hay_volume.specs.Needles.{LacksNeedleOf}
 use Rattle.hay_volume.proofs.Readings.{cell_begins}
 use Rattle.hay_physical.specs.declared.state.Phase.{Phase}
 use Rattle.hay_physical.specs.Copies.{Copy}
-use Rattle.hay_physical.specs.Replicas.{FilesStand, Holds, KeepsSight, MayDelete, PhaseReady, Stands, UnsealedBy}
+use Rattle.hay_physical.specs.Replicas.{FilesStand, Holds, IsToldBy, KeepsSight, MayDelete, PhaseReady, Stands, UnsealedBy}
 use Rattle.hay_physical.specs.Runs.{HasRun}
-use Rattle.hay_physical.proofs.Looks.{other_flag, own_flag, sight_deletes, stands_there, told}
+use Rattle.hay_physical.proofs.Looks.{other_flag, own_flag, sight_deletes, stands_there, told, told_by}
 use Rattle.hay_physical.proofs.RunLaws.{copier_ready_volume, next_besides_volume, run_kept}
-use Rattle.hay_physical.proofs.RunViews.{files_ready, files_settled, run_still}
+use Rattle.hay_physical.proofs.RunViews.{files_bounded, files_bytes, files_ready, files_settled, run_still}
 use Rattle.hay_physical.proofs.Seeing.{files_cell, files_look, finds_looked, known_cell, leaves_looked, one_total, ready_looked, sight_kept, solid_looked, stand_looked}
 use Rattle.hay_physical.proofs.Sights.{range_sealed}
 use Rattle.hay_physical.proofs.Views.{by_result, files_flag, files_going, files_stand, if_ok, if_ok_so, on_err_so, open_deletes, open_stands}
@@ -148,3 +150,25 @@ returns-clause-leaves g c = λ tells image leaves.
     let files = g.D.Disk.files in
     subst (λ (x : Copy _). MayLeave (files x.disk) image) c.self.view_is
     (leaves_looked (files c.self.inside.disk) (files c.cell.new.disk) c.in-Open.files.volume.file c.args.at (needle_total c.args.size) (c.cell.ensures.seals tells) (c.cell.ensures.others tells) image leaves)
+
+pub returns-clause-told : goal.returns-clause-told
+returns-clause-told g c = λ tells.
+    let files = g.D.Disk.files in
+    let was = c.self.inside in
+    let opened = c.in-Open.files in
+    let capacity = was.sup.settings.capacity in
+    let bytes = files_bytes files c.args.self.now was.sup was.disk was.phase opened capacity c.self.view_is c.in-Open.is (files_bounded capacity was.phase opened c.in-Open.is c.self.invariant.2) in
+    subst (λ (l : List ℕ). IfOk c.cell.result (IsToldBy c.args.size c.args.at l)) bytes
+    (if_ok c.cell.result _ _ _
+    (λ place seen stands.
+    told_by c.args.size c.args.at (files was.disk opened.volume.file).now seen.0 place (stands_there c.args.at c.cell.new.out.items (files was.disk opened.volume.file).now seen.0 seen.1 stands) seen.2 seen.3)
+    c.cell.ensures.needle (c.cell.ensures.stands tells))
+
+pub returns-clause-lacks : goal.returns-clause-lacks
+returns-clause-lacks g c = λ tells k is.
+    let files = g.D.Disk.files in
+    let was = c.self.inside in
+    let opened = c.in-Open.files in
+    let capacity = was.sup.settings.capacity in
+    let bytes = files_bytes files c.args.self.now was.sup was.disk was.phase opened capacity c.self.view_is c.in-Open.is (files_bounded capacity was.phase opened c.in-Open.is c.self.invariant.2) in
+    subst (λ (l : List ℕ). LacksNeedleOf c.args.size c.args.at l) bytes (c.cell.ensures.damaged tells k is)

@@ -3,12 +3,14 @@ use Rattle.hay_physical.proofs.RunViews.{beside_deletes, beside_stands, ends_run
 use Rattle.hay_physical.specs.Runs.{stepped}
 use Rattle.hay_physical.specs.Replicas.{Anywhere}
 use Rattle.hay_physical.proofs.Seeing.{beside_sight}
-use Rattle.std.proofs.Common.{◌∙◌, ◌+◌, ap, subst, sym}
+use Rattle.hay_open.specs.Stored.{volume_file}
+use Rattle.std.proofs.Common.{ℕ, ◌∙◌, ◌+◌, arith, List, ap, subst, sym}
+use Rattle.hay_volume.specs.Needles.{LacksNeedleWithin}
 use Rattle.hay_needle.specs.Sizes.{needle_total}
-use Rattle.hay_physical.specs.Copies.{copier_next, phase_end, phase_next}
+use Rattle.hay_physical.specs.Copies.{copier_next, next_of, phase_end, phase_next, volume_bytes}
 use Rattle.hay_physical.proofs.Views.{on_err_so}
-use Rattle.hay_physical.proofs.RunViews.{files_goal, files_say}
-use Rattle.hay_compact.specs.Copying.{IsNextWithin}
+use Rattle.hay_physical.proofs.RunViews.{bytes_beside, files_bounded, files_bytes, files_goal, files_say}
+use Rattle.hay_compact.specs.Copying.{HeadStands, IsNextWithin}
 use Rattle.hay_physical.proofs.replica.Replica.copy.Goals as goal
 
 pub returns-clause-run : goal.returns-clause-run
@@ -73,3 +75,22 @@ returns-clause-damaged g c = λ at is.
     let next = files_say phase_next c.args.self.now was.sup was.disk was.phase c.in-Open.files c.self.view_is c.in-Open.is in
     let end = files_say phase_end c.args.self.now was.sup was.disk was.phase c.in-Open.files c.self.view_is c.in-Open.is in
     subst (λ n. IsNextWithin (phase_end c.args.self.now.phase) n at) next (subst (λ n. IsNextWithin n (copier_next c.in-Open.files.copier) at) end (c.copy.ensures.damaged at is))
+
+pub returns-clause-lacks : goal.returns-clause-lacks
+returns-clause-lacks g c = λ tells head at is.
+    let was = c.self.inside in
+    let opened = c.in-Open.files in
+    let capacity = was.sup.settings.capacity in
+    let files = g.D.Disk.files in
+    let bytes = files_bytes files c.args.self.now was.sup was.disk was.phase opened capacity c.self.view_is c.in-Open.is (files_bounded capacity was.phase opened c.in-Open.is c.self.invariant.2) in
+    let next = files_say phase_next c.args.self.now was.sup was.disk was.phase opened c.self.view_is c.in-Open.is in
+    let end = files_say phase_end c.args.self.now was.sup was.disk was.phase opened c.self.view_is c.in-Open.is in
+    let stands = subst (λ n. HeadStands n c.args.cell (files was.disk opened.volume.file).now) (sym next) (subst (λ (l : List ℕ). HeadStands (next_of c.args.self.now) c.args.cell l) (sym bytes) head) in
+    subst (λ n. LacksNeedleWithin n at (volume_bytes files c.args.self.now)) end
+    (subst (λ (l : List ℕ). LacksNeedleWithin opened.volume.end at l) bytes (c.copy.ensures.lacks tells stands at is))
+
+pub returns-clause-bytes : goal.returns-clause-bytes
+returns-clause-bytes g c = λ tells.
+    let was = c.self.inside in
+    bytes_beside g.D.Disk.files c.args.self.now was.sup was.disk c.copy.new.disk was.phase c.in-Open.files c.copy.new.self c.self.view_is c.in-Open.is c.copy.ensures.keeps
+    (c.copy.ensures.others tells (volume_file c.in-Open.files.head.generation) (λ e. omega arith) (λ e. omega arith))

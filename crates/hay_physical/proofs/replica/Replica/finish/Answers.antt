@@ -168,3 +168,6 @@ returns-clause-still_bare g c =
     let was = c.self.inside in
     let bare = files_say phase_bare c.args.self.now was.sup was.disk was.phase c.in-Open.files c.self.view_is c.in-Open.is in
     on_err_so c.finish.result _ _ (λ same. ap (λ (o : OpenFiles). length o.index.pending) same ∙ bare) c.finish.ensures.same
+
+pub returns-clause-within : goal.returns-clause-within
+returns-clause-within g c = c.finish.ensures.within

@@ -46,7 +46,7 @@ invariant_of-self g c =
           (c.flush.ensures.ready tells thawed, copier_ready_index (files was.disk) (files c.flush.new.disk) opened c.flush.new.self settled ready.0 ready.1 c.flush.ensures.copier.0 (c.flush.ensures.others tells)),
       settled_still opened c.flush.new.self settled c.flush.ensures.copier.1 c.flush.ensures.copier.0 c.flush.ensures.open,
       bounded_still was.sup.settings.capacity opened c.flush.new.self (files_bounded was.sup.settings.capacity was.phase opened c.in-Open.is c.self.invariant.2)
-          c.flush.ensures.copier.1 (ap (λ (v : VolumeFile). v.capacity) c.flush.ensures.copier.2) (omega (arith, ap (λ (v : VolumeFile). v.end) c.flush.ensures.copier.2)) c.flush.ensures.copier.0,
+          c.flush.ensures.copier.1 (ap (λ (v : VolumeFile). v.file) c.flush.ensures.copier.2) (ap (λ (v : VolumeFile). v.capacity) c.flush.ensures.copier.2) (omega (arith, ap (λ (v : VolumeFile). v.end) c.flush.ensures.copier.2)) c.flush.ensures.copier.0,
     )
 
 pub returns-clause-run : goal.returns-clause-run

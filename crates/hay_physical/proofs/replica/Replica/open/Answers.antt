@@ -1,4 +1,4 @@
-use Rattle.std.proofs.Common.{◌≡◌, ap, refl, subst, Err, sym}
+use Rattle.std.proofs.Common.{◌≡◌, ap, arith, refl, subst, Err, sym}
 use Rattle.std.proofs.lemmas.Result.{err_from_is_err_and}
 use Rattle.hay_open.specs.Damage.{IsOpeningDamage}
 use Rattle.hay_open.specs.Stored.{IsVoid, fresh_stored}
@@ -51,7 +51,7 @@ pub invariant_of-self-2 : goal.invariant_of-self-2
 invariant_of-self-2 g c = (
   λ tells going. (opened_ready (g.D.Disk.files c.open_replica.new.disk) c.in_ok-head.field-0 (c.in_ok-head.ensures.ready tells), λ stage is. not_ended _ 0 stage refl is),
   settled_none _ refl,
-  bounded_ended c.self.inside.sup.settings.capacity _ 0 c.in_ok-head.ensures.capacity c.in_ok-head.ensures.most c.in_ok-head.ensures.from refl,
+  bounded_ended c.self.inside.sup.settings.capacity _ 0 c.in_ok-head.ensures.number c.in_ok-head.ensures.capacity c.in_ok-head.ensures.most (omega (arith, c.in_ok-head.ensures.from)) refl,
 )
 
 pub returns-clause-opened : goal.returns-clause-opened

@@ -1,13 +1,18 @@
-use Rattle.std.proofs.Common.{ap}
+use Rattle.std.proofs.Common.{ℕ, ◌≡◌, ap, arith, inl, inr, List}
+use Rattle.std.specs.Prelude.{IfOk, IfSome}
+use Rattle.std.proofs.lemmas.Bool.{cases_Bool}
+use Rattle.hay_volume.specs.Needles.{LacksNeedleWithin}
+use Rattle.hay_open.specs.Stored.{volume_file}
+use Rattle.hay_physical.specs.declared.state.OpenFiles.{OpenFiles}
 use Rattle.hay_disk.specs.Disk.{Files}
 use Rattle.hay_physical.proofs.Views.{if_err_so, if_ok_some, on_ok_one}
 use Rattle.hay_physical.proofs.RunViews.{beside_deletes, beside_stands, ends_run, files_run, open_next, open_run, peek_pair}
 use Rattle.hay_physical.specs.Replicas.{Anywhere}
 use Rattle.hay_physical.proofs.Seeing.{beside_sight}
 use Rattle.std.proofs.Common.{◌∙◌, subst, sym}
-use Rattle.hay_physical.specs.Copies.{copier_next, phase_end, phase_next}
-use Rattle.hay_physical.proofs.RunViews.{files_goal, files_say}
-use Rattle.hay_compact.specs.Copying.{IsNextWithin}
+use Rattle.hay_physical.specs.Copies.{copier_next, phase_end, phase_next, volume_bytes}
+use Rattle.hay_physical.proofs.RunViews.{bytes_beside, files_bounded, files_bytes, files_goal, files_ready, files_say}
+use Rattle.hay_compact.specs.Copying.{HeadStands, IsNextWithin}
 use Rattle.hay_physical.proofs.replica.Replica.peek.Goals as goal
 
 pub returns-clause-next : goal.returns-clause-next
@@ -73,3 +78,36 @@ returns-clause-damaged g c = λ at is.
     let next = files_say phase_next c.args.self.now was.sup was.disk was.phase c.in-Open.files c.self.view_is c.in-Open.is in
     let end = files_say phase_end c.args.self.now was.sup was.disk was.phase c.in-Open.files c.self.view_is c.in-Open.is in
     subst (λ n. IsNextWithin (phase_end c.args.self.now.phase) n at) next (subst (λ n. IsNextWithin n (copier_next c.in-Open.files.copier) at) end (c.peek.ensures.damaged at is))
+
+pub returns-clause-head : goal.returns-clause-head
+returns-clause-head g c = λ tells.
+    let was = c.self.inside in
+    let capacity = was.sup.settings.capacity in
+    let files = g.D.Disk.files in
+    let bounded = c.peek.ensures.bounded capacity (files_bounded capacity was.phase c.in-Open.files c.in-Open.is c.self.invariant.2) in
+    let same : c.in-Open.files.volume.file ≡ volume_file c.peek.new.self.head.generation = ap (λ (o : OpenFiles). o.volume.file) (sym c.peek.ensures.keeps) ∙ bounded.file in
+    subst (λ n. IfOk c.peek.result (λ next. IfSome next (λ head. HeadStands (copier_next c.peek.new.self.copier) head (files c.peek.new.disk n).now))) same (c.peek.ensures.head tells)
+
+pub returns-clause-lacks : goal.returns-clause-lacks
+returns-clause-lacks g c = λ tells at is.
+    let was = c.self.inside in
+    let opened = c.in-Open.files in
+    let capacity = was.sup.settings.capacity in
+    let files = g.D.Disk.files in
+    elim (cases_Bool opened.frozen) [
+      | inl stuck ↦ let wrong = sym (c.peek.ensures.frozen stuck).0 ∙ is in absurd cc
+      | inr going ↦
+          let ready = files_ready (files was.disk) was.phase opened c.in-Open.is (c.self.invariant.0 tells) going in
+          let room = ready.0.volume.closed.room in
+          let fits = g.met.D.Disk.fits was.disk opened.volume.file tells in
+          let bytes = files_bytes files c.args.self.now was.sup was.disk was.phase opened capacity c.self.view_is c.in-Open.is (files_bounded capacity was.phase opened c.in-Open.is c.self.invariant.2) in
+          let end = files_say phase_end c.args.self.now was.sup was.disk was.phase opened c.self.view_is c.in-Open.is in
+          subst (λ n. LacksNeedleWithin n at (volume_bytes files c.args.self.now)) end
+          (subst (λ (l : List ℕ). LacksNeedleWithin opened.volume.end at l) bytes (c.peek.ensures.lacks tells (omega (arith, room, fits)) at is))
+    ]
+
+pub returns-clause-bytes : goal.returns-clause-bytes
+returns-clause-bytes g c = λ tells.
+    let was = c.self.inside in
+    bytes_beside g.D.Disk.files c.args.self.now was.sup was.disk c.peek.new.disk was.phase c.in-Open.files c.peek.new.self c.self.view_is c.in-Open.is c.peek.ensures.keeps
+    (ap (λ (f : Files). f (volume_file c.in-Open.files.head.generation)) (c.peek.ensures.files tells))

@@ -1,4 +1,4 @@
-use Rattle.std.proofs.Common.{inl, inr, subst, Bool, ⊎_elim}
+use Rattle.std.proofs.Common.{◌≤◌, inl, inr, subst, Bool, ⊎_elim}
 use Rattle.hay_physical.specs.Copies.{Copy}
 use Rattle.hay_physical.specs.Replicas.{MayFind, with_cell}
 use Rattle.hay_physical.proofs.Views.{files_flag, files_going, files_stand, files_stuck, if_ok, if_ok_on, if_ok_so, on_err_so, open_deletes, open_stands}
@@ -17,7 +17,7 @@ use Rattle.hay_physical.proofs.Apartness.{put_apart}
 use Rattle.hay_physical.proofs.Seeing.{sight_kept}
 use Rattle.hay_physical.proofs.Sights.{range_before}
 use Rattle.std.proofs.Common.{◌+◌}
-use Rattle.hay_physical.specs.Copies.{copier_next, phase_bare, phase_next}
+use Rattle.hay_physical.specs.Copies.{copier_next, phase_bare, phase_end, phase_next}
 use Rattle.hay_physical.proofs.Views.{on_ok_one}
 use Rattle.hay_physical.proofs.RunViews.{files_say}
 use Rattle.hay_physical.proofs.replica.Replica.put.Goals as goal
@@ -66,7 +66,7 @@ invariant_of-self g c =
           let ready = files_ready (files was.disk) was.phase opened c.in-Open.is (c.self.invariant.0 tells) (c.put.ensures.copier.thawed thawed) in
           (c.put.ensures.ready tells thawed, copier_ready_volume (files was.disk) (files c.put.new.disk) opened c.put.new.self settled ready.0 ready.1 (c.put.ensures.copier.same thawed) (c.put.ensures.others tells)),
       settled_kept opened c.put.new.self settled c.put.ensures.copier,
-      bounded_kept was.sup.settings.capacity opened c.put.new.self (files_bounded was.sup.settings.capacity was.phase opened c.in-Open.is c.self.invariant.2) c.put.ensures.limit c.put.ensures.volume.1 c.put.ensures.copier,
+      bounded_kept was.sup.settings.capacity opened c.put.new.self (files_bounded was.sup.settings.capacity was.phase opened c.in-Open.is c.self.invariant.2) c.put.ensures.volume.0 c.put.ensures.limit c.put.ensures.volume.1 c.put.ensures.copier,
     )
 
 pub returns-clause-run : goal.returns-clause-run
@@ -126,7 +126,7 @@ returns-clause-sees g c = λ tells.
 pub returns-clause-apart : goal.returns-clause-apart
 returns-clause-apart g c = λ tells.
     let was = c.self.inside in
-    if_ok_so c.put.result _ _ (λ needle last at size may. put_apart g.D.Disk.files c.args.self.now was.sup was.disk was.phase c.in-Open.files needle.at at size c.self.view_is c.in-Open.is last may) (c.put.ensures.place tells)
+    if_ok_so c.put.result _ _ (λ needle last at size may. put_apart g.D.Disk.files c.args.self.now was.sup was.disk was.phase c.in-Open.files needle.at at size c.self.view_is c.in-Open.is last may) c.put.ensures.place
 
 pub returns-clause-bare : goal.returns-clause-bare
 returns-clause-bare g c =
@@ -137,3 +137,13 @@ pub returns-clause-place : goal.returns-clause-place
 returns-clause-place g c = λ up.
     let was = c.self.inside in
     ap copier_next (c.put.ensures.copier.same up) ∙ files_say phase_next c.args.self.now was.sup was.disk was.phase c.in-Open.files c.self.view_is c.in-Open.is
+
+pub returns-clause-there : goal.returns-clause-there
+returns-clause-there g c =
+    let was = c.self.inside in
+    if_ok_so c.put.result _ _ (λ needle at. at ∙ files_say phase_end c.args.self.now was.sup was.disk was.phase c.in-Open.files c.self.view_is c.in-Open.is) c.put.ensures.place
+
+pub returns-clause-grows : goal.returns-clause-grows
+returns-clause-grows g c =
+    let was = c.self.inside in
+    subst (λ n. n ≤ (c.put.new.self).volume.end) (files_say phase_end c.args.self.now was.sup was.disk was.phase c.in-Open.files c.self.view_is c.in-Open.is) (c.put.ensures.volume.1)

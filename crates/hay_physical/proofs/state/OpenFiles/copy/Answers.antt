@@ -1,4 +1,5 @@
-use Rattle.hay_compact.specs.Copying.{IsHeadOf, IsNextWithin, Stage}
+use Rattle.hay_compact.specs.Copying.{HeadStands, IsHeadOf, IsNextWithin, Stage}
+use Rattle.hay_volume.specs.Needles.{LacksNeedleWithin}
 use Rattle.hay_physical.specs.declared.state.Copier.TheVariants.{Standing}
 use Rattle.hay_physical.proofs.RunLaws.{bounded_next, examined_within, gone}
 use Rattle.std.proofs.Common.{◌≡◌, ◌∙◌, arith, refl, ap, subst, sym, Err}
@@ -72,3 +73,15 @@ returns-in-Err-clause-damaged g c = λ at is.
     let same : k ≡ at = (let known = (c.broken_off.ensures.damaged k damaged).0 in cc) in
     subst (λ n. IsNextWithin end n at) (sym (ap copier_next c.in-Standing.is))
     (subst (λ n. IsNextWithin end c.in-Standing.compactor.next n) same (c.in-Err.ensures.place k (ap (λ x. Err x) damaged))))
+
+pub returns-in-Err-clause-lacks : goal.returns-in-Err-clause-lacks
+returns-in-Err-clause-lacks g c = λ tells head at is.
+    let end = c.args.self.now.volume.end in
+    let file = (g.D.Disk.files c.args.disk.now c.args.self.now.volume.file).now in
+    by_fault c.in-Err.fault (LacksNeedleWithin end at file)
+    (λ memory. let e : ReplicaFault.NoMemory ≡ ReplicaFault.Damaged at = (let known = (c.broken_off.ensures.memory memory).0 in cc) in absurd cc)
+    (λ failed. let e : ReplicaFault.Failed (g.D.Disk.fault_count c.copy.new.disk) ≡ ReplicaFault.Damaged at = (let known = (c.broken_off.ensures.failed failed).0 in cc) in absurd cc)
+    (λ k damaged.
+    let same : k ≡ at = (let known = (c.broken_off.ensures.damaged k damaged).0 in cc) in
+    let stands = subst (λ n. HeadStands n c.args.cell file) (ap copier_next c.in-Standing.is) head in
+    subst (λ n. LacksNeedleWithin end n file) same (c.in-Err.ensures.lacks tells stands k (ap (λ x. Err x) damaged)))

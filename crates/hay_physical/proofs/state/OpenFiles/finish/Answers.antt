@@ -52,7 +52,7 @@ pub returns-in-Standing-clause-bounded : goal.returns-in-Standing-clause-bounded
 returns-in-Standing-clause-bounded g c = λ capacity bounded.
     let is : c.args.self.now.copier ≡ Standing c.in-Standing.compactor = sym c.replace.ensures.value ∙ c.in-Standing.is in
     let made = c.make_current-answer.ensures in
-    bounded_ended capacity _ _ (made.limit capacity bounded.volume (bounded.next c.in-Standing.compactor.capacity (ap copier_capacity is))) (made.most bounded.most) (made.from bounded.from) refl
+    bounded_ended capacity _ _ (made.named bounded.file) (made.limit capacity bounded.volume (bounded.next c.in-Standing.compactor.capacity (ap copier_capacity is))) (made.most bounded.most) (made.from bounded.from) refl
 
 pub returns-in-Ended-clause-bounded : goal.returns-in-Ended-clause-bounded
 returns-in-Ended-clause-bounded g c = λ capacity bounded. bounded_dropped capacity c.args.self.now _ _ bounded refl refl
@@ -65,3 +65,6 @@ returns-in-Standing-clause-shorter g c = λ capacity bounded.
 
 pub returns-in-Standing-clause-named : goal.returns-in-Standing-clause-named
 returns-in-Standing-clause-named g c = λ goal is. on_ok_one c.make_current-answer.result _ _ (λ moved. moved ∙ sym (c.requires.settled.next goal is)) c.make_current-answer.ensures.moved
+
+pub returns-in-Standing-clause-within : goal.returns-in-Standing-clause-within
+returns-in-Standing-clause-within g c = c.make_current-answer.ensures.within

@@ -3,6 +3,8 @@ use Rattle.hay_compact.specs.Finishing.{AreThePlaces}
 use Rattle.hay_disk.specs.Disk.{Files, FileState}
 use Rattle.hay_disk.specs.Gate.{IsGate}
 use Rattle.hay_head.specs.Head.{head_magic, row_place}
+use Rattle.hay_open.specs.Finds.{ArePlacesWithin}
+use Rattle.hay_open.specs.Stored.{volume_file}
 use Rattle.hay_physical.specs.declared.state.OpenFiles.{OpenFiles}
 use Rattle.hay_physical.specs.Replicas.{FilesReady, FilesStand}
 use Rattle.hay_physical.proofs.Views.{by_result, if_ok, if_ok_on, if_ok_unit, on_ok_both, on_ok_one}
@@ -132,3 +134,15 @@ returns-in-Ok-clause-shorter g c = if_ok_unit c.swap.result _ _ (λ places is. s
 
 pub returns-in-Ok-clause-flushed : goal.returns-in-Ok-clause-flushed
 returns-in-Ok-clause-flushed g c = if_ok_unit c.swap.result _ _ (λ places is. ap (λ (o : OpenFiles). o.index.pending) is.1 ∙ c.in-Ok.ensures.flushed) c.swap.ensures.swapped
+
+pub returns-in-Ok-clause-named : goal.returns-in-Ok-clause-named
+returns-in-Ok-clause-named g c = λ old.
+    let IsNamed : OpenFiles → Type 0 = λ o. o.volume.file ≡ volume_file o.head.generation in
+    by_result c.swap.result (IsNamed c.swap.new.self)
+    (if_ok_so c.swap.result _ _ (λ places is. subst IsNamed (sym is.1) (c.in-Ok.ensures.named ∙ ap volume_file c.requires.next)) c.swap.ensures.swapped)
+    (on_err_so c.swap.result _ _ (λ is. subst IsNamed (sym is) old) c.swap.ensures.err)
+
+pub returns-in-Ok-clause-within : goal.returns-in-Ok-clause-within
+returns-in-Ok-clause-within g c =
+    if_ok_so c.swap.result _ _
+    (λ places is. subst (λ (o : OpenFiles). ArePlacesWithin o.volume.end places.items) (sym is.1) (subst (λ x. ArePlacesWithin c.in-Ok.finished.volume.end x.items) (sym is.0) c.in-Ok.ensures.within)) c.swap.ensures.swapped

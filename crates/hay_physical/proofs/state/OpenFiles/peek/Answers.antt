@@ -2,7 +2,8 @@ use Rattle.std.specs.Prelude.{IfNone, IfSome}
 use Rattle.hay_physical.specs.Copies.{copier_next}
 use Rattle.std.proofs.Common.{◌≡◌, ◌≤◌, ◌<◌, ap, subst, sym, Err}
 use Rattle.hay_disk.specs.Disk.{Files}
-use Rattle.hay_compact.specs.Copying.{IsMaking, IsNextWithin}
+use Rattle.hay_volume.specs.Needles.{LacksNeedleWithin}
+use Rattle.hay_compact.specs.Copying.{HeadStands, IsMaking, IsNextWithin}
 use Rattle.hay_physical.specs.Replicas.{IsCopierReady}
 use Rattle.hay_physical.specs.Runs.{FilesRun}
 use Rattle.hay_physical.specs.declared.fault.ReplicaFault.{ReplicaFault}
@@ -73,3 +74,20 @@ returns-in-Err-clause-damaged g c = λ at is.
     let same : k ≡ at = (let known = (c.broken_off.ensures.damaged k damaged).0 in cc) in
     subst (λ n. IsNextWithin end n at) (sym (ap copier_next c.in-Standing.is))
     (subst (λ n. IsNextWithin end c.in-Standing.compactor.next n) same (c.in-Err.ensures.place k (ap (λ x. Err x) damaged))))
+
+pub returns-in-Ok-clause-head : goal.returns-in-Ok-clause-head
+returns-in-Ok-clause-head g c = λ tells.
+    let file = c.args.self.now.volume.file in
+    subst (λ (f : Files). IfSome c.in-Ok.next (λ head. HeadStands (copier_next c.args.self.now.copier) head (f file).now)) (sym (c.peek.ensures.same tells))
+    (subst (λ n. IfSome c.in-Ok.next (λ head. HeadStands n head (g.D.Disk.files c.args.disk.now file).now)) (sym (ap copier_next c.in-Standing.is)) (c.in-Ok.ensures.head tells))
+
+pub returns-in-Err-clause-lacks : goal.returns-in-Err-clause-lacks
+returns-in-Err-clause-lacks g c = λ tells room at is.
+    let end = c.args.self.now.volume.end in
+    let file = (g.D.Disk.files c.args.disk.now c.args.self.now.volume.file).now in
+    by_fault c.in-Err.fault (LacksNeedleWithin end at file)
+    (λ memory. absurd (c.in-Err.ensures.memory (ap (λ x. Err x) memory)))
+    (λ failed. let e : ReplicaFault.Failed (g.D.Disk.fault_count c.peek.new.disk) ≡ ReplicaFault.Damaged at = (let known = (c.broken_off.ensures.failed failed).0 in cc) in absurd cc)
+    (λ k damaged.
+    let same : k ≡ at = (let known = (c.broken_off.ensures.damaged k damaged).0 in cc) in
+    subst (λ n. LacksNeedleWithin end n file) same (c.in-Err.ensures.lacks tells room k (ap (λ x. Err x) damaged)))
