@@ -1,9 +1,15 @@
 -- The bytes of each replica's files through the calls of a volume that change none.
-use Rattle.std.proofs.Common.{◌≡◌, ℕ, ◌<◌, List, length, subst, ◌∙◌, arith}
+use Rattle.std.proofs.Common.{◌≡◌, ℕ, ◌<◌, List, length, sym, ap, subst, ◌∙◌, arith}
+use Rattle.std.specs.Prelude.{map}
 use Rattle.hay_disk.specs.Disk.{Files}
-use Rattle.hay_physical.specs.Copies.{Copy}
+use Rattle.hay_volume.specs.Needles.{LacksNeedleWithin}
+use Rattle.hay_open.specs.Stored.{volume_file}
+use Rattle.hay_physical.specs.Copies.{Copy, end_of, generation_of, volume_bytes}
+use Rattle.hay_logical.specs.Needles.{LacksCell}
 use Rattle.hay_logical.specs.Steps.{CallsOne, KeepsBytes, KeepsFiles}
-use Rattle.hay_logical.proofs.Lists.{at_below, at_same, at_there}
+use Rattle.hay_logical.proofs.Lists.{at_below, at_map, at_same, at_there}
+use Rattle.hay_logical.specs.Fits.{At}
+use Rattle.hay_logical.specs.Seen.{ReplicaSeen, replica_seen}
 use Rattle.hay_logical.proofs.Looking.{bytes_same}
 use Rattle.hay_logical.proofs.Methods.{one_each}
 
@@ -29,3 +35,20 @@ module _ {D : Type 0} (DiskTells : Type 0) (files : D → Files) where
   files_more a b c count first second tells j r r' e f =
       let x = at_there b j (let h = at_below a j r e in let less : j < length b = omega (arith, h, count) in less) in
       bytes_more (files r.disk) (files (x.0).disk) (files r'.disk) (first tells j r x.0 e x.1) (second tells j x.0 r' x.1 f)
+
+-- what a compaction tells of a replica behind calls that left its volume file
+pub lacks_there : {D : Type 0} (files : D → Files) (r x : Copy D) (place : ℕ) → end_of x ≡ end_of r → volume_bytes files x ≡ volume_bytes files r → LacksCell files x place → LacksCell files r place
+lacks_there files r x place end bytes lacks =
+    subst (λ n. LacksNeedleWithin n place (volume_bytes files r)) end (subst (λ (l : List ℕ). LacksNeedleWithin (end_of x) place l) bytes lacks)
+
+-- Looks have left its bytes.
+pub looked_bytes : {D : Type 0} (files : D → Files) (r x : Copy D) → KeepsBytes (files r.disk) (files x.disk) → generation_of x ≡ generation_of r → volume_bytes files x ≡ volume_bytes files r
+looked_bytes files r x keeps same = ap (λ n. (files x.disk (volume_file n)).now) same ∙ keeps.now (volume_file (generation_of r))
+
+-- so it is of each replica
+pub bytes_through : {D : Type 0} (DiskTells : Type 0) (files : D → Files) → DiskTells → (olds mids : List (Copy D)) → KeepsFiles DiskTells files olds mids → map replica_seen mids ≡ map replica_seen olds
+    → (j : ℕ) (r x : Copy D) → At olds j r → At mids j x → volume_bytes files x ≡ volume_bytes files r
+bytes_through {D} DiskTells files tells olds mids keeps same j r x e f =
+    let before : At (map replica_seen mids) j (replica_seen r) = subst (λ (l : List ReplicaSeen). At l j (replica_seen r)) (sym same) (at_map replica_seen olds j r e) in
+    let alike : replica_seen x ≡ replica_seen r = at_same (map replica_seen mids) j (replica_seen x) (replica_seen r) (at_map replica_seen mids j x f) before in
+    looked_bytes files r x (keeps tells j r x e f) (ap (λ (s : ReplicaSeen). s.generation) alike)

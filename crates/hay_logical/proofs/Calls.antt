@@ -31,6 +31,7 @@ use Rattle.hay_physical.specs.Faults as physical_faults
 use Rattle.hay_logical.specs.Fits.{At, PhotoAt}
 use Rattle.hay_logical.specs.Volumes.{CanReach, KeepsCounts, ReachesPlaces}
 use Rattle.hay_logical.specs.Steps.{DeletesAt, FollowsAt, IsFlushFault, IsOpenFault, IsPutFault, KeepsDisk, KeepsReach, KeepsRun, LeftAt, LosesRun, OpensAt, PutsAt, RoomFor, StaysBeside}
+use Rattle.hay_logical.specs.Sights.{LiesWithin, sight}
 use Rattle.hay_logical.proofs.Lists.{Went, at_below, at_same, at_set_other, at_set_same, at_there, length-slice_set}
 
 -- PHASES
@@ -307,6 +308,7 @@ loses_none DiskTells files r = record {
   stands = λ tells s h. h;
   holds = λ tells b s t h. h;
   reach = λ tells. reach_still files r;
+  end = refl;
 }
 
 pub ended_or : {D : Type 0} (r r' : Copy D) (count : ℕ) {Q : Type 0} → (goal_of r' ≡ goal_of r) ⊎ (EndedAt count r' × Q) → (goal_of r' ≡ goal_of r) ⊎ ((goal_of r' ≡ None) × Q)
@@ -352,6 +354,7 @@ opens_on DiskTells files Tells rows rows' j r r' same h = record {
   alone = h.alone;
   most = h.most;
   from = h.from;
+  within = λ pair. subst (λ p. LiesWithin (end_of r') (sight p)) (sym (same pair)) (h.within pair);
   undamaged = h.undamaged;
   undamaged_now = h.undamaged_now;
   formatted = h.formatted;

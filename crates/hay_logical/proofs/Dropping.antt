@@ -10,12 +10,12 @@ use Rattle.hay_map.specs.declared.place.Place.{Place}
 use Rattle.hay_map.specs.declared.place.Place.TheVariants as place
 use Rattle.hay_physical.specs.declared.fault.ReplicaFault.{ReplicaFault}
 use Rattle.hay_physical.specs.declared.fault.ReplicaFault.TheVariants as fault
-use Rattle.hay_physical.specs.Copies.{Copy, goal_of, is_frozen}
+use Rattle.hay_physical.specs.Copies.{Copy, end_of, goal_of, is_frozen}
 use Rattle.hay_logical.specs.declared.replicas.Broken.{Broken}
 use Rattle.hay_logical.specs.declared.replicas.DiskFailed.{DiskFailed}
 use Rattle.hay_logical.specs.Fits.{At}
 use Rattle.hay_logical.specs.Refusals.{IsUntouched}
-use Rattle.hay_logical.specs.Steps.{AllIdle, DeleteLeaves, DeletesAt, EndsRuns, IsPutFault, KeepsReach, LosesRun, PutLeaves, StillRuns}
+use Rattle.hay_logical.specs.Steps.{AllIdle, DeleteLeaves, DeletesAt, EndsRuns, IsPutFault, KeepsReach, Lengthens, LosesRun, PutLeaves, StillRuns}
 use Rattle.hay_logical.specs.Volumes.{KeepsCounts}
 use Rattle.hay_logical.proofs.Calls.{reach_behind, reach_through}
 use Rattle.hay_logical.proofs.Lists.{at_below, at_there}
@@ -38,6 +38,7 @@ module _ {D : Type 0} (DiskTells : Type 0) (files : D → Files) where
     stands = λ tells s h. b.stands tells s (a.stands tells s h);
     holds = λ tells c s t h. b.holds tells c s t (a.holds tells c s t h);
     reach = λ tells. reach_through files r x y (a.reach tells) (b.reach tells);
+    end = b.end ∙ a.end;
   }
 
   abbrev pub LoseRuns : List (Copy D) → List (Copy D) → Type 0
@@ -72,6 +73,9 @@ module _ {D : Type 0} (DiskTells : Type 0) (files : D → Files) where
     pub reach_on : (IsKept : ℕ → ℕ → ℕ → Type 0) → ((j : ℕ) (r r' : Copy D) → At old j r → At middle j r' → DiskTells → KeepsReach files (IsKept j) r r')
         → (j : ℕ) (r r' : Copy D) → At old j r → At new j r' → DiskTells → KeepsReach files (IsKept j) r r'
     reach_on IsKept keeps j r r' e f tells = let b = between j r' f in reach_behind files r b.0 r' (keeps j r b.0 e b.1 tells) (b.2.reach tells)
+
+    pub ends_on : Lengthens old middle → Lengthens old new
+    ends_on ends j r r' e f = let b = between j r' f in subst (λ n. end_of r ≤ n) (sym (b.2.end)) (ends j r b.0 e b.1)
 
     -- A PUT
 

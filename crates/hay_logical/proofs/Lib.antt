@@ -42,3 +42,5 @@ pub mod Seen
 pub mod SeenSwaps
 pub mod SeenChanges
 pub mod SightChanges
+pub mod Within
+pub mod Needles

@@ -28,6 +28,7 @@ use Rattle.hay_physical.specs.Replicas as physical
 use Rattle.hay_physical.specs.Runs.{HasRun, Run}
 use Rattle.hay_physical.proofs.Seeing.{last_shows}
 use Rattle.hay_logical.specs.Fits.{IsUnseen, PhotoAt, PlaceStands}
+use Rattle.hay_logical.specs.Sights.{LiesWithin, sight}
 use Rattle.hay_logical.specs.Steps.{KeepsBytes, LooksAt, PlacesAre, SetsPlaceAt, SightsAt}
 use Rattle.hay_logical.specs.Volumes.{ReachesPlaces}
 use Rattle.hay_logical.proofs.Calls.{reaches_same}
@@ -335,6 +336,7 @@ looks_still DiskTells files Tells rows rows' j r same = record {
   holds = λ tells stuck s t holds. holds;
   keeps = λ tells. bytes_same (files r.disk);
   reach = λ tells reach. reaches_same files rows rows' j r same reach;
+  within = λ end lies q. subst (λ p. LiesWithin end (sight p)) (sym (same q)) (lies q);
 }
 
 module _ {D P : Type 0} (DiskTells : Type 0) (files : D → Files) (faults : D → ℕ) (Tells : Type 0) (pair : Pair) (rows rows' : MapRows P) (j : ℕ) (r r' : Copy D) where

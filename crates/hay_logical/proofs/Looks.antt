@@ -1,5 +1,5 @@
 -- The replicas of an opening behind the looks at a place of each.
-use Rattle.std.proofs.Common.{◌≡◌, inl, inr, ℕ, ◌+◌, ◌<◌, ◌≤◌, false, List, length, Err, refl, sym, ap, subst, ◌∙◌, arith}
+use Rattle.std.proofs.Common.{◌≡◌, inl, inr, ℕ, ◌+◌, ◌*◌, ◌<◌, ◌≤◌, false, List, length, Err, refl, sym, ap, subst, ◌∙◌, arith}
 use Rattle.std.proofs.Math.Path.{fun_ext}
 use Rattle.std.specs.Prelude.{Bool, IfErr, Ok, OnErr, OnOk, Result}
 use Rattle.std.proofs.lemmas.Bool.{cases_eq}
@@ -14,12 +14,13 @@ use Rattle.hay_compact.specs.Finishing.{IsSeen}
 use Rattle.hay_physical.specs.declared.fault.ReplicaFault.{ReplicaFault}
 use Rattle.hay_physical.specs.declared.fault.ReplicaFault.TheVariants as fault
 use Rattle.hay_physical.specs.declared.state.Phase.{Phase}
-use Rattle.hay_physical.specs.Copies.{Copy, HasFrozen, IsOpenCopy, IsOpenPhase, end_of, generation_of, goal_of, is_frozen, is_stuck}
+use Rattle.hay_physical.specs.Copies.{Copy, HasFrozen, IsOpenCopy, IsOpenPhase, bare_of, end_of, generation_of, goal_of, is_frozen, is_stuck}
 use Rattle.hay_physical.specs.Replicas as physical
 use Rattle.hay_open.specs.declared.fault.OpenFault.{OpenFault}
 use Rattle.hay_open.specs.declared.fault.OpenFault.TheVariants as open_fault
 use Rattle.hay_logical.specs.Fits.{At}
 use Rattle.hay_logical.specs.declared.fault.Unopened.{Unopened}
+use Rattle.hay_logical.specs.Sights.{LiesWithinAt, sights_of}
 use Rattle.hay_logical.specs.Steps.{CallsOne, IsLookFault, IsOpenFault, IsRefusedAt, IsUnseenAt, KeepsBytes, KeepsDisk, LeftAt, LooksAt, OpensAt, PlacesAre, SeesRow, SightsAt}
 use Rattle.hay_logical.specs.Volumes.{CanReach, KeepsCounts}
 use Rattle.hay_logical.proofs.Calls.{counted_same, keeps_counts, up_open, up_thawed}
@@ -39,6 +40,7 @@ module _ {D P : Type 0} (DiskTells : Type 0) (files : D → Files) (Tells : Type
     holds = λ tells stuck s t holds. second.holds tells stuck s t (first.holds tells stuck s t holds);
     keeps = λ tells. bytes_more (files r.disk) (files x.disk) (files y.disk) (first.keeps tells) (second.keeps tells);
     reach = λ tells reach. second.reach tells (first.reach tells reach);
+    within = λ end lies. second.within end (first.within end lies);
   }
 
   module _ (faults fuses : D → ℕ) where
@@ -152,7 +154,8 @@ module _ {D P : Type 0} (DiskTells : Type 0) (files : D → Files) (Tells : Type
     loose = ap (λ (z : Copy D). is_stuck z) looks.copy ∙ opens.loose;
     alone = ap (λ (z : Copy D). goal_of z) looks.copy ∙ opens.alone;
     most = subst (λ n. n ≤ 65535) (sym (ap (λ (z : Copy D). generation_of z) looks.copy)) opens.most;
-    from = subst (λ n. 64 ≤ n) (sym (ap (λ (z : Copy D). end_of z) looks.copy)) opens.from;
+    from = subst (λ (z : Copy D). 64 + bare_of z * 48 ≤ end_of z) (sym looks.copy) opens.from;
+    within = subst (λ n. LiesWithinAt j n (sights_of rows')) (sym (ap (λ (z : Copy D). end_of z) looks.copy)) (looks.within (end_of x) opens.within);
     undamaged = opens.undamaged;
     undamaged_now = λ tells file at. subst (λ (contents : ℕ → List ℕ). IsOpeningDamage r.sup contents file at → ⊥) (sym (fun_ext (λ n. (looks.keeps tells).now n))) (opens.undamaged_now tells file at);
     formatted = λ tells void. opens.formatted tells (sym ((looks.keeps tells).now 0) ∙ void);

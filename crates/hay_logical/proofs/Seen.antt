@@ -16,9 +16,9 @@ use Rattle.hay_physical.proofs.Laws.{no_next}
 use Rattle.hay_logical.specs.declared.unsure.Unsure.{Unsure}
 use Rattle.hay_logical.specs.Fits.{At}
 use Rattle.hay_logical.specs.Refusals.{answer_at}
-use Rattle.hay_logical.specs.Seen.{BeginRefusedSeen, BreaksStep, ChangesAt, ChangesRun, DeleteSeen, EndsAlone, FlushRefusedSeen, FlushesTo, IsEnded, MeetsDamage}
+use Rattle.hay_logical.specs.Seen.{AreLonger, BeginRefusedSeen, BreaksStep, ChangesAt, ChangesRun, DeleteSeen, EndsAlone, FlushRefusedSeen, FlushesTo, IsEnded, MeetsDamage}
 use Rattle.hay_logical.specs.Seen.{ReplicaSeen, StepRefusedSeen, StepsPartly, StepsTo, Sticks, SwapSeen, VolumeSeen, grown, replica_seen, volume_seen}
-use Rattle.hay_logical.specs.Steps.{CallsOne, IsBeginFault, IsFlushFault, IsStepFault}
+use Rattle.hay_logical.specs.Steps.{CallsOne, IsBeginFault, IsFlushFault, IsStepFault, Lengthens}
 use Rattle.hay_logical.specs.Volumes.{Volume}
 use Rattle.hay_logical.proofs.Changing.{set_back}
 use Rattle.hay_logical.proofs.Lists.{at_map}
@@ -227,6 +227,24 @@ map_at f (x ∷ xs) (suc j) y e = map_at f xs j y e
 
 pub many_seen : {D : Type 0} (old new : List (Copy D)) → length new ≡ length old → length (map replica_seen new) ≡ length (map replica_seen old)
 many_seen old new count = length-map new replica_seen ∙ count ∙ sym (length-map old replica_seen)
+
+-- ENDS
+
+pub grown_longer : {D : Type 0} (size : ℕ) (r r' : Copy D) → replica_seen r' ≡ grown size (replica_seen r) → end_of r ≤ end_of r'
+grown_longer size r r' is = let end : end_of r' ≡ end_of r + needle_total size = ap (λ (s : ReplicaSeen). s.end) is in omega (arith, end)
+
+pub delete_longer : {D : Type 0} (r r' : Copy D) → DeleteSeen (replica_seen r) (replica_seen r') → end_of r ≤ end_of r'
+delete_longer r r' (inl same) = let end : end_of r' ≡ end_of r = ap (λ (s : ReplicaSeen). s.end) same in omega (arith, end)
+delete_longer r r' (inr ended) = let end : end_of r' ≡ end_of r = ap (λ (s : ReplicaSeen). s.end) (ended.1) in omega (arith, end)
+
+pub longer_seen : {D : Type 0} (old new news : List (Copy D)) → news ≡ new → Lengthens old new → AreLonger (map replica_seen old) (map replica_seen news)
+longer_seen old new news is longer j s s' e f =
+    let x = map_at replica_seen old j s e in
+    let y = map_at replica_seen new j s' (subst (λ rs. At (map replica_seen rs) j s') is f) in
+    let grows = longer j x.0 y.0 x.1 y.1 in
+    let from : s.end ≡ end_of x.0 = ap (λ (r : ReplicaSeen). r.end) x.2 in
+    let to : s'.end ≡ end_of y.0 = ap (λ (r : ReplicaSeen). r.end) y.2 in
+    omega (arith, grows, from, to)
 
 -- ONE REPLICA OF A VOLUME
 

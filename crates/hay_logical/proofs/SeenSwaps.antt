@@ -1,5 +1,5 @@
 -- What is seen of a volume behind the end of a compaction.
-use Rattle.std.proofs.Common.{◌≡◌, inl, inr, ℕ, List, Option, None, Some, refl, sym, ap, subst, ◌∙◌}
+use Rattle.std.proofs.Common.{◌≡◌, ◌≤◌, arith, inl, inr, ℕ, List, Option, None, Some, refl, sym, ap, subst, ◌∙◌}
 use Rattle.std.specs.Prelude.{map, slice_set, Result, IfSome}
 use Rattle.std.proofs.lemmas.Bool.{cases_eq}
 use Rattle.hay_needle.specs.declared.settings.Settings.{Settings}
@@ -7,15 +7,17 @@ use Rattle.hay_disk.specs.Disk.{Files}
 use Rattle.hay_map.specs.MapRows.{MapRows}
 use Rattle.hay_legal.specs.Known.{machine_of}
 use Rattle.hay_physical.specs.declared.fault.ReplicaFault.TheVariants as fault
-use Rattle.hay_physical.specs.Copies.{Copy, IsFrozen, IsUp, goal_of}
+use Rattle.hay_physical.specs.Copies.{Copy, IsFrozen, IsUp, end_of, goal_of}
 use Rattle.hay_logical.specs.declared.runs.NewFiles.{NewFiles}
 use Rattle.hay_logical.specs.declared.runs.Unswapped.{Unswapped}
 use Rattle.hay_logical.specs.declared.runs.Unswapped.TheVariants.{Refused, Unsure as Perhaps}
 use Rattle.hay_logical.specs.Fits.{At}
 use Rattle.hay_logical.specs.Refusals.{unfinished_by}
 use Rattle.hay_logical.specs.Seen.{ChangesAt, ChangesRun, CompactRefusedSeen, EndsAlone, FinishRefusedSeen, FreezesSeen, ReplicaSeen, VolumeSeen, replica_seen}
-use Rattle.hay_logical.specs.Steps.{AllIdle, IsLeftBy, Start}
+use Rattle.hay_logical.specs.Steps.{AllIdle, IsLeftBy, Lengthens, Start, SwapsOne}
 use Rattle.hay_logical.specs.Steps.Start.{Fresh, Going}
+use Rattle.hay_logical.specs.declared.fault.LogicalFault.TheVariants as refusal
+use Rattle.hay_logical.proofs.Sighting.{damaged_answer}
 use Rattle.hay_logical.proofs.Lists.{at_below, at_same, at_set_other, at_set_same, length-slice_set}
 use Rattle.hay_logical.proofs.Seen.{map_at, none_same}
 use Rattle.hay_logical.proofs.SwapShapes.{SwapCall}
@@ -45,6 +47,18 @@ calls_set {D} {P} {DiskTells} {files} {Tells} {faults} {start} {items} {new} {ro
           ∙ sym (at_same (slice_set items at after) at a after (subst (λ n. At (slice_set items at after) n a) here e) (at_set_same items at after low))
       | inr apart ↦ (call.one.others j a b apart (sym (at_set_other items j at after apart) ∙ e) f).1 up
     ])
+
+-- nor do the cells end earlier where no files were made
+pub refused_longer : {D : Type 0} (DiskTells : Type 0) (files : D → Files) (at : ℕ) (old new : List (Copy D)) (one : SwapsOne DiskTells files at old new)
+    → ChangesRun (replica_seen one.before) (replica_seen one.after) → Lengthens old new
+refused_longer {D} DiskTells files at old new one changes j r r' e f = elim (cases_eq j at) [
+  | inl here ↦
+      let before : one.before ≡ r = at_same old at one.before r one.was (subst (λ n. At old n r) here e) in
+      let after : one.after ≡ r' = at_same new at one.after r' one.is (subst (λ n. At new n r') here f) in
+      let end : end_of one.after ≡ end_of one.before = ap (λ (s : ReplicaSeen). s.end) changes in
+      subst (λ (x : Copy D). end_of x ≤ end_of r') before (subst (λ (x : Copy D). end_of one.before ≤ end_of x) after (omega (arith, end)))
+  | inr apart ↦ let end = ((one.others j r r' apart e f).0).end in omega (arith, end)
+]
 
 module _ (settings : Settings) (v at : ℕ) {D : Type 0} (faults : D → ℕ) (r r' : Copy D) (old new : VolumeSeen) (there : At old.replicas at (replica_seen r)) where
   abbrev Froze : Unswapped → Type 0
@@ -79,3 +93,8 @@ module _ (settings : Settings) (v at : ℕ) {D : Type 0} (faults : D → ℕ) (r
   compact_refused_seen thawed up changes (Refused (fault.Full end need capacity)) left same froze = absurd left
   compact_refused_seen thawed up changes (Refused (fault.Ended printed)) left same froze = absurd left
   compact_refused_seen thawed up changes (Perhaps printed) left same froze = (refl, (replica_seen r, there, left.2), inr (froze (machine_of settings v at) left.0 refl))
+
+-- damage is told only where the replica's compaction was refused for it
+pub unfinished_damaged : (settings : Settings) (v replica : ℕ) (u : Unswapped) (m place : ℕ) → (unfinished_by settings v replica u).fault ≡ refusal.Damaged m place → u ≡ Refused (fault.Damaged place)
+unfinished_damaged settings v replica (Refused f) m place e = ap (λ x. Refused x) (damaged_answer (machine_of settings v replica) f m place e)
+unfinished_damaged settings v replica (Perhaps printed) m place e = absurd cc

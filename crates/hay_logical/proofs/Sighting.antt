@@ -33,6 +33,7 @@ use Rattle.hay_logical.proofs.Lists.{at_below, at_same, at_there}
 use Rattle.hay_logical.proofs.Looking.{looks_still, set_others, stands_seen, stored_stands}
 use Rattle.hay_logical.proofs.Methods.{one_after, one_count, other_same, shown}
 use Rattle.hay_logical.proofs.Standing.{volume_with}
+use Rattle.hay_logical.proofs.Within.{row_lies}
 
 -- the places of the other replicas stay
 pub other_places : {P : Type 0} (pair : Pair) (at : ℕ) (rows rows' : MapRows P) (result : Result Unit ReplicaFault) → SeesRow pair at rows rows' result → (j : ℕ) → j ≢ at → (q : Pair) → place_in (row_at rows' q) j ≡ place_in (row_at rows q) j
@@ -88,7 +89,7 @@ module _ {D P : Type 0} (DiskTells : Type 0) (files : D → Files) (Tells : Type
   -- a look changes nothing that a replica stands for
   pub looks_one : (j : ℕ) (r r' : Copy D) → At items j r → At new j r' → LooksAt DiskTells files Tells rows rows' j r r'
   looks_one =
-      by_replica (λ n x y. LooksAt DiskTells files Tells rows rows' n x y) (record { copy = sights.copy; stands = sights.stands; holds = sights.holds; keeps = sights.keeps; reach = sights.reach })
+      by_replica (λ n x y. LooksAt DiskTells files Tells rows rows' n x y) (record { copy = sights.copy; stands = sights.stands; holds = sights.holds; keeps = sights.keeps; reach = sights.reach; within = row_lies pair at rows rows' result row at })
       (λ n x apart e. looks_still DiskTells files Tells rows rows' n x (other_places pair at rows rows' result row n apart))
 
   -- of a replica that stands, the place was seen, unless for another cause than damage

@@ -19,6 +19,7 @@ use Rattle.hay_map.specs.declared.place.Place.{Place}
 use Rattle.hay_map.specs.declared.place.Place.TheVariants as place
 use Rattle.hay_map.specs.declared.view.OpenCell.{OpenCell}
 use Rattle.hay_map.proofs.Moving.{swapped_last, swapped_none}
+use Rattle.hay_open.specs.Finds.{ArePlacesWithin}
 use Rattle.hay_open.specs.Stored.{Stored, index_file, last_cell, volume_file}
 use Rattle.hay_compact.specs.Finishing.{ArePhotos, AreThePlaces, IsLive, IsSeen}
 use Rattle.hay_physical.specs.declared.fault.ReplicaFault.{ReplicaFault}
@@ -31,9 +32,9 @@ use Rattle.hay_physical.proofs.Removing.{removed_since}
 use Rattle.hay_logical.specs.declared.runs.NewFiles.{NewFiles}
 use Rattle.hay_logical.specs.declared.runs.Unswapped.{Unswapped}
 use Rattle.hay_logical.specs.declared.runs.Unswapped.TheVariants.{Refused, Unsure}
-use Rattle.hay_logical.specs.Fits.{PhotoAt}
-use Rattle.hay_logical.specs.Seen.{MeetsDamage, replica_seen}
-use Rattle.hay_logical.specs.Sights.{SwapsSights, sight, sights_of}
+use Rattle.hay_logical.specs.Fits.{At, PhotoAt}
+use Rattle.hay_logical.specs.Seen.{MeetsDamage, ReplicaSeen, replica_seen}
+use Rattle.hay_logical.specs.Sights.{AwaitsLook, LiesWithin, SwapsSights, sight, sights_of}
 use Rattle.hay_logical.specs.Sights.Sight.{Gone, Live, Never, Unseen}
 use Rattle.hay_logical.specs.Steps.{GoesOn, HoldsUnswapped, IsLeftBy, IsStepFault, KeepsPlaces, PlacesAre, Start}
 use Rattle.hay_logical.specs.Steps.{StartsRun, StaysInReach, StepLeaves, SwapsAt, SwapsTo, WasAtRest, still_gone, still_gone_cell}
@@ -46,6 +47,7 @@ use Rattle.hay_logical.proofs.Holding.{no_photo}
 use Rattle.hay_logical.proofs.Lists.{length-slice_set}
 use Rattle.hay_logical.proofs.Reaching.{reaches_on}
 use Rattle.hay_logical.proofs.Tables.{at_cells, cell_outcome, place_means}
+use Rattle.hay_logical.proofs.Within.{last_lies}
 
 -- THE PLACES BEHIND A SWAP
 
@@ -145,13 +147,13 @@ module _ {P : Type 0} (Tells : Type 0) (rows rows' : MapRows P) (at : ℕ) (cell
       → (p ≡ place.Gone → Q place.Gone) → (p ≡ place.None → Q place.None) → Q (swapped_place (map (still_gone_cell rows at) cells) pair (gone_place p))
   swapped_is pair Q (place.Live needle) is here gone none =
       subst Q (sym (kept_there rows at cells pair place.Gone (λ e. let wrong : place.Live needle ≡ place.Gone = sym is ∙ e in cc) ∙ swapped_last cells pair place.Gone refl (have_stood cells photos)))
-      (here (λ e. let wrong : Live ≡ Never = e in cc) (λ e. let wrong : Live ≡ Gone = e in cc))
+      (here (λ e. let wrong : Live needle.at ≡ Never = e in cc) (λ e. let wrong : Live needle.at ≡ Gone = e in cc))
   swapped_is pair Q place.Gone is here gone none = subst Q (sym (kept_gone rows at cells pair is)) (gone refl)
   swapped_is pair Q place.None is here gone none = subst Q (sym (swapped_none (map (still_gone_cell rows at) cells) pair)) (none refl)
   swapped_is pair Q (place.Unseen there size) is here gone none =
       subst Q (sym (kept_there rows at cells pair place.Gone (λ e. let wrong : place.Unseen there size ≡ place.Gone = sym is ∙ e in cc)
       ∙ swapped_last cells pair place.Gone refl (have_stood cells photos)))
-      (here (λ e. let wrong : Unseen ≡ Never = e in cc) (λ e. let wrong : Unseen ≡ Gone = e in cc))
+      (here (λ e. let wrong : Unseen there size ≡ Never = e in cc) (λ e. let wrong : Unseen there size ≡ Gone = e in cc))
 
   new_place : (pair : Pair) (Q : Place P → Type 0) → ((sights_of rows pair at ≡ Never → ⊥) → (sights_of rows pair at ≡ Gone → ⊥) → Q (last_place cells pair place.Gone))
       → (place_in (row_at rows pair) at ≡ place.Gone → Q place.Gone) → (place_in (row_at rows pair) at ≡ place.None → Q place.None) → Q (place_in (row_at rows' pair) at)
@@ -185,19 +187,20 @@ module _ {P : Type 0} (Tells : Type 0) (rows rows' : MapRows P) (at : ℕ) (cell
     };
   }
 
-  pub swaps_sights : SwapsSights at (sights_of rows) (sights_of rows')
-  swaps_sights = record {
+  pub swaps_sights : (end : ℕ) → ArePlacesWithin end cells → (replicas : List ReplicaSeen) → ((r : ReplicaSeen) → At replicas at r → r.end ≡ end) → SwapsSights at replicas (sights_of rows) (sights_of rows')
+  swaps_sights end lie replicas ends = record {
     never = λ pair. new_place pair (λ p. sights_of rows pair at ≡ Never → sight p ≡ Never) (λ some held e. absurd (some e))
         (λ gone e. let wrong : Gone ≡ Never = sym (ap (λ (p : Place P). sight p) gone) ∙ e in cc) (λ none e. refl);
     ever = λ pair. new_place pair (λ p. sight p ≡ Never → sights_of rows pair at ≡ Never)
         (λ some held. last_is (λ p. sight p ≡ Never → sights_of rows pair at ≡ Never) cells pair place.Gone photos
-        (λ needle e. let wrong : Live ≡ Never = e in cc) (λ e. let wrong : Gone ≡ Never = e in cc))
+        (λ needle e. let wrong : Live needle.at ≡ Never = e in cc) (λ e. let wrong : Gone ≡ Never = e in cc))
         (λ gone e. let wrong : Gone ≡ Never = e in cc) (λ none e. ap (λ (p : Place P). sight p) none);
     gone = λ pair. new_place pair (λ p. sights_of rows pair at ≡ Gone → sight p ≡ Gone) (λ some held e. absurd (held e)) (λ gone e. refl)
         (λ none e. let wrong : Never ≡ Gone = sym (ap (λ (p : Place P). sight p) none) ∙ e in cc);
-    seen = λ pair. new_place pair (λ p. sight p ≡ Unseen → ⊥)
-        (λ some held. last_is (λ p. sight p ≡ Unseen → ⊥) cells pair place.Gone photos (λ needle e. let wrong : Live ≡ Unseen = e in cc) (λ e. let wrong : Gone ≡ Unseen = e in cc))
-        (λ gone e. let wrong : Gone ≡ Unseen = e in cc) (λ none e. let wrong : Never ≡ Unseen = e in cc);
+    seen = λ pair. new_place pair (λ p. AwaitsLook (sight p) → ⊥) (λ some held. last_is (λ p. AwaitsLook (sight p) → ⊥) cells pair place.Gone photos (λ needle awaits. awaits) (λ awaits. awaits))
+        (λ gone awaits. awaits) (λ none awaits. awaits);
+    within = λ r there pair. subst (λ n. LiesWithin n (sights_of rows' pair at)) (sym (ends r there))
+        (new_place pair (λ p. LiesWithin end (sight p)) (λ some held. last_lies end cells pair place.Gone lie tt) (λ gone. tt) (λ none. tt));
     others = λ pair j apart. ap (λ (p : Place P). sight p) (loaded_other (row_at rows pair) (row_at rows' pair) j at _ (changed pair) apart);
   }
 

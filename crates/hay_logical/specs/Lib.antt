@@ -3,6 +3,7 @@ pub mod Volumes
 pub mod Stands
 pub mod Answers
 pub mod Steps
+pub mod Needles
 pub mod Notes
 pub mod Refusals
 pub mod Draws

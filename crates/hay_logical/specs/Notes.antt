@@ -26,10 +26,10 @@ is_live (place.Unseen at size) = false
 
 -- whether a photo stands, for all that was seen
 abbrev pub may_be_live : Sight → Bool
-may_be_live Live = true
+may_be_live (Live at) = true
 may_be_live Never = false
 may_be_live Gone = false
-may_be_live Unseen = true
+may_be_live (Unseen at size) = true
 
 -- a replica has a put if its cells end elsewhere now, and a delete if no photo of the pair is there
 abbrev pub keeps : Change → Sights → ℕ → ℕ → Bool

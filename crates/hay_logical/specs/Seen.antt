@@ -160,6 +160,10 @@ pub record SwapSeen (generation end : ℕ) (r r' : ReplicaSeen) : Type 0 where
 abbrev pub SeesIdle : VolumeSeen → Type 0
 SeesIdle seen = (j : ℕ) (r : ReplicaSeen) → At seen.replicas j r → r.goal ≡ None
 
+-- the cells of none end earlier
+abbrev pub AreLonger : List ReplicaSeen → List ReplicaSeen → Type 0
+AreLonger olds news = (j : ℕ) (r r' : ReplicaSeen) → At olds j r → At news j r' → r.end ≤ r'.end
+
 -- It was frozen by this machine, which ended each compaction. No change was pending before.
 pub record FreezesSeen (m : ℕ) (pending : Option Unsure) (old new : VolumeSeen) : Type 0 where
   pub thawed : old.frozen ≡ None
@@ -169,6 +173,7 @@ pub record FreezesSeen (m : ℕ) (pending : Option Unsure) (old new : VolumeSeen
   pub frozen : new.frozen ≡ Some m
   pub unsure : new.unsure ≡ pending
   pub idle : SeesIdle new
+  pub longer : AreLonger old.replicas new.replicas
 
 abbrev pub FinishesTo : ℕ → ℕ → ReplicaSeen → ReplicaSeen → Type 0
 FinishesTo generation end r r' = (r.goal ≡ Some generation) × SwapSeen generation end r r'
@@ -282,10 +287,14 @@ abbrev pub PutSeen : ℕ → ℕ → VolumeSeen → VolumeSeen → Type 0
 PutSeen size position old new =
     (position ≡ old.front + 1) × (old.frozen ≡ None) × (new ≡ record old { front = position; replicas = map (grown size) old.replicas })
 
+-- where the cells of each replica end
+abbrev pub AreEnds : List ℕ → List ReplicaSeen → Type 0
+AreEnds ends replicas = (j : ℕ) (r : ReplicaSeen) → At replicas j r → slice_index ends j ≡ r.end
+
 -- The put of this line is pending, with where the cells of each replica ended before it.
 pub record BreaksPutSeen (tag : CoreTag) (m : ℕ) (old new : VolumeSeen) : Type 0 where
   pub ends : List ℕ
-  pub each : (j : ℕ) (r : ReplicaSeen) → At old.replicas j r → slice_index ends j ≡ r.end
+  pub each : AreEnds ends old.replicas
   pub freezes : FreezesSeen m (Some (record { tag = tag; change = Put ends })) old new
 
 abbrev pub PutRefusedSeen : Settings → ℕ → CoreTag → ℕ → VolumeSeen → VolumeSeen → LogicalFault → Type 0
@@ -328,13 +337,13 @@ DeleteRefusedSeen tag pair old new Idle = ⊥
 
 -- OPENINGS
 
--- a replica whose files were opened
+-- A replica whose files were opened. The cells that have no record stand before its end.
 pub record IsFresh (r : ReplicaSeen) : Type 0 where
   pub goal : r.goal ≡ None
   pub next : r.next ≡ 0
   pub loose : r.stuck ≡ false
   pub most : r.generation ≤ 65535
-  pub from : 64 ≤ r.end
+  pub from : 64 + r.bare * needle_total 0 ≤ r.end
 
 pub record OpenSeen (seen : VolumeSeen) : Type 0 where
   pub front : seen.front ≡ 0

@@ -1,5 +1,5 @@
 -- What the calls of one replica do, as far as a volume goes by it.
-use Rattle.std.specs.Prelude.{◌≡◌, ◌⊎◌, ◌≤◌, ◌<◌, ◌+◌, ℕ, ◌-◌, min, Bool, true, false, List, [], length, slice_set, Option, Some, None, option_map, if◌then◌else◌, Result, Err, IfOk, IfErr, OnOk, OnErr}
+use Rattle.std.specs.Prelude.{◌≡◌, ◌⊎◌, ◌≤◌, ◌<◌, ◌+◌, ℕ, ◌-◌, ◌*◌, min, Bool, true, false, List, [], length, slice_set, Option, Some, None, option_map, if◌then◌else◌, Result, Err, IfOk, IfErr, OnOk, OnErr}
 use Rattle.hay_needle.specs.declared.needle.Cell.{Cell}
 use Rattle.hay_needle.specs.declared.needle.Cookie.{Cookie}
 use Rattle.hay_needle.specs.declared.needle.Pair.{Pair}
@@ -28,7 +28,7 @@ use Rattle.hay_open.specs.Stored.{Stored, IsSealedCell, PlaceOf, IsVoid, OpensAs
 use Rattle.hay_physical.specs.declared.fault.ReplicaFault.{ReplicaFault}
 use Rattle.hay_physical.specs.declared.fault.ReplicaFault.TheVariants as fault
 use Rattle.hay_physical.specs.declared.state.Phase.TheVariants.{Closed}
-use Rattle.hay_physical.specs.Copies.{Copy, IsFrozen, IsOpenCopy, IsUp, capacity_of, contents_of, end_of, generation_of, goal_of, is_frozen, is_stuck}
+use Rattle.hay_physical.specs.Copies.{Copy, IsFrozen, IsOpenCopy, IsUp, bare_of, capacity_of, contents_of, end_of, generation_of, goal_of, is_frozen, is_stuck}
 use Rattle.hay_physical.specs.Faults.{IsSightFault}
 use Rattle.hay_physical.specs.Replicas as physical
 use Rattle.hay_compact.specs.Finishing.{IsSeen}
@@ -43,9 +43,9 @@ use Rattle.hay_logical.specs.declared.runs.Unswapped.TheVariants.{Refused, Unsur
 use Rattle.hay_logical.specs.Answers.{HasSizes}
 use Rattle.hay_logical.specs.Fits.{At, PhotoAt, PlaceStands}
 use Rattle.hay_logical.specs.Refusals.{IsUntouched}
-use Rattle.hay_logical.specs.Seen.{CanBegin, MeetsDamage, replica_seen}
-use Rattle.hay_logical.specs.Sights.{SeesPair, SwapsSights, sight, sights_of}
-use Rattle.hay_logical.specs.Sights.Sight.{Live, Unseen}
+use Rattle.hay_logical.specs.Seen.{CanBegin, MeetsDamage, ReplicaSeen, replica_seen}
+use Rattle.hay_logical.specs.Sights.{AwaitsLook, AwaitsLookAt, LiesWithinAt, SeesPair, Sight, SwapsSights, sight, sights_of}
+use Rattle.hay_logical.specs.Sights.Sight.{Live}
 use Rattle.hay_logical.specs.Volumes.{ReachesPlaces}
 
 -- of each replica, whether a flush has failed, as before
@@ -94,6 +94,11 @@ pub record LosesRun {D : Type 0} (DiskTells : Type 0) (files : D → Files) (r r
   pub stands : DiskTells → (s : Stored) → physical.Stands files r s → physical.Stands files r' s
   pub holds : DiskTells → (stuck : Bool) (s t : Stored) → physical.Holds files r stuck s t → physical.Holds files r' stuck s t
   pub reach : StaysInReach DiskTells files r r'
+  pub end : end_of r' ≡ end_of r
+
+-- the cells of no replica end earlier
+abbrev pub Lengthens : {D : Type 0} → List (Copy D) → List (Copy D) → Type 0
+Lengthens {D} old new = (j : ℕ) (r r' : Copy D) → At old j r → At new j r' → end_of r ≤ end_of r'
 
 -- no compaction stands
 abbrev pub AllIdle : {D : Type 0} → List (Copy D) → Type 0
@@ -115,7 +120,7 @@ pub record PutsAt {D P : Type 0} (DiskTells : Type 0) (files : D → Files) (Tel
       physical.Stands files r' (physical.with_cell s pair cookie bytes) × IsPlaceOf Tells s.end pair cookie bytes p
   pub run : DiskTells → (s : Stored) (run : Option Run) → physical.Stands files r s → HasRun files r s run →
       HasRun files r' (physical.with_cell s pair cookie bytes) (option_map longer run)
-  pub live : sight p ≡ Live
+  pub live : sight p ≡ Live (end_of r)
   pub deletable : DiskTells → physical.MayDeletePlace files r' p
   pub apart : DiskTells → (at size : ℕ) → physical.MaySee files r at size → physical.IsApartPlace at size p
 
@@ -202,13 +207,24 @@ abbrev pub SetsPlaceAt : {P : Type 0} → Pair → ℕ → Place P → MapRows P
 SetsPlaceAt pair at p rows rows' =
     (other : Pair) → row_at rows' other ≡ (if pair_eq pair other then slice_set (row_at rows other) at p else row_at rows other)
 
+-- A refused look comes only where the place was not looked at yet, and damage is told there.
+abbrev pub LookAwaited : Sight → ReplicaFault → Type 0
+LookAwaited before (fault.Damaged place) = AwaitsLookAt place before
+LookAwaited before (fault.Failed printed) = AwaitsLook before
+LookAwaited before fault.NoMemory = AwaitsLook before
+LookAwaited before fault.Frozen = ⊥
+LookAwaited before (fault.Full end need capacity) = ⊥
+LookAwaited before (fault.Busy goal) = ⊥
+LookAwaited before (fault.Ended printed) = ⊥
+LookAwaited before fault.Worn = ⊥
+
 -- A refusal has left each row, and comes only where the place was not looked at yet.
 pub record SeesRow {P : Type 0} (pair : Pair) (at : ℕ) (rows rows' : MapRows P) (result : Result Unit ReplicaFault) : Type 0 where
   pub width : rows'.replicas ≡ rows.replicas
   pub set : OnOk result (SetsPlaceAt pair at (place_in (row_at rows' pair) at) rows rows')
   pub sees : OnOk result (SeesPair pair at (sights_of rows) (sights_of rows'))
   pub kept : OnErr result ((other : Pair) → row_at rows' other ≡ row_at rows other)
-  pub unseen : OnErr result (sights_of rows pair at ≡ Unseen)
+  pub unseen : IfErr result (LookAwaited (sights_of rows pair at))
 
 -- The bytes are the needle of a cell, and the place is what is seen of it. Where the disk tells, the place has the cell's photo.
 pub record IsSeenBy {P : Type 0} (DiskTells Tells : Type 0) (bytes : List ℕ) (there : Place P) : Type 0 where
@@ -496,7 +512,8 @@ pub record SwapsAt {D P : Type 0} (DiskTells : Type 0) (files : D → Files) (fa
 -- the places of the replica moved to its new cells, those of the other replicas stay, and all rows behind a refusal
 pub record KeepsPlaces {P : Type 0} (rows rows' : MapRows P) (at : ℕ) (result : Result (NewFiles P) Unswapped) : Type 0 where
   pub moved : IfOk result (λ new. ChangesRows (op.Swap at new.cells) rows rows')
-  pub sights : OnOk result (SwapsSights at (sights_of rows) (sights_of rows'))
+  pub sights : IfOk result (λ new. (replicas : List ReplicaSeen) → ((r : ReplicaSeen) → At replicas at r → r.end ≡ new.end) →
+      SwapsSights at replicas (sights_of rows) (sights_of rows'))
   pub width : rows'.replicas ≡ rows.replicas
   pub others : (pair : Pair) (i : ℕ) → (i ≡ at → ⊥) → place_in (row_at rows' pair) i ≡ place_in (row_at rows pair) i
   pub same : OnErr result (rows' ≡ rows)
@@ -519,7 +536,8 @@ pub record OpensAt {D P : Type 0} (DiskTells : Type 0) (files : D → Files) (Te
   pub loose : is_stuck r' ≡ false
   pub alone : goal_of r' ≡ None
   pub most : generation_of r' ≤ 65535
-  pub from : 64 ≤ end_of r'
+  pub from : 64 + bare_of r' * needle_total 0 ≤ end_of r'
+  pub within : LiesWithinAt j (end_of r') (sights_of rows)
   pub undamaged : DiskTells → (file at : ℕ) → IsOpeningDamage r.sup (contents_of files r.disk) file at → ⊥
   pub undamaged_now : DiskTells → (file at : ℕ) → IsOpeningDamage r.sup (contents_of files r'.disk) file at → ⊥
   pub formatted : DiskTells → contents_of files r'.disk 0 ≡ [] → ⊥
@@ -570,6 +588,7 @@ pub record LooksAt {D P : Type 0} (DiskTells : Type 0) (files : D → Files) (Te
   pub holds : DiskTells → (stuck : Bool) (s t : Stored) → physical.Holds files r stuck s t → physical.Holds files r' stuck s t
   pub keeps : DiskTells → KeepsBytes (files r.disk) (files r'.disk)
   pub reach : DiskTells → ReachesPlaces files rows j r → ReachesPlaces files rows' j r'
+  pub within : (end : ℕ) → LiesWithinAt j end (sights_of rows) → LiesWithinAt j end (sights_of rows')
 
 -- A needle that is damaged ends no opening.
 abbrev pub IsLookFault : ℕ → ℕ → OpenFault → Type 0

@@ -1,5 +1,5 @@
 -- Changes that stand on each replica, and not yet in the rows.
-use Rattle.std.specs.Prelude.{◌≡◌, ℕ, ◌<◌, ◌+◌, true, false, List, length, map, slice_get, slice_index_or, Some, None}
+use Rattle.std.specs.Prelude.{◌≡◌, ℕ, ◌<◌, ◌+◌, true, false, List, length, map, slice_get, slice_index, slice_index_or, Some, None}
 use Rattle.hay_needle.specs.declared.needle.Cookie.{Cookie}
 use Rattle.hay_needle.specs.declared.needle.Outcome.TheVariants as outcome
 use Rattle.hay_needle.specs.declared.needle.Pair.{Pair}
@@ -83,11 +83,11 @@ pub record IsWritten {D P : Type 0} (files : D → Files) (Tells : Type 0) (k : 
   pub ends : IsChange (change.Put written.ends) k (Put pair cookie bytes)
   pub unshown : IsUnshown files Tells k (Put pair cookie bytes) (op.Put pair written.row) (map (grown (length bytes)) k.replicas) volume
 
--- It can be shown without memory, each place is that of the photo, and each photo is in reach then.
+-- It can be shown without memory, each place is that of the photo, behind the cells before it, and each photo is in reach then.
 pub record IsWrittenFor {D P : Type 0} (DiskTells : Type 0) (files : D → Files) (written : Written P) (volume : Volume D P) : Type 0 where
   pub room : HasRowRoom volume.rows
   pub long : length written.row ≡ volume.rows.replicas
-  pub live : (j : ℕ) → j < length written.row → sight (place_in written.row j) ≡ Live
+  pub live : (j : ℕ) → j < length written.row → sight (place_in written.row j) ≡ Live (slice_index written.ends j)
   pub reach : (rows : MapRows P) → ChangesRows (op.Put written.pair written.row) volume.rows rows → CanReach DiskTells files volume.replicas rows
 
 -- DELETES

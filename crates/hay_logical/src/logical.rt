@@ -21,9 +21,9 @@ ghost use Rattle.hay_logical.specs.Draws.{DrewAt, HasDrawnNothing, looked_pair};
 ghost use Rattle.hay_logical.specs.Fits.{At, PlaceStands, super_of};
 ghost use Rattle.hay_logical.specs.Notes.{NotesTell};
 ghost use Rattle.hay_logical.specs.Refusals.{IsUntouchedBy};
-ghost use Rattle.hay_logical.specs.Seen.{BeginRefusedSeen, BeginSeen, ChangesAt, CompactRefusedSeen, CompactSeen, DeleteRefusedSeen, EraseSeen, FinishRefusedSeen, FinishSeen, FlushRefusedSeen, FlushSeen, FreezesSeen, HideSeen, IsEnded, OpenSeen, PutRefusedSeen, PutSeen, RoomRefusedSeen, RoomSeen, StepRefusedSeen, StepSeen, WriteSeen, volume_seen};
-ghost use Rattle.hay_logical.specs.Sights.{DeleteRefusedSights, DeletesSights, ErasesSights, FindsPhoto, KeepsSights, LookRefusedSights, LooksAtPair, SeesPair, StoresSights, SwapsSights, sights_of};
-ghost use Rattle.hay_logical.specs.Sights.Sight.{Unseen};
+ghost use Rattle.hay_logical.specs.Seen.{AreEnds, BeginRefusedSeen, BeginSeen, ChangesAt, CompactRefusedSeen, CompactSeen, DeleteRefusedSeen, EraseSeen, FinishRefusedSeen, FinishSeen, FlushRefusedSeen, FlushSeen, FreezesSeen, HideSeen, IsEnded, OpenSeen, PutRefusedSeen, PutSeen, ReplicaSeen, RoomRefusedSeen, RoomSeen, StepRefusedSeen, StepSeen, WriteSeen, volume_seen};
+ghost use Rattle.hay_logical.specs.Needles.{AreToldBy, DeletesTold, IsDamagedCell, IsDamagedLook};
+ghost use Rattle.hay_logical.specs.Sights.{DeleteRefusedSights, DeletesSights, ErasesSights, FindsPhoto, KeepsSights, LiesWithinEach, LookRefusedSights, LooksAtPair, SeeRefusedSights, SeesPair, StoresSights, SwapsSights, sights_of};
 ghost use Rattle.hay_logical.specs.Steps.{AllIdle, IsRefusedAt, IsSeenBy, KeepsAbove, KeepsDisk, KeepsFiles, KeepsRuns, KeepsStuck, LosesRun, RoomFor, SetsPlaceAt};
 ghost use Rattle.hay_logical.specs.Volumes.{HasAll, IsClosed, IsMachineOf, IsOfSettings, IsOpenVolume, IsSame, KeepsCounts, Volume};
 ghost use Rattle.hay_logical.specs.Unshown.{GivesUp, IsErased, IsWritten, IsWrittenFor, ShowsSame};
@@ -175,6 +175,7 @@ impl<D: Disk> Logical<D> {
         ensures counts { KeepsCounts D.fault_count D.fuse_count self.old.replicas self.new.replicas }
         ensures same { IsSame self.old self.new }
         ensures seen { OnOk result (OpenSeen (volume_seen self.new)) }
+        ensures within { OnOk result (LiesWithinEach (sights_of self.new.rows) (volume_seen self.new).replicas) }
     {
         self.rows = MapView::new(alloc, self.settings.replicas);
         match open_all(
@@ -287,6 +288,7 @@ impl<D: Disk> Logical<D> {
         ensures counts { KeepsCounts D.fault_count D.fuse_count self.old.replicas self.new.replicas }
         ensures same { IsSame self.old self.new }
         ensures seen { OnOk result (WriteSeen (length bytes.now) (volume_seen self.old) (volume_seen self.new)) }
+        ensures ends { IfOk result (λ written. AreEnds written.ends (volume_seen self.old).replicas) }
         ensures refused_seen { IfErr result (PutRefusedSeen self.old.settings self.old.number tag (length bytes.now) (volume_seen self.old) (volume_seen self.new)) }
     {
         self.room(bytes.len() as u32)?;
@@ -327,7 +329,9 @@ impl<D: Disk> Logical<D> {
         ensures position { result ≡ written.position }
         ensures rows { ChangesRows (map_op.Put written.pair written.row) self.old.rows self.new.rows }
         ensures still { self.new ≡ record self.old { rows = self.new.rows; front = written.position } }
-        ensures sights { StoresSights written.pair self.old.settings.replicas (sights_of self.old.rows) (sights_of self.new.rows) }
+        // Of whatever replicas, whose cells ended there before it was written.
+        ensures sights { (replicas : List ReplicaSeen) → length replicas ≡ self.old.settings.replicas → AreEnds written.ends replicas →
+            StoresSights written.pair replicas (sights_of self.old.rows) (sights_of self.new.rows) }
     {
         give_row::<D>(&mut self.rows, written.pair, written.row);
         self.front = written.position;
@@ -427,7 +431,7 @@ impl<D: Disk> Logical<D> {
         ensures same { IsSame self.old self.new }
         ensures seen { IfOk result (λ position. PutSeen (length bytes.now) position (volume_seen self.old) (volume_seen self.new)) }
         ensures refused_seen { IfErr result (PutRefusedSeen self.old.settings self.old.number tag (length bytes.now) (volume_seen self.old) (volume_seen self.new)) }
-        ensures sights { OnOk result (StoresSights pair self.old.settings.replicas (sights_of self.old.rows) (sights_of self.new.rows)) }
+        ensures sights { OnOk result (StoresSights pair (volume_seen self.old).replicas (sights_of self.old.rows) (sights_of self.new.rows)) }
         ensures refused_sights { OnErr result (KeepsSights (sights_of self.old.rows) (sights_of self.new.rows)) }
     {
         let written = self.write(alloc, tag, pair, cookie, bytes)?;
@@ -464,7 +468,11 @@ impl<D: Disk> Logical<D> {
         ensures kept { OnErr result ((other : Pair) → row_at self.new.rows other ≡ row_at self.old.rows other) }
         ensures sights { OnOk result (SeesPair pair replica (sights_of self.old.rows) (sights_of self.new.rows)) }
         // A refusal comes only where it was not looked at yet.
-        ensures refused_sights { OnErr result (KeepsSights (sights_of self.old.rows) (sights_of self.new.rows) × (sights_of self.old.rows pair replica ≡ Unseen)) }
+        ensures refused_sights { IfErr result (SeeRefusedSights pair replica (sights_of self.old.rows) (sights_of self.new.rows)) }
+        // Where the disk tells, a place is what the needle is that stands there, and damaged where none of its size does.
+        ensures told { D.Tells → AreToldBy D.files self.old.replicas pair (sights_of self.old.rows) (sights_of self.new.rows) }
+        ensures damaged { D.Tells → (m place : ℕ) → result ≡ Err (LogicalFault.Damaged m place) →
+            IsDamagedLook D.files self.old.settings self.old.number self.old.replicas pair m place (sights_of self.old.rows) }
 
         // A place that was not looked at yet is what the needle shows that was read. Where the disk tells, its piece has that photo.
         ensures needle { (IsSeen (place_in (row_at self.old.rows pair) replica) → ⊥) →
@@ -506,7 +514,10 @@ impl<D: Disk> Logical<D> {
         ensures row { OnOk result (SetsPlaceAt pair replica (place_in (row_at self.new.rows pair) replica) self.old.rows self.new.rows) }
         ensures kept { OnErr result ((other : Pair) → row_at self.new.rows other ≡ row_at self.old.rows other) }
         ensures sights { OnOk result (SeesPair pair replica (sights_of self.old.rows) (sights_of self.new.rows)) }
-        ensures unseen { OnErr result (sights_of self.old.rows pair replica ≡ Unseen) }
+        ensures see_refused { IfErr result (SeeRefusedSights pair replica (sights_of self.old.rows) (sights_of self.new.rows)) }
+        ensures told { D.Tells → AreToldBy D.files self.old.replicas pair (sights_of self.old.rows) (sights_of self.new.rows) }
+        ensures damaged { D.Tells → (m place : ℕ) → result ≡ Err (LogicalFault.Damaged m place) →
+            IsDamagedLook D.files self.old.settings self.old.number self.old.replicas pair m place (sights_of self.old.rows) }
         ensures refused_sights { IfErr result (LookRefusedSights self.old.settings self.old.number pair (sights_of self.old.rows) (sights_of self.new.rows)) }
         ensures needle { (IsSeen (place_in (row_at self.old.rows pair) replica) → ⊥) →
             OnOk result (IsSeenBy D.Tells D.Piece.Tells out.new.items (place_in (row_at self.new.rows pair) replica)) }
@@ -545,6 +556,9 @@ impl<D: Disk> Logical<D> {
         ensures seen { OnOk result ((j : ℕ) → j < self.new.settings.replicas → IsSeen (place_in (row_at self.new.rows pair) j)) }
         ensures sights { OnOk result (LooksAtPair pair (sights_of self.old.rows) (sights_of self.new.rows)) }
         ensures refused_sights { IfErr result (LookRefusedSights self.old.settings self.old.number pair (sights_of self.old.rows) (sights_of self.new.rows)) }
+        ensures told { D.Tells → AreToldBy D.files self.old.replicas pair (sights_of self.old.rows) (sights_of self.new.rows) }
+        ensures damaged { D.Tells → (m place : ℕ) → result ≡ Err (LogicalFault.Damaged m place) →
+            IsDamagedLook D.files self.old.settings self.old.number self.old.replicas pair m place (sights_of self.old.rows) }
         ensures causes { IfErr result (IsSightFault D.fault_count self.old.settings self.old.number self.old.replicas self.new.replicas) }
         ensures files { KeepsFiles D.Tells D.files self.old.replicas self.new.replicas }
         ensures stuck { KeepsStuck self.old.replicas self.new.replicas }
@@ -597,6 +611,11 @@ impl<D: Disk> Logical<D> {
         ensures refused_seen { IfErr result (DeleteRefusedSeen tag pair (volume_seen self.old) (volume_seen self.new)) }
         ensures sights { OnOk result (FindsPhoto pair self.old.settings.replicas (sights_of self.old.rows) (sights_of self.new.rows)) }
         ensures refused_sights { IfErr result (DeleteRefusedSights self.old.settings self.old.number pair self.new.frozen (sights_of self.old.rows) (sights_of self.new.rows)) }
+        // Where the disk tells, what a look made of a place is what the needle is that stands there, and a refusal tells damage where none
+        // of its size does.
+        ensures told { D.Tells → AreToldBy D.files self.old.replicas pair (sights_of self.old.rows) (sights_of self.new.rows) }
+        ensures damaged { D.Tells → (m place : ℕ) → result ≡ Err (LogicalFault.Damaged m place) →
+            IsDamagedLook D.files self.old.settings self.old.number self.old.replicas pair m place (sights_of self.old.rows) }
         // A compaction ended only where its disk's count of faults rose.
         ensures ended { OnOk result (KeepsRuns D.fault_count self.old.replicas self.new.replicas) }
     {
@@ -623,6 +642,7 @@ impl<D: Disk> Logical<D> {
         ensures thawed { (m : ℕ) → result ≡ Err (LogicalFault.ReadOnly m) → ⊥ }
         ensures files { OnErr result (self.new.unsure ≡ self.old.unsure → KeepsFiles D.Tells D.files self.old.replicas self.new.replicas) }
         ensures tight { D.Tells → (j : ℕ) → IsTightAt D.files self.old j → OnErr result (self.new.unsure ≡ self.old.unsure → IsTightAt D.files self.new j) }
+        ensures rows { KeepsSights (sights_of self.old.rows) (sights_of self.new.rows) }
         ensures kept { OnErr result ((pair : Pair) → row_at self.new.rows pair ≡ row_at self.old.rows pair) }
         // Each replica behind one whose disk failed keeps its files.
         ensures above { (m count : ℕ) → result ≡ Err (LogicalFault.Failed m count) →
@@ -709,6 +729,10 @@ impl<D: Disk> Logical<D> {
         ensures refused_seen { IfErr result (DeleteRefusedSeen tag pair (volume_seen self.old) (volume_seen self.new)) }
         ensures sights { OnOk result (DeletesSights pair self.old.settings.replicas (sights_of self.old.rows) (sights_of self.new.rows)) }
         ensures refused_sights { IfErr result (DeleteRefusedSights self.old.settings self.old.number pair self.new.frozen (sights_of self.old.rows) (sights_of self.new.rows)) }
+        ensures told { D.Tells → OnOk result (DeletesTold D.files self.old.replicas pair self.old.settings.replicas (sights_of self.old.rows) (sights_of self.new.rows)) }
+        ensures refused_told { D.Tells → OnErr result (AreToldBy D.files self.old.replicas pair (sights_of self.old.rows) (sights_of self.new.rows)) }
+        ensures damaged { D.Tells → (m place : ℕ) → result ≡ Err (LogicalFault.Damaged m place) →
+            IsDamagedLook D.files self.old.settings self.old.number self.old.replicas pair m place (sights_of self.old.rows) }
         // A compaction ended only where its disk's count of faults rose.
         ensures ended { OnOk result (KeepsRuns D.fault_count self.old.replicas self.new.replicas) }
     {
@@ -811,6 +835,7 @@ impl<D: Disk> Logical<D> {
         ensures same { IsSame self.old self.new }
         ensures seen { IfOk result (λ number. StepSeen replica cells number (volume_seen self.old) (volume_seen self.new)) }
         ensures refused_seen { IfErr result (StepRefusedSeen self.old.settings self.old.number replica (volume_seen self.old) (volume_seen self.new)) }
+        ensures damaged { D.Tells → (m place : ℕ) → result ≡ Err (LogicalFault.Damaged m place) → IsDamagedCell D.files self.old.replicas replica place }
     {
         if let Some(machine) = self.frozen {
             return Err(LogicalFault::ReadOnly { machine });
@@ -866,7 +891,8 @@ impl<D: Disk> Logical<D> {
         ensures same { IsSame self.old self.new }
         ensures seen { IfOk result (λ files. FinishSeen replica files.generation files.end (volume_seen self.old) (volume_seen self.new)) }
         ensures refused_seen { IfErr result (FinishRefusedSeen self.old.settings self.old.number replica (volume_seen self.old) (volume_seen self.new)) }
-        ensures sights { OnOk result (SwapsSights replica (sights_of self.old.rows) (sights_of self.new.rows)) }
+        ensures damaged { D.Tells → (m place : ℕ) → result ≡ Err (LogicalFault.Damaged m place) → IsDamagedCell D.files self.old.replicas replica place }
+        ensures sights { OnOk result (SwapsSights replica (volume_seen self.new).replicas (sights_of self.old.rows) (sights_of self.new.rows)) }
         ensures refused_sights { OnErr result (KeepsSights (sights_of self.old.rows) (sights_of self.new.rows)) }
     {
         if let Some(machine) = self.frozen {
@@ -917,7 +943,8 @@ impl<D: Disk> Logical<D> {
         ensures same { IsSame self.old self.new }
         ensures seen { IfOk result (λ generation. (end : ℕ) × FinishSeen replica generation end (volume_seen self.old) (volume_seen self.new)) }
         ensures refused_seen { IfErr result (FinishRefusedSeen self.old.settings self.old.number replica (volume_seen self.old) (volume_seen self.new)) }
-        ensures sights { OnOk result (SwapsSights replica (sights_of self.old.rows) (sights_of self.new.rows)) }
+        ensures damaged { D.Tells → (m place : ℕ) → result ≡ Err (LogicalFault.Damaged m place) → IsDamagedCell D.files self.old.replicas replica place }
+        ensures sights { OnOk result (SwapsSights replica (volume_seen self.new).replicas (sights_of self.old.rows) (sights_of self.new.rows)) }
         ensures refused_sights { OnErr result (KeepsSights (sights_of self.old.rows) (sights_of self.new.rows)) }
     {
         let files = self.finish_files(replica)?;
@@ -959,7 +986,8 @@ impl<D: Disk> Logical<D> {
         ensures same { IsSame self.old self.new }
         ensures seen { IfOk result (λ files. CompactSeen replica files.generation files.end (volume_seen self.old) (volume_seen self.new)) }
         ensures refused_seen { IfErr result (CompactRefusedSeen self.old.settings self.old.number replica (volume_seen self.old) (volume_seen self.new)) }
-        ensures sights { OnOk result (SwapsSights replica (sights_of self.old.rows) (sights_of self.new.rows)) }
+        ensures damaged { D.Tells → (m place : ℕ) → result ≡ Err (LogicalFault.Damaged m place) → IsDamagedCell D.files self.old.replicas replica place }
+        ensures sights { OnOk result (SwapsSights replica (volume_seen self.new).replicas (sights_of self.old.rows) (sights_of self.new.rows)) }
         ensures refused_sights { OnErr result (KeepsSights (sights_of self.old.rows) (sights_of self.new.rows)) }
     {
         if let Some(machine) = self.frozen {
@@ -1006,7 +1034,8 @@ impl<D: Disk> Logical<D> {
         ensures same { IsSame self.old self.new }
         ensures seen { IfOk result (λ generation. (end : ℕ) × CompactSeen replica generation end (volume_seen self.old) (volume_seen self.new)) }
         ensures refused_seen { IfErr result (CompactRefusedSeen self.old.settings self.old.number replica (volume_seen self.old) (volume_seen self.new)) }
-        ensures sights { OnOk result (SwapsSights replica (sights_of self.old.rows) (sights_of self.new.rows)) }
+        ensures damaged { D.Tells → (m place : ℕ) → result ≡ Err (LogicalFault.Damaged m place) → IsDamagedCell D.files self.old.replicas replica place }
+        ensures sights { OnOk result (SwapsSights replica (volume_seen self.new).replicas (sights_of self.old.rows) (sights_of self.new.rows)) }
         ensures refused_sights { OnErr result (KeepsSights (sights_of self.old.rows) (sights_of self.new.rows)) }
     {
         let files = self.compact_files(alloc, replica)?;

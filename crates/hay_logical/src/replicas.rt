@@ -15,7 +15,7 @@ ghost use Rattle.hay_logical.specs.Fits.{At};
 ghost use Rattle.hay_logical.specs.Refusals.{IsUntouched};
 ghost use Rattle.hay_logical.specs.Volumes.{CanReach, KeepsCounts, ReachesPlaces};
 ghost use Rattle.hay_logical.specs.Seen.{DeleteSeen, FlushesTo, grown, replica_seen};
-ghost use Rattle.hay_logical.specs.Steps.{AllIdle, CallsOne, DeleteLeaves, DeletesAt, EndsRuns, FlushesAt, FollowsAt, FusesAt, IsOpenFault, IsRefusedAt, KeepsDisk, KeepsFiles, LacksRoom, LeftAt, OpensAt, PutLeaves, PutsAt, RoomFor, StaysBeside, StaysInReach, Stops};
+ghost use Rattle.hay_logical.specs.Steps.{AllIdle, CallsOne, DeleteLeaves, DeletesAt, EndsRuns, FlushesAt, FollowsAt, FusesAt, IsOpenFault, IsRefusedAt, KeepsDisk, KeepsFiles, LacksRoom, LeftAt, Lengthens, OpensAt, PutLeaves, PutsAt, RoomFor, StaysBeside, StaysInReach, Stops};
 
 use crate::fault::Unopened;
 use crate::refusals::is_untouched;
@@ -99,6 +99,7 @@ pub(crate) fn put_each<D: Disk>(
     ensures put { IfOk result (λ row. (j : ℕ) (r r' : Copy D) → At replicas.old j r → At replicas.new j r' →
         PutsAt D.Tells D.files D.Piece.Tells pair cookie bytes.now r r' (place_in row j)) }
     ensures reach { (j : ℕ) (r r' : Copy D) → At replicas.old j r → At replicas.new j r' → StaysInReach D.Tells D.files r r' }
+    ensures ends { Lengthens replicas.old replicas.new }
     ensures broken { IfErr result (PutLeaves D.Tells D.files D.fault_count pair cookie bytes.now replicas.old replicas.new) }
     ensures untouched { IfErr result (λ broken. IsUntouched replicas.new broken → KeepsFiles D.Tells D.files replicas.old replicas.new) }
     ensures runs { IfErr result (EndsRuns D.Tells D.files replicas.old replicas.new) }
@@ -134,6 +135,7 @@ fn put_in_order<D: Disk>(
     ensures put { IfOk result (λ row. (j : ℕ) (r r' : Copy D) → At replicas.old j r → At replicas.new j r' →
         PutsAt D.Tells D.files D.Piece.Tells pair cookie bytes.now r r' (place_in row j)) }
     ensures reach { (j : ℕ) (r r' : Copy D) → At replicas.old j r → At replicas.new j r' → StaysInReach D.Tells D.files r r' }
+    ensures ends { Lengthens replicas.old replicas.new }
     ensures broken { IfErr result (PutLeaves D.Tells D.files D.fault_count pair cookie bytes.now replicas.old replicas.new) }
     ensures untouched { IfErr result (λ broken. IsUntouched replicas.new broken → KeepsFiles D.Tells D.files replicas.old replicas.new) }
     ensures others { IfErr result (λ broken. (j : ℕ) (r r' : Copy D) → broken.at < j → At replicas.old j r → At replicas.new j r' → r' ≡ r) }
@@ -173,6 +175,7 @@ pub(crate) fn delete_each<D: Disk>(
     ensures follow { OnOk result ((j : ℕ) (r r' : Copy D) → At replicas.old j r → At replicas.new j r' →
         FollowsAt D.Tells D.files D.fault_count pair (place_in row.now j) r r') }
     ensures reach { (j : ℕ) (r r' : Copy D) → At replicas.old j r → At replicas.new j r' → StaysBeside D.Tells D.files (place_in row.now j) r r' }
+    ensures ends { Lengthens replicas.old replicas.new }
     ensures broken { IfErr result (DeleteLeaves D.Tells D.files D.fault_count row.now replicas.old replicas.new) }
     ensures runs { OnErr result (AllIdle replicas.new) }
 {
@@ -202,6 +205,7 @@ fn delete_in_order<D: Disk>(
     ensures follow { OnOk result ((j : ℕ) (r r' : Copy D) → At replicas.old j r → At replicas.new j r' →
         FollowsAt D.Tells D.files D.fault_count pair (place_in row.now j) r r') }
     ensures reach { (j : ℕ) (r r' : Copy D) → At replicas.old j r → At replicas.new j r' → StaysBeside D.Tells D.files (place_in row.now j) r r' }
+    ensures ends { Lengthens replicas.old replicas.new }
     ensures broken { IfErr result (DeleteLeaves D.Tells D.files D.fault_count row.now replicas.old replicas.new) }
 {
     for (j, replica) in replicas.iter_mut().enumerate() {

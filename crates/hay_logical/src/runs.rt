@@ -1,8 +1,9 @@
 //! Compactions of replicas.
-ghost use Rattle.std.specs.Prelude.{◌≡◌, ◌≤◌, ◌<◌, ℕ, if◌then◌else◌, true, false, length, map, None, IfOk, OnErr};
+ghost use Rattle.std.specs.Prelude.{◌≡◌, ◌≤◌, ◌<◌, ℕ, if◌then◌else◌, true, false, length, map, None, Err, IfOk, OnErr};
 ghost use Rattle.hay_map.specs.Places.{place_in};
-ghost use Rattle.hay_physical.specs.Copies.{Copy, IsUp, goal_of, is_frozen};
+ghost use Rattle.hay_physical.specs.Copies.{Copy, IsUp, goal_of, is_frozen, volume_bytes};
 ghost use Rattle.hay_logical.specs.Fits.{At};
+ghost use Rattle.hay_logical.specs.Needles.{IsDamagedCell, LacksCell};
 ghost use Rattle.hay_logical.specs.Seen.{BeginsTo, BreaksStep, ChangesRun, IsEnded, StepsTo, SwapSeen, replica_seen};
 ghost use Rattle.hay_logical.specs.Steps.Start.{Examined, Fresh, Going};
 ghost use Rattle.hay_logical.specs.Steps.{AllIdle, BeginsAt, CallsOne, ExaminesAt, KeepsPlaces, LosesRun, StaysInReach, StepsAt, SwapsAt, SwapsOne, latest_of, still_gone, still_gone_cell};
@@ -90,6 +91,7 @@ pub(crate) fn step_at<D: Disk>(
     ensures counts { KeepsCounts D.fault_count D.fuse_count replicas.old replicas.new }
     ensures seen { (r r' : Copy D) → At replicas.old at r → At replicas.new at r' → IfOk result (λ number. StepsTo cells number (replica_seen r) (replica_seen r')) }
     ensures left { (r r' : Copy D) → At replicas.old at r → At replicas.new at r' → OnErr result (BreaksStep (replica_seen r) (replica_seen r')) }
+    ensures damaged { D.Tells → (place : ℕ) → result ≡ Err (ReplicaFault.Damaged place) → IsDamagedCell D.files replicas.old at place }
 {
     step(&mut replicas[at], at as u32, rows, cells)
 }
@@ -114,6 +116,7 @@ pub(crate) fn finish_at<D: Disk>(
     ensures counts { KeepsCounts D.fault_count D.fuse_count replicas.old replicas.new }
     ensures seen { (r r' : Copy D) → At replicas.old at r → At replicas.new at r' → IfOk result (λ files. SwapSeen files.generation files.end (replica_seen r) (replica_seen r')) }
     ensures kept { (r r' : Copy D) → At replicas.old at r → At replicas.new at r' → OnErr result (ChangesRun (replica_seen r) (replica_seen r')) }
+    ensures damaged { D.Tells → (place : ℕ) → result ≡ Err (Unswapped.Refused (ReplicaFault.Damaged place)) → IsDamagedCell D.files replicas.old at place }
 {
     let result = finish(&mut replicas[at], at as u32, rows);
     drop_behind(replicas, at);
@@ -139,6 +142,7 @@ pub(crate) fn compact_at<D: Disk>(
     ensures counts { KeepsCounts D.fault_count D.fuse_count replicas.old replicas.new }
     ensures seen { (r r' : Copy D) → At replicas.old at r → At replicas.new at r' → IfOk result (λ files. SwapSeen files.generation files.end (replica_seen r) (replica_seen r')) }
     ensures kept { (r r' : Copy D) → At replicas.old at r → At replicas.new at r' → OnErr result (ChangesRun (replica_seen r) (replica_seen r')) }
+    ensures damaged { D.Tells → (place : ℕ) → result ≡ Err (Unswapped.Refused (ReplicaFault.Damaged place)) → IsDamagedCell D.files replicas.old at place }
 {
     let result = compact(&mut replicas[at], at as u32, rows, alloc);
     drop_behind(replicas, at);
@@ -174,6 +178,7 @@ fn compact<D: Disk>(
     ensures fuses { D.fuse_count replica.new.disk ≡ D.fuse_count replica.old.disk }
     ensures seen { IfOk result (λ files. SwapSeen files.generation files.end (replica_seen replica.old) (replica_seen replica.new)) }
     ensures kept { OnErr result (ChangesRun (replica_seen replica.old) (replica_seen replica.new)) }
+    ensures damaged { D.Tells → (place : ℕ) → result ≡ Err (Unswapped.Refused (ReplicaFault.Damaged place)) → LacksCell D.files replica.old place }
 {
     match replica.begin(alloc) {
         Ok(_) => finish(replica, at, rows),
@@ -197,6 +202,7 @@ fn finish<D: Disk>(
     ensures fuses { D.fuse_count replica.new.disk ≡ D.fuse_count replica.old.disk }
     ensures seen { IfOk result (λ files. SwapSeen files.generation files.end (replica_seen replica.old) (replica_seen replica.new)) }
     ensures kept { OnErr result (ChangesRun (replica_seen replica.old) (replica_seen replica.new)) }
+    ensures damaged { D.Tells → (place : ℕ) → result ≡ Err (Unswapped.Refused (ReplicaFault.Damaged place)) → LacksCell D.files replica.old place }
 {
     // There are fewer cells than bytes.
     let most = replica.end();
@@ -225,6 +231,7 @@ fn swap<D: Disk>(
     ensures fuses { D.fuse_count replica.new.disk ≡ D.fuse_count replica.old.disk }
     ensures seen { IfOk result (λ files. SwapSeen files.generation files.end (replica_seen replica.old) (replica_seen replica.new)) }
     ensures kept { OnErr result (ChangesRun (replica_seen replica.old) (replica_seen replica.new)) }
+    ensures undamaged { (place : ℕ) → result ≡ Err (Unswapped.Refused (ReplicaFault.Damaged place)) → ⊥ }
 {
     let count = replica.copied();
     match replica.finish() {
@@ -295,6 +302,7 @@ fn step<D: Disk>(
     ensures fuses { D.fuse_count replica.new.disk ≡ D.fuse_count replica.old.disk }
     ensures seen { IfOk result (λ number. StepsTo cells number (replica_seen replica.old) (replica_seen replica.new)) }
     ensures left { OnErr result (BreaksStep (replica_seen replica.old) (replica_seen replica.new)) }
+    ensures damaged { D.Tells → (place : ℕ) → result ≡ Err (ReplicaFault.Damaged place) → LacksCell D.files replica.old place }
 {
     for examined in 0..cells {
         match examine(replica, at, rows) {
@@ -320,6 +328,8 @@ fn examine<D: Disk>(
     ensures fuses { D.fuse_count replica.new.disk ≡ D.fuse_count replica.old.disk }
     ensures seen { IfOk result (λ more. StepsTo 1 (if more then 1 else 0) (replica_seen replica.old) (replica_seen replica.new)) }
     ensures left { OnErr result (BreaksStep (replica_seen replica.old) (replica_seen replica.new)) }
+    ensures bytes { D.Tells → volume_bytes D.files replica.new ≡ volume_bytes D.files replica.old }
+    ensures damaged { D.Tells → (place : ℕ) → result ≡ Err (ReplicaFault.Damaged place) → LacksCell D.files replica.old place }
 {
     match replica.peek() {
         Ok(None) => Ok(false),

@@ -6,11 +6,12 @@ ghost use Rattle.hay_map.specs.declared.place.Place.TheVariants as place;
 ghost use Rattle.hay_open.specs.Stored.{Stored};
 ghost use Rattle.hay_compact.specs.Finishing.{IsSeen};
 ghost use Rattle.hay_physical.specs.declared.state.Phase.TheVariants.{Closed};
-ghost use Rattle.hay_physical.specs.Copies.{Copy, IsOpenCopy, is_frozen};
+ghost use Rattle.hay_physical.specs.Copies.{Copy, IsOpenCopy, is_frozen, volume_bytes};
 ghost use Rattle.hay_physical.specs.Faults.{IsSightFault};
 ghost use Rattle.hay_physical.specs.Replicas as physical;
 ghost use Rattle.hay_logical.specs.Draws.{DrawsAtMost, DrewAt, look_total, looked_pair, looked_total};
 ghost use Rattle.hay_logical.specs.Fits.{At};
+ghost use Rattle.hay_logical.specs.Needles.{TellsNeedle};
 ghost use Rattle.hay_logical.specs.Notes.{SeesUnsure};
 ghost use Rattle.hay_logical.specs.Steps.{CallsOne, IsLookFault, IsRefusedAt, IsSeenBy, IsUnseenAt, KeepsDisk, LeftAt, LooksAt, OpensAt, PlacesAre, SeesRow, SightsAt};
 ghost use Rattle.hay_logical.specs.Volumes.{CanReach, KeepsCounts};
@@ -44,6 +45,7 @@ pub(crate) fn see_at<D: Disk>(
     ensures drawn { D.Tells → (r r' : Copy D) → At replicas.old at r → At replicas.new at r' →
         DrawsAtMost D.drawn (look_total (place_in (row_at rows.old pair) at)) r r' }
     ensures row { SeesRow pair at rows.old rows.new result }
+    ensures told { D.Tells → (r : Copy D) → At replicas.old at r → TellsNeedle (volume_bytes D.files r) pair at rows.old rows.new result }
     ensures needle { (IsSeen (place_in (row_at rows.old pair) at) → ⊥) → OnOk result (IsSeenBy D.Tells D.Piece.Tells out.new.items (place_in (row_at rows.new pair) at)) }
     ensures counts { KeepsCounts D.fault_count D.fuse_count replicas.old replicas.new }
 {
@@ -64,6 +66,7 @@ fn see<D: Disk>(
     ensures sights { SightsAt D.Tells D.files D.fault_count D.Piece.Tells pair rows.old rows.new at replica.old replica.new result }
     ensures drawn { D.Tells → DrawsAtMost D.drawn (look_total (place_in (row_at rows.old pair) at)) replica.old replica.new }
     ensures row { SeesRow pair at rows.old rows.new result }
+    ensures told { D.Tells → TellsNeedle (volume_bytes D.files replica.old) pair at rows.old rows.new result }
     ensures needle { (IsSeen (place_in (row_at rows.old pair) at) → ⊥) → OnOk result (IsSeenBy D.Tells D.Piece.Tells out.new.items (place_in (row_at rows.new pair) at)) }
     ensures counts { D.fault_count replica.old.disk ≤ D.fault_count replica.new.disk }
     ensures fuses { D.fuse_count replica.new.disk ≡ D.fuse_count replica.old.disk }

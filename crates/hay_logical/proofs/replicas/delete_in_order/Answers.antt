@@ -2,16 +2,16 @@ use Rattle.std.proofs.Common.{Err, None, option_map, ◌≡◌, ◌⊎◌, ◌�
 use Rattle.std.specs.Prelude.{slice_index_or}
 use Rattle.hay_map.specs.Places.{place_in}
 use Rattle.hay_map.specs.declared.place.Place.TheVariants as place
-use Rattle.hay_physical.specs.Copies.{Copy, goal_of, is_stuck}
+use Rattle.hay_physical.specs.Copies.{Copy, end_of, goal_of, is_stuck}
 use Rattle.hay_physical.specs.Runs.{HasLastAt, HasRun, loosened}
 use Rattle.hay_physical.specs.Replicas as physical
 use Rattle.hay_logical.specs.Fits.{At}
 use Rattle.hay_logical.specs.Steps.{DeletesAt, FollowsAt, LosesRun, StaysBeside}
 use Rattle.hay_logical.proofs.Calls.{Counted, beside_on, counted_same, delete_rose, deletes_on, ended_or, follows_on, follows_where, loses_none, reach_still, stays_where, up_open, went_counts}
-use Rattle.hay_logical.proofs.Lists.{Went, at_read, broken_above, broken_below, broken_is, broken_was, went_all, went_each, went_next, went_start, went_step}
+use Rattle.hay_logical.proofs.Lists.{Went, at_read, broken_above, broken_below, broken_is, broken_was, went_all, went_each, went_every, went_next, went_start, went_step}
 use Rattle.std.proofs.Common.{inl}
 use Rattle.hay_logical.specs.Seen.{DeleteSeen, replica_seen}
-use Rattle.hay_logical.proofs.Seen.{delete_seen}
+use Rattle.hay_logical.proofs.Seen.{delete_longer, delete_seen}
 use Rattle.hay_logical.proofs.replicas.delete_in_order.Goals as goal
 use Rattle.hay_logical.proofs.replicas.delete_in_order.Goals.{in-Live+in-Ok, in_default}
 
@@ -151,3 +151,18 @@ returns-in-Err-clause-reach g c = λ j r r' e f.
 
 pub returns-clause-seen : goal.returns-clause-seen
 returns-clause-seen g c = λ j r r' e f. went_all _ _ c.args.replicas.now _ c.loop-j.invariant.seen (let all : length c.args.replicas.now ≤ c.loop-j.j = omega arith in all) j r r' e f
+
+pub returns-clause-ends : goal.returns-clause-ends
+returns-clause-ends g c = λ j r r' e f.
+    went_every _ (λ (x y : Copy g.row.D.Denot). end_of x ≤ end_of y) _ c.args.replicas.now _ c.loop-j.invariant.seen (λ i x y p. delete_longer x y p) (λ x. omega arith) j r r' e f
+
+pub returns-in-Err-clause-ends : goal.returns-in-Err-clause-ends
+returns-in-Err-clause-ends g c = λ j r r' e f.
+    let within : c.loop-j.j < length c.loop-j.replicas = omega arith in
+    let here : Copy g.row.D.Denot = slice_index_or c.loop-j.replicas c.loop-j.j c.index-replicas-j.result in
+    let there : At c.loop-j.replicas c.loop-j.j here = at_read c.loop-j.replicas c.loop-j.j c.index-replicas-j.result within in
+    let K : ℕ → Copy g.row.D.Denot → Copy g.row.D.Denot → Type 0 = λ i x y. end_of x ≤ end_of y in
+    let same = c.delete.ensures.stays.1 in
+    went_every K (λ (x y : Copy g.row.D.Denot). end_of x ≤ end_of y) (c.loop-j.j + 1) c.args.replicas.now _
+    (went_step _ K c.loop-j.j c.args.replicas.now c.loop-j.replicas here c.delete.new.self c.loop-j.invariant.seen there (λ i x y h p. delete_longer x y p) (omega (arith, same)))
+    (λ i x y p. p) (λ x. omega arith) j r r' e f

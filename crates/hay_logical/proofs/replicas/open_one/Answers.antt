@@ -4,7 +4,9 @@ use Rattle.hay_map.specs.Places.{place_in}
 use Rattle.hay_map.specs.Rows.{last_place, row_at}
 use Rattle.hay_map.specs.declared.place.Place.TheVariants as place
 use Rattle.hay_open.specs.Stored.{PlaceOf, last_cell}
-use Rattle.hay_physical.specs.Copies.{contents_of, phase_frozen}
+use Rattle.hay_physical.specs.Copies.{contents_of, end_of, phase_frozen}
+use Rattle.hay_logical.specs.Sights.{LiesWithin, sight}
+use Rattle.hay_logical.proofs.Within.{last_lies}
 use Rattle.hay_logical.proofs.Calls.{loaded, loaded_other, open_cause, opened_holds, reaches_loaded, reaches_none, up_thawed}
 use Rattle.hay_logical.proofs.Compacting.{photo_at}
 use Rattle.hay_logical.proofs.Lists.{length-slice_set}
@@ -25,6 +27,7 @@ returns-in-Ok-load-clause-opened g c =
       alone = c.open.ensures.alone;
       most = c.in-Ok.ensures.most;
       from = c.in-Ok.ensures.from;
+      within = λ pair. subst (λ p. LiesWithin (end_of c.open.new.self) (sight p)) (sym (there pair)) (last_lies (end_of c.open.new.self) c.in-Ok.cells.items pair place.None c.in-Ok.ensures.within tt);
       undamaged = c.in-Ok.ensures.undamaged;
       undamaged_now = c.in-Ok.ensures.undamaged_now;
       formatted = λ tells.

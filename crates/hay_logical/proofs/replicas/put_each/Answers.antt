@@ -4,7 +4,7 @@ use Rattle.hay_logical.specs.Steps.{EndsRuns, KeepsFiles, PutLeaves}
 use Rattle.hay_logical.specs.Refusals.{IsUntouched}
 use Rattle.hay_logical.specs.Volumes.{KeepsCounts}
 use Rattle.hay_logical.specs.Fits.{At}
-use Rattle.hay_logical.proofs.Dropping.{counts_on, reach_on, not_untouched, put_leaves_on, untouched_back}
+use Rattle.hay_logical.proofs.Dropping.{counts_on, ends_on, reach_on, not_untouched, put_leaves_on, untouched_back}
 use Rattle.hay_logical.proofs.Lists.{at_below}
 use Rattle.std.proofs.Common.{◌≡◌, ℕ}
 use Rattle.hay_physical.specs.Copies.{Copy}
@@ -32,6 +32,14 @@ returns-after-not-is_untouched-clause-reach g c = λ j r r' e f. elim c.if-not-i
       reach_on g.D.Disk.Tells g.D.Disk.files g.D.Disk.fault_count c.args.replicas.now c.put_in_order.new.replicas w.drop_runs.new.replicas w.drop_runs.ensures.count w.drop_runs.ensures.each
       (λ i. physical.Anywhere) c.put_in_order.ensures.reach j r r' e (subst (λ rs. At rs j r') w.replicas-is f)
   | else-not-is_untouched w ↦ c.put_in_order.ensures.reach j r r' e (subst (λ rs. At rs j r') w.replicas-is f)
+]
+
+pub returns-after-not-is_untouched-clause-ends : goal.returns-after-not-is_untouched-clause-ends
+returns-after-not-is_untouched-clause-ends g c = λ j r r' e f. elim c.if-not-is_untouched.branch [
+  | then-not-is_untouched w ↦
+      ends_on g.D.Disk.Tells g.D.Disk.files g.D.Disk.fault_count c.args.replicas.now c.put_in_order.new.replicas w.drop_runs.new.replicas w.drop_runs.ensures.count w.drop_runs.ensures.each
+      c.put_in_order.ensures.ends j r r' e (subst (λ rs. At rs j r') w.replicas-is f)
+  | else-not-is_untouched w ↦ c.put_in_order.ensures.ends j r r' e (subst (λ rs. At rs j r') w.replicas-is f)
 ]
 
 pub returns-after-not-is_untouched-clause-broken : goal.returns-after-not-is_untouched-clause-broken

@@ -3,7 +3,7 @@ use Rattle.std.specs.Prelude.{slice_index_or, slice_set}
 use Rattle.hay_map.specs.Places.{place_in}
 use Rattle.hay_map.specs.declared.place.Place.TheVariants as place
 use Rattle.hay_open.specs.Stored.{Stored}
-use Rattle.hay_physical.specs.Copies.{Copy, IsUp, is_frozen}
+use Rattle.hay_physical.specs.Copies.{Copy, IsUp, end_of, is_frozen}
 use Rattle.hay_physical.specs.Replicas as physical
 use Rattle.hay_physical.specs.Runs.{HasRun, Run}
 use Rattle.hay_logical.specs.Fits.{At}
@@ -13,7 +13,8 @@ use Rattle.hay_logical.proofs.Lists.{at_read, at_same, broken_above, broken_belo
 use Rattle.hay_logical.proofs.Looking.{bytes_same}
 use Rattle.std.proofs.lemmas.Bool.{cases_lt}
 use Rattle.hay_logical.specs.Seen.{grown, replica_seen}
-use Rattle.hay_logical.proofs.Seen.{seen_grown, seen_phase}
+use Rattle.hay_logical.specs.Sights.Sight.{Live}
+use Rattle.hay_logical.proofs.Seen.{grown_longer, seen_grown, seen_phase}
 use Rattle.hay_logical.proofs.replicas.put_in_order.Goals as goal
 
 pub loop-j-init : goal.loop-j-init
@@ -81,7 +82,7 @@ loop-j-preserved g c =
                   stuck = c.put.ensures.stuck;
                   stands = λ tells s stands. c.in-Ok.ensures.stored tells s stands;
                   run = c.in-Ok.ensures.run;
-                  live = refl;
+                  live = ap (λ n. Live n) c.in-Ok.ensures.there;
                   deletable = c.in-Ok.ensures.can_delete;
                   apart = c.in-Ok.ensures.apart;
                 }),
@@ -182,3 +183,17 @@ returns-in-Err-clause-refused_seen g c = λ un i r r' e f.
           let after : c.put.new.self ≡ r' = at_same _ c.loop-j.j c.put.new.self r' is (subst (λ k. At (slice_set c.loop-j.replicas c.loop-j.j c.put.new.self) k r') at f) in
           ap replica_seen (sym after) ∙ same ∙ ap replica_seen before
     ]
+
+pub returns-clause-ends : goal.returns-clause-ends
+returns-clause-ends g c = λ j r r' e f.
+    went_every _ (λ (x y : Copy g.row.D.Denot). end_of x ≤ end_of y) _ c.args.replicas.now _ c.loop-j.invariant.seen (λ i x y p. grown_longer (length c.args.bytes.now) x y p) (λ x. omega arith) j r r' e f
+
+pub returns-in-Err-clause-ends : goal.returns-in-Err-clause-ends
+returns-in-Err-clause-ends g c = λ j r r' e f.
+    let within : c.loop-j.j < length c.loop-j.replicas = omega arith in
+    let here : Copy g.row.D.Denot = slice_index_or c.loop-j.replicas c.loop-j.j c.index-replicas-j.result in
+    let there : At c.loop-j.replicas c.loop-j.j here = at_read c.loop-j.replicas c.loop-j.j c.index-replicas-j.result within in
+    let K : ℕ → Copy g.row.D.Denot → Copy g.row.D.Denot → Type 0 = λ i x y. end_of x ≤ end_of y in
+    went_every K (λ (x y : Copy g.row.D.Denot). end_of x ≤ end_of y) (c.loop-j.j + 1) c.args.replicas.now _
+    (went_step _ K c.loop-j.j c.args.replicas.now c.loop-j.replicas here c.put.new.self c.loop-j.invariant.seen there (λ i x y h p. grown_longer (length c.args.bytes.now) x y p) c.put.ensures.grows)
+    (λ i x y p. p) (λ x. omega arith) j r r' e f

@@ -1,6 +1,9 @@
 use Rattle.std.proofs.Common.{◌≡◌, Err, Ok, true, length, refl, sym, ap, subst, arith}
 use Rattle.hay_physical.specs.Copies.{Copy}
+use Rattle.hay_physical.specs.Faults as physical_faults
+use Rattle.hay_physical.specs.declared.fault.ReplicaFault.{ReplicaFault}
 use Rattle.hay_logical.specs.Steps.{BeginsAt}
+use Rattle.hay_logical.proofs.Bytes.{lacks_there}
 use Rattle.hay_logical.specs.Steps.Start.{Fresh, Going}
 use Rattle.hay_logical.proofs.Beginning.{begin_holds, begin_left, begins}
 use Rattle.hay_logical.proofs.Calls.{up_open}
@@ -83,3 +86,12 @@ returns-in-Ok-clause-kept g c =
 
 pub returns-in-Err-clause-kept : goal.returns-in-Err-clause-kept
 returns-in-Err-clause-kept g c = let b = c.begin.ensures in run_changed c.args.replica.now c.begin.new.self b.stays b.stuck b.bare
+
+pub returns-in-Ok-clause-damaged : goal.returns-in-Ok-clause-damaged
+returns-in-Ok-clause-damaged g c = λ tells place is.
+    lacks_there g.D.Disk.files c.args.replica.now c.begin.new.self place c.begin.ensures.stays.1 (c.begin.ensures.bytes tells) (c.finish.ensures.damaged tells place is)
+
+pub returns-in-Err-clause-damaged : goal.returns-in-Err-clause-damaged
+returns-in-Err-clause-damaged g c = λ tells place is.
+    let same : c.in-Err.fault ≡ ReplicaFault.Damaged place = cc in
+    absurd (subst (λ (f : ReplicaFault). physical_faults.IsBeginFault (g.D.Disk.fault_count (c.args.replica.now).disk) (g.D.Disk.fault_count (c.begin.new.self).disk) f) same c.in-Err.ensures.causes)

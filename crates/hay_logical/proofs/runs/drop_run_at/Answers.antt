@@ -32,6 +32,7 @@ returns-clause-loses g c = λ r r' e f.
       stands = e.stands;
       holds = e.holds;
       reach = λ tells. record { deletes = e.deletes tells; sees = e.sees tells };
+      end = e.stays.1;
     } in
     subst (λ x. LosesRun g.D.Disk.Tells g.D.Disk.files x r') (sym same.0) (subst (λ x. LosesRun g.D.Disk.Tells g.D.Disk.files here x) (sym same.1) loses)
 

@@ -25,6 +25,7 @@ loop-replica-preserved g c =
         stands = e.stands;
         holds = e.holds;
         reach = λ tells. record { deletes = e.deletes tells; sees = e.sees tells };
+        end = e.stays.1;
       },
       e.goal,
     )

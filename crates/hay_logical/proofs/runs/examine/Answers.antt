@@ -1,4 +1,6 @@
 use Rattle.std.proofs.Common.{◌≡◌, ◌<◌, Err, sym, ap, subst, ◌∙◌}
+use Rattle.hay_physical.specs.declared.fault.ReplicaFault.{ReplicaFault}
+use Rattle.hay_physical.specs.declared.fault.ReplicaFault.TheVariants as fault
 use Rattle.hay_map.specs.Places.{place_in}
 use Rattle.hay_open.specs.Stored.{last_cell}
 use Rattle.hay_compact.specs.Copying.{IsLatest}
@@ -7,6 +9,7 @@ use Rattle.hay_physical.proofs.Laws.{next_left}
 use Rattle.hay_logical.specs.Fits.{PhotoAt}
 use Rattle.hay_logical.specs.Steps.{GoesOn, IsStepFault}
 use Rattle.std.proofs.lemmas.Bool.{true≢false}
+use Rattle.hay_logical.proofs.Bytes.{lacks_there}
 use Rattle.hay_logical.proofs.Calls.{still_up}
 use Rattle.hay_logical.proofs.Examining.{examine_cause, goes_after, latest_is, leaves_none, peeked_fits, peeked_small, step_ends, step_later}
 use Rattle.hay_logical.proofs.runs.examine.Given as given
@@ -160,3 +163,27 @@ returns-in-Err-clause-left g c = (
   λ same. absurd (c.requires.standing (sym same ∙ step_ends g.D.Disk.fault_count c.args.replica.now c.peek.new.self c.in-Err.fault
       (λ e. c.peek.ensures.memory (c.in-Err.is ∙ ap Err e)) (peek_cause g c))),
 )
+
+pub returns-in-Ok-None-clause-bytes : goal.returns-in-Ok-None-clause-bytes
+returns-in-Ok-None-clause-bytes g c = c.peek.ensures.bytes
+
+pub returns-in-Ok-clause-bytes : goal.returns-in-Ok-clause-bytes
+returns-in-Ok-clause-bytes g c = λ tells. c.copy.ensures.bytes tells ∙ c.peek.ensures.bytes tells
+
+pub returns-in-Err-copy-clause-bytes : goal.returns-in-Err-copy-clause-bytes
+returns-in-Err-copy-clause-bytes g c = λ tells. c.copy.ensures.bytes tells ∙ c.peek.ensures.bytes tells
+
+pub returns-in-Err-clause-bytes : goal.returns-in-Err-clause-bytes
+returns-in-Err-clause-bytes g c = c.peek.ensures.bytes
+
+pub returns-in-Err-copy-clause-damaged : goal.returns-in-Err-copy-clause-damaged
+returns-in-Err-copy-clause-damaged g c = λ tells place is.
+    let head = rw c.in-Ok-Some.field-0-is at (c.in-Ok-Some.ensures.head tells) in
+    let same : c.in-Err-copy.fault ≡ fault.Damaged place = cc in
+    lacks_there g.D.Disk.files c.args.replica.now c.peek.new.self place c.peek.ensures.stays.1 (c.peek.ensures.bytes tells)
+    (c.in-Err-copy.ensures.lacks tells head place (ap (λ (f : ReplicaFault). Err f) same))
+
+pub returns-in-Err-clause-damaged : goal.returns-in-Err-clause-damaged
+returns-in-Err-clause-damaged g c = λ tells place is.
+    let same : c.in-Err.fault ≡ fault.Damaged place = cc in
+    c.in-Err.ensures.lacks tells place (ap (λ (f : ReplicaFault). Err f) same)

@@ -1,4 +1,5 @@
-use Rattle.std.proofs.Common.{◌≡◌, ◌-◌, refl, ◌∙◌, arith}
+use Rattle.hay_physical.specs.declared.fault.ReplicaFault.{ReplicaFault}
+use Rattle.std.proofs.Common.{◌≡◌, ◌-◌, Err, refl, ◌∙◌, arith}
 use Rattle.hay_physical.specs.Copies.{Copy, IsUp}
 use Rattle.hay_physical.proofs.Laws.{run_within, stands_cells_end}
 use Rattle.hay_logical.specs.Steps.{GoesOn, StaysInReach, stepped_by}
@@ -88,3 +89,11 @@ returns-in-Err-clause-kept g c =
     let d = c.drop_run.ensures in
     changes_through (replica_seen c.args.replica.now) (replica_seen c.step.new.replica) (replica_seen c.drop_run.new.self) c.in-Err.ensures.left.0
     (run_changed c.step.new.replica c.drop_run.new.self d.stays d.stuck d.bare)
+
+pub returns-in-Ok-clause-damaged : goal.returns-in-Ok-clause-damaged
+returns-in-Ok-clause-damaged g c = λ tells place is. absurd (c.swap.ensures.undamaged place is)
+
+pub returns-in-Err-clause-damaged : goal.returns-in-Err-clause-damaged
+returns-in-Err-clause-damaged g c = λ tells place is.
+    let same : c.in-Err.fault ≡ ReplicaFault.Damaged place = cc in
+    c.in-Err.ensures.damaged tells place (ap (λ (f : ReplicaFault). Err f) same)

@@ -1,12 +1,13 @@
-use Rattle.std.proofs.Common.{◌<◌, arith}
+use Rattle.std.proofs.Common.{◌<◌, arith, subst}
 use Rattle.std.specs.Prelude.{slice_index_or, slice_set}
 use Rattle.hay_physical.specs.Copies.{Copy}
 use Rattle.hay_logical.specs.Fits.{At}
+use Rattle.hay_logical.specs.Needles.{LacksCell}
 use Rattle.hay_logical.specs.Steps.Start.{Going}
 use Rattle.hay_logical.proofs.Calls.{one_counts}
 use Rattle.hay_logical.proofs.Dropping.{counts_on}
 use Rattle.hay_logical.proofs.Ends.{called_there, stays_there, swaps_one, swaps_there}
-use Rattle.hay_logical.proofs.Lists.{at_read}
+use Rattle.hay_logical.proofs.Lists.{at_read, at_same}
 use Rattle.std.specs.Prelude.{IfOk, OnErr}
 use Rattle.hay_logical.specs.Seen.{ChangesRun, SwapSeen, replica_seen}
 use Rattle.hay_logical.proofs.runs.finish_at.Goals as goal
@@ -69,3 +70,9 @@ returns-clause-kept g c = λ r r' e f.
     c.drop_behind.new.replicas here c.finish-result.new.replica c.finish-result.result there
     (c.requires.up c.args.at here there) c.finish-result.ensures.swaps c.drop_behind.ensures.count c.drop_behind.ensures.each c.drop_behind.ensures.still c.drop_behind.ensures.idle
     (λ (a b : Copy g.row.D.Denot). OnErr c.finish-result.result (ChangesRun (replica_seen a) (replica_seen b))) c.finish-result.ensures.kept r r' e f
+
+pub returns-clause-damaged : goal.returns-clause-damaged
+returns-clause-damaged g c = λ tells place is r e.
+    let here : Copy g.row.D.Denot = slice_index_or c.args.replicas.now c.args.at c.index-replicas-at.result in
+    let there : At c.args.replicas.now c.args.at here = at_read c.args.replicas.now c.args.at c.index-replicas-at.result c.requires.within in
+    subst (λ (x : Copy g.row.D.Denot). LacksCell g.D.Disk.files x place) (at_same c.args.replicas.now c.args.at here r there e) (c.finish-result.ensures.damaged tells place is)

@@ -1,10 +1,13 @@
-use Rattle.std.proofs.Common.{◌≡◌, ◌≤◌, ◌<◌, ◌+◌, Some, refl, sym, subst, ◌∙◌, arith}
+use Rattle.std.proofs.Common.{◌≡◌, ◌≤◌, Err, ◌<◌, ◌+◌, Some, refl, sym, ap, subst, ◌∙◌, arith}
+use Rattle.hay_physical.specs.declared.fault.ReplicaFault.{ReplicaFault}
+use Rattle.hay_physical.specs.declared.fault.ReplicaFault.TheVariants as fault
 use Rattle.std.specs.Prelude.{if◌then◌else◌, min}
 use Rattle.hay_physical.specs.Runs.{HasRun, Run}
 use Rattle.hay_logical.specs.Steps.{stepped_by}
 use Rattle.hay_logical.proofs.Examining.{goes_after, goes_none, leaves_some, step_later, step_more, step_none}
 use Rattle.hay_logical.proofs.Seen.{steps_break, steps_meet, steps_more, steps_none, steps_stop}
-use Rattle.hay_logical.specs.Seen.{StepsTo, replica_seen}
+use Rattle.hay_logical.specs.Seen.{ReplicaSeen, StepsTo, replica_seen}
+use Rattle.hay_logical.proofs.Bytes.{lacks_there}
 use Rattle.hay_logical.proofs.runs.step.Goals as goal
 
 pub loop-examined-init : goal.loop-examined-init
@@ -13,6 +16,7 @@ loop-examined-init g c = record {
   goal = refl;
   seen = steps_none c.args.replica.now c.requires.standing;
   counts = omega arith;
+  bytes = λ tells. refl;
   fuses = refl;
   stepped = λ tells s run stands has places. ((let low : 0 ≤ run.left = omega arith in low), subst (λ (x : Run). HasRun g.D.Disk.files c.args.replica.now s (Some x)) (sym (step_none run)) has);
 }
@@ -27,6 +31,7 @@ loop-examined-preserved g c =
       seen = steps_more c.loop-examined.examined (replica_seen c.args.replica.now) (replica_seen c.loop-examined.replica) (replica_seen c.examine.new.replica) was.seen
           (subst (λ more. StepsTo 1 (if more then 1 else 0) (replica_seen c.loop-examined.replica) (replica_seen c.examine.new.replica)) c.in-Ok-true.field-0-test c.in-Ok-true.ensures.seen);
       counts = (let low = was.counts in omega (arith, low, counts));
+      bytes = λ tells. c.examine.ensures.bytes tells ∙ was.bytes tells;
       fuses = c.examine.ensures.fuses ∙ was.fuses;
       stepped = λ tells s run stands has places.
           let so_far = was.stepped tells s run stands has places in
@@ -108,3 +113,10 @@ pub returns-clause-seen : goal.returns-clause-seen
 returns-clause-seen g c =
     let done : c.loop-examined.examined ≡ c.args.cells = omega arith in
     subst (λ n. StepsTo n n (replica_seen c.args.replica.now) (replica_seen c.loop-examined.replica)) done c.loop-examined.invariant.seen
+
+pub returns-in-Err-clause-damaged : goal.returns-in-Err-clause-damaged
+returns-in-Err-clause-damaged g c = λ tells place is.
+    let was = c.loop-examined.invariant in
+    let same : c.in-Err.fault ≡ fault.Damaged place = cc in
+    lacks_there g.D.Disk.files c.args.replica.now c.loop-examined.replica place (ap (λ (s : ReplicaSeen). s.end) was.seen.only) (was.bytes tells)
+    (c.in-Err.ensures.damaged tells place (ap (λ (f : ReplicaFault). Err f) same))

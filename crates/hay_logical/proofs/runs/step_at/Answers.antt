@@ -2,9 +2,10 @@ use Rattle.std.proofs.Common.{◌<◌, refl, sym, subst, arith}
 use Rattle.std.specs.Prelude.{slice_index_or}
 use Rattle.hay_physical.specs.Copies.{Copy}
 use Rattle.hay_logical.specs.Fits.{At}
+use Rattle.hay_logical.specs.Needles.{LacksCell}
 use Rattle.hay_logical.specs.Steps.{StepsAt}
 use Rattle.hay_logical.proofs.Calls.{one_counts}
-use Rattle.hay_logical.proofs.Lists.{at_read, one_same}
+use Rattle.hay_logical.proofs.Lists.{at_read, at_same, one_same}
 use Rattle.std.specs.Prelude.{IfOk, OnErr}
 use Rattle.hay_logical.specs.Seen.{BreaksStep, StepsTo, replica_seen}
 use Rattle.hay_logical.proofs.runs.step_at.Goals as goal
@@ -57,3 +58,9 @@ returns-clause-left g c = λ r r' e f.
     let same = one_same c.args.replicas.now c.args.at here c.step.new.replica r r' there e f in
     subst (λ x. OnErr c.step.result (BreaksStep (replica_seen x) (replica_seen r'))) (sym same.0)
     (subst (λ x. OnErr c.step.result (BreaksStep (replica_seen here) (replica_seen x))) (sym same.1) c.step.ensures.left)
+
+pub returns-clause-damaged : goal.returns-clause-damaged
+returns-clause-damaged g c = λ tells place is r e.
+    let here : Copy g.row.D.Denot = slice_index_or c.args.replicas.now c.args.at c.index-replicas-at.result in
+    let there : At c.args.replicas.now c.args.at here = at_read c.args.replicas.now c.args.at c.index-replicas-at.result c.requires.within in
+    subst (λ (x : Copy g.row.D.Denot). LacksCell g.D.Disk.files x place) (at_same c.args.replicas.now c.args.at here r there e) (c.step.ensures.damaged tells place is)

@@ -7,8 +7,11 @@ use Rattle.hay_map.specs.Places.{gone_place, place_in}
 use Rattle.hay_map.specs.Rows.{ChangesRows, row_at, swapped_place}
 use Rattle.hay_map.specs.declared.view.MapOp.TheVariants as op
 use Rattle.hay_map.specs.declared.view.OpenCell.{OpenCell}
+use Rattle.hay_open.specs.Finds.{ArePlacesWithin}
 use Rattle.hay_open.specs.Stored.{index_file, volume_file}
 use Rattle.hay_physical.specs.Copies.{Copy, is_frozen}
+use Rattle.hay_physical.specs.Faults as physical_faults
+use Rattle.hay_physical.specs.declared.fault.ReplicaFault.{ReplicaFault}
 use Rattle.hay_physical.specs.Runs.{RemovedBoth}
 use Rattle.hay_physical.proofs.Laws.{stands_cells_end, stands_generation, stands_up}
 use Rattle.hay_logical.specs.Steps.{HoldsUnswapped, IsLeftBy, StaysInReach, still_gone_cell}
@@ -69,7 +72,8 @@ returns-in-Ok-clause-places g c =
     (swapped_place l pair (gone_place (place_in (row_at c.args.rows.now pair) c.args.at)))) cells_are c.swap.ensures.rows in
     record {
       moved = subst (λ l. ChangesRows (op.Swap c.args.at l) c.args.rows.now c.swap.new.self) (c.as_slice.ensures.value ∙ sym c.from_vec.ensures) c.swap.ensures;
-      sights = swaps_sights g.D.Piece.Piece.Tells c.args.rows.now c.swap.new.self c.args.at c.in-Ok.places.items c.in-Ok.ensures.photos changed;
+      sights = swaps_sights g.D.Piece.Piece.Tells c.args.rows.now c.swap.new.self c.args.at c.in-Ok.places.items c.in-Ok.ensures.photos changed c.end.result
+          (subst (λ n. ArePlacesWithin n c.in-Ok.places.items) (sym c.end.ensures.is) c.in-Ok.ensures.within);
       width = c.swap.ensures.replicas;
       others = λ pair i apart. loaded_other (row_at c.args.rows.now pair) (row_at c.swap.new.self pair) i c.args.at _ (c.swap.ensures.rows pair) apart;
       same = tt;
@@ -139,3 +143,12 @@ returns-in-Ok-clause-seen g c =
 
 pub returns-in-Err-clause-kept : goal.returns-in-Err-clause-kept
 returns-in-Err-clause-kept g c = run_changed c.args.replica.now c.finish.new.self (c.in-Err.ensures.still.1, c.in-Err.ensures.stays) c.in-Err.ensures.still.0 c.in-Err.ensures.still_bare
+
+pub returns-in-Err-clause-undamaged : goal.returns-in-Err-clause-undamaged
+returns-in-Err-clause-undamaged g c = λ place e. elim (cases_Bool (is_frozen c.finish.new.self)) [
+  | inl froze ↦ let is = c.why_unswapped.ensures.frozen froze in absurd cc
+  | inr thawed ↦
+      let is = c.why_unswapped.ensures.up thawed in
+      let same : c.in-Err.fault ≡ ReplicaFault.Damaged place = cc in
+      subst (λ (f : ReplicaFault). physical_faults.IsRunFault (g.D.Disk.fault_count (c.args.replica.now).disk) (g.D.Disk.fault_count (c.finish.new.self).disk) f) same c.in-Err.ensures.causes
+]

@@ -5,10 +5,14 @@ use Rattle.hay_map.specs.declared.place.Place.TheVariants as place
 use Rattle.hay_compact.specs.Finishing.{IsSeen}
 use Rattle.hay_physical.specs.declared.fault.ReplicaFault.{ReplicaFault}
 use Rattle.hay_logical.specs.Draws.{DrawsAtMost, look_total}
-use Rattle.hay_logical.specs.Steps.{IsSeenBy}
+use Rattle.hay_logical.specs.Steps.{IsSeenBy, LookAwaited}
 use Rattle.hay_logical.proofs.Looking.{Looked, becomes_same, becomes_seen, same_places, same_sets, set_here, set_places, sets_this, sight_seen, sights_looked, sights_none}
-use Rattle.hay_logical.specs.Sights.{sight, sights_of}
-use Rattle.hay_logical.proofs.SightChanges.{cell_sight, seen_sight, sees_kept, sees_set}
+use Rattle.hay_physical.specs.Copies.{volume_bytes}
+use Rattle.hay_logical.specs.Needles.{IsToldBy, LacksSeen}
+use Rattle.hay_logical.specs.Sights.{AwaitsLook, sight, sights_of}
+use Rattle.hay_logical.specs.Sights.Sight.{Unseen}
+use Rattle.hay_logical.proofs.Needles.{told_place, told_same}
+use Rattle.hay_logical.proofs.SightChanges.{awaited_by, cell_sight, seen_sight, sees_kept, sees_set}
 use Rattle.hay_logical.proofs.sights.see.Goals as goal
 
 pub returns-in-Ok-see-clause-sights : goal.returns-in-Ok-see-clause-sights
@@ -35,7 +39,8 @@ returns-in-Ok-see-clause-row g c =
     record {
       width = c.in-Ok-see.ensures.ok.replicas;
       set = sets_this c.args.pair c.args.at c.args.rows.now c.see.new.self c.in-Ok.seen c.in-Ok-see.ensures.ok.rows long;
-      sees = sees_set c.args.rows.now c.see.new.self c.args.pair c.args.at c.in-Ok.seen c.in-Ok-see.ensures.ok.rows long (ap (λ p. sight p) was) (cell_sight seen.needle.0 c.in-Ok.seen seen.needle.3);
+      sees = sees_set c.args.rows.now c.see.new.self c.args.pair c.args.at c.in-Unseen.place c.in-Unseen.size c.in-Ok.seen c.in-Ok-see.ensures.ok.rows long (ap (λ p. sight p) was)
+          (cell_sight seen.needle.0 c.in-Unseen.place c.in-Ok.seen seen.needle.1.place seen.needle.3);
       kept = tt;
       unseen = tt;
     }
@@ -80,13 +85,20 @@ pub returns-in-Ok-clause-row : goal.returns-in-Ok-clause-row
 returns-in-Ok-clause-row g c =
     let was : place_in (row_at c.args.rows.now c.args.pair) c.args.at ≡ place.Unseen c.in-Unseen.place c.in-Unseen.size =
     sym (c.place.ensures ∙ ap (λ l. place_in l c.args.at) c.row-row.ensures.row) ∙ c.in-Unseen.is in
-    record { width = c.in-Err-see.ensures.err.replicas; set = tt; sees = tt; kept = c.in-Err-see.ensures.err.rows; unseen = ap (λ p. sight p) was }
+    record { width = c.in-Err-see.ensures.err.replicas; set = tt; sees = tt; kept = c.in-Err-see.ensures.err.rows; unseen = subst (λ p. AwaitsLook (sight p)) (sym was) tt }
 
 pub returns-clause-row : goal.returns-clause-row
 returns-clause-row g c =
     let was : place_in (row_at c.args.rows.now c.args.pair) c.args.at ≡ place.Unseen c.in-Unseen.place c.in-Unseen.size =
     sym (c.place.ensures ∙ ap (λ l. place_in l c.args.at) c.row-row.ensures.row) ∙ c.in-Unseen.is in
-    record { width = refl; set = tt; sees = tt; kept = λ q. refl; unseen = ap (λ p. sight p) was }
+    record {
+      width = refl;
+      set = tt;
+      sees = tt;
+      kept = λ q. refl;
+      unseen = subst (λ p. LookAwaited (sight p) c.in-Err.fault) (sym was)
+          (awaited_by c.in-Unseen.place c.in-Unseen.size c.in-Err.fault _ _ c.in-Err.ensures.causes (λ k e. c.in-Err.ensures.place k (ap (λ (f : ReplicaFault). Err f) e)));
+    }
 
 pub returns-clause-sights : goal.returns-clause-sights
 returns-clause-sights g c =
@@ -136,3 +148,42 @@ returns-in-None-clause-needle g c = λ unseen.
       | inr others ↦ elim others [ inl live ↦ subst IsSeen (sym live.1) tt | inr gone ↦ subst IsSeen (sym gone) tt ]
     ] in
     absurd (unseen (subst IsSeen (c.place.ensures ∙ ap (λ l. place_in l c.args.at) c.row-row.ensures.row) seen))
+
+pub returns-in-None-clause-told : goal.returns-in-None-clause-told
+returns-in-None-clause-told g c = λ tells. record {
+  told = told_same (volume_bytes g.D.Disk.files c.args.replica.now) (sights_of c.args.rows.now c.args.pair c.args.at) (sights_of c.args.rows.now c.args.pair c.args.at) refl;
+  lacks = λ place e. absurd cc;
+}
+
+pub returns-in-Ok-see-clause-told : goal.returns-in-Ok-see-clause-told
+returns-in-Ok-see-clause-told g c = λ tells.
+    let file = volume_bytes g.D.Disk.files c.args.replica.now in
+    let was : place_in (row_at c.args.rows.now c.args.pair) c.args.at ≡ place.Unseen c.in-Unseen.place c.in-Unseen.size =
+    sym (c.place.ensures ∙ ap (λ l. place_in l c.args.at) c.row-row.ensures.row) ∙ c.in-Unseen.is in
+    let long : c.args.at < length (row_at c.args.rows.now c.args.pair) = let w = c.requires.within in let l = c.row-row.ensures.long in subst (λ x. c.args.at < length x) c.row-row.ensures.row (omega (arith, w, l)) in
+    let here : place_in (row_at c.see.new.self c.args.pair) c.args.at ≡ c.in-Ok.seen = set_here c.args.pair c.args.at c.args.rows.now c.see.new.self c.in-Ok.seen c.in-Ok-see.ensures.ok.rows long in
+    record {
+      told = subst (λ p. IsToldBy file (sight p) (sights_of c.see.new.self c.args.pair c.args.at)) (sym was)
+          (subst (λ p. IsToldBy file (Unseen c.in-Unseen.place c.in-Unseen.size) (sight p)) (sym here) (told_place file c.in-Unseen.place c.in-Unseen.size c.in-Ok.seen (c.in-Ok.ensures.told tells)));
+      lacks = λ place e. absurd cc;
+    }
+
+pub returns-in-Ok-clause-told : goal.returns-in-Ok-clause-told
+returns-in-Ok-clause-told g c = λ tells. record {
+  told = told_same (volume_bytes g.D.Disk.files c.args.replica.now) (sights_of c.args.rows.now c.args.pair c.args.at) (sights_of c.see.new.self c.args.pair c.args.at)
+      (ap (λ l. sight (place_in l c.args.at)) (c.in-Err-see.ensures.err.rows c.args.pair));
+  lacks = λ place e. absurd cc;
+}
+
+pub returns-clause-told : goal.returns-clause-told
+returns-clause-told g c = λ tells.
+    let file = volume_bytes g.D.Disk.files c.args.replica.now in
+    let was : place_in (row_at c.args.rows.now c.args.pair) c.args.at ≡ place.Unseen c.in-Unseen.place c.in-Unseen.size =
+    sym (c.place.ensures ∙ ap (λ l. place_in l c.args.at) c.row-row.ensures.row) ∙ c.in-Unseen.is in
+    record {
+      told = told_same file (sights_of c.args.rows.now c.args.pair c.args.at) (sights_of c.args.rows.now c.args.pair c.args.at) refl;
+      lacks = λ there e.
+          let same : c.in-Err.fault ≡ ReplicaFault.Damaged there = cc in
+          let by = ap (λ (f : ReplicaFault). Err f) same in
+          subst (λ p. LacksSeen file there (sight p)) (sym was) (c.in-Err.ensures.place there by, c.in-Err.ensures.lacks tells there by);
+    }

@@ -1,9 +1,9 @@
-use Rattle.std.proofs.Common.{◌≡◌, ◌<◌, ◌≤◌, ℕ, length, refl, sym, ap, subst, ◌∙◌, arith}
+use Rattle.std.proofs.Common.{List, ◌≡◌, ◌<◌, ◌≤◌, ℕ, length, refl, sym, ap, subst, ◌∙◌, arith}
 use Rattle.std.specs.Vec.{with_items}
 use Rattle.std.proofs.lemmas.List.{with_items_is}
 use Rattle.hay_map.specs.Rows.{ChangesRows, row_at}
 use Rattle.hay_map.specs.declared.view.MapOp.TheVariants as op
-use Rattle.hay_physical.specs.Copies.{Copy, IsUp, is_stuck}
+use Rattle.hay_physical.specs.Copies.{Copy, IsUp, end_of, is_stuck}
 use Rattle.hay_logical.specs.Answers.{CompactRefused, HasSizes, IsCompacted}
 use Rattle.hay_logical.specs.Answers as answers
 use Rattle.hay_logical.specs.Fits.{At}
@@ -28,14 +28,20 @@ use Rattle.std.specs.Prelude.{map, IfOk, OnErr}
 use Rattle.hay_physical.specs.Copies.{goal_of}
 use Rattle.hay_logical.proofs.Lists.{at_map}
 use Rattle.hay_logical.specs.Refusals.{unfinished_by}
-use Rattle.hay_logical.specs.Seen.{ChangesRun, CompactRefusedSeen, CompactsTo, SwapSeen, VolumeSeen, replica_seen, volume_seen}
-use Rattle.hay_logical.proofs.Seen.{changes_one, many_seen, same_one}
+use Rattle.hay_logical.specs.Seen.{ChangesRun, CompactRefusedSeen, CompactsTo, ReplicaSeen, SwapSeen, VolumeSeen, replica_seen, volume_seen}
+use Rattle.hay_logical.proofs.Seen.{changes_one, longer_seen, many_seen, map_at, same_one}
 use Rattle.hay_logical.proofs.SeenSwaps.{calls_set, compact_refused_seen, idle_seen}
 use Rattle.hay_logical.proofs.logical.Logical.compact_files.Given as given
 use Rattle.hay_logical.proofs.Changing.{some_none}
 use Rattle.hay_logical.specs.declared.fault.LogicalFault.TheVariants as logical
 use Rattle.hay_logical.specs.Sights.{SwapsSights, sights_of}
 use Rattle.hay_logical.proofs.SightChanges.{sights_kept}
+use Rattle.hay_logical.specs.declared.runs.Unswapped.{Unswapped}
+use Rattle.hay_logical.specs.declared.runs.Unswapped.TheVariants.{Refused}
+use Rattle.hay_physical.specs.declared.fault.ReplicaFault.TheVariants as fault
+use Rattle.hay_logical.specs.Needles.{IsDamagedCell}
+use Rattle.hay_logical.proofs.SeenSwaps.{refused_longer, unfinished_damaged}
+use Rattle.std.proofs.Common.{Err}
 use Rattle.hay_logical.proofs.logical.Logical.compact_files.Goals as goal
 use Rattle.hay_logical.proofs.logical.Logical.compact_files.Goals.{After-compact_at}
 
@@ -302,12 +308,24 @@ returns-in-Err-clause-refused_seen g c =
       unsure = refl;
       idle = λ j s e. idle_seen c.compact_at.new.replicas (call.one.idle froze) j s (subst (λ rs. At
           (map replica_seen rs) j s) (kept g after) e);
+      longer = longer_seen c.self.inside.replicas.items c.compact_at.new.replicas _ (kept g after)
+          (refused_longer g.D.Disk.Tells g.D.Disk.files c.args.replica c.self.inside.replicas.items c.compact_at.new.replicas call.one changes);
     })))
 
 pub returns-in-Ok-clause-sights : goal.returns-in-Ok-clause-sights
 returns-in-Ok-clause-sights g c =
     let call = called_with c.in-Ok.is (called g (goal.at.returns-in-Ok-clause-sights g c).After-compact_at) in
-    subst (λ v. SwapsSights c.args.replica (sights_of v.rows) (sights_of c.compact_at.new.rows)) c.self.view_is call.places.sights
+    let news : List (Copy g.row.D.Denot) = (with_items c.self.inside.replicas c.compact_at.new.replicas).items in
+    let ends : (r : ReplicaSeen) → At (map replica_seen news) c.args.replica r → r.end ≡ c.in-Ok.files.end =
+    (λ r e.
+    let x = map_at replica_seen c.compact_at.new.replicas c.args.replica r (subst (λ rs. At (map replica_seen rs) c.args.replica r) (kept g (goal.at.returns-in-Ok-clause-sights g c).After-compact_at) e) in
+    let there : call.one.after ≡ x.0 = at_same c.compact_at.new.replicas c.args.replica call.one.after x.0 call.one.is x.1 in
+    let now = c.as_mut_slice.ensures.value in
+    let seen : SwapSeen c.in-Ok.files.generation c.in-Ok.files.end (replica_seen call.one.before) (replica_seen call.one.after) =
+    subst (λ x. IfOk x (λ files. SwapSeen files.generation files.end (replica_seen call.one.before) (replica_seen call.one.after))) c.in-Ok.is
+    (c.compact_at.ensures.seen call.one.before call.one.after (subst (λ xs. At xs c.args.replica call.one.before) (sym now) call.one.was) call.one.is) in
+    ap (λ (y : ReplicaSeen). y.end) x.2 ∙ ap (λ (y : Copy g.row.D.Denot). end_of y) (sym there) ∙ ap (λ (y : ReplicaSeen). y.end) seen.is) in
+    subst (λ v. SwapsSights c.args.replica (map replica_seen news) (sights_of v.rows) (sights_of c.compact_at.new.rows)) c.self.view_is (call.places.sights (map replica_seen news) ends)
 
 pub returns-in-Err-clause-refused_sights : goal.returns-in-Err-clause-refused_sights
 returns-in-Err-clause-refused_sights g c =
@@ -316,3 +334,11 @@ returns-in-Err-clause-refused_sights g c =
 
 pub returns-in-Some-clause-refused_sights : goal.returns-in-Some-clause-refused_sights
 returns-in-Some-clause-refused_sights g c = λ q j. refl
+
+pub returns-in-Err-clause-damaged : goal.returns-in-Err-clause-damaged
+returns-in-Err-clause-damaged g c = λ tells m place e.
+    let by : c.unfinished_by-unfinished.result.fault ≡ logical.Damaged m place = cc in
+    let is : c.in-Err.unswapped ≡ Refused (fault.Damaged place) =
+    unfinished_damaged c.self.inside.settings c.self.inside.number c.args.replica c.in-Err.unswapped m place (ap (λ (u : Unfinished). u.fault) (sym c.unfinished_by-unfinished.ensures) ∙ by) in
+    let here = c.compact_at.ensures.damaged tells place (c.in-Err.is ∙ ap (λ (u : Unswapped). Err u) is) in
+    subst (λ v. IsDamagedCell g.D.Disk.files v.replicas c.args.replica place) c.self.view_is (subst (λ xs. IsDamagedCell g.D.Disk.files xs c.args.replica place) c.as_mut_slice.ensures.value here)

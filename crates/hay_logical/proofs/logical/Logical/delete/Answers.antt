@@ -10,6 +10,9 @@ use Rattle.std.proofs.Common.{length}
 use Rattle.hay_logical.specs.Fits.{At}
 use Rattle.hay_needle.specs.declared.needle.Pair.{Pair}
 use Rattle.hay_logical.specs.Sights.{DeleteRefusedSights, ErasesSights, Sights, sights_of}
+use Rattle.std.specs.Prelude.{OnErr}
+use Rattle.hay_logical.specs.declared.fault.LogicalFault.TheVariants as refusal
+use Rattle.hay_logical.specs.Needles.{AreToldBy}
 use Rattle.hay_logical.proofs.logical.Logical.delete.Goals as goal
 
 pub returns-clause-deleted : goal.returns-clause-deleted
@@ -98,3 +101,24 @@ returns-in_err-erased-clause-refused_sights g c =
 
 pub returns-clause-ended : goal.returns-clause-ended
 returns-clause-ended g c = λ j r r' e f. c.in_ok-erased.ensures.ended j r r' e (subst (λ v. At v.replicas j r') c.hide.ensures.still f)
+
+pub returns-clause-told : goal.returns-clause-told
+returns-clause-told g c = λ tells. record {
+  deletes = record {
+    found = sights_of c.erase.new.self.rows;
+    finds = c.in_ok-erased.ensures.sights;
+    erases = subst (λ (p : Pair). ErasesSights p (sights_of c.erase.new.self.rows) (sights_of c.hide.new.self.rows)) c.in_ok-erased.ensures.of.0 c.hide.ensures.sights;
+  };
+  told = c.erase.ensures.told tells;
+}
+
+pub returns-in_err-erased-clause-refused_told : goal.returns-in_err-erased-clause-refused_told
+returns-in_err-erased-clause-refused_told g c = λ tells.
+    let fault = err_from_is_err_and c.from_residual.result c.from_residual.ensures.1 in
+    subst (λ r. OnErr r (AreToldBy g.D.Disk.files c.args.self.now.replicas c.args.pair (sights_of c.args.self.now.rows) (sights_of c.erase.new.self.rows))) (sym fault.1) (c.erase.ensures.told tells)
+
+pub returns-in_err-erased-clause-damaged : goal.returns-in_err-erased-clause-damaged
+returns-in_err-erased-clause-damaged g c = λ tells m place e.
+    let fault = err_from_is_err_and c.from_residual.result c.from_residual.ensures.1 in
+    let is : c.in_err-erased.field-0.0 ≡ refusal.Damaged m place = (let both = sym fault.1 ∙ e in let by = fault.2 in cc) in
+    c.erase.ensures.damaged tells m place (c.in_err-erased.was ∙ ap (λ (f : LogicalFault). Err f) is)

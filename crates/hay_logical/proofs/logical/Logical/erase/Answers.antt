@@ -25,6 +25,10 @@ use Rattle.hay_logical.specs.Sights.{DeleteRefusedSights, FindsPhoto, Sights, si
 use Rattle.hay_logical.proofs.SightChanges.{delete_refused_behind, delete_unlooked, finds_behind}
 use Rattle.hay_logical.proofs.Looks.{if_err_at}
 use Rattle.hay_logical.proofs.Through.{runs_later}
+use Rattle.hay_physical.specs.Copies.{volume_bytes}
+use Rattle.hay_logical.specs.Needles.{IsToldBy}
+use Rattle.hay_logical.specs.Sights.{Sight}
+use Rattle.hay_logical.proofs.Needles.{told_none}
 use Rattle.hay_logical.proofs.logical.Logical.erase.Goals as goal
 
 pub returns-in-Some-clause-refused : goal.returns-in-Some-clause-refused
@@ -179,3 +183,24 @@ returns-clause-ended g c = on_ok_weaker c.erase_seen.result
     (λ keeps. runs_later g.D.Disk.files g.D.Piece.Piece.Tells g.D.Disk.fault_count g.D.Disk.fuse_count c.args.self.now c.see_each.new.self c.erase_seen.new.self
     c.see_each.ensures.counts c.see_each.ensures.same
     c.see_each.ensures.runs keeps) c.erase_seen.ensures.ended
+
+pub returns-in_err-see_each-clause-told : goal.returns-in_err-see_each-clause-told
+returns-in_err-see_each-clause-told g c = c.see_each.ensures.told
+
+pub returns-in-Some-clause-told : goal.returns-in-Some-clause-told
+returns-in-Some-clause-told g c = λ tells.
+    told_none g.D.Disk.files c.args.pair c.args.self.now.replicas (sights_of c.args.self.now.rows) (sights_of c.args.self.now.rows) (λ q j. refl)
+
+pub returns-clause-told : goal.returns-clause-told
+returns-clause-told g c = λ tells j r e.
+    let seen = c.see_each.ensures.told tells j r e in
+    subst (λ (s : Sight). IsToldBy (volume_bytes g.D.Disk.files r) (sights_of c.args.self.now.rows c.args.pair j) s) (sym (c.erase_seen.ensures.rows c.args.pair j)) seen
+
+pub returns-in_err-see_each-clause-damaged : goal.returns-in_err-see_each-clause-damaged
+returns-in_err-see_each-clause-damaged g c = λ tells m place e.
+    let fault = err_from_is_err_and c.from_residual.result c.from_residual.ensures.1 in
+    let is : c.in_err-see_each.field-0.0 ≡ logical.Damaged m place = (let both = sym fault.1 ∙ e in let by = fault.2 in cc) in
+    c.see_each.ensures.damaged tells m place (c.in_err-see_each.was ∙ ap (λ (f : LogicalFault). Err f) is)
+
+pub returns-clause-damaged : goal.returns-clause-damaged
+returns-clause-damaged g c = λ tells m place e. absurd (c.erase_seen.ensures.undamaged m place e)

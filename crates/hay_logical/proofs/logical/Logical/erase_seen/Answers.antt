@@ -13,7 +13,7 @@ use Rattle.hay_logical.specs.declared.written.Erased.{Erased}
 use Rattle.hay_logical.specs.Answers.{DeleteRefused, HasFailed}
 use Rattle.hay_logical.specs.Fits.{At}
 use Rattle.hay_logical.specs.Stands.{Stands, StandsFor}
-use Rattle.hay_logical.specs.Steps.{DeleteLeaves, DeletesAt, KeepsAbove, KeepsReach}
+use Rattle.hay_logical.specs.Steps.{DeleteLeaves, DeletesAt, KeepsAbove, KeepsReach, Lengthens}
 use Rattle.hay_logical.specs.Unshown.{IsErased}
 use Rattle.hay_logical.specs.Volumes.{CanReach, IsShaped, KeepsCounts, Volume}
 use Rattle.hay_logical.proofs.Calls.{open_up, up_open, up_thawed}
@@ -30,7 +30,7 @@ use Rattle.std.proofs.Common.{inr, Some, refl, length}
 use Rattle.std.proofs.lemmas.List.{length-map}
 use Rattle.std.specs.Prelude.{map}
 use Rattle.hay_logical.specs.Seen.{DeleteSeen, EraseSeen, ReplicaSeen, VolumeSeen, replica_seen, volume_seen}
-use Rattle.hay_logical.proofs.Seen.{many_seen, map_at}
+use Rattle.hay_logical.proofs.Seen.{longer_seen, many_seen, map_at}
 use Rattle.hay_logical.proofs.SeenSwaps.{idle_seen}
 use Rattle.hay_logical.specs.Sights.{FindsPhoto, SeesLive, sights_of}
 use Rattle.hay_logical.proofs.Calls.{follows_keeps}
@@ -356,6 +356,8 @@ returns-clause-refused_seen g c =
       frozen = refl;
       unsure = refl;
       idle = λ j s e. idle_seen c.delete_each.new.replicas c.in-Err.ensures.runs j s (subst (λ rs. At (map replica_seen rs) j s) kept e);
+      longer = longer_seen c.args.self.now.replicas c.delete_each.new.replicas _ kept (subst (λ xs. Lengthens xs c.delete_each.new.replicas)
+          (c.as_mut_slice.ensures.value ∙ ap (λ (v : Volume g.row.D.Denot g.row.D-Piece.Denot). v.replicas) c.self.view_is) c.delete_each.ensures.ends);
     })
 
 pub returns-then-not-has_live-clause-refused_sights : goal.returns-then-not-has_live-clause-refused_sights

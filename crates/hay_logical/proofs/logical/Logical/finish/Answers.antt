@@ -1,7 +1,7 @@
 use Rattle.std.proofs.Common.{◌≡◌, Ok, Err, sym, ap, ◌∙◌}
 use Rattle.std.proofs.lemmas.Result.{err_from_is_err_and}
 use Rattle.hay_logical.specs.declared.fault.LogicalFault.{LogicalFault}
-use Rattle.hay_logical.specs.declared.fault.LogicalFault.TheVariants.{ReadOnly}
+use Rattle.hay_logical.specs.declared.fault.LogicalFault.TheVariants.{Damaged, ReadOnly}
 use Rattle.std.proofs.Common.{subst}
 use Rattle.std.specs.Prelude.{IfErr}
 use Rattle.hay_logical.specs.Seen.{FinishRefusedSeen, VolumeSeen, volume_seen}
@@ -42,3 +42,9 @@ pub returns-in_err-files-clause-refused_sights : goal.returns-in_err-files-claus
 returns-in_err-files-clause-refused_sights g c =
     let fault = err_from_is_err_and c.from_residual.result c.from_residual.ensures.1 in
     subst (λ r. OnErr r (KeepsSights (sights_of c.args.self.now.rows) (sights_of c.finish_files.new.self.rows))) (sym fault.1) c.in_err-files.ensures.refused_sights
+
+pub returns-in_err-files-clause-damaged : goal.returns-in_err-files-clause-damaged
+returns-in_err-files-clause-damaged g c = λ tells m place e.
+    let fault = err_from_is_err_and c.from_residual.result c.from_residual.ensures.1 in
+    let same : c.in_err-files.field-0.0 ≡ Damaged m place = (let both = sym fault.1 ∙ e in let is = fault.2 in cc) in
+    c.finish_files.ensures.damaged tells m place (c.in_err-files.was ∙ ap (λ (f : LogicalFault). Err f) same)

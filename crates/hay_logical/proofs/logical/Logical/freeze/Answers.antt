@@ -1,4 +1,4 @@
-use Rattle.std.proofs.Common.{◌≡◌, ℕ, true, false, Option, Some, None, refl, sym, ap, subst, ◌∙◌}
+use Rattle.std.proofs.Common.{arith, ◌≡◌, ℕ, true, false, Option, Some, None, refl, sym, ap, subst, ◌∙◌}
 use Rattle.std.specs.Prelude.{is_some}
 use Rattle.hay_legal.specs.Known.{machine_of}
 use Rattle.hay_legal.specs.Plain.{frozen_by}
@@ -10,7 +10,7 @@ use Rattle.hay_logical.proofs.Methods.{same_still}
 use Rattle.hay_logical.proofs.Standing.{volume_with}
 use Rattle.hay_logical.specs.Seen.{FreezesSeen, volume_seen}
 use Rattle.hay_logical.proofs.SeenSwaps.{idle_seen}
-use Rattle.hay_logical.proofs.Seen.{many_seen}
+use Rattle.hay_logical.proofs.Seen.{longer_seen, many_seen}
 use Rattle.hay_logical.proofs.logical.Logical.freeze.Goals as goal
 
 never : {X : Type 0} (o : Option ℕ) → is_some o ≡ true → o ≡ None → X
@@ -67,4 +67,5 @@ returns-clause-seen g c = λ none.
       frozen = refl;
       unsure = refl;
       idle = idle_seen c.halt.new.self.replicas c.halt.ensures.ended;
+      longer = longer_seen c.args.self.now.replicas c.halt.new.self.replicas _ refl (λ j r r' e f. let end = (c.halt.ensures.each j r r' e f).end in omega (arith, end));
     })

@@ -1,4 +1,4 @@
-use Rattle.std.proofs.Common.{false, List, Some, refl, sym, ap, subst, ◌∙◌}
+use Rattle.std.proofs.Common.{arith, false, List, Some, refl, sym, ap, subst, ◌∙◌}
 use Rattle.hay_legal.specs.Known.{machine_of}
 use Rattle.hay_legal.specs.Plain.{frozen_with}
 use Rattle.hay_physical.specs.Copies.{Copy}
@@ -10,7 +10,7 @@ use Rattle.hay_logical.proofs.Showing.{given_up}
 use Rattle.hay_logical.proofs.Standing.{volume_with}
 use Rattle.hay_logical.specs.Seen.{FreezesSeen, volume_seen}
 use Rattle.hay_logical.proofs.SeenSwaps.{idle_seen}
-use Rattle.hay_logical.proofs.Seen.{many_seen}
+use Rattle.hay_logical.proofs.Seen.{longer_seen, many_seen}
 use Rattle.hay_logical.proofs.logical.Logical.give_up.Goals as goal
 
 pub invariant_of-self : goal.invariant_of-self
@@ -58,4 +58,5 @@ returns-clause-seen g c = λ none.
       frozen = refl;
       unsure = refl;
       idle = idle_seen c.halt.new.self.replicas c.halt.ensures.ended;
+      longer = longer_seen c.args.self.now.replicas c.halt.new.self.replicas _ refl (λ j r r' e f. let end = (c.halt.ensures.each j r r' e f).end in omega (arith, end));
     })

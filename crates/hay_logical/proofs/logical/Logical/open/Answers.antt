@@ -17,8 +17,8 @@ use Rattle.hay_logical.proofs.Opened.{err_same, first_stands, no_damage, no_note
 use Rattle.hay_logical.proofs.Standing.{volume_with}
 use Rattle.hay_logical.proofs.Freezing.{never_frozen}
 use Rattle.std.specs.Prelude.{map}
-use Rattle.hay_logical.specs.Seen.{IsFresh, replica_seen}
-use Rattle.hay_logical.specs.Sights.{sights_of}
+use Rattle.hay_logical.specs.Seen.{IsFresh, ReplicaSeen, replica_seen}
+use Rattle.hay_logical.specs.Sights.{LiesWithinAt, sights_of}
 use Rattle.std.specs.Vec.{with_items}
 use Rattle.hay_physical.proofs.Laws.{no_next}
 use Rattle.hay_logical.proofs.Seen.{map_at}
@@ -371,3 +371,15 @@ returns-clause-seen g c =
           let opened = c.in-Ok.ensures.opened j old.0 y.0 (subst (λ xs. At xs j old.0) (sym now) old.1) y.1 in
           subst IsFresh (sym y.2) (record { goal = opened.alone; next = no_next y.0 opened.alone; loose = opened.loose; most = opened.most; from = opened.from });
     }
+
+pub returns-clause-within : goal.returns-clause-within
+returns-clause-within g c = λ j s e.
+    let now = c.as_mut_slice.ensures.value in
+    let kept = with_items_is c.self.inside.replicas c.open_all.new.replicas (c.open_all.auto.replicas ∙ c.as_mut_slice.ensures.len) in
+    let olds = c.self.inside.replicas.items in
+    let news = c.open_all.new.replicas in
+    let count = c.open_all.ensures.counts.count ∙ ap length now in
+    let y = map_at replica_seen news j s (subst (λ rs. At (map replica_seen rs) j s) kept e) in
+    let old = at_there olds j (let h = at_below news j y.0 y.1 in let less : j < length olds = omega (arith, h, count) in less) in
+    let opened = c.in-Ok.ensures.opened j old.0 y.0 (subst (λ xs. At xs j old.0) (sym now) old.1) y.1 in
+    subst (λ (r : ReplicaSeen). LiesWithinAt j r.end (sights_of c.open_all.new.rows)) (sym y.2) opened.within

@@ -4,9 +4,10 @@ use Rattle.hay_logical.specs.declared.fault.LogicalFault.{LogicalFault}
 use Rattle.hay_logical.specs.declared.fault.LogicalFault.TheVariants.{Failed}
 use Rattle.hay_logical.specs.Volumes.{IsOpenVolume, IsSame, KeepsCounts}
 use Rattle.hay_logical.specs.Steps.{KeepsStuck}
-use Rattle.std.proofs.Common.{ℕ, length}
+use Rattle.std.proofs.Common.{ℕ, List, length}
 use Rattle.std.specs.Prelude.{map, IfErr}
-use Rattle.hay_logical.specs.Seen.{PutRefusedSeen, VolumeSeen, grown, volume_seen}
+use Rattle.hay_logical.specs.Seen.{PutRefusedSeen, ReplicaSeen, VolumeSeen, grown, replica_seen, volume_seen}
+use Rattle.std.proofs.lemmas.List.{length-map}
 use Rattle.std.specs.Prelude.{OnErr}
 use Rattle.hay_needle.specs.declared.needle.Pair.{Pair}
 use Rattle.hay_needle.specs.declared.settings.Settings.{Settings}
@@ -71,9 +72,11 @@ returns-clause-sights g c =
     let of = c.in_ok-written.ensures.of in
     let same = c.write.ensures.same in
     let kept = sights_kept c.args.self.now.rows c.write.new.self.rows c.in_ok-written.ensures.still.rows.rows in
-    stores_kept c.args.pair c.args.self.now.settings.replicas (sights_of c.args.self.now.rows) (sights_of c.write.new.self.rows) (sights_of c.show.new.self.rows) kept
-    (subst (λ (p : Pair). StoresSights p c.args.self.now.settings.replicas (sights_of c.write.new.self.rows) (sights_of c.show.new.self.rows)) of.0
-    (subst (λ (s : Settings). StoresSights c.in_ok-written.written.pair s.replicas (sights_of c.write.new.self.rows) (sights_of c.show.new.self.rows)) same.settings c.show.ensures.sights))
+    let replicas : List ReplicaSeen = (volume_seen c.args.self.now).replicas in
+    let many : length replicas ≡ c.write.new.self.settings.replicas =
+    length-map c.args.self.now.replicas replica_seen ∙ c.requires.«open».all ∙ sym (ap (λ (s : Settings). s.replicas) same.settings) in
+    stores_kept c.args.pair replicas (sights_of c.args.self.now.rows) (sights_of c.write.new.self.rows) (sights_of c.show.new.self.rows) kept
+    (subst (λ (p : Pair). StoresSights p replicas (sights_of c.write.new.self.rows) (sights_of c.show.new.self.rows)) of.0 (c.show.ensures.sights replicas many c.in_ok-written.ensures.ends))
 
 pub returns-in_err-written-clause-refused_sights : goal.returns-in_err-written-clause-refused_sights
 returns-in_err-written-clause-refused_sights g c =

@@ -9,9 +9,7 @@ use Rattle.hay_map.specs.Rows.{row_at}
 use Rattle.hay_compact.specs.Finishing.{IsSeen}
 use Rattle.hay_logical.specs.Answers.{IsSightFault}
 use Rattle.hay_logical.specs.Steps.{IsSeenBy, SetsPlaceAt}
-use Rattle.hay_logical.specs.Sights.{KeepsSights, SeesPair, sights_of}
-use Rattle.hay_logical.specs.Sights.Sight.{Unseen}
-use Rattle.hay_logical.proofs.SightChanges.{sights_kept}
+use Rattle.hay_logical.specs.Sights.{SeeRefusedSights, SeesPair, sights_of}
 use Rattle.hay_logical.proofs.logical.Logical.see.Goals as goal
 use Rattle.hay_logical.proofs.logical.Logical.see.Goals.{in-Ok, in-Err}
 
@@ -98,8 +96,15 @@ pub returns-clause-refused_sights : goal.returns-clause-refused_sights
 returns-clause-refused_sights g c = elim c.match-see_in.branch [
   | in-Ok w ↦ rw w.result-is tt
   | in-Err w ↦
-      let kept = subst (λ x. OnErr x ((other : Pair) → row_at c.see_in.new.self.rows other ≡ row_at c.args.self.now.rows other)) w.in-Err.is c.see_in.ensures.kept in
-      let unseen = subst (λ x. OnErr x (sights_of c.args.self.now.rows c.args.pair c.args.replica ≡ Unseen)) w.in-Err.is c.see_in.ensures.unseen in
-      subst (λ r. OnErr r (KeepsSights (sights_of c.args.self.now.rows) (sights_of c.see_in.new.self.rows) × (sights_of c.args.self.now.rows c.args.pair c.args.replica ≡ Unseen))) (sym w.result-is)
-      (sights_kept c.args.self.now.rows c.see_in.new.self.rows kept, unseen)
+      let refused = subst (λ x. IfErr x (SeeRefusedSights c.args.pair c.args.replica (sights_of c.args.self.now.rows) (sights_of c.see_in.new.self.rows))) w.in-Err.is c.see_in.ensures.see_refused in
+      subst (λ r. IfErr r (SeeRefusedSights c.args.pair c.args.replica (sights_of c.args.self.now.rows) (sights_of c.see_in.new.self.rows))) (sym w.result-is) refused
+]
+
+pub returns-clause-told : goal.returns-clause-told
+returns-clause-told g c = c.see_in.ensures.told
+
+pub returns-clause-damaged : goal.returns-clause-damaged
+returns-clause-damaged g c = λ tells m place e. elim c.match-see_in.branch [
+  | in-Ok w ↦ let wrong = sym w.result-is ∙ e in cc
+  | in-Err w ↦ c.see_in.ensures.damaged tells m place (let was = w.in-Err.is in let is = w.result-is in cc)
 ]

@@ -1,4 +1,4 @@
-use Rattle.std.proofs.Common.{◌<◌, Err, refl, sym, ap, subst, ◌∙◌, arith}
+use Rattle.std.proofs.Common.{◌≡◌, ◌<◌, Err, refl, sym, ap, subst, ◌∙◌, arith}
 use Rattle.std.specs.Prelude.{IfErr}
 use Rattle.std.proofs.lemmas.Result.{err_from_is_err_and}
 use Rattle.hay_map.specs.Rows.{row_at}
@@ -7,8 +7,13 @@ use Rattle.hay_logical.specs.Answers.{IsSightFault}
 use Rattle.hay_logical.proofs.Through.{cause_later, kept_more, kept_none, seen_more}
 use Rattle.hay_logical.proofs.Untouched.{stuck_more, stuck_same}
 use Rattle.hay_needle.specs.declared.settings.Settings.{Settings}
-use Rattle.hay_logical.specs.Sights.{LookRefusedSights, Sights, sights_of}
-use Rattle.hay_logical.proofs.SightChanges.{look_refused_behind, looks_kept, looks_more}
+use Rattle.hay_logical.specs.declared.fault.LogicalFault.TheVariants as refusal
+use Rattle.hay_logical.specs.Needles.{IsDamagedLook}
+use Rattle.hay_logical.specs.Seen.{VolumeSeen}
+use Rattle.hay_logical.specs.Sights.{KeepsSights, LookRefusedSights, Sights, sights_of}
+use Rattle.hay_logical.proofs.Bytes.{bytes_through}
+use Rattle.hay_logical.proofs.Needles.{damaged_behind, told_behind, told_none}
+use Rattle.hay_logical.proofs.SightChanges.{look_refused_behind, looks_kept, looks_more, sights_kept}
 use Rattle.hay_logical.proofs.logical.Logical.see_each.Goals as goal
 
 pub loop-replica-init : goal.loop-replica-init
@@ -18,6 +23,7 @@ loop-replica-init g c = record {
   stuck = stuck_same c.args.self.now.replicas;
   seen = λ j h. let wrong : ⊥ = omega (arith, h) in absurd wrong;
   looks = looks_kept c.args.pair (sights_of c.args.self.now.rows) (sights_of c.args.self.now.rows) (λ q j. refl);
+  told = λ tells. told_none g.D.Disk.files c.args.pair c.args.self.now.replicas (sights_of c.args.self.now.rows) (sights_of c.args.self.now.rows) (λ q j. refl);
   unchanged = refl;
 }
 
@@ -65,6 +71,12 @@ loop-replica-preserved g c = record {
   seen = seen_more c.args.pair c.loop-replica.replica c.loop-replica.self.rows c.see_in.new.self.rows (row_at c.see_in.new.self.rows c.args.pair) c.in_ok-see_in.ensures.row refl c.in_ok-see_in.ensures.seen c.loop-replica.invariant.seen;
   looks = looks_more c.args.pair (sights_of c.args.self.now.rows) (sights_of c.loop-replica.self.rows)
       (sights_of c.see_in.new.self.rows) c.loop-replica.invariant.looks c.in_ok-see_in.ensures.sights.looks;
+  told = λ tells.
+      let kept = c.loop-replica.invariant.kept in
+      told_behind g.D.Disk.files c.args.pair c.args.self.now.replicas c.loop-replica.self.replicas (sights_of c.args.self.now.rows) (sights_of c.loop-replica.self.rows) (sights_of c.see_in.new.self.rows)
+      kept.counts.count c.loop-replica.invariant.looks
+      (bytes_through g.D.Disk.Tells g.D.Disk.files tells c.args.self.now.replicas c.loop-replica.self.replicas kept.bytes (ap (λ (s : VolumeSeen). s.replicas) c.loop-replica.invariant.unchanged))
+      c.in_ok-see_in.ensures.sights.looks (c.loop-replica.invariant.told tells) (c.see_in.ensures.told tells);
   unchanged = c.see_in.ensures.unchanged ∙ c.loop-replica.invariant.unchanged;
 }
 
@@ -138,3 +150,31 @@ returns-in_err-see_in-clause-refused_sights g c =
     (look_refused_behind c.args.self.now.settings c.args.self.now.number c.args.pair old mid new c.loop-replica.invariant.looks c.in_err-see_in.field-0.0
     (subst (λ n. LookRefusedSights c.args.self.now.settings n c.args.pair mid new c.in_err-see_in.field-0.0) same.number
     (subst (λ (s : Settings). LookRefusedSights s c.loop-replica.self.number c.args.pair mid new c.in_err-see_in.field-0.0) same.settings c.in_err-see_in.ensures.refused_sights))))
+
+pub returns-in_err-see_in-clause-told : goal.returns-in_err-see_in-clause-told
+returns-in_err-see_in-clause-told g c = λ tells.
+    let kept = c.loop-replica.invariant.kept in
+    let old : Sights = sights_of c.args.self.now.rows in
+    let mid : Sights = sights_of c.loop-replica.self.rows in
+    let new : Sights = sights_of c.see_in.new.self.rows in
+    let same : KeepsSights mid new = sights_kept c.loop-replica.self.rows c.see_in.new.self.rows c.in_err-see_in.ensures.kept in
+    told_behind g.D.Disk.files c.args.pair c.args.self.now.replicas c.loop-replica.self.replicas old mid new kept.counts.count c.loop-replica.invariant.looks
+    (bytes_through g.D.Disk.Tells g.D.Disk.files tells c.args.self.now.replicas c.loop-replica.self.replicas kept.bytes (ap (λ (s : VolumeSeen). s.replicas) c.loop-replica.invariant.unchanged))
+    (looks_kept c.args.pair mid new same) (c.loop-replica.invariant.told tells) (c.see_in.ensures.told tells)
+
+pub returns-clause-told : goal.returns-clause-told
+returns-clause-told g c = c.loop-replica.invariant.told
+
+pub returns-in_err-see_in-clause-damaged : goal.returns-in_err-see_in-clause-damaged
+returns-in_err-see_in-clause-damaged g c = λ tells m place e.
+    let fault = err_from_is_err_and c.from_residual.result c.from_residual.ensures.1 in
+    let kept = c.loop-replica.invariant.kept in
+    let is : c.in_err-see_in.field-0.0 ≡ refusal.Damaged m place = (let both = sym fault.1 ∙ e in let by = fault.2 in cc) in
+    let here = c.see_in.ensures.damaged tells m place (c.in_err-see_in.was ∙ ap (λ (f : LogicalFault). Err f) is) in
+    let mids = c.loop-replica.self.replicas in
+    let mid : Sights = sights_of c.loop-replica.self.rows in
+    damaged_behind g.D.Disk.files c.args.pair c.args.self.now.replicas mids (sights_of c.args.self.now.rows) mid mid kept.counts.count c.loop-replica.invariant.looks
+    (bytes_through g.D.Disk.Tells g.D.Disk.files tells c.args.self.now.replicas mids kept.bytes (ap (λ (s : VolumeSeen). s.replicas) c.loop-replica.invariant.unchanged))
+    c.args.self.now.settings c.args.self.now.number m place
+    (subst (λ n. IsDamagedLook g.D.Disk.files c.args.self.now.settings n mids c.args.pair m place mid) kept.same.number
+    (subst (λ (s : Settings). IsDamagedLook g.D.Disk.files s c.loop-replica.self.number mids c.args.pair m place mid) kept.same.settings here))

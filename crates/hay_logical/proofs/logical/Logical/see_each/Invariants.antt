@@ -3,6 +3,7 @@ use Rattle.hay_map.specs.Places.{place_in}
 use Rattle.hay_map.specs.Rows.{row_at}
 use Rattle.hay_compact.specs.Finishing.{IsSeen}
 use Rattle.hay_legal.specs.declared.known.VolumeKnown.{VolumeKnown}
+use Rattle.hay_logical.specs.Needles.{AreToldBy}
 use Rattle.hay_logical.specs.Seen.{volume_seen}
 use Rattle.hay_logical.specs.Sights.{LooksAtPair, sights_of}
 use Rattle.hay_logical.specs.Stands.{IsTightAt, Stands}
@@ -17,5 +18,6 @@ invariant-loop-replica g l = record {
   stuck : KeepsStuck l.fn.self.replicas l.self.replicas;
   seen : (j : ℕ) → j < l.replica → IsSeen (place_in (row_at l.self.rows l.pair) j);
   looks : LooksAtPair l.pair (sights_of l.fn.self.rows) (sights_of l.self.rows);
+  told : g.D.Disk.Tells → AreToldBy g.D.Disk.files l.fn.self.replicas l.pair (sights_of l.fn.self.rows) (sights_of l.self.rows);
   unchanged : volume_seen l.self ≡ volume_seen l.fn.self;
 }

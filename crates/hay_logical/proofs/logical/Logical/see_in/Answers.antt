@@ -27,9 +27,16 @@ use Rattle.hay_logical.proofs.Tightness.{tight_one, tight_seen}
 use Rattle.std.proofs.Common.{◌≡◌, ap, ◌∙◌}
 use Rattle.hay_logical.specs.Seen.{replica_seen}
 use Rattle.hay_logical.proofs.Seen.{same_one}
-use Rattle.hay_logical.specs.Sights.{LookRefusedSights, SeesPair, sights_of}
-use Rattle.hay_logical.specs.Sights.Sight.{Unseen}
-use Rattle.hay_logical.proofs.SightChanges.{look_refused_at, sights_kept}
+use Rattle.std.proofs.Common.{inl, inr}
+use Rattle.std.proofs.lemmas.Bool.{cases_eq}
+use Rattle.hay_physical.specs.Copies.{volume_bytes}
+use Rattle.hay_logical.specs.declared.fault.LogicalFault.TheVariants as refusal
+use Rattle.hay_logical.specs.Needles.{IsDamagedLook, IsToldBy}
+use Rattle.hay_logical.specs.Sights.{LookRefusedSights, SeeRefusedSights, SeesPair, sight, sights_of}
+use Rattle.hay_logical.specs.Steps.{LookAwaited}
+use Rattle.hay_logical.proofs.Needles.{damaged_machine, told_same}
+use Rattle.hay_logical.proofs.Sighting.{other_places}
+use Rattle.hay_logical.proofs.SightChanges.{look_refused_at, see_refused_at, sights_kept}
 use Rattle.hay_logical.proofs.logical.Logical.see_in.Goals as goal
 use Rattle.hay_logical.proofs.logical.Logical.see_in.Goals.{in-Ok, in-Err}
 
@@ -298,15 +305,55 @@ returns-clause-sights g c = elim c.match-see_at.branch [
   | in-Err w ↦ rw w.result-is tt
 ]
 
-pub returns-clause-unseen : goal.returns-clause-unseen
-returns-clause-unseen g c = elim c.match-see_at.branch [
+pub returns-clause-see_refused : goal.returns-clause-see_refused
+returns-clause-see_refused g c = elim c.match-see_at.branch [
   | in-Ok w ↦ rw w.result-is tt
   | in-Err w ↦
-      let unseen : sights_of c.self.inside.rows c.args.pair c.args.replica ≡ Unseen =
-      subst (λ x. OnErr x (sights_of c.self.inside.rows c.args.pair c.args.replica ≡ Unseen)) w.in-Err.is c.see_at.ensures.row.unseen in
-      subst (λ r. OnErr r (sights_of c.args.self.now.rows c.args.pair c.args.replica ≡ Unseen)) (sym w.result-is)
-      (subst (λ v. sights_of v.rows c.args.pair c.args.replica ≡ Unseen) c.self.view_is unseen)
+      let awaits = subst (λ x. IfErr x (LookAwaited (sights_of c.self.inside.rows c.args.pair c.args.replica))) w.in-Err.is c.see_at.ensures.row.unseen in
+      let kept = subst (λ x. OnErr x ((other : Pair) → row_at c.see_at.new.rows other ≡ row_at c.self.inside.rows other)) w.in-Err.is c.see_at.ensures.row.kept in
+      subst (λ r. IfErr r (SeeRefusedSights c.args.pair c.args.replica (sights_of c.args.self.now.rows) (sights_of c.see_at.new.rows))) (sym w.result-is)
+      (subst (λ v. SeeRefusedSights c.args.pair c.args.replica (sights_of v.rows) (sights_of c.see_at.new.rows) w.answer_at.result) c.self.view_is
+      (subst (λ f. SeeRefusedSights c.args.pair c.args.replica (sights_of c.self.inside.rows) (sights_of c.see_at.new.rows) f) (sym w.answer_at.ensures)
+      (see_refused_at c.self.inside.settings c.self.inside.number c.args.pair (sights_of c.self.inside.rows) (sights_of c.see_at.new.rows) c.args.replica c.machine_of-machine.result
+      (sights_kept c.self.inside.rows c.see_at.new.rows kept) w.in-Err.fault awaits)))
 ]
+
+pub returns-clause-told : goal.returns-clause-told
+returns-clause-told g c = λ tells j r e.
+    let now = c.as_mut_slice.ensures.value in
+    let f : At c.self.inside.replicas.items j r = subst (λ v. At v.replicas j r) (sym c.self.view_is) e in
+    let file = volume_bytes g.D.Disk.files r in
+    subst (λ v. IsToldBy file (sights_of v.rows c.args.pair j) (sights_of c.see_at.new.rows c.args.pair j)) c.self.view_is
+    (elim (cases_eq j c.args.replica) [
+      | inl same ↦
+          subst (λ n. IsToldBy file (sights_of c.self.inside.rows c.args.pair n) (sights_of c.see_at.new.rows c.args.pair n)) (sym same)
+          (c.see_at.ensures.told tells r (subst (λ xs. At xs c.args.replica r) (sym now) (subst (λ n. At c.self.inside.replicas.items n r) same f))).told
+      | inr apart ↦
+          told_same file (sights_of c.self.inside.rows c.args.pair j) (sights_of c.see_at.new.rows c.args.pair j)
+          (ap (λ p. sight p) (other_places c.args.pair c.args.replica c.self.inside.rows c.see_at.new.rows c.see_at.result c.see_at.ensures.row j apart c.args.pair))
+    ])
+
+pub returns-clause-damaged : goal.returns-clause-damaged
+returns-clause-damaged g c = λ tells m place e.
+    let now = c.as_mut_slice.ensures.value in
+    let one : CallsOne c.args.replica c.self.inside.replicas.items c.see_at.new.replicas = subst (λ xs. CallsOne c.args.replica xs c.see_at.new.replicas) now c.see_at.ensures.one in
+    elim c.match-see_at.branch [
+      | in-Ok w ↦ let wrong = sym w.result-is ∙ e in cc
+      | in-Err w ↦
+          let both = sym w.result-is ∙ e in
+          let by : w.answer_at.result ≡ refusal.Damaged m place = cc in
+          let said = sym w.answer_at.ensures ∙ by in
+          let is = damaged_answer c.machine_of-machine.result w.in-Err.fault m place said in
+          let looked = c.see_at.ensures.told tells one.before (subst (λ xs. At xs c.args.replica one.before) (sym now) one.was) in
+          subst (λ (v : Volume g.row.D.Denot g.row.D-Piece.Denot). IsDamagedLook g.D.Disk.files v.settings v.number v.replicas c.args.pair m place (sights_of v.rows)) c.self.view_is (record {
+            replica = c.args.replica;
+            within = subst (λ v. c.args.replica < v.settings.replicas) (sym c.self.view_is) c.requires.within;
+            machine = damaged_machine c.machine_of-machine.result w.in-Err.fault m place said ∙ c.machine_of-machine.ensures;
+            there = one.before;
+            is = one.was;
+            lacks = looked.lacks place (w.in-Err.is ∙ ap (λ (f : ReplicaFault). Err f) is);
+          })
+    ]
 
 pub returns-clause-refused_sights : goal.returns-clause-refused_sights
 returns-clause-refused_sights g c =
@@ -318,14 +365,11 @@ returns-clause-refused_sights g c =
     elim c.match-see_at.branch [
       | in-Ok w ↦ rw w.result-is tt
       | in-Err w ↦
-          let cause = subst (λ x. IfErr x (physical_faults.IsSightFault (g.D.Disk.fault_count (one.before).disk) (g.D.Disk.fault_count (one.after).disk))) w.in-Err.is sights.cause in
-          let unseen : sights_of c.self.inside.rows c.args.pair c.args.replica ≡ Unseen =
-          subst (λ x. OnErr x (sights_of c.self.inside.rows c.args.pair c.args.replica ≡ Unseen)) w.in-Err.is c.see_at.ensures.row.unseen in
+          let awaits = subst (λ x. IfErr x (LookAwaited (sights_of c.self.inside.rows c.args.pair c.args.replica))) w.in-Err.is c.see_at.ensures.row.unseen in
           let kept = subst (λ x. OnErr x ((other : Pair) → row_at c.see_at.new.rows other ≡ row_at c.self.inside.rows other)) w.in-Err.is c.see_at.ensures.row.kept in
           subst (λ r. IfErr r (LookRefusedSights c.args.self.now.settings c.args.self.now.number c.args.pair (sights_of c.args.self.now.rows) (sights_of c.see_at.new.rows))) (sym w.result-is)
           (subst (λ v. LookRefusedSights v.settings v.number c.args.pair (sights_of v.rows) (sights_of c.see_at.new.rows) w.answer_at.result) c.self.view_is
           (subst (λ f. LookRefusedSights c.self.inside.settings c.self.inside.number c.args.pair (sights_of c.self.inside.rows) (sights_of c.see_at.new.rows) f) (sym w.answer_at.ensures)
           (look_refused_at c.self.inside.settings c.self.inside.number c.args.pair (sights_of c.self.inside.rows) (sights_of c.see_at.new.rows) c.args.replica c.machine_of-machine.result within
-          c.machine_of-machine.ensures (sights_kept c.self.inside.rows c.see_at.new.rows kept) unseen (g.D.Disk.fault_count (one.before).disk)
-          (g.D.Disk.fault_count (one.after).disk) w.in-Err.fault cause)))
+          c.machine_of-machine.ensures (sights_kept c.self.inside.rows c.see_at.new.rows kept) w.in-Err.fault awaits)))
     ]

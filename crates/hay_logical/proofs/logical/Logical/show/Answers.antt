@@ -1,4 +1,4 @@
-use Rattle.std.proofs.Common.{◌<◌, length, refl, sym, ap, subst, arith}
+use Rattle.std.proofs.Common.{◌≡◌, List, ◌<◌, length, refl, sym, ap, subst, arith}
 use Rattle.hay_map.specs.Rows.{ChangesRows}
 use Rattle.hay_map.specs.declared.view.MapOp.TheVariants as op
 use Rattle.hay_logical.specs.Unshown.{IsWritten, IsWrittenFor}
@@ -6,6 +6,7 @@ use Rattle.hay_logical.specs.Volumes.{Volume}
 use Rattle.hay_logical.proofs.Lists.{at_same}
 use Rattle.hay_logical.proofs.Methods.{shaped_on}
 use Rattle.hay_logical.proofs.Showing.{put_shown}
+use Rattle.hay_logical.specs.Seen.{AreEnds, ReplicaSeen}
 use Rattle.hay_logical.specs.Sights.{StoresSights, sights_of}
 use Rattle.hay_logical.proofs.SightChanges.{stores_sights}
 use Rattle.hay_logical.proofs.logical.Logical.show.Goals as goal
@@ -40,6 +41,6 @@ returns-clause-sights g c =
     let fits = subst (λ v. IsWrittenFor g.D.Disk.Tells g.D.Disk.files c.args.written v) (sym c.self.view_is) c.requires in
     let long = fits.long in
     let width = (c.self.invariant.0).width in
-    subst (λ v. StoresSights c.args.written.pair v.settings.replicas (sights_of v.rows) (sights_of c.give_row.new.rows)) c.self.view_is
-    (stores_sights c.self.inside.rows c.give_row.new.rows c.args.written.pair c.args.written.row c.self.inside.settings.replicas c.give_row.ensures.rows
+    subst (λ v. (replicas : List ReplicaSeen) → length replicas ≡ v.settings.replicas → AreEnds c.args.written.ends replicas → StoresSights c.args.written.pair replicas (sights_of v.rows) (sights_of c.give_row.new.rows)) c.self.view_is
+    (stores_sights c.self.inside.rows c.give_row.new.rows c.args.written.pair c.args.written.row c.self.inside.settings.replicas c.args.written.ends c.give_row.ensures.rows
     (λ j h. fits.live j (let less : j < length c.args.written.row = omega (arith, h, long, width) in less)))

@@ -30,6 +30,9 @@ use Rattle.hay_legal.specs.Known.{machine_of}
 use Rattle.std.proofs.Common.{None, Option, ◌≤◌}
 use Rattle.hay_logical.specs.Seen.{BreaksStep, EndsAlone, StepRefusedSeen, StepSeen, StepsPartly, StepsTo, VolumeSeen, replica_seen, volume_seen}
 use Rattle.hay_logical.proofs.Lists.{at_map}
+use Rattle.hay_physical.specs.declared.fault.ReplicaFault.{ReplicaFault}
+use Rattle.hay_logical.specs.Needles.{IsDamagedCell}
+use Rattle.hay_logical.proofs.Sighting.{damaged_answer}
 use Rattle.hay_logical.proofs.Seen.{changes_one, no_goal, run_ended, sees_before, step_refused_seen}
 use Rattle.hay_logical.proofs.logical.Logical.step.Goals as goal
 use Rattle.hay_logical.proofs.logical.Logical.step.Goals.{in-Ok, in-Err}
@@ -402,3 +405,14 @@ returns-then-is_none-clause-refused_seen g c =
             (c.standing.ensures.is r.0 r.1) ∙ no_goal c.standing.result c.is_none.result c.is_none.ensures c.if-is_none.true,
       ),
     )
+
+pub returns-clause-damaged : goal.returns-clause-damaged
+returns-clause-damaged g c = λ tells m place e. elim c.match-step_at.branch [
+  | in-Ok w ↦ let wrong = sym w.result-is ∙ e in cc
+  | in-Err w ↦
+      let both = sym w.result-is ∙ e in
+      let by : w.answer_at.result ≡ logical.Damaged m place = cc in
+      let is = damaged_answer c.machine_of-machine.result w.in-Err.fault m place (sym w.answer_at.ensures ∙ by) in
+      let here = c.step_at.ensures.damaged tells place (w.in-Err.is ∙ ap (λ (f : ReplicaFault). Err f) is) in
+      subst (λ v. IsDamagedCell g.D.Disk.files v.replicas c.args.replica place) c.self.view_is (subst (λ xs. IsDamagedCell g.D.Disk.files xs c.args.replica place) c.as_mut_slice.ensures.value here)
+]

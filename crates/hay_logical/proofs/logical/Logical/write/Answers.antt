@@ -6,14 +6,14 @@ use Rattle.std.specs.Vec.{with_items}
 use Rattle.std.proofs.lemmas.List.{with_items_is}
 use Rattle.hay_map.specs.Places.{place_in}
 use Rattle.hay_map.specs.Rows.{KeepsRows}
-use Rattle.hay_physical.specs.Copies.{Copy, IsOpenCopy, IsUp}
+use Rattle.hay_physical.specs.Copies.{Copy, IsOpenCopy, IsUp, end_of}
 use Rattle.hay_logical.specs.declared.unsure.Change.TheVariants as change
 use Rattle.hay_logical.specs.declared.written.Written.{Written}
 use Rattle.hay_logical.specs.Answers.{HasRoom, IsRoomFault, PutRefused}
 use Rattle.hay_logical.specs.Answers as answers
 use Rattle.hay_logical.specs.Fits.{At}
 use Rattle.hay_logical.specs.Stands.{Stands, StandsFor}
-use Rattle.hay_logical.specs.Steps.{AllIdle, EndsRuns, KeepsAbove, PutLeaves, PutsAt, StaysInReach}
+use Rattle.hay_logical.specs.Steps.{AllIdle, EndsRuns, KeepsAbove, Lengthens, PutLeaves, PutsAt, StaysInReach}
 use Rattle.hay_logical.specs.Unshown.{IsWritten}
 use Rattle.hay_logical.specs.Volumes.{CanReach, IsShaped, KeepsCounts}
 use Rattle.hay_logical.proofs.Calls.{counted_same, keeps_counts, open_up, reach_still, up_open, up_thawed}
@@ -38,8 +38,9 @@ use Rattle.hay_logical.proofs.Tightness.{tight_untouched}
 use Rattle.std.proofs.Common.{ap, List, Option}
 use Rattle.std.specs.Prelude.{map}
 use Rattle.hay_logical.specs.declared.unsure.Unsure.{Unsure}
-use Rattle.hay_logical.specs.Seen.{PutRefusedSeen, ReplicaSeen, VolumeSeen, grown, replica_seen, volume_seen}
-use Rattle.hay_logical.proofs.Seen.{many_seen, map_at}
+use Rattle.hay_logical.specs.Sights.Sight.{Live}
+use Rattle.hay_logical.specs.Seen.{AreEnds, PutRefusedSeen, ReplicaSeen, VolumeSeen, grown, replica_seen, volume_seen}
+use Rattle.hay_logical.proofs.Seen.{longer_seen, many_seen, map_at}
 use Rattle.hay_logical.proofs.SeenSwaps.{idle_seen}
 use Rattle.hay_logical.proofs.SeenChanges.{broken_put_seen, map_both, maps_by, room_put_seen}
 use Rattle.hay_logical.proofs.SightChanges.{live_seen}
@@ -272,7 +273,7 @@ returns-in-Ok-clause-fits g c =
           let long = c.in-Ok.ensures.places ∙ ap length now in
           let r = at_there c.self.inside.replicas.items j (let less : j < length c.self.inside.replicas.items = omega (arith, h, long) in less) in
           let r' = at_there c.put_each.new.replicas j (let less : j < length c.put_each.new.replicas = omega (arith, h, long, count) in less) in
-          (each j r.0 r'.0 r.1 r'.1).live;
+          (each j r.0 r'.0 r.1 r'.1).live ∙ ap (λ n. Live n) (sym (c.ends_of-ends.ensures j r.0 (subst (λ xs. At xs j r.0) (sym c.as_slice.ensures.value) r.1)));
       reach = λ rows changes.
           subst (λ rs. CanReach g.D.Disk.Tells g.D.Disk.files rs rows) (sym kept)
           (put_row g.D.Disk.Tells g.D.Disk.files c.self.inside.replicas.items c.put_each.new.replicas c.self.inside.rows rows c.self.invariant.2 (c.put_each.ensures.counts.count ∙ ap length now)
@@ -281,7 +282,7 @@ returns-in-Ok-clause-fits g c =
           (λ j r r' e f. c.put_each.ensures.reach j r r' (subst (λ xs. At xs j r) (sym now) e) f)
           (λ j r r' e f tells.
           let put = each j r r' e f in
-          let seen = live_seen (place_in c.in-Ok.row j) put.live in
+          let seen = live_seen (place_in c.in-Ok.row j) (end_of r) put.live in
           (put.deletable tells, seen_sees g.D.Disk.files r' (place_in c.in-Ok.row j) seen, seen_apart (place_in c.in-Ok.row j) seen, put.apart tells)));
     }
 
@@ -568,6 +569,7 @@ returns-else-is_untouched-clause-refused_seen g c =
         frozen = refl;
         unsure = refl;
         idle = λ j s e. idle_seen c.put_each.new.replicas idle j s (subst (λ rs. At (map replica_seen rs) j s) kept e);
+        longer = longer_seen c.self.inside.replicas.items c.put_each.new.replicas _ kept (subst (λ xs. Lengthens xs c.put_each.new.replicas) now c.put_each.ensures.ends);
       };
     }))
 
@@ -577,3 +579,10 @@ returns-then-is_untouched-clause-files g c = λ same tells j r r' e f.
     let kept = with_items_is c.self.inside.replicas c.put_each.new.replicas (c.put_each.auto.replicas ∙ c.as_mut_slice.ensures.len) in
     let un : IsUntouched c.put_each.new.replicas c.in-Err.broken = subst (λ xs. IsUntouched xs c.in-Err.broken) (c.as_slice-in-Err.ensures.value ∙ kept) (c.is_untouched.ensures.untouched c.if-is_untouched.true) in
     c.in-Err.ensures.untouched un tells j r r' (subst (λ xs. At xs j r) (sym now) (subst (λ v. At v.replicas j r) (sym c.self.view_is) e)) (subst (λ xs. At xs j r') kept f)
+
+pub returns-in-Ok-clause-ends : goal.returns-in-Ok-clause-ends
+returns-in-Ok-clause-ends g c =
+    subst (λ v. AreEnds c.ends_of-ends.result (volume_seen v).replicas) c.self.view_is
+    (λ j s e.
+    let x = map_at replica_seen c.self.inside.replicas.items j s e in
+    c.ends_of-ends.ensures j x.0 (subst (λ xs. At xs j x.0) (sym c.as_slice.ensures.value) x.1) ∙ ap (λ (r : ReplicaSeen). r.end) (sym x.2))
