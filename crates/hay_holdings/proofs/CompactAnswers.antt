@@ -341,7 +341,7 @@ module _ (settings : Settings) (start : Start) (drained : List Bool) (tag : Core
       pub compact_done : {g end cells : ℕ} → AtVolume v (calls.Swapped settings start v tag j tag g end cells false) k b
           → IsAnswered settings start drained tag (command.Compact v m) (reply.Compacted v m g) a b
       compact_done {g} {end} {cells} x =
-          let acts = acted_at x (λ held none. none.0) in
+          let acts = acted_at x (λ held none. (none.0).0) in
           let doing : Doing VolumeAct = acts.doing in
           let ds : List (Doing VolumeAct) = c.doings ++ doing ∷ [] in record {
             doings = doings_at v ds [];
@@ -351,9 +351,9 @@ module _ (settings : Settings) (start : Start) (drained : List Bool) (tag : Core
               (
                 end,
                 cells,
-                ran_as c b below doing (acts.is).0 refl refl (acts.is).1 acts.between,
-                (acts.is).2,
-                tight_there c b below doing (acts.is).0 refl refl (acts.is).1 acts.between (acts.is).3,
+                ran_as c b below doing ((acts.is).0).0 refl refl ((acts.is).0).1 acts.between,
+                ((acts.is).0).2,
+                tight_there c b below doing ((acts.is).0).0 refl refl ((acts.is).0).1 acts.between (acts.is).1,
               ),
             );
           }
@@ -361,7 +361,7 @@ module _ (settings : Settings) (start : Start) (drained : List Bool) (tag : Core
       pub compact_froze : {g end cells : ℕ} → AtVolume v (calls.Swapped settings start v tag j tag g end cells true) k b
           → IsAnswered settings start drained tag (command.Compact v m) reply.NoMem a b
       compact_froze {g} {end} {cells} x =
-          let acts = acted_at x (λ held none. none.0) in
+          let acts = acted_at x (λ held none. (none.0).0) in
           let doing : Doing VolumeAct = acts.doing in
           let ds : List (Doing VolumeAct) = c.doings ++ doing ∷ [] in record {
             doings = doings_at v ds [];
@@ -369,8 +369,8 @@ module _ (settings : Settings) (start : Start) (drained : List Bool) (tag : Core
             did = compacted_as a b reply.NoMem (doings_at v ds []) (inr (inr (inl (
               end,
               cells,
-              ran_as c b below doing (acts.is).0 refl refl (acts.is).1 acts.between,
-              tight_there c b below doing (acts.is).0 refl refl (acts.is).1 acts.between (acts.is).3,
+              ran_as c b below doing ((acts.is).0).0 refl refl ((acts.is).0).1 acts.between,
+              tight_there c b below doing ((acts.is).0).0 refl refl ((acts.is).0).1 acts.between (acts.is).1,
             ))));
           }
 

@@ -294,7 +294,7 @@ module _ (settings : Settings) (start : Start) (drained : List Bool) (tag : Core
     }
 
     module _ {who : CoreTag} (own : who.lane ≡ tag.lane) where
-      pub finish_done : {g end cells : ℕ} → AtVolume v (calls.Swapped settings start v tag j who g end cells false) a b
+      pub finish_done : {g end cells : ℕ} → AtVolume v (calls.Switched settings start v tag j who g end cells false) a b
           → IsAnswered settings start drained tag (command.Finish v m) (reply.Compacted v m g) a b
       finish_done {g} {end} {cells} x =
           let acts = acted_at x (λ held none. none.0) in
@@ -305,7 +305,7 @@ module _ (settings : Settings) (start : Start) (drained : List Bool) (tag : Core
           }
 
       -- the swap stands, and the volume is frozen for want of memory
-      pub finish_froze : {g end cells : ℕ} → AtVolume v (calls.Swapped settings start v tag j who g end cells true) a b
+      pub finish_froze : {g end cells : ℕ} → AtVolume v (calls.Switched settings start v tag j who g end cells true) a b
           → IsAnswered settings start drained tag (command.Finish v m) reply.NoMem a b
       finish_froze {g} {end} {cells} x =
           let acts = acted_at x (λ held none. none.0) in

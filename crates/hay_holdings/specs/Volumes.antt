@@ -211,10 +211,17 @@ module _ (settings : Settings) (start : Start) (v : ℕ) where
     abbrev pub RunWanted : ℕ → CoreTag → VolumeCall
     RunWanted j who = Call (λ held made. MadeOne (Ends j) made × HasRunOf j who held)
 
-    -- its files are the current ones; for want of memory the volume may be frozen then
+    -- its files were made the current ones, of these sizes; for want of memory the volume may be frozen then
+    abbrev pub Switches : ℕ → CoreTag → ℕ → ℕ → ℕ → Bool → List VolumeAct → Option VolumeAct → Type 0
+    Switches j who g end cells frozen held made =
+        MadeOne (Swaps j end cells frozen) made × HasRunOf j who held × (g ≡ (replica_stood held j).generation + 1)
+
+    abbrev pub Switched : ℕ → CoreTag → ℕ → ℕ → ℕ → Bool → VolumeCall
+    Switched j who g end cells frozen = Call (Switches j who g end cells frozen)
+
+    -- and the sizes are tight
     abbrev pub Swapped : ℕ → CoreTag → ℕ → ℕ → ℕ → Bool → VolumeCall
-    Swapped j who g end cells frozen = Call (λ held made.
-        MadeOne (Swaps j end cells frozen) made × HasRunOf j who held × (g ≡ (replica_stood held j).generation + 1) × IsTightSince j end cells held)
+    Swapped j who g end cells frozen = Call (λ held made. Switches j who g end cells frozen held made × IsTightSince j end cells held)
 
     -- the switch of the head failed, and the volume is frozen by this machine
     abbrev pub SwapFailed : ℕ → CoreTag → ℕ → ℕ → VolumeCall
