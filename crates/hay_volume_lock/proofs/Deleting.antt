@@ -14,7 +14,7 @@ use Rattle.hay_legal.specs.Plain.{frozen_with, has_pair}
 use Rattle.hay_history.specs.Steps.{Standing}
 use Rattle.hay_holdings.specs.Volumes.{stood_there}
 use Rattle.hay_logical.specs.Answers as logical
-use Rattle.hay_logical.specs.Stands.{Stands}
+use Rattle.hay_logical.specs.Stands.{IsTightAt, Stands}
 use Rattle.hay_needle.specs.declared.needle.Pair.{Pair}
 use Rattle.hay_needle.specs.declared.settings.Settings.{Settings}
 use Rattle.hay_needle.specs.Tables.{outcome_at}
@@ -41,7 +41,7 @@ use Rattle.hay_views.specs.MapPasts.{MapPast, entered_by}
 use Rattle.hay_volume_lock.specs.Acts.{act_of, counts}
 use Rattle.hay_volume_lock.specs.Answers.{Found, FoundAlways, IsAt, StoreVolume}
 use Rattle.hay_volume_lock.specs.Changes.{DiskFailed, freezes_by, pends_by}
-use Rattle.hay_volume_lock.specs.Deletes.{DeleteAnswer, DeleteRefused, delete_made, failed_made, noted, over_since}
+use Rattle.hay_volume_lock.specs.Deletes.{DeleteAnswer, delete_made, failed_made, noted, over_since}
 use Rattle.hay_volume_lock.specs.Ended.{ended_at}
 use Rattle.hay_volume_lock.specs.Keeping.{IsKept, add_tag, count_at, ended_in, published_row, stood_of}
 use Rattle.hay_volume_lock.specs.Tries.{IsTried, tried_made}
@@ -51,7 +51,7 @@ use Rattle.hay_volume_lock.specs.declared.guarded.Guarded.{Guarded}
 use Rattle.hay_volume_lock.specs.declared.guarded.Opened.{Opened}
 use Rattle.hay_volume_lock.proofs.Published.{Fact}
 use Rattle.hay_volume_lock.proofs.Counting.{count_behind, count_there}
-use Rattle.hay_volume_lock.proofs.Growing.{FusesStay, ends_none}
+use Rattle.hay_volume_lock.proofs.Growing.{FusesStay, Keeps, ends_none, tight_entered, tight_frozen, tries_leads}
 use Rattle.hay_volume_lock.proofs.Holding.{stood_is}
 use Rattle.hay_volume_lock.proofs.Publishing.{Changes, IsOfBoth, Serves, Shows, changes_acted, changes_seen, fuses_stay, kept_acted}
 use Rattle.hay_volume_lock.proofs.Putting.{IsMadeBy, err_same, failed_on, frozen_known, nothing_made}
@@ -158,25 +158,30 @@ module _ {D P : Type 0} (Tells : Type 0) (files : D → Files) (PieceTells : Typ
   module _ (of : IsOfBoth faults old new) (stay : FusesStay fuses old new) (shows : Shows tag None old new) (serves : (opened : Opened D P) → (old.logical).settings ≡ (opened.volume).settings → Serves opened old new)
       (begun : new.begun ≡ old.begun) (ended : new.ended ≡ old.ended) (thawed : (old.logical).frozen ≡ None) where
     -- it changed nothing, but that a call of a disk failed
-    tries : (Tells → (k : VolumeKnown) → Stands files PieceTells old.logical k → Stands files PieceTells new.logical k) → Leaves (Some (act_by made_is.Tries))
-    tries still = changes_acted Tells files PieceTells faults fuses tag old new made_is.Tries of shows serves (fuses_stay Tells files PieceTells faults fuses tag old new of.count stay)
-        (λ tells before s. record { leads = refl; stands = still tells before.volume s }) (λ j less. ap (λ (l : List CoreTag). slice_index_or l j nobody) begun)
+    tries : Keeps Tells files PieceTells old new → Leaves (Some (act_by made_is.Tries))
+    tries keeps = changes_acted Tells files PieceTells faults fuses tag old new made_is.Tries of (λ still. thawed) shows serves (fuses_stay Tells files PieceTells faults fuses tag old new of.count stay)
+        (tries_leads Tells files PieceTells faults fuses tag old new keeps) (λ j less. ap (λ (l : List CoreTag). slice_index_or l j nobody) begun)
         (ends_none Tells files PieceTells old new (act_by made_is.Tries) (λ j. refl) (λ j own. own) ended) (act_by made_is.Tries) refl
 
-    tried : (Tells → (k : VolumeKnown) → Stands files PieceTells old.logical k → Stands files PieceTells new.logical k) → (made : Option VolumeAct)
+    tried : Keeps Tells files PieceTells old new → (made : Option VolumeAct)
         → IsTried faults fuses tag (counts faults (old.logical).replicas) (new.logical).replicas made → Leaves made
-    tried still made is = changes_seen Tells files PieceTells faults fuses tag old new of shows serves stay still begun ended made is
+    tried keeps made is = changes_seen Tells files PieceTells faults fuses tag old new of (λ still. thawed) shows serves stay keeps begun ended made is
 
     -- the delete is pending
     pends : (m : ℕ) (failed : Bool) → (Tells → (k : VolumeKnown) → Stands files PieceTells old.logical k → Stands files PieceTells new.logical (frozen_with m tag change failed k))
         → Leaves (Some (act_by (made_is.Pends m change failed)))
-    pends m failed still = changes_acted Tells files PieceTells faults fuses tag old new (made_is.Pends m change failed) of shows serves (fuses_stay Tells files PieceTells faults fuses tag old new of.count stay)
-        (λ tells before s. record { leads = (known_thawed thawed before.volume s, refl); stands = still tells before.volume s }) (λ j less. ap (λ (l : List CoreTag). slice_index_or l j nobody) begun)
+    pends m failed still = changes_acted Tells files PieceTells faults fuses tag old new (made_is.Pends m change failed) of (λ still. thawed) shows serves (fuses_stay Tells files PieceTells faults fuses tag old new of.count stay)
+        (λ tells before s. let pending_known = still tells before.volume s in record {
+          leads = (known_thawed thawed before.volume s, refl);
+          stands = pending_known;
+          tight = tight_frozen files tag (made_is.Pends m change failed) old new before m (sym (frozen_known files PieceTells new.logical (frozen_with m tag change failed before.volume) pending_known));
+        })
+        (λ j less. ap (λ (l : List CoreTag). slice_index_or l j nobody) begun)
         (ends_none Tells files PieceTells old new (act_by (made_is.Pends m change failed)) (λ j. refl) (λ j own. own) ended) (act_by (made_is.Pends m change failed)) refl
 
     -- A LOOK OF IT FAILED
 
-    pub sight_refused : (fault : LogicalFault) → (Tells → (k : VolumeKnown) → Stands files PieceTells old.logical k → Stands files PieceTells new.logical k)
+    pub sight_refused : (fault : LogicalFault) → Keeps Tells files PieceTells old new
         → (Tells → (k : VolumeKnown) → Stands files PieceTells old.logical k → (m at : ℕ) → fault ≡ Damaged m at → ⊥)
         → logical.IsSightFault faults (old.logical).settings (old.logical).number (old.logical).replicas (new.logical).replicas fault
         → (made : Option VolumeAct) → IsMadeBy Tells files PieceTells faults fuses tag old new (tried_made fault) made → Refused fault made
@@ -244,11 +249,15 @@ module _ {D P : Type 0} (Tells : Type 0) (files : D → Files) (PieceTells : Typ
 
     -- THE DELETE WAS REFUSED
 
-    failed_by : (m f : ℕ) → (frozen : Option ℕ) → (new.logical).frozen ≡ frozen
+    abbrev Tight : Type 0
+    Tight = Tells → (k : VolumeKnown) → Stands files PieceTells old.logical k → (new.logical).frozen ≡ None → (j : ℕ) (run : Run) → (replica_at k j).run ≡ Some run
+        → IsTightAt files old.logical j → IsTightAt files new.logical j
+
+    failed_by : Tight → (m f : ℕ) → (frozen : Option ℕ) → (new.logical).frozen ≡ frozen
         → (Tells → (k : VolumeKnown) → Stands files PieceTells old.logical k → logical.DeleteRefused files PieceTells k tag pair new.logical (Failed m f))
         → logical.HasFailed faults (old.logical).settings (old.logical).number (old.logical).replicas (new.logical).replicas m f
         → (made : Option VolumeAct) → IsMadeBy Tells files PieceTells faults fuses tag old new (failed_made frozen change) made → Refused (Failed m f) made
-    failed_by m f (Some n) is refused cause made by =
+    failed_by tight m f (Some n) is refused cause made by =
         let act : VolumeAct = act_by (made_is.Pends n change true) in
         let leaves : Leaves (Some act) = pends n true (λ tells k s. stands k (refused tells k s)) in
         subst (λ (z : Option VolumeAct). Refused (Failed m f) z) (sym (by.acts (made_is.Pends n change true) refl)) (record {
@@ -286,9 +295,9 @@ module _ {D P : Type 0} (Tells : Type 0) (files : D → Files) (PieceTells : Typ
         was_held : (k : VolumeKnown) → logical.DeleteRefused files PieceTells k tag pair new.logical (Failed m f) → logical.is_held k pair ≡ true
         was_held k (open_then, inl s) = let not : ◌≡◌ {A = Option ℕ} None (Some n) = sym open_then ∙ frozen_known files PieceTells new.logical k s ∙ is in absurd (cc not)
         was_held k (open_then, inr (was, s)) = was
-    failed_by m f None is refused cause made by =
+    failed_by tight m f None is refused cause made by =
         let act : VolumeAct = act_by made_is.Tries in
-        let leaves : Leaves (Some act) = tries (λ tells k s. stands k (refused tells k s)) in
+        let leaves : Leaves (Some act) = tries (λ tells k s. (stands k (refused tells k s), tight tells k s)) in
         subst (λ (z : Option VolumeAct). Refused (Failed m f) z) (sym (by.acts made_is.Tries refl)) (record {
           leaves = leaves;
           told = λ opened held h tells k s volume at a b holding. record {
@@ -311,19 +320,19 @@ module _ {D P : Type 0} (Tells : Type 0) (files : D → Files) (PieceTells : Typ
         stands k (open_then, inl s) = s
         stands k (open_then, inr (was, s)) = let not : ◌≡◌ {A = Option ℕ} (Some m) None = frozen_known files PieceTells new.logical (frozen_with m tag change true k) s ∙ is in absurd (cc not)
 
-    pub delete_refused : (fault : LogicalFault)
+    pub delete_refused : (fault : LogicalFault) → Tight
         → (Tells → (k : VolumeKnown) → Stands files PieceTells old.logical k → logical.DeleteRefused files PieceTells k tag pair new.logical fault)
         → logical.IsDeleteFault faults (old.logical).settings (old.logical).number (old.logical).replicas (new.logical).replicas fault
         → ((m at : ℕ) → fault ≡ Damaged m at → ⊥)
         → (made : Option VolumeAct) → IsMadeBy Tells files PieceTells faults fuses tag old new (delete_made (new.logical).frozen change fault) made → Refused fault made
-    delete_refused (Failed m f) refused cause undamaged made by = failed_by m f (new.logical).frozen refl refused cause made by
-    delete_refused NoMemory refused cause undamaged made by = record {
-      leaves = tried (λ tells k s. (refused tells k s).1) made (by.tries refl);
+    delete_refused (Failed m f) tight refused cause undamaged made by = failed_by tight m f (new.logical).frozen refl refused cause made by
+    delete_refused NoMemory tight refused cause undamaged made by = record {
+      leaves = tried (λ tells k s. ((refused tells k s).1, tight tells k s)) made (by.tries refl);
       told = λ opened held h tells k s volume at a b holding. record { held = held; made = made; holding = holding; is = inl (nothing_made Tells files PieceTells faults fuses tag old new made (by.tries refl)) };
       always = λ m f e. absurd (cc e);
     }
-    delete_refused (Gone p) refused cause undamaged made by = record {
-      leaves = tried (λ tells k s. (refused tells k s).3) made (by.tries refl);
+    delete_refused (Gone p) tight refused cause undamaged made by = record {
+      leaves = tried (λ tells k s. ((refused tells k s).3, tight tells k s)) made (by.tries refl);
       told = λ opened held h tells k s volume at a b holding.
           let s_old = h.stands tells k s in
           let r = refused tells (stood_of faults fuses opened k held).volume s_old in record {
@@ -339,18 +348,18 @@ module _ {D P : Type 0} (Tells : Type 0) (files : D → Files) (PieceTells : Typ
           };
       always = λ m f e. absurd (cc e);
     }
-    delete_refused (ReadOnly m) refused cause undamaged made by = record {
-      leaves = tried (λ tells k s. (refused tells k s).1) made (by.tries refl);
+    delete_refused (ReadOnly m) tight refused cause undamaged made by = record {
+      leaves = tried (λ tells k s. ((refused tells k s).1, tight tells k s)) made (by.tries refl);
       told = λ opened held h tells k s volume at a b holding.
           let s_old = h.stands tells k s in
           let not : ◌≡◌ {A = Option ℕ} None (Some m) = sym (known_thawed thawed (stood_of faults fuses opened k held).volume s_old) ∙ (refused tells (stood_of faults fuses opened k held).volume s_old).0 in absurd (cc not);
       always = λ m f e. absurd (cc e);
     }
-    delete_refused (Damaged m at) refused cause undamaged made by = absurd (undamaged m at refl)
-    delete_refused (Full m end need capacity) refused cause undamaged made by = absurd cause
-    delete_refused (Busy m g) refused cause undamaged made by = absurd cause
-    delete_refused (Worn m) refused cause undamaged made by = absurd cause
-    delete_refused Idle refused cause undamaged made by = absurd cause
+    delete_refused (Damaged m at) tight refused cause undamaged made by = absurd (undamaged m at refl)
+    delete_refused (Full m end need capacity) tight refused cause undamaged made by = absurd cause
+    delete_refused (Busy m g) tight refused cause undamaged made by = absurd cause
+    delete_refused (Worn m) tight refused cause undamaged made by = absurd cause
+    delete_refused Idle tight refused cause undamaged made by = absurd cause
 
     -- IT WAS GIVEN UP for want of memory to publish it
 
@@ -389,7 +398,7 @@ module _ {D P : Type 0} (Tells : Type 0) (files : D → Files) (PieceTells : Typ
     pub delete_shown : Leaves (Some (act_by (made_is.Enters change over))) × Found Tells files PieceTells faults fuses tag old (Some (act_by (made_is.Enters change over))) (λ volume. DeleteAnswer volume tag pair (Ok p))
     delete_shown = (
       record {
-        kept = λ opened held h. kept_acted Tells files PieceTells faults fuses opened held old new tag (made_is.Enters change over) h of shows (serves opened h.same_settings)
+        kept = λ opened held h. kept_acted Tells files PieceTells faults fuses opened held old new tag (made_is.Enters change over) h of (λ still. thawed) shows (serves opened h.same_settings)
             (fuses_stay Tells files PieceTells faults fuses tag old new of.count stay)
             (λ tells k s. (
               known_thawed thawed (stood_of faults fuses opened k held).volume (h.stands tells k s),
@@ -402,6 +411,7 @@ module _ {D P : Type 0} (Tells : Type 0) (files : D → Files) (PieceTells : Typ
               ),
             ))
             (λ tells k s. (deleted tells (stood_of faults fuses opened k held).volume (h.stands tells k s)).2)
+            (λ tells k s. tight_entered files tag (made_is.Enters change over) old new (stood_of faults fuses opened k held) change refl)
             (λ j less. ap (λ (l : List CoreTag). slice_index_or l j nobody) begun)
             (record { ended = slots; owned = λ j less own. absurd own; cuts = λ tells before s j is. ran tells before.volume s j is });
         tags = (refl, tt);

@@ -12,12 +12,15 @@ use Rattle.hay_history.specs.Steps.{Standing}
 use Rattle.hay_history.specs.Steps.Did.{Swaps}
 use Rattle.hay_logical.specs.declared.fault.LogicalFault.{LogicalFault}
 use Rattle.hay_logical.specs.declared.fault.LogicalFault.TheVariants.{Busy, Damaged, Failed, Full, Gone, Idle, NoMemory, ReadOnly, Worn}
-use Rattle.hay_logical.specs.Stands.{IsFrozen, Stands, StandsBy}
+use Rattle.hay_logical.specs.Answers.{IsTight}
+use Rattle.hay_logical.specs.Fits.{At}
+use Rattle.hay_logical.specs.Stands.{IsFrozen, IsTightAt, Stands, StandsBy}
 use Rattle.hay_logical.specs.Volumes.{IsOpenVolume, IsSame, KeepsCounts, Volume}
 use Rattle.hay_logical.proofs.Lists.{at_there}
 use Rattle.hay_map.specs.Rows.{ChangesRows, row_at}
 use Rattle.hay_map.specs.declared.view.MapOp.TheVariants as op
 use Rattle.hay_map.specs.declared.view.OpenCell.{OpenCell}
+use Rattle.hay_holdings.specs.Volumes.{Swapped, Switched}
 use Rattle.hay_meeting.specs.declared.act.VolumeAct.{VolumeAct}
 use Rattle.hay_meeting.specs.Acts.{did_of, is_frozen_then, nobody}
 use Rattle.hay_meeting.specs.Sights.{stood}
@@ -25,11 +28,13 @@ use Rattle.hay_needle.specs.declared.needle.Pair.{Pair}
 use Rattle.hay_needle.specs.declared.settings.Settings.{Settings}
 use Rattle.hay_views.specs.declared.places.Published.{Published}
 use Rattle.hay_views.specs.MapPasts.{is_entry}
+use Rattle.hay_physical.specs.Copies.{Copy}
 use Rattle.hay_volume_lock.specs.Acts.{act_of}
 use Rattle.hay_volume_lock.specs.Answers.{Found}
 use Rattle.hay_volume_lock.specs.Compactions.{IsBarred, MayGoOn, Unswapped}
-use Rattle.hay_volume_lock.specs.Finishes.{CompactAnswer, CompactRefused, FinishAnswer, FinishRefused, IsLost, Switched}
+use Rattle.hay_volume_lock.specs.Finishes.{CompactAnswer, CompactRefused, FinishAnswer, FinishRefused, IsLost}
 use Rattle.hay_volume_lock.specs.Keeping.{stood_of}
+use Rattle.hay_volume_lock.specs.Since.{SinceBegun}
 use Rattle.hay_volume_lock.specs.declared.act.Made.TheVariants as made_is
 use Rattle.hay_volume_lock.specs.declared.guarded.Guarded.{Guarded}
 use Rattle.hay_volume_lock.specs.declared.refusals.Finished.{Finished}
@@ -38,11 +43,12 @@ use Rattle.hay_volume_lock.specs.declared.refusals.Uncompacted.TheVariants as lo
 use Rattle.hay_volume_lock.specs.declared.refusals.Unfinished.{Unfinished}
 use Rattle.hay_volume_lock.proofs.Growing.{IsOfOne}
 use Rattle.hay_volume_lock.proofs.Holding.{stood_is}
-use Rattle.hay_volume_lock.proofs.Lost.{deleted_lost, frozen_lost, never_lost}
+use Rattle.hay_volume_lock.proofs.Lost.{OwnSights, deleted_lost, frozen_lost, never_lost}
 use Rattle.hay_volume_lock.proofs.Moving.{swap_shown, swap_unshown}
 use Rattle.hay_volume_lock.proofs.Publishing.{Changes}
 use Rattle.hay_volume_lock.proofs.Stepping.{barred_found}
 use Rattle.hay_volume_lock.proofs.Swapping.{IsSwap}
+use Rattle.hay_volume_lock.proofs.Tightening.{tight_since}
 
 -- a volume that can be frozen by no machine
 pub none_frozen : (o : Option ℕ) → ((m : ℕ) → o ≡ Some m → ⊥) → o ≡ None
@@ -93,7 +99,7 @@ module _ {D P : Type 0} (Tells : Type 0) (files : D → Files) (PieceTells : Typ
     -- its files are the current ones
     switched_found : (g end cells : ℕ) (frozen : Option ℕ) (act : VolumeAct) → did_of act.did ≡ Swaps j end cells (is_frozen_then frozen)
         → (Tells → (k : VolumeKnown) → Stood k → MayGoOn k j tag.lane owner) → (Tells → (k : VolumeKnown) → Stood k → g ≡ (replica_at k j).generation + 1)
-        → Found Tells files PieceTells faults fuses tag old (Some act) (λ volume. Switched volume tag j g end cells (is_frozen_then frozen) owner)
+        → Found Tells files PieceTells faults fuses tag old (Some act) (λ volume. Switched volume.settings volume.start volume.number tag j owner g end cells (is_frozen_then frozen))
     switched_found g end cells frozen act did may next opened held h tells k s volume at a b holding =
         let there : stood_of faults fuses opened k held ≡ stood volume.start volume.number held = stood_is faults fuses opened k volume held at in
         let now = may tells (stood_of faults fuses opened k held).volume (h.stands tells k s) in
@@ -118,14 +124,37 @@ module _ {D P : Type 0} (Tells : Type 0) (files : D → Files) (PieceTells : Typ
     finish_found g end cells frozen act did may next opened held h tells k s volume at a b holding =
         (end, cells, (owner, own, switched_found g end cells frozen act did may next opened held h tells k s volume at a b holding))
 
+    -- of just the sizes of what stood, where no entry came since it began
+    swapped_found : (g end cells : ℕ) (frozen : Option ℕ) (act : VolumeAct) → did_of act.did ≡ Swaps j end cells (is_frozen_then frozen)
+        → (Tells → (k : VolumeKnown) → Stood k → MayGoOn k j tag.lane owner) → (Tells → (k : VolumeKnown) → Stood k → g ≡ (replica_at k j).generation + 1)
+        → (old.logical).frozen ≡ None → (Tells → (k : VolumeKnown) → Stood k → IsTightAt files old.logical j → IsTight k j end cells)
+        → Found Tells files PieceTells faults fuses tag old (Some act) (λ volume. Swapped volume.settings volume.start volume.number tag j owner g end cells (is_frozen_then frozen))
+    unfolding switched_found
+    swapped_found g end cells frozen act did may next thawed tight opened held h tells k s volume at a b holding =
+        let there : stood_of faults fuses opened k held ≡ stood volume.start volume.number held = stood_is faults fuses opened k volume held at in
+        let switched = switched_found g end cells frozen act did may next opened held h tells k s volume at a b holding in
+        record {
+          held = held;
+          made = Some act;
+          holding = holding;
+          is = (
+            switched.is,
+            tight_since volume.settings volume.start volume.number j end cells owner held (IsTightAt files old.logical j)
+                (subst (λ (z : Standing). SinceBegun z j held (IsTightAt files old.logical j)) (sym at.start) (h.tight tells thawed k s j))
+                (switched.is).1
+                (λ is. subst (λ (z : Standing). IsTight z.volume j end cells) there (tight tells (stood_of faults fuses opened k held).volume (h.stands tells k s) is)),
+          );
+        }
+
     pub compact_found : owner ≡ tag → (g end cells : ℕ) (frozen : Option ℕ) (act : VolumeAct) → did_of act.did ≡ Swaps j end cells (is_frozen_then frozen)
         → (Tells → (k : VolumeKnown) → Stood k → MayGoOn k j tag.lane owner) → (Tells → (k : VolumeKnown) → Stood k → g ≡ (replica_at k j).generation + 1)
-        → Found Tells files PieceTells faults fuses tag old (Some act) (λ volume. CompactAnswer volume tag j (Ok (record { generation = g; frozen = is_frozen_then frozen })))
-    compact_found is_own g end cells frozen act did may next opened held h tells k s volume at a b holding own_then own_now has = (
+        → (old.logical).frozen ≡ None → (Tells → (k : VolumeKnown) → Stood k → IsTightAt files old.logical j → IsTight k j end cells)
+        → Found Tells files PieceTells faults fuses tag old (Some act) (λ volume. OwnSights tag (CompactAnswer volume tag j (Ok (record { generation = g; frozen = is_frozen_then frozen }))))
+    compact_found is_own g end cells frozen act did may next thawed tight opened held h tells k s volume at a b holding own_then own_now has = (
       end,
       cells,
-      subst (λ (who : CoreTag). Switched volume tag j g end cells (is_frozen_then frozen) who a b) is_own
-          (switched_found g end cells frozen act did may next opened held h tells k s volume at a b holding),
+      subst (λ (who : CoreTag). Swapped volume.settings volume.start volume.number tag j who g end cells (is_frozen_then frozen) a b) is_own
+          (swapped_found g end cells frozen act did may next thawed tight opened held h tells k s volume at a b holding),
     )
 
     module _ (may : Tells → (k : VolumeKnown) → Stood k → MayGoOn k j tag.lane owner) (thawed : (old.logical).frozen ≡ None)
@@ -135,12 +164,13 @@ module _ {D P : Type 0} (Tells : Type 0) (files : D → Files) (PieceTells : Typ
         (same : IsSame old.logical mid) (is_open : IsOpenVolume mid) (counts : KeepsCounts faults fuses (old.logical).replicas mid.replicas)
         (new : Guarded D P) (settings : new.settings ≡ old.settings) (begun : new.begun ≡ old.begun) (ended : new.ended ≡ old.ended) where
       -- where the photos stand was published
-      pub finish_shown : (item : LogEntry (Published P)) → new.front ≡ record { shown = with_deed (old.front).shown deed; log = logged (is_entry deed.change) (old.front).log item; closed = false }
+      pub finish_shown : (mid.frozen ≡ (old.logical).frozen → (i : ℕ) → (i ≡ j → ⊥) → (r r' : Copy D) → At (old.logical).replicas i r → At mid.replicas i r' → r' ≡ r)
+          → (item : LogEntry (Published P)) → new.front ≡ record { shown = with_deed (old.front).shown deed; log = logged (is_entry deed.change) (old.front).log item; closed = false }
           → new.logical ≡ mid → (act : VolumeAct) → act ≡ act_of faults fuses tag (made_is.Swaps j end count None) (new.logical).replicas
           → Changes Tells files PieceTells faults fuses tag old new (Some act)
           × Found Tells files PieceTells faults fuses tag old (Some act) (λ volume. FinishAnswer volume tag j (Ok (record { generation = g; frozen = false })))
-      finish_shown item front is_mid act is = (
-        swap_shown Tells files PieceTells faults fuses tag old j g end count within thawed mid cells deed deed_is rows swap same is_open counts new settings begun ended own item front is_mid act is,
+      finish_shown others item front is_mid act is = (
+        swap_shown Tells files PieceTells faults fuses tag old j g end count within thawed mid cells deed deed_is rows swap same is_open counts new settings begun ended own others item front is_mid act is,
         finish_found g end count None act (ap (λ (z : VolumeAct). did_of z.did) is) may (λ tells k s. (swap tells k s).next),
       )
 
@@ -162,21 +192,22 @@ module _ {D P : Type 0} (Tells : Type 0) (files : D → Files) (PieceTells : Typ
             finish_found g end count (Some m) act (ap (λ (z : VolumeAct). did_of z.did) act_is) may (λ tells k s. (swap tells k s).next),
           )
 
-      pub compact_shown : owner ≡ tag → (act : VolumeAct) → act ≡ act_of faults fuses tag (made_is.Swaps j end count None) (new.logical).replicas
-          → Found Tells files PieceTells faults fuses tag old (Some act) (λ volume. CompactAnswer volume tag j (Ok (record { generation = g; frozen = false })))
-      compact_shown is_own act is = compact_found is_own g end count None act (ap (λ (z : VolumeAct). did_of z.did) is) may (λ tells k s. (swap tells k s).next)
+      module _ (is_own : owner ≡ tag) (tight : Tells → (k : VolumeKnown) → Stood k → IsTightAt files old.logical j → IsTight k j end count) where
+        pub compact_shown : (act : VolumeAct) → act ≡ act_of faults fuses tag (made_is.Swaps j end count None) (new.logical).replicas
+            → Found Tells files PieceTells faults fuses tag old (Some act) (λ volume. OwnSights tag (CompactAnswer volume tag j (Ok (record { generation = g; frozen = false }))))
+        compact_shown act is = compact_found is_own g end count None act (ap (λ (z : VolumeAct). did_of z.did) is) may (λ tells k s. (swap tells k s).next) thawed tight
 
-      pub compact_unshown : owner ≡ tag → (by : Option ℕ) (m : ℕ) → by ≡ Some m → (act : VolumeAct) → act ≡ act_of faults fuses tag (made_is.Swaps j end count by) (new.logical).replicas
-          → Found Tells files PieceTells faults fuses tag old (Some act) (λ volume. CompactAnswer volume tag j (Ok (record { generation = g; frozen = true })))
-      compact_unshown is_own by m by_is act is =
-          compact_found is_own g end count (Some m) act (ap (λ (z : VolumeAct). did_of z.did) is ∙ ap (λ (o : Option ℕ). Swaps j end count (is_frozen_then o)) by_is)
-          may (λ tells k s. (swap tells k s).next)
+        pub compact_unshown : (by : Option ℕ) (m : ℕ) → by ≡ Some m → (act : VolumeAct) → act ≡ act_of faults fuses tag (made_is.Swaps j end count by) (new.logical).replicas
+            → Found Tells files PieceTells faults fuses tag old (Some act) (λ volume. OwnSights tag (CompactAnswer volume tag j (Ok (record { generation = g; frozen = true }))))
+        compact_unshown by m by_is act is =
+            compact_found is_own g end count (Some m) act (ap (λ (z : VolumeAct). did_of z.did) is ∙ ap (λ (o : Option ℕ). Swaps j end count (is_frozen_then o)) by_is)
+            may (λ tells k s. (swap tells k s).next) thawed tight
 
   -- A LINE'S OWN COMPACTION
 
   -- it does not stand
   pub compact_lost : tag.lane < 8 → (refusal : Uncompacted) → (Tells → (k : VolumeKnown) → Stood k → IsLost k j tag owner old.ended refusal)
-      → Found Tells files PieceTells faults fuses tag old None (λ volume. CompactRefused volume tag j refusal)
+      → Found Tells files PieceTells faults fuses tag old None (λ volume. OwnSights tag (CompactRefused volume tag j refusal))
   compact_lost few (lost.Unfinished unfinished) known = λ opened held h tells k s volume at a b holding. absurd (known tells (stood_of faults fuses opened k held).volume (h.stands tells k s))
   compact_lost few (lost.Frozen m) known = frozen_lost Tells files PieceTells faults fuses tag old j within m known
   compact_lost few (lost.Deleted f) known = λ opened held h tells k s volume at a b holding.
@@ -189,7 +220,7 @@ module _ {D P : Type 0} (Tells : Type 0) (files : D → Files) (PieceTells : Typ
   -- it was refused
   pub compact_refused : owner ≡ tag → (act : VolumeAct) (fault : LogicalFault) (frozen : Option ℕ)
       → Found Tells files PieceTells faults fuses tag old (Some act) (λ volume. Unswapped volume tag j fault frozen owner)
-      → Found Tells files PieceTells faults fuses tag old (Some act) (λ volume. CompactRefused volume tag j (lost.Unfinished (record { fault = fault; frozen = frozen })))
+      → Found Tells files PieceTells faults fuses tag old (Some act) (λ volume. OwnSights tag (CompactRefused volume tag j (lost.Unfinished (record { fault = fault; frozen = frozen }))))
   compact_refused is_own act fault frozen found opened held h tells k s volume at a b holding own_then own_now has =
       subst (λ (who : CoreTag). Unswapped volume tag j fault frozen who a b) is_own (found opened held h tells k s volume at a b holding)
 

@@ -1,7 +1,8 @@
 -- Steps of a delete within a holding: places that are seen, and a photo that is deleted then.
-use Rattle.std.proofs.Common.{◌≡◌, inl, inr, ℕ, ◌+◌, ◌<◌, ◌≤◌, Bool, true, false, List, [], ◌∷◌, ◌++◌, length, Option, Some, None, refl, sym, ap, subst, ◌∙◌, append-nil, append_assoc, arith}
+use Rattle.std.proofs.Common.{◌≡◌, inl, inr, ℕ, ◌+◌, ◌<◌, Bool, true, false, List, [], ◌∷◌, ◌++◌, length, Option, Some, None, refl, sym, ap, subst, ◌∙◌, append-nil, append_assoc, arith}
 use Rattle.std.specs.Prelude.{Result, Ok, Err, map, slice_get, slice_index_or, slice_set}
 use Rattle.std.proofs.lemmas.Bool.{cases_lt, cond-true}
+use Rattle.std.proofs.lemmas.Option.{none-some}
 use Rattle.hay_core.specs.declared.entry.CoreTag.{CoreTag}
 use Rattle.hay_core.specs.declared.entry.Entry.{Entry}
 use Rattle.hay_core.specs.declared.entry.Entry.TheVariants as entry
@@ -18,9 +19,10 @@ use Rattle.hay_legal.specs.Plain.{ended_where, frozen_by, with_del}
 use Rattle.hay_history.specs.Steps.{Standing}
 use Rattle.hay_logical.specs.Answers as logical
 use Rattle.hay_logical.specs.declared.fault.LogicalFault.{LogicalFault}
-use Rattle.hay_logical.specs.declared.fault.LogicalFault.TheVariants.{Damaged, NoMemory, ReadOnly}
+use Rattle.hay_logical.specs.declared.fault.LogicalFault.TheVariants.{Busy, Damaged, Failed, Full, Gone, Idle, NoMemory, ReadOnly, Worn}
 use Rattle.hay_logical.specs.declared.unsure.Change.TheVariants as unsure
 use Rattle.hay_logical.specs.declared.written.Erased.{Erased}
+use Rattle.hay_logical.specs.Seen.{DeleteRefusedSeen, VolumeSeen, volume_seen}
 use Rattle.hay_logical.specs.Stands.{Stands}
 use Rattle.hay_logical.specs.Steps.{SetsPlaceAt}
 use Rattle.hay_logical.specs.Unshown.{GivesUp, IsErased}
@@ -51,6 +53,7 @@ use Rattle.hay_volume_lock.specs.declared.act.Made.TheVariants as made_is
 use Rattle.hay_volume_lock.specs.declared.guarded.Guarded.{Guarded}
 use Rattle.hay_volume_lock.specs.declared.guarded.Opened.{Opened}
 use Rattle.hay_volume_lock.proofs.Deleting.{Deletes, counts_more, delete_given_up, delete_refused, delete_shown, delete_since, over_is, ran_before, rose_erased, same_more, serves_kept, serves_more, shows_more, sight_refused, sight_since, sight_wanted}
+use Rattle.hay_volume_lock.proofs.Growing.{Keeps, TightStays}
 use Rattle.hay_volume_lock.proofs.Holding.{stood_is}
 use Rattle.hay_volume_lock.proofs.Published.{Fact, del_tells, fact_first, may_publish, set_in}
 use Rattle.hay_volume_lock.proofs.Publishing.{serves_deed, serves_frozen, shows_deed, shows_nothing}
@@ -83,6 +86,20 @@ seen_set pair replica there old new sets seen j was =
       | inl same ↦ subst (λ (p : Place _). IsSeen p) (sym same) was
       | inr here ↦ subst (λ (p : Place _). IsSeen p) (sym here.1) seen
     ])
+
+-- a delete that was refused leaves what was pending, unless it froze the volume
+pub unsure_kept : {D P : Type 0} (tag : CoreTag) (pair : Pair) (old new : Volume D P) (fault : LogicalFault) → DeleteRefusedSeen tag pair (volume_seen old) (volume_seen new) fault
+    → new.frozen ≡ None → new.unsure ≡ old.unsure
+unsure_kept tag pair old new (Failed m f) (inl stays) thawed = ap (λ (s : VolumeSeen). s.unsure) stays.1
+unsure_kept tag pair old new (Failed m f) (inr freezes) thawed = absurd (none-some m (sym thawed ∙ freezes.frozen))
+unsure_kept tag pair old new NoMemory stays thawed = ap (λ (s : VolumeSeen). s.unsure) stays.1
+unsure_kept tag pair old new (ReadOnly m) stays thawed = ap (λ (s : VolumeSeen). s.unsure) stays.0
+unsure_kept tag pair old new (Gone front) stays thawed = ap (λ (s : VolumeSeen). s.unsure) (stays.0).1
+unsure_kept tag pair old new (Damaged m at) stays thawed = ap (λ (s : VolumeSeen). s.unsure) stays.1
+unsure_kept tag pair old new (Full m end need capacity) stays thawed = absurd stays
+unsure_kept tag pair old new (Busy m g) stays thawed = absurd stays
+unsure_kept tag pair old new (Worn m) stays thawed = absurd stays
+unsure_kept tag pair old new Idle stays thawed = absurd stays
 
 module _ {D P : Type 0} (Tells : Type 0) (files : D → Files) (PieceTells : Type 0) (faults fuses : D → ℕ) (tag : CoreTag) where
   abbrev Seen : Guarded D P → Guarded D P → Type 0
@@ -143,9 +160,9 @@ module _ {D P : Type 0} (Tells : Type 0) (files : D → Files) (PieceTells : Typ
   -- nothing was seen more, and what stands was not changed
   pub sees_still : (mid new : Guarded D P) → new.settings ≡ mid.settings → new.front ≡ mid.front → new.begun ≡ mid.begun → new.ended ≡ mid.ended → (mid.front).closed ≡ false
       → IsSame mid.logical new.logical → IsOpenVolume new.logical → KeepsCounts faults fuses (mid.logical).replicas (new.logical).replicas
-      → (Tells → (k : VolumeKnown) → Stands files PieceTells mid.logical k → Stands files PieceTells new.logical k) → (new.logical).frozen ≡ (mid.logical).frozen
+      → Keeps Tells files PieceTells mid new → (new.logical).frozen ≡ (mid.logical).frozen
       → ((pair : Pair) → row_at (new.logical).rows pair ≡ row_at (mid.logical).rows pair) → Seen mid new
-  sees_still mid new settings front begun ended closed same is_open counts stands frozen rows = record {
+  sees_still mid new settings front begun ended closed same is_open counts keeps frozen rows = record {
     of = record { settings = settings; same = same; is_open = is_open; count = counts.count; rises = counts.rises };
     shows = shows_nothing tag mid new (ap (λ f. f.shown) front) (ap (λ f. f.log) front);
     serves = λ opened is. record {
@@ -153,7 +170,7 @@ module _ {D P : Type 0} (Tells : Type 0) (files : D → Files) (PieceTells : Typ
       rows = λ from were still q. ap (λ f. published_row opened.volume from.rows (f.shown).deeds q) front ∙ were (sym frozen ∙ still) q ∙ sym (rows q);
     };
     stay = counts.stay;
-    stands = stands;
+    keeps = keeps;
     begun = begun;
     ended = ended;
     frozen = frozen;
@@ -167,8 +184,8 @@ module _ {D P : Type 0} (Tells : Type 0) (files : D → Files) (PieceTells : Typ
       → DeletesBy mid new pair (Err fault) (tried_made fault)
   halts_refused mid new pair more fault undamaged cause old thawed sees act by =
       let all : Seen old new = sees_more Tells files PieceTells faults fuses tag old mid new sees more in
-      sight_refused Tells files PieceTells faults fuses tag old new pair all.of all.stay all.shows all.serves all.begun all.ended thawed fault all.stands
-      (λ tells k s. undamaged tells k (sees.stands tells k s))
+      sight_refused Tells files PieceTells faults fuses tag old new pair all.of all.stay all.shows all.serves all.begun all.ended thawed fault all.keeps
+      (λ tells k s. undamaged tells k (sees.keeps tells k s).0)
       (sight_since faults fuses old.logical mid.logical (new.logical).replicas (sees.of).same (counts_seen old mid sees) fault cause) act by
 
   -- or for want of memory to publish what it saw
@@ -188,7 +205,7 @@ module _ {D P : Type 0} (Tells : Type 0) (files : D → Files) (PieceTells : Typ
       sight_wanted Tells files PieceTells faults fuses tag old new pair both.0 both.1 (shows_more tag old mid new None sees.shows (shows_nothing tag mid new shown log))
       (λ opened is. serves_frozen tag old new opened m frozen) (begun ∙ sees.begun) (ended ∙ sees.ended) thawed m
       (ap (λ (s : Settings). machine_of s seen.number 0) to_seen.settings ∙ ap (λ (v : ℕ). machine_of (old.logical).settings v 0) to_seen.number) frozen
-      (λ tells k s. freezes tells k (stands tells k (sees.stands tells k s)) (frozen_known files PieceTells old.logical k s ∙ thawed)) act by
+      (λ tells k s. freezes tells k (stands tells k (sees.keeps tells k s).0) (frozen_known files PieceTells old.logical k s ∙ thawed)) act by
 
   -- A DELETE
 
@@ -196,18 +213,19 @@ module _ {D P : Type 0} (Tells : Type 0) (files : D → Files) (PieceTells : Typ
       → (mid.front).closed ≡ false → (mid.logical).frozen ≡ None
       → IsSame mid.logical new.logical → IsOpenVolume new.logical → KeepsCounts faults fuses (mid.logical).replicas (new.logical).replicas
       → ((q : Pair) → row_at (new.logical).rows q ≡ row_at (mid.logical).rows q)
-      → (fault : LogicalFault)
+      → (Tells → TightStays files mid new) → (fault : LogicalFault)
       → (Tells → (k : VolumeKnown) → Stands files PieceTells mid.logical k → logical.DeleteRefused files PieceTells k tag pair new.logical fault)
       → logical.IsDeleteFault faults (mid.logical).settings (mid.logical).number (mid.logical).replicas (new.logical).replicas fault
       → ((m at : ℕ) → fault ≡ Damaged m at → ⊥)
       → DeletesBy mid new pair (Err fault) (delete_made (new.logical).frozen (entry.Del pair) fault)
-  erase_refused mid new pair settings front begun ended closed thawed_mid same is_open counts rows fault refused cause undamaged old thawed sees act by =
+  erase_refused mid new pair settings front begun ended closed thawed_mid same is_open counts rows tight fault refused cause undamaged old thawed sees act by =
       let both = both_again Tells files PieceTells faults fuses tag old new mid.logical (settings ∙ (sees.of).settings) (sees.of).same (sees.of).is_open (counts_seen old mid sees)
       same is_open counts in
       delete_refused Tells files PieceTells faults fuses tag old new pair both.0 both.1
       (shows_more tag old mid new None sees.shows (shows_nothing tag mid new (ap (λ f. f.shown) front) (ap (λ f. f.log) front)))
       (λ opened is. serves_kept tag old mid new opened (sees.serves opened is) front closed thawed_mid rows) (begun ∙ sees.begun) (ended ∙ sees.ended) thawed fault
-      (λ tells k s. refused tells k (sees.stands tells k s))
+      (λ tells k s still j run has was. tight tells still j ((sees.keeps tells k s).1 thawed_mid j run has was))
+      (λ tells k s. refused tells k (sees.keeps tells k s).0)
       (delete_since faults fuses old.logical mid.logical (new.logical).replicas (sees.of).same (counts_seen old mid sees) fault cause) undamaged act by
 
   module _ (mid : Guarded D P) (pair : Pair) (deed : Published P) (change_is : deed.change ≡ op.Del pair) (entered_is : deed.entered ≡ entry.Del pair ∷ []) where
@@ -245,7 +263,7 @@ module _ {D P : Type 0} (Tells : Type 0) (files : D → Files) (PieceTells : Typ
           delete_given_up Tells files PieceTells faults fuses tag old new pair both.0 both.1 (shows_more tag old mid new None sees.shows (shows_nothing tag mid new shown log))
           (λ opened is. serves_frozen tag old new opened m frozen) (begun ∙ sees.begun) (ended ∙ sees.ended) thawed m
           (ap (λ (s : Settings). machine_of s er.number 0) to_er.settings ∙ ap (λ (v : ℕ). machine_of (old.logical).settings v 0) to_er.number) frozen
-          (λ tells k s. let e = stands tells k (sees.stands tells k s) in
+          (λ tells k s. let e = stands tells k (sees.keeps tells k s).0 in
           (e.stood, given tells k change (op.Del pair) (ended_known k) e.unshown refl))
           act by
         where
@@ -271,10 +289,10 @@ module _ {D P : Type 0} (Tells : Type 0) (files : D → Files) (PieceTells : Typ
           (shows_more tag old mid new (Some change) sees.shows (shows_deed tag mid new deed (Some change) entered_is shown logged_more))
           (λ opened is. serves_more tag old mid new opened (sees.serves opened is) (serves_deed tag mid new deed opened (ap (λ f. f.closed) front) shown (λ thawed. thawed_mid)
           (subst (λ (d : Published P). FitsRows ((opened.volume).settings).replicas d.change) (sym deed_is) tt) changed))
-          (begun ∙ sees.begun) thawed slots_old (λ tells k s. rose tells k (sees.stands tells k s))
-          (λ tells k s j is. ran_before files PieceTells faults mid.logical (new.logical).replicas k (sees.stands tells k s) j
+          (begun ∙ sees.begun) thawed slots_old (λ tells k s. rose tells k (sees.keeps tells k s).0)
+          (λ tells k s j is. ran_before files PieceTells faults mid.logical (new.logical).replicas k (sees.keeps tells k s).0 j
           (subst (λ (l : List Bool). slice_index_or l j false ≡ true) over_runs is))
-          (λ tells k s. gone tells k (sees.stands tells k s)) in
+          (λ tells k s. gone tells k (sees.keeps tells k s).0) in
           subst (λ (z : Option VolumeAct). Deletes Tells files PieceTells faults fuses tag old new pair (Ok p) z) (sym (by.acts (made_is.Enters change over) refl))
           (record { leaves = done.0; told = done.1; always = λ m f e. absurd (cc e) })
         where

@@ -20,7 +20,7 @@ use Rattle.hay_logical.proofs.Examining.{rose_later}
 use Rattle.hay_logical.proofs.Knowing.{changed_here}
 use Rattle.hay_logical.proofs.Lists.{at_below, at_read, at_same, at_there}
 use Rattle.hay_physical.specs.Copies.{Copy}
-use Rattle.hay_volume_lock.specs.Compactions.{Examines}
+use Rattle.hay_volume_lock.specs.Compactions.{Examines, StillGoes}
 
 some_is : {A : Type 0} {a b : A} → Some a ≡ Some b → a ≡ b
 some_is same = cc same
@@ -66,6 +66,18 @@ module _ (k : VolumeKnown) (j : ℕ) (run : Run) (there : j < length k.replicas)
   pub ended_behind : (n : ℕ) → change_at (behind n) j without_run ≡ change_at k j without_run
   ended_behind n = changed_twice n without_run
 
+-- a refusal behind which a step goes on
+pub wanted : (fault : LogicalFault) → StillGoes (Some fault) → fault ≡ NoMemory
+wanted NoMemory still = refl
+wanted (Failed m f) still = absurd still
+wanted (ReadOnly m) still = absurd still
+wanted Idle still = absurd still
+wanted (Damaged m at) still = absurd still
+wanted (Full m end need capacity) still = absurd still
+wanted (Gone front) still = absurd still
+wanted (Busy m g) still = absurd still
+wanted (Worn m) still = absurd still
+
 -- TWO CALLS, ONE BEHIND THE OTHER
 
 pub counts_none : {D : Type 0} (faults fuses : D → ℕ) (replicas : List (Copy D)) → KeepsCounts faults fuses replicas replicas
@@ -98,6 +110,14 @@ module _ {D P : Type 0} (faults fuses : D → ℕ) (old mid new : Volume D P) wh
         let x = at_there mid.replicas j (subst (λ (n : ℕ). j < n) (sym count) (at_below old.replicas j r e)) in
         then_same.sups j x.0 r' x.1 f ∙ first.sups j r x.0 e x.1;
   }
+
+  pub others_after : KeepsCounts faults fuses old.replicas mid.replicas → (n : ℕ)
+      → ((j : ℕ) → (j ≡ n → ⊥) → (r r' : Copy D) → At old.replicas j r → At mid.replicas j r' → r' ≡ r)
+      → ((j : ℕ) → (j ≡ n → ⊥) → (r r' : Copy D) → At mid.replicas j r → At new.replicas j r' → r' ≡ r)
+      → (j : ℕ) → (j ≡ n → ⊥) → (r r' : Copy D) → At old.replicas j r → At new.replicas j r' → r' ≡ r
+  others_after kept n first then_others j other r r' e f =
+      let x = at_there mid.replicas j (subst (λ (i : ℕ). j < i) (sym kept.count) (at_below old.replicas j r e)) in
+      then_others j other x.0 r' x.1 f ∙ first j other r x.0 e x.1
 
   -- what failed in the second one failed in both
   failed_after : KeepsCounts faults fuses old.replicas mid.replicas → IsSame old mid → (m count : ℕ)

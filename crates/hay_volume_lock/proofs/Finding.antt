@@ -1,6 +1,7 @@
 -- What a call found and did, as a step of a lane.
 use Rattle.std.proofs.Common.{◌⊎◌, ◌≡◌, ◌≢◌, inl, inr, true, ℕ, ◌+◌, ◌<◌, ◌≤◌, List, [], ◌∷◌, ◌++◌, length, Option, Some, None, option_map, refl, sym, ap, subst, ◌∙◌, arith}
-use Rattle.std.specs.Prelude.{◌==◌, false, slice_index_or, find, IsNone, IfSome, ◌↔◌, Result, Ok, Err, IfOk, IfErr}
+use Rattle.std.specs.Prelude.{◌==◌, false, slice_index_or, find, IsNone, IfSome, ◌↔◌, Result, Ok, Err, IfOk, IfErr, OnOk}
+use Rattle.std.proofs.lemmas.Option.{none-some}
 use Rattle.std.specs.List.{enumerate_from}
 use Rattle.std.proofs.lemmas.Bool.{cases_order, cond-true, eq-eqb}
 use Rattle.std.proofs.lemmas.List.{get_or-set_same}
@@ -8,6 +9,7 @@ use Rattle.hay_core.specs.declared.entry.CoreTag.{CoreTag}
 use Rattle.hay_core.specs.declared.entry.Entry.{Entry}
 use Rattle.hay_disk.specs.Counts.{IsNext, Rose}
 use Rattle.hay_disk.specs.Disk.{Files}
+use Rattle.hay_legal.specs.declared.known.Run.{Run}
 use Rattle.hay_legal.specs.declared.known.ReplicaKnown.{ReplicaKnown}
 use Rattle.hay_legal.specs.declared.known.VolumeKnown.{VolumeKnown}
 use Rattle.hay_legal.specs.Known.{empty_replica, lacks_room, machine_of, replica_at, room_refusal_of}
@@ -19,7 +21,7 @@ use Rattle.hay_logical.specs.Answers as logical
 use Rattle.hay_logical.specs.declared.fault.LogicalFault.{LogicalFault}
 use Rattle.hay_logical.specs.declared.fault.LogicalFault.TheVariants.{Busy, Damaged, Failed, Full, Gone, Idle, NoMemory, ReadOnly, Worn}
 use Rattle.hay_logical.specs.Fits.{At}
-use Rattle.hay_logical.specs.Stands.{Stands}
+use Rattle.hay_logical.specs.Stands.{IsTightAt, Stands}
 use Rattle.hay_logical.specs.Volumes.{IsOfSettings, IsOpenVolume, IsSame, KeepsCounts, Volume}
 use Rattle.hay_logical.proofs.Lists.{at_there}
 use Rattle.hay_logical.proofs.Machines.{same_machine}
@@ -46,7 +48,8 @@ use Rattle.hay_volume_lock.specs.declared.guarded.Guarded.{Guarded}
 use Rattle.hay_volume_lock.specs.declared.guarded.Opened.{Opened}
 use Rattle.hay_volume_lock.specs.declared.refusals.Unflushed.{Unflushed}
 use Rattle.hay_volume_lock.proofs.Counting.{count_one, count_there}
-use Rattle.hay_volume_lock.proofs.Growing.{FusesStay, IsOfOne, LeadsFusesOf, LeadsTo, begun_more, ends_none, goes_more, goes_tried, no_fuse, of_still}
+use Rattle.hay_volume_lock.proofs.Doings.{begun_more}
+use Rattle.hay_volume_lock.proofs.Growing.{FusesStay, IsOfOne, Keeps, LeadsFusesOf, LeadsTo, TightStays, ends_none, goes_more, goes_tried, no_fuse, of_still, tight_begun, tight_rest, tight_still, tries_leads}
 use Rattle.hay_volume_lock.proofs.Holding.{stood_is}
 
 -- what is known of a volume has its freeze
@@ -189,9 +192,9 @@ module _ {D P : Type 0} (Tells : Type 0) (files : D → Files) (PieceTells : Typ
     none_set : LeadsFusesOf fuses old new Tries
     none_set = no_fuse Tells files PieceTells faults fuses tag old new of stay
 
-    tried : (Tells → (k : VolumeKnown) → Stands files PieceTells old.logical k → Stands files PieceTells new.logical k) → new.begun ≡ old.begun
+    tried : Keeps Tells files PieceTells old new → new.begun ≡ old.begun
         → (made : Option VolumeAct) → (IsNone made ↔ (counts faults (old.logical).replicas ≡ counts faults (new.logical).replicas)) → IfSome made (Behind made_is.Tries) → Goes made
-    tried stands begun made even act = goes_tried Tells files PieceTells faults fuses tag old new of stay stands begun ended made even act
+    tried keeps begun made even act = goes_tried Tells files PieceTells faults fuses tag old new of stay keeps begun ended made even act
 
     same_begun : new.begun ≡ old.begun → (i : ℕ) → i < (old.settings).replicas → slice_index_or new.begun i nobody ≡ slice_index_or old.begun i nobody
     same_begun begun i less = ap (λ (l : List CoreTag). slice_index_or l i nobody) begun
@@ -203,11 +206,15 @@ module _ {D P : Type 0} (Tells : Type 0) (files : D → Files) (PieceTells : Typ
 
     -- FLUSHES
 
-    pub flush_ok : new.begun ≡ old.begun → (n : ℕ) → (Tells → (k : VolumeKnown) → Stands files PieceTells old.logical k → logical.IsFlushed files PieceTells k j n new.logical)
+    pub flush_ok : new.begun ≡ old.begun → (Tells → TightStays files old new) → (n : ℕ) → (Tells → (k : VolumeKnown) → Stands files PieceTells old.logical k → logical.IsFlushed files PieceTells k j n new.logical)
         → (act : VolumeAct) → Behind (made_is.Flushes j) act → Goes (Some act) × Finds (Some act) (λ volume. FlushAnswer volume tag j (Ok n))
-    flush_ok begun n flushed act is = (
+    flush_ok begun tight n flushed act is = (
       more (made_is.Flushes j) refl none_set
-          (λ tells before s. let f = flushed tells before.volume s in record { leads = (f.thawed, within, f.loose, refl); stands = f.stands })
+          (λ tells before s. let f = flushed tells before.volume s in record {
+            leads = (f.thawed, within, f.loose, refl);
+            stands = f.stands;
+            tight = tight_still files tag (made_is.Flushes j) old new before (λ i begins. absurd (cc begins)) (tight tells);
+          })
           (same_begun begun) (λ i. refl) (λ i own. own) act is,
       λ opened held h tells k s volume at a b holding. record {
         held = held;
@@ -221,13 +228,17 @@ module _ {D P : Type 0} (Tells : Type 0) (files : D → Files) (PieceTells : Typ
       },
     )
 
-    pub flush_failed : new.begun ≡ old.begun → (m f : ℕ) (o : Option ℕ) → m ≡ machine_of (old.logical).settings (old.logical).number j
+    pub flush_failed : new.begun ≡ old.begun → (Tells → TightStays files old new) → (m f : ℕ) (o : Option ℕ) → m ≡ machine_of (old.logical).settings (old.logical).number j
         → logical.HasFailed faults (old.logical).settings (old.logical).number (old.logical).replicas (new.logical).replicas m f
         → (Tells → (k : VolumeKnown) → Stands files PieceTells old.logical k → logical.FlushRefused files PieceTells k j old.logical new.logical (Failed m f))
         → (act : VolumeAct) → Behind (made_is.Sticks j) act → Goes (Some act) × Always (Some act) (λ volume. FlushRefused volume tag j (Failed m f) o)
-    flush_failed begun m f o machine failed refused act is =
+    flush_failed begun tight m f o machine failed refused act is =
         let goes : Goes (Some act) = more (made_is.Sticks j) refl none_set
-        (λ tells before s. let r = refused tells before.volume s in record { leads = (r.0, within, r.1, refl); stands = r.3 })
+        (λ tells before s. let r = refused tells before.volume s in record {
+          leads = (r.0, within, r.1, refl);
+          stands = r.3;
+          tight = tight_still files tag (made_is.Sticks j) old new before (λ i begins. absurd (cc begins)) (tight tells);
+        })
         (same_begun begun) (λ i. refl) (λ i own. own) act is in (
           goes,
           λ opened held h k volume at a b holding.
@@ -254,12 +265,12 @@ module _ {D P : Type 0} (Tells : Type 0) (files : D → Files) (PieceTells : Typ
     flush_kept Idle not k r s = absurd r
     flush_kept (Damaged m at) not k r s = absurd r
 
-    pub flush_refused : new.begun ≡ old.begun → (fault : LogicalFault) → ((m f : ℕ) → fault ≡ Failed m f → ⊥)
+    pub flush_refused : new.begun ≡ old.begun → (Tells → TightStays files old new) → (fault : LogicalFault) → ((m f : ℕ) → fault ≡ Failed m f → ⊥)
         → (Tells → (k : VolumeKnown) → Stands files PieceTells old.logical k → logical.FlushRefused files PieceTells k j old.logical new.logical fault)
         → (made : Option VolumeAct) → (IsNone made ↔ (counts faults (old.logical).replicas ≡ counts faults (new.logical).replicas)) → IfSome made (Behind made_is.Tries)
         → (o : Option ℕ) → (new.logical).frozen ≡ o → Goes made × Finds made (λ volume. FlushRefused volume tag j fault o)
-    flush_refused begun fault not refused made even act o frozen = (
-      tried (λ tells k s. flush_kept fault not k (refused tells k s) s) begun made even act,
+    flush_refused begun tight fault not refused made even act o frozen = (
+      tried (λ tells k s. (flush_kept fault not k (refused tells k s) s, λ thawed i run has. tight tells thawed i)) begun made even act,
       λ opened held h tells k s volume at a b holding.
           found fault not (stood_of faults fuses opened k held) volume held a b holding (stood_is faults fuses opened k volume held at)
           (λ m e. on_machine opened held k volume h at m j e) (known_frozen files PieceTells old.logical (stood_of faults fuses opened k held).volume (h.stands tells k s)) (refused tells (stood_of faults fuses opened k held).volume (h.stands tells k s)),
@@ -301,30 +312,30 @@ module _ {D P : Type 0} (Tells : Type 0) (files : D → Files) (PieceTells : Typ
         found Idle not now volume held a b holding there machine known r = absurd r
         found (Damaged m at) not now volume held a b holding there machine known r = absurd r
 
-    flush_rest : new.begun ≡ old.begun → (fault : LogicalFault) → ((m f : ℕ) → fault ≡ Failed m f → ⊥)
+    flush_rest : new.begun ≡ old.begun → (Tells → TightStays files old new) → (fault : LogicalFault) → ((m f : ℕ) → fault ≡ Failed m f → ⊥)
         → (Tells → (k : VolumeKnown) → Stands files PieceTells old.logical k → logical.FlushRefused files PieceTells k j old.logical new.logical fault)
         → (made : Option VolumeAct) → IsTried faults fuses tag (counts faults (old.logical).replicas) (new.logical).replicas made
         → (o : Option ℕ) → (new.logical).frozen ≡ o → Goes made × Finds made (λ volume. FlushRefused volume tag j fault o)
         × ((m f : ℕ) → ◌≡◌ {A = Result ℕ LogicalFault} (Err fault) (Err (Failed m f)) → Always made (λ volume. FlushRefused volume tag j (Failed m f) o))
-    flush_rest begun fault not refused made tried o frozen =
-        let found = flush_refused begun fault not refused made tried.quiet tried.is o frozen in
+    flush_rest begun tight fault not refused made tried o frozen =
+        let found = flush_refused begun tight fault not refused made tried.quiet tried.is o frozen in
         (found.0, found.1, λ m f e. absurd (not m f (let same : fault ≡ Failed m f = cc e in same)))
 
-    pub flush_found : new.begun ≡ old.begun → (answer : Result ℕ LogicalFault)
+    pub flush_found : new.begun ≡ old.begun → (Tells → TightStays files old new) → (answer : Result ℕ LogicalFault)
         → (Tells → (k : VolumeKnown) → Stands files PieceTells old.logical k → IfOk answer (λ n. logical.IsFlushed files PieceTells k j n new.logical))
         → (Tells → (k : VolumeKnown) → Stands files PieceTells old.logical k → IfErr answer (logical.FlushRefused files PieceTells k j old.logical new.logical))
         → IfErr answer (logical.IsFlushFault faults (old.logical).settings (old.logical).number j (old.logical).replicas (new.logical).replicas)
         → (made : Option VolumeAct) → Acts (flush_made j answer) made → (o : Option ℕ) → (new.logical).frozen ≡ o
         → Goes made × Finds made (λ volume. FlushAnswer volume tag j (flush_answer o answer))
         × ((m f : ℕ) → answer ≡ Err (Failed m f) → Always made (λ volume. FlushRefused volume tag j (Failed m f) o))
-    flush_found begun (Ok n) flushed refused cause made acts o frozen =
+    flush_found begun tight (Ok n) flushed refused cause made acts o frozen =
         let is = acts.0 (made_is.Flushes j) refl in
-        let found = flush_ok begun n flushed (act_of faults fuses tag (made_is.Flushes j) (new.logical).replicas) refl in
+        let found = flush_ok begun tight n flushed (act_of faults fuses tag (made_is.Flushes j) (new.logical).replicas) refl in
         subst (λ (z : Option VolumeAct). Goes z × Finds z (λ volume. FlushAnswer volume tag j (Ok n)) × ((m f : ℕ) → ◌≡◌ {A = Result ℕ LogicalFault} (Ok n) (Err (Failed m f)) → Always z (λ volume. FlushRefused volume tag j (Failed m f) o)))
         (sym is) (found.0, found.1, λ m f e. absurd cc)
-    flush_found begun (Err (Failed m f)) flushed refused cause made acts o frozen =
+    flush_found begun tight (Err (Failed m f)) flushed refused cause made acts o frozen =
         let is = acts.0 (made_is.Sticks j) refl in
-        let found = flush_failed begun m f o cause.0 cause.1 refused (act_of faults fuses tag (made_is.Sticks j) (new.logical).replicas) refl in
+        let found = flush_failed begun tight m f o cause.0 cause.1 refused (act_of faults fuses tag (made_is.Sticks j) (new.logical).replicas) refl in
         subst (λ (z : Option VolumeAct). Goes z × Finds z (λ volume. FlushRefused volume tag j (Failed m f) o)
         × ((m' f' : ℕ) → ◌≡◌ {A = Result ℕ LogicalFault} (Err (Failed m f)) (Err (Failed m' f')) → Always z (λ volume. FlushRefused volume tag j (Failed m' f') o)))
         (sym is) (
@@ -332,25 +343,31 @@ module _ {D P : Type 0} (Tells : Type 0) (files : D → Files) (PieceTells : Typ
           λ opened held h tells k s volume at. found.1 opened held h k volume at,
           λ m' f' e. subst (λ (r : Result ℕ LogicalFault). IfErr r (λ fault. Always (Some (act_of faults fuses tag (made_is.Sticks j) (new.logical).replicas)) (λ volume. FlushRefused volume tag j fault o))) e found.1,
         )
-    flush_found begun (Err (ReadOnly m)) flushed refused cause made acts o frozen = flush_rest begun (ReadOnly m) (λ m f e. absurd cc) refused made (acts.1 refl) o frozen
-    flush_found begun (Err NoMemory) flushed refused cause made acts o frozen = flush_rest begun NoMemory (λ m f e. absurd cc) refused made (acts.1 refl) o frozen
-    flush_found begun (Err (Full m end need capacity)) flushed refused cause made acts o frozen = flush_rest begun (Full m end need capacity) (λ m f e. absurd cc) refused made (acts.1 refl) o frozen
-    flush_found begun (Err (Gone front)) flushed refused cause made acts o frozen = flush_rest begun (Gone front) (λ m f e. absurd cc) refused made (acts.1 refl) o frozen
-    flush_found begun (Err (Busy m g)) flushed refused cause made acts o frozen = flush_rest begun (Busy m g) (λ m f e. absurd cc) refused made (acts.1 refl) o frozen
-    flush_found begun (Err (Worn m)) flushed refused cause made acts o frozen = flush_rest begun (Worn m) (λ m f e. absurd cc) refused made (acts.1 refl) o frozen
-    flush_found begun (Err Idle) flushed refused cause made acts o frozen = flush_rest begun Idle (λ m f e. absurd cc) refused made (acts.1 refl) o frozen
-    flush_found begun (Err (Damaged m at)) flushed refused cause made acts o frozen = flush_rest begun (Damaged m at) (λ m f e. absurd cc) refused made (acts.1 refl) o frozen
+    flush_found begun tight (Err (ReadOnly m)) flushed refused cause made acts o frozen = flush_rest begun tight (ReadOnly m) (λ m f e. absurd cc) refused made (acts.1 refl) o frozen
+    flush_found begun tight (Err NoMemory) flushed refused cause made acts o frozen = flush_rest begun tight NoMemory (λ m f e. absurd cc) refused made (acts.1 refl) o frozen
+    flush_found begun tight (Err (Full m end need capacity)) flushed refused cause made acts o frozen = flush_rest begun tight (Full m end need capacity) (λ m f e. absurd cc) refused made (acts.1 refl) o frozen
+    flush_found begun tight (Err (Gone front)) flushed refused cause made acts o frozen = flush_rest begun tight (Gone front) (λ m f e. absurd cc) refused made (acts.1 refl) o frozen
+    flush_found begun tight (Err (Busy m g)) flushed refused cause made acts o frozen = flush_rest begun tight (Busy m g) (λ m f e. absurd cc) refused made (acts.1 refl) o frozen
+    flush_found begun tight (Err (Worn m)) flushed refused cause made acts o frozen = flush_rest begun tight (Worn m) (λ m f e. absurd cc) refused made (acts.1 refl) o frozen
+    flush_found begun tight (Err Idle) flushed refused cause made acts o frozen = flush_rest begun tight Idle (λ m f e. absurd cc) refused made (acts.1 refl) o frozen
+    flush_found begun tight (Err (Damaged m at)) flushed refused cause made acts o frozen = flush_rest begun tight (Damaged m at) (λ m f e. absurd cc) refused made (acts.1 refl) o frozen
 
     -- COMPACTIONS THAT BEGIN
 
+    -- of replica j alone anything changed
+    abbrev Others : Type 0
+    Others = (i : ℕ) → (i ≡ j → ⊥) → (r r' : Copy D) → At (old.logical).replicas i r → At (new.logical).replicas i r' → r' ≡ r
+
     pub begin_ok : ((i : ℕ) → i < (old.settings).replicas → slice_index_or new.begun i nobody ≡ begun_in i tag (Begins j) (slice_index_or old.begun i nobody))
+        → Others → (Tells → (k : VolumeKnown) → Stands files PieceTells old.logical k → IsTightAt files new.logical j)
         → (g : ℕ) → (Tells → (k : VolumeKnown) → Stands files PieceTells old.logical k → logical.IsBegun files PieceTells k j g new.logical)
         → (act : VolumeAct) → Behind (made_is.Begins j) act → Goes (Some act) × Finds (Some act) (λ volume. BeginAnswer volume tag j (Ok g))
-    begin_ok begun g is_begun act is = (
+    begin_ok begun others tight g is_begun act is = (
       more (made_is.Begins j) refl none_set
           (λ tells before s. let i = is_begun tells before.volume s in record {
             leads = ((i.thawed, within, (i.rest).0, (i.rest).1, refl));
             stands = subst (λ (n : ℕ). Stands files PieceTells new.logical (logical.change_at before.volume j (with_run (record { goal = n; left = (replica_at before.volume j).cells })))) i.next i.stands;
+            tight = tight_begun files tag (made_is.Begins j) old new before j of.count (λ thawed. others) refl (tight tells before.volume s);
           })
           begun (λ i. refl) (λ i own. own) act is,
       λ opened held h tells k s volume at a b holding.
@@ -383,14 +400,20 @@ module _ {D P : Type 0} (Tells : Type 0) (files : D → Files) (PieceTells : Typ
                   ∙ cond-true (j == j) tag (begun_of j nobody held) (eq-eqb j j refl);
             }
 
-    pub begin_failed : new.begun ≡ old.begun → (m f : ℕ) → m ≡ machine_of (old.logical).settings (old.logical).number j
+    -- one that stood is as it was
+    tight_at_rest : Others → (k : VolumeKnown) → (replica_at k j).run ≡ None → (new.logical).frozen ≡ None → (i : ℕ) (run : Run) → (replica_at k i).run ≡ Some run
+        → IsTightAt files old.logical i → IsTightAt files new.logical i
+    tight_at_rest others k rests thawed i run has = tight_rest files old new j of.count (λ thawed. others) thawed i
+        (λ same. none-some run (sym rests ∙ subst (λ (n : ℕ). (replica_at k n).run ≡ Some run) same has))
+
+    pub begin_failed : new.begun ≡ old.begun → Others → (m f : ℕ) → m ≡ machine_of (old.logical).settings (old.logical).number j
         → logical.HasFailed faults (old.logical).settings (old.logical).number (old.logical).replicas (new.logical).replicas m f
         → (Tells → (k : VolumeKnown) → Stands files PieceTells old.logical k → logical.BeginRefused files PieceTells k j old.logical new.logical (Failed m f))
         → (act : VolumeAct) → Behind made_is.Tries act
         → Goes (Some act) × Always (Some act) (λ volume. FailedLook volume tag j m f) × Finds (Some act) (λ volume. BeginAnswer volume tag j (Err (Failed m f)))
-    begin_failed begun m f machine failed refused act is =
+    begin_failed begun others m f machine failed refused act is =
         let goes : Goes (Some act) = more made_is.Tries refl none_set
-        (λ tells before s. record { leads = refl; stands = (refused tells before.volume s).3 })
+        (tries_leads Tells files PieceTells faults fuses tag old new (λ tells k s. let r = refused tells k s in (r.3, tight_at_rest others k (r.2).0)))
         (same_begun begun) (λ i. refl) (λ i own. own) act is in (
           goes,
           λ opened held h k volume at a b holding.
@@ -423,6 +446,21 @@ module _ {D P : Type 0} (Tells : Type 0) (files : D → Files) (PieceTells : Typ
               ),
         )
 
+    tight_same : new.logical ≡ old.logical → (new.logical).frozen ≡ None → (i : ℕ) (run : Run) → IsTightAt files old.logical i → IsTightAt files new.logical i
+    tight_same same thawed i run = subst (λ (v : Volume D P). IsTightAt files v i) (sym same)
+
+    begin_tight : Others → (fault : LogicalFault) → ((m f : ℕ) → fault ≡ Failed m f → ⊥) → (k : VolumeKnown) → logical.BeginRefused files PieceTells k j old.logical new.logical fault
+        → (new.logical).frozen ≡ None → (i : ℕ) (run : Run) → (replica_at k i).run ≡ Some run → IsTightAt files old.logical i → IsTightAt files new.logical i
+    begin_tight others (ReadOnly m) not k r thawed i run has = tight_same r.1 thawed i run
+    begin_tight others (Busy m g) not k r thawed i run has = tight_same r.3 thawed i run
+    begin_tight others (Worn m) not k r thawed i run has = tight_same r.4 thawed i run
+    begin_tight others (Failed m f) not k r thawed i run has = absurd (not m f refl)
+    begin_tight others NoMemory not k r thawed i run has = tight_at_rest others k (r.1).0 thawed i run has
+    begin_tight others (Full m end need capacity) not k r thawed i run has = absurd r
+    begin_tight others (Gone front) not k r thawed i run has = absurd r
+    begin_tight others Idle not k r thawed i run has = absurd r
+    begin_tight others (Damaged m at) not k r thawed i run has = absurd r
+
     begin_kept : (fault : LogicalFault) → ((m f : ℕ) → fault ≡ Failed m f → ⊥) → (k : VolumeKnown) → logical.BeginRefused files PieceTells k j old.logical new.logical fault
         → Stands files PieceTells old.logical k → Stands files PieceTells new.logical k
     begin_kept (ReadOnly m) not k r s = subst (λ v. Stands files PieceTells v k) (sym r.1) s
@@ -435,12 +473,12 @@ module _ {D P : Type 0} (Tells : Type 0) (files : D → Files) (PieceTells : Typ
     begin_kept Idle not k r s = absurd r
     begin_kept (Damaged m at) not k r s = absurd r
 
-    pub begin_refused : new.begun ≡ old.begun → (fault : LogicalFault) → ((m f : ℕ) → fault ≡ Failed m f → ⊥)
+    pub begin_refused : new.begun ≡ old.begun → Others → (fault : LogicalFault) → ((m f : ℕ) → fault ≡ Failed m f → ⊥)
         → (Tells → (k : VolumeKnown) → Stands files PieceTells old.logical k → logical.BeginRefused files PieceTells k j old.logical new.logical fault)
         → (made : Option VolumeAct) → (IsNone made ↔ (counts faults (old.logical).replicas ≡ counts faults (new.logical).replicas)) → IfSome made (Behind made_is.Tries)
         → Goes made × Finds made (λ volume. BeginRefused volume tag j fault)
-    begin_refused begun fault not refused made even act = (
-      tried (λ tells k s. begin_kept fault not k (refused tells k s) s) begun made even act,
+    begin_refused begun others fault not refused made even act = (
+      tried (λ tells k s. let r = refused tells k s in (begin_kept fault not k r s, begin_tight others fault not k r)) begun made even act,
       λ opened held h tells k s volume at a b holding.
           found fault not (stood_of faults fuses opened k held) volume held a b holding (stood_is faults fuses opened k volume held at)
           (λ m e. on_machine opened held k volume h at m j e) (refused tells (stood_of faults fuses opened k held).volume (h.stands tells k s)),
@@ -482,30 +520,31 @@ module _ {D P : Type 0} (Tells : Type 0) (files : D → Files) (PieceTells : Typ
         found Idle not now volume held a b holding there machine r = absurd r
         found (Damaged m at) not now volume held a b holding there machine r = absurd r
 
-    begin_rest : new.begun ≡ old.begun → (fault : LogicalFault) → ((m f : ℕ) → fault ≡ Failed m f → ⊥)
+    begin_rest : new.begun ≡ old.begun → Others → (fault : LogicalFault) → ((m f : ℕ) → fault ≡ Failed m f → ⊥)
         → (Tells → (k : VolumeKnown) → Stands files PieceTells old.logical k → logical.BeginRefused files PieceTells k j old.logical new.logical fault)
         → (made : Option VolumeAct) → IsTried faults fuses tag (counts faults (old.logical).replicas) (new.logical).replicas made
         → Goes made × Finds made (λ volume. BeginRefused volume tag j fault)
         × ((m f : ℕ) → ◌≡◌ {A = Result ℕ LogicalFault} (Err fault) (Err (Failed m f)) → Always made (λ volume. FailedLook volume tag j m f))
-    begin_rest begun fault not refused made tried =
-        let found = begin_refused begun fault not refused made tried.quiet tried.is in
+    begin_rest begun others fault not refused made tried =
+        let found = begin_refused begun others fault not refused made tried.quiet tried.is in
         (found.0, found.1, λ m f e. absurd (not m f (let same : fault ≡ Failed m f = cc e in same)))
 
-    pub begin_found : (answer : Result ℕ LogicalFault) → IsBegunBy tag j answer old.begun new.begun
+    pub begin_found : (answer : Result ℕ LogicalFault) → IsBegunBy tag j answer old.begun new.begun → Others
+        → (Tells → (k : VolumeKnown) → Stands files PieceTells old.logical k → OnOk answer (IsTightAt files new.logical j))
         → (Tells → (k : VolumeKnown) → Stands files PieceTells old.logical k → IfOk answer (λ g. logical.IsBegun files PieceTells k j g new.logical))
         → (Tells → (k : VolumeKnown) → Stands files PieceTells old.logical k → IfErr answer (logical.BeginRefused files PieceTells k j old.logical new.logical))
         → IfErr answer (logical.IsBeginFault faults (old.logical).settings (old.logical).number j (old.logical).replicas (new.logical).replicas)
         → (made : Option VolumeAct) → Acts (begin_made j answer) made
         → Goes made × Finds made (λ volume. BeginAnswer volume tag j answer)
         × ((m f : ℕ) → answer ≡ Err (Failed m f) → Always made (λ volume. FailedLook volume tag j m f))
-    begin_found (Ok g) begun is_begun refused cause made acts =
+    begin_found (Ok g) begun others tight is_begun refused cause made acts =
         let is = acts.0 (made_is.Begins j) refl in
-        let found = begin_ok (λ i less. begun i) g is_begun (act_of faults fuses tag (made_is.Begins j) (new.logical).replicas) refl in
+        let found = begin_ok (λ i less. begun i) others tight g is_begun (act_of faults fuses tag (made_is.Begins j) (new.logical).replicas) refl in
         subst (λ (z : Option VolumeAct). Goes z × Finds z (λ volume. BeginAnswer volume tag j (Ok g)) × ((m f : ℕ) → ◌≡◌ {A = Result ℕ LogicalFault} (Ok g) (Err (Failed m f)) → Always z (λ volume. FailedLook volume tag j m f)))
         (sym is) (found.0, found.1, λ m f e. absurd cc)
-    begin_found (Err (Failed m f)) begun is_begun refused cause made acts =
+    begin_found (Err (Failed m f)) begun others tight is_begun refused cause made acts =
         let is = acts.0 made_is.Tries refl in
-        let found = begin_failed begun m f cause.0 cause.1 refused (act_of faults fuses tag made_is.Tries (new.logical).replicas) refl in
+        let found = begin_failed begun others m f cause.0 cause.1 refused (act_of faults fuses tag made_is.Tries (new.logical).replicas) refl in
         subst (λ (z : Option VolumeAct). Goes z × Finds z (λ volume. BeginAnswer volume tag j (Err (Failed m f)))
         × ((m' f' : ℕ) → ◌≡◌ {A = Result ℕ LogicalFault} (Err (Failed m f)) (Err (Failed m' f')) → Always z (λ volume. FailedLook volume tag j m' f')))
         (sym is) (
@@ -517,14 +556,14 @@ module _ {D P : Type 0} (Tells : Type 0) (files : D → Files) (PieceTells : Typ
               subst (λ (x : ℕ). Always (Some (act_of faults fuses tag made_is.Tries (new.logical).replicas)) (λ volume. FailedLook volume tag j x f')) machine
               (subst (λ (x : ℕ). Always (Some (act_of faults fuses tag made_is.Tries (new.logical).replicas)) (λ volume. FailedLook volume tag j m x)) count found.1),
         )
-    begin_found (Err (ReadOnly m)) begun is_begun refused cause made acts = begin_rest begun (ReadOnly m) (λ m f e. absurd cc) refused made (acts.1 refl)
-    begin_found (Err NoMemory) begun is_begun refused cause made acts = begin_rest begun NoMemory (λ m f e. absurd cc) refused made (acts.1 refl)
-    begin_found (Err (Full m end need capacity)) begun is_begun refused cause made acts = begin_rest begun (Full m end need capacity) (λ m f e. absurd cc) refused made (acts.1 refl)
-    begin_found (Err (Gone front)) begun is_begun refused cause made acts = begin_rest begun (Gone front) (λ m f e. absurd cc) refused made (acts.1 refl)
-    begin_found (Err (Busy m g)) begun is_begun refused cause made acts = begin_rest begun (Busy m g) (λ m f e. absurd cc) refused made (acts.1 refl)
-    begin_found (Err (Worn m)) begun is_begun refused cause made acts = begin_rest begun (Worn m) (λ m f e. absurd cc) refused made (acts.1 refl)
-    begin_found (Err Idle) begun is_begun refused cause made acts = begin_rest begun Idle (λ m f e. absurd cc) refused made (acts.1 refl)
-    begin_found (Err (Damaged m at)) begun is_begun refused cause made acts = begin_rest begun (Damaged m at) (λ m f e. absurd cc) refused made (acts.1 refl)
+    begin_found (Err (ReadOnly m)) begun others tight is_begun refused cause made acts = begin_rest begun others (ReadOnly m) (λ m f e. absurd cc) refused made (acts.1 refl)
+    begin_found (Err NoMemory) begun others tight is_begun refused cause made acts = begin_rest begun others NoMemory (λ m f e. absurd cc) refused made (acts.1 refl)
+    begin_found (Err (Full m end need capacity)) begun others tight is_begun refused cause made acts = begin_rest begun others (Full m end need capacity) (λ m f e. absurd cc) refused made (acts.1 refl)
+    begin_found (Err (Gone front)) begun others tight is_begun refused cause made acts = begin_rest begun others (Gone front) (λ m f e. absurd cc) refused made (acts.1 refl)
+    begin_found (Err (Busy m g)) begun others tight is_begun refused cause made acts = begin_rest begun others (Busy m g) (λ m f e. absurd cc) refused made (acts.1 refl)
+    begin_found (Err (Worn m)) begun others tight is_begun refused cause made acts = begin_rest begun others (Worn m) (λ m f e. absurd cc) refused made (acts.1 refl)
+    begin_found (Err Idle) begun others tight is_begun refused cause made acts = begin_rest begun others Idle (λ m f e. absurd cc) refused made (acts.1 refl)
+    begin_found (Err (Damaged m at)) begun others tight is_begun refused cause made acts = begin_rest begun others (Damaged m at) (λ m f e. absurd cc) refused made (acts.1 refl)
 
   -- FUSES
 
@@ -542,10 +581,14 @@ module _ {D P : Type 0} (Tells : Type 0) (files : D → Files) (PieceTells : Typ
         )
 
     pub fuse_made : new.begun ≡ old.begun → new.ended ≡ old.ended → LeadsFusesOf fuses old new (Fuses j) → (Tells → (k : VolumeKnown) → Stands files PieceTells old.logical k → Stands files PieceTells new.logical k)
-        → (act : VolumeAct) → Behind (made_is.Fuses j) act → Goes (Some act) × Always (Some act) (λ volume. Fused volume.settings volume.start volume.number tag j)
-    fuse_made begun ended leads stands act is = (
+        → (Tells → TightStays files old new) → (act : VolumeAct) → Behind (made_is.Fuses j) act → Goes (Some act) × Always (Some act) (λ volume. Fused volume.settings volume.start volume.number tag j)
+    fuse_made begun ended leads stands tight act is = (
       goes_more Tells files PieceTells faults fuses tag old new (made_is.Fuses j) of leads refl
-          (λ tells before s. record { leads = (within, refl); stands = stands tells before.volume s })
+          (λ tells before s. record {
+            leads = (within, refl);
+            stands = stands tells before.volume s;
+            tight = tight_still files tag (made_is.Fuses j) old new before (λ i begins. absurd (cc begins)) (tight tells);
+          })
           (λ i less. ap (λ (l : List CoreTag). slice_index_or l i nobody) begun)
           (ends_none Tells files PieceTells old new (act_of faults fuses tag (made_is.Fuses j) (new.logical).replicas) (λ i. refl) (λ i own. own) ended) act is,
       λ opened held h k volume at a b holding. record { held = held; made = Some act; holding = holding; is = ap (λ (z : VolumeAct). did_of z.did) is },
@@ -557,11 +600,11 @@ module _ {D P : Type 0} (Tells : Type 0) (files : D → Files) (PieceTells : Typ
       → new.settings ≡ old.settings → new.front ≡ old.front → new.begun ≡ old.begun → new.ended ≡ old.ended → (j : ℕ) → j < ((old.logical).settings).replicas
       → ((r r' : Copy D) → At (old.logical).replicas j r → At (new.logical).replicas j r' → IsNext (fuses r.disk) (fuses r'.disk) × (faults r'.disk ≡ faults r.disk))
       → ((i : ℕ) → (i ≡ j → ⊥) → (r r' : Copy D) → At (old.logical).replicas i r → At (new.logical).replicas i r' → r' ≡ r)
-      → (Tells → (k : VolumeKnown) → Stands files PieceTells old.logical k → Stands files PieceTells new.logical k)
+      → (Tells → (k : VolumeKnown) → Stands files PieceTells old.logical k → Stands files PieceTells new.logical k) → (Tells → TightStays files old new)
       → (act : VolumeAct) → Behind (made_is.Fuses j) act → Goes (Some act) × Always (Some act) (λ volume. Fused volume.settings volume.start volume.number tag j)
-  fuse_goes open_old open_new same count still settings front begun ended j within fused others stands act is =
+  fuse_goes open_old open_new same count still settings front begun ended j within fused others stands tight act is =
       fuse_made of j within begun ended
-      (fuse_leads of j within open_old.all (λ r r' e f. (fused r r' e f).0) (λ i other r r' e f. ap (λ (x : Copy D). fuses x.disk) (others i other r r' e f))) stands act is
+      (fuse_leads of j within open_old.all (λ r r' e f. (fused r r' e f).0) (λ i other r r' e f. ap (λ (x : Copy D). fuses x.disk) (others i other r r' e f))) stands tight act is
     where
       rises : (i : ℕ) (r r' : Copy D) → At (old.logical).replicas i r → At (new.logical).replicas i r' → faults r.disk ≤ faults r'.disk
       rises i r r' e f = elim (cases_order i j) [
@@ -617,7 +660,7 @@ module _ {D P : Type 0} (Tells : Type 0) (files : D → Files) (PieceTells : Typ
     abbrev both : IsOfOne faults old new × FusesStay fuses old new
     both = of_still faults fuses old new change.settings change.front change.same change.is_open change.counts change.still
 
-    pub flush_call : new.begun ≡ old.begun
+    pub flush_call : new.begun ≡ old.begun → (Tells → TightStays files old new)
         → (Tells → (k : VolumeKnown) → Stands files PieceTells old.logical k → IfOk answer (λ n. logical.IsFlushed files PieceTells k j n new.logical))
         → (Tells → (k : VolumeKnown) → Stands files PieceTells old.logical k → IfErr answer (logical.FlushRefused files PieceTells k j old.logical new.logical))
         → IfErr answer (logical.IsFlushFault faults (old.logical).settings (old.logical).number j (old.logical).replicas (new.logical).replicas)
@@ -625,10 +668,12 @@ module _ {D P : Type 0} (Tells : Type 0) (files : D → Files) (PieceTells : Typ
         → GoesOn Tells files PieceTells faults fuses tag old new made
         × Found Tells files PieceTells faults fuses tag old made (λ volume. FlushAnswer volume tag j (flush_answer o answer))
         × ((m f : ℕ) → answer ≡ Err (Failed m f) → FoundAlways Tells files PieceTells faults fuses tag old made (λ volume. FlushRefused volume tag j (Failed m f) o))
-    flush_call begun flushed refused cause is o frozen =
-        flush_found Tells files PieceTells faults fuses tag old new both.0 both.1 change.ended j within begun answer flushed refused cause made (acts_by before did (flush_made j answer) made was is some none) o frozen
+    flush_call begun tight flushed refused cause is o frozen =
+        flush_found Tells files PieceTells faults fuses tag old new both.0 both.1 change.ended j within begun tight answer flushed refused cause made (acts_by before did (flush_made j answer) made was is some none) o frozen
 
     pub begin_call : IsBegunBy tag j answer old.begun new.begun
+        → ((i : ℕ) → (i ≡ j → ⊥) → (r r' : Copy D) → At (old.logical).replicas i r → At (new.logical).replicas i r' → r' ≡ r)
+        → (Tells → (k : VolumeKnown) → Stands files PieceTells old.logical k → OnOk answer (IsTightAt files new.logical j))
         → (Tells → (k : VolumeKnown) → Stands files PieceTells old.logical k → IfOk answer (λ g. logical.IsBegun files PieceTells k j g new.logical))
         → (Tells → (k : VolumeKnown) → Stands files PieceTells old.logical k → IfErr answer (logical.BeginRefused files PieceTells k j old.logical new.logical))
         → IfErr answer (logical.IsBeginFault faults (old.logical).settings (old.logical).number j (old.logical).replicas (new.logical).replicas)
@@ -636,5 +681,5 @@ module _ {D P : Type 0} (Tells : Type 0) (files : D → Files) (PieceTells : Typ
         → GoesOn Tells files PieceTells faults fuses tag old new made
         × Found Tells files PieceTells faults fuses tag old made (λ volume. BeginAnswer volume tag j answer)
         × ((m f : ℕ) → answer ≡ Err (Failed m f) → FoundAlways Tells files PieceTells faults fuses tag old made (λ volume. FailedLook volume tag j m f))
-    begin_call begun is_begun refused cause is =
-        begin_found Tells files PieceTells faults fuses tag old new both.0 both.1 change.ended j within answer begun is_begun refused cause made (acts_by before did (begin_made j answer) made was is some none)
+    begin_call begun others tight is_begun refused cause is =
+        begin_found Tells files PieceTells faults fuses tag old new both.0 both.1 change.ended j within answer begun others tight is_begun refused cause made (acts_by before did (begin_made j answer) made was is some none)

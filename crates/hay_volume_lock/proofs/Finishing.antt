@@ -13,6 +13,7 @@ use Rattle.hay_history.specs.Steps.Did.{Tries}
 use Rattle.hay_logical.specs.Answers as logical
 use Rattle.hay_logical.specs.declared.fault.LogicalFault.{LogicalFault}
 use Rattle.hay_logical.specs.declared.fault.LogicalFault.TheVariants.{Busy, Damaged, Failed, Full, Gone, Idle, NoMemory, ReadOnly, Worn}
+use Rattle.hay_logical.specs.Fits.{At}
 use Rattle.hay_logical.specs.Stands.{Stands}
 use Rattle.hay_logical.specs.Volumes.{Volume}
 use Rattle.hay_meeting.specs.declared.act.VolumeAct.{VolumeAct}
@@ -21,6 +22,7 @@ use Rattle.hay_meeting.specs.Locks.{LockSight}
 use Rattle.hay_meeting.specs.Sights.{stood}
 use Rattle.hay_holdings.specs.Holdings.{Holding}
 use Rattle.hay_holdings.specs.Volumes.{FailedAct, HasRunOf}
+use Rattle.hay_physical.specs.Copies.{Copy}
 use Rattle.hay_volume_lock.specs.Acts.{act_of}
 use Rattle.hay_volume_lock.specs.Answers.{Found, FoundAlways, IsAt, StoreVolume}
 use Rattle.hay_volume_lock.specs.Compactions.{FailedHere, MayGoOn, Unswapped, unswapped_made}
@@ -31,7 +33,7 @@ use Rattle.hay_volume_lock.specs.declared.act.Made.TheVariants as made_is
 use Rattle.hay_volume_lock.specs.declared.guarded.Guarded.{Guarded}
 use Rattle.hay_volume_lock.specs.declared.guarded.Opened.{Opened}
 use Rattle.hay_volume_lock.proofs.Finding.{failed_act, on_machine}
-use Rattle.hay_volume_lock.proofs.Growing.{FusesStay, IsOfOne, LeadsFusesOf, ends_none, goes_more, no_fuse}
+use Rattle.hay_volume_lock.proofs.Growing.{FusesStay, IsOfOne, LeadsFusesOf, ended_there, ends_none, goes_more, no_fuse, tight_ended, tight_frozen}
 use Rattle.hay_volume_lock.proofs.Holding.{stood_is}
 
 some_is : {A : Type 0} {a b : A} → Some a ≡ Some b → a ≡ b
@@ -43,7 +45,8 @@ unfolding Stands
 frozen_known files Tells volume k stands = stands.frozen
 
 module _ {D P : Type 0} (Tells : Type 0) (files : D → Files) (PieceTells : Type 0) (faults fuses : D → ℕ) (tag : CoreTag) (old new : Guarded D P) (j : ℕ) (within : j < ((old.logical).settings).replicas)
-    (of : IsOfOne faults old new) (stay : FusesStay fuses old new) (begun : new.begun ≡ old.begun) (ended : new.ended ≡ old.ended) where
+    (of : IsOfOne faults old new) (stay : FusesStay fuses old new) (begun : new.begun ≡ old.begun) (ended : new.ended ≡ old.ended)
+    (others : (new.logical).frozen ≡ (old.logical).frozen → (i : ℕ) → (i ≡ j → ⊥) → (r r' : Copy D) → At (old.logical).replicas i r → At (new.logical).replicas i r' → r' ≡ r) where
   abbrev owner : ℕ → CoreTag
   owner i = slice_index_or old.begun i nobody
 
@@ -69,7 +72,12 @@ module _ {D P : Type 0} (Tells : Type 0) (files : D → Files) (PieceTells : Typ
     -- the compaction ended
     pub ends_run : (Tells → (k : VolumeKnown) → Stood k → Stands files PieceTells new.logical (logical.change_at k j without_run)) → (act : VolumeAct) → Behind (made_is.Ends j) act → Goes (Some act)
     ends_run told act is = goes_more Tells files PieceTells faults fuses tag old new (made_is.Ends j) of none_set refl
-        (λ tells before s. let m = may tells before.volume s in record { leads = (m.thawed, within, m.stands, refl); stands = told tells before.volume s })
+        (λ tells before s. let m = may tells before.volume s in record {
+          leads = (m.thawed, within, m.stands, refl);
+          stands = told tells before.volume s;
+          tight = tight_ended files tag (made_is.Ends j) old new before j of.count (λ thawed. others (thawed ∙ sym (of.thawed thawed))) (λ i begins. absurd (cc begins))
+              (ended_there files PieceTells old.logical before.volume s j within without_run (λ r. refl));
+        })
         with_begun (record {
           ended = λ i lane less few. ap (λ l. ended_at l i lane) ended;
           owned = λ i less same. subst (λ (n : ℕ). tag.lane ≡ (owner n).lane) same (sym own);
@@ -79,7 +87,11 @@ module _ {D P : Type 0} (Tells : Type 0) (files : D → Files) (PieceTells : Typ
     -- the head may name either generation
     poises : (m : ℕ) → (Tells → (k : VolumeKnown) → Stood k → Stands files PieceTells new.logical (logical.poised_at m k j)) → (act : VolumeAct) → Behind (made_is.Poises m j) act → Goes (Some act)
     poises m told act is = goes_more Tells files PieceTells faults fuses tag old new (made_is.Poises m j) of none_set refl
-        (λ tells before s. let may = may tells before.volume s in record { leads = (may.thawed, within, may.stands, refl); stands = told tells before.volume s })
+        (λ tells before s. let may = may tells before.volume s in let poised_known = told tells before.volume s in record {
+          leads = (may.thawed, within, may.stands, refl);
+          stands = poised_known;
+          tight = tight_frozen files tag (made_is.Poises m j) old new before m (sym (frozen_known files PieceTells new.logical (logical.poised_at m before.volume j) poised_known));
+        })
         with_begun (ends_none Tells files PieceTells old new (act_of faults fuses tag (made_is.Poises m j) (new.logical).replicas) (λ i. refl) (λ i none. none) ended) act is
 
     tries : (Tells → (k : VolumeKnown) → Stood k → ⊥) → (act : VolumeAct) → Behind made_is.Tries act → Goes (Some act)

@@ -1,24 +1,31 @@
 -- What an act makes of what stands behind the lock.
-use Rattle.std.proofs.Common.{◌≡◌, inl, inr, ℕ, ◌<◌, ◌≤◌, List, [], ◌∷◌, ◌++◌, length, Option, Some, None, refl, sym, ap, subst, ◌∙◌, append-nil, arith}
+use Rattle.std.proofs.Common.{◌≡◌, ◌⊎◌, inl, inr, ℕ, ◌<◌, ◌≤◌, List, [], ◌∷◌, ◌++◌, length, Option, Some, None, refl, sym, ap, subst, ◌∙◌, append-nil, arith}
 use Rattle.std.specs.Prelude.{slice_index_or, map, Bool, true, false, ◌==◌, if◌then◌else◌, IsNone, IfSome, ◌↔◌}
 use Rattle.std.specs.List.{AllByRecursion as Each}
 use Rattle.std.proofs.lemmas.List.{length-map}
-use mathlib.Core.List.{IsPrefix}
+use Rattle.std.proofs.lemmas.Option.{none-some}
+use mathlib.Core.Logic.{dite}
+use native.Mathlib.Decide.{ℕ_discrete}
 use Rattle.hay_core.specs.declared.entry.CoreTag.{CoreTag}
 use Rattle.hay_core.specs.declared.entry.Entry.{Entry}
 use Rattle.hay_disk.specs.Disk.{Files}
 use Rattle.hay_front.specs.declared.front.Tag.{Tag}
-use Rattle.hay_holdings.proofs.Ending.{all_or_before}
 use Rattle.hay_legal.specs.declared.known.Run.{Run}
 use Rattle.hay_legal.specs.declared.known.VolumeKnown.{VolumeKnown}
+use Rattle.hay_legal.specs.Known.{replica_at}
 use Rattle.hay_history.specs.Steps.{Did, Follows, HasRun, Leads, LeadsFuses, NoneFall, Standing}
+use Rattle.hay_history.specs.Steps.Did.{Begins}
 use Rattle.hay_history.specs.Histories.{begun_in}
 use Rattle.hay_logical.specs.Fits.{At}
-use Rattle.hay_logical.specs.Stands.{Stands}
-use Rattle.hay_logical.specs.Volumes.{IsOpenVolume, IsSame, KeepsCounts}
+use Rattle.hay_logical.specs.Stands.{IsTightAt, RunsTight, Stands}
+use Rattle.hay_logical.specs.Answers.{change_at}
+use Rattle.hay_logical.specs.Volumes.{IsOpenVolume, IsSame, KeepsCounts, Volume}
+use Rattle.hay_logical.proofs.Knowing.{changed_here}
+use Rattle.hay_logical.proofs.Tightness.{tight_each}
+use Rattle.hay_legal.specs.declared.known.ReplicaKnown.{ReplicaKnown}
 use Rattle.hay_meeting.specs.declared.act.VolumeAct.{VolumeAct}
 use Rattle.hay_meeting.specs.Acts.{IsSized, begun_of, did_of, entry_of, known_by, left_by, nobody, volume_lock}
-use Rattle.hay_meeting.specs.Locks.{Doing, add_shown, entries, left, past, replayed}
+use Rattle.hay_meeting.specs.Locks.{add_shown, entries, left, replayed}
 use Rattle.hay_meeting.proofs.Replays.{entries_append, left_append}
 use Rattle.hay_map.specs.Rows.{row_at}
 use Rattle.hay_needle.specs.declared.needle.Pair.{Pair}
@@ -27,12 +34,14 @@ use Rattle.hay_physical.specs.Copies.{Copy}
 use Rattle.hay_views.specs.MapPasts.{entered_by}
 use Rattle.hay_volume_lock.specs.Acts.{act_of, counts, did_by}
 use Rattle.hay_volume_lock.specs.Ended.{ended_at}
-use Rattle.hay_volume_lock.specs.Keeping.{EndsOwn, GoesOn, IsKept, add_tag, count_at, ended_in, ended_of, ends_at, published_row, standing_of, stood_of, tag_of, tags_of}
+use Rattle.hay_volume_lock.specs.Keeping.{EndsOwn, GoesOn, IsKept, add_tag, count_at, ended_in, ends_at, published_row, standing_of, stood_of, tag_of, tags_of}
 use Rattle.hay_volume_lock.specs.declared.act.Made.{Made}
 use Rattle.hay_volume_lock.specs.declared.act.Made.TheVariants as made_is
 use Rattle.hay_volume_lock.specs.declared.guarded.Guarded.{Guarded}
 use Rattle.hay_volume_lock.specs.declared.guarded.Opened.{Opened}
 use Rattle.hay_volume_lock.proofs.Counting.{count_behind, count_each}
+use Rattle.hay_volume_lock.proofs.Doings.{begun_more, doings_more, ended_more}
+use Rattle.hay_volume_lock.proofs.Tightening.{since_more}
 
 -- ONE ACT MORE
 
@@ -48,37 +57,6 @@ pub follows_more : (settings : Settings) (v : ℕ) (before : Standing) (acts : L
 follows_more settings v before [] act follows one = (one.leads, one.faults, one.fuses, tt)
 follows_more settings v before (x ∷ xs) act follows one = (follows.0, follows.1, follows.2, follows_more settings v (left_by x before) xs act follows.3 one)
 
-pub begun_more : (j : ℕ) (before : CoreTag) (acts : List VolumeAct) (act : VolumeAct) → begun_of j before (acts ++ act ∷ []) ≡ begun_in j act.tag (did_of act.did) (begun_of j before acts)
-begun_more j before [] act = refl
-begun_more j before (x ∷ xs) act = begun_more j (begun_in j x.tag (did_of x.did) before) xs act
-
--- two lists with one more at the end that are the same
-same_last : {A : Type 0} (xs ys : List A) (x y : A) → xs ++ x ∷ [] ≡ ys ++ y ∷ [] → (xs ≡ ys) × (x ≡ y)
-same_last [] [] x y same = (refl, cc same)
-same_last [] (b ∷ []) x y same = absurd (cc same)
-same_last [] (b ∷ c ∷ ys) x y same = absurd (cc same)
-same_last (a ∷ []) [] x y same = absurd (cc same)
-same_last (a ∷ c ∷ xs) [] x y same = absurd (cc same)
-same_last (a ∷ xs) (b ∷ ys) x y same =
-    let first : a ≡ b = cc same in
-    let rest : xs ++ x ∷ [] ≡ ys ++ y ∷ [] = cc same in
-    let both = same_last xs ys x y rest in (cc (first, both.0), both.1)
-
--- what holds of each act of a history, and of one behind it, with what was before
-pub doings_more : {A : Type 0} (P : Doing A → Type 0) (acts : List A) (act : A) → ((doing : Doing A) → IsPrefix (past doing) acts → P doing) → P (record { held = acts; act = act })
-    → (doing : Doing A) → IsPrefix (past doing) (acts ++ act ∷ []) → P doing
-doings_more P acts act each here doing begins = elim (all_or_before acts act (past doing) begins) [
-  | inl all ↦
-      let same = same_last doing.held acts doing.act act all in
-      subst (λ (d : Doing _). P d) (λ i. record { held = sym same.0 i; act = sym same.1 i }) here
-  | inr before ↦ each doing before
-]
-
-pub ended_more : (j lane : ℕ) (begun : CoreTag) (before : Option ℕ) (acts : List VolumeAct) (act : VolumeAct)
-    → ended_of j lane begun before (acts ++ act ∷ []) ≡ ended_in j lane (begun_of j begun acts) act (ended_of j lane begun before acts)
-ended_more j lane begun before [] act = refl
-ended_more j lane begun before (x ∷ xs) act = ended_more j lane (begun_in j x.tag (did_of x.did) begun) (ended_in j lane begun x before) xs act
-
 pub tags_more : (acts : List VolumeAct) (act : VolumeAct) → tags_of (acts ++ act ∷ []) ≡ tags_of acts ++ add_tag (entry_of act.did) (tag_of act) []
 tags_more [] act = refl
 tags_more (x ∷ xs) act = ap (λ (l : List Tag). add_tag (entry_of x.did) (tag_of x) l) (tags_more xs act) ∙ added (entry_of x.did)
@@ -90,6 +68,76 @@ tags_more (x ∷ xs) act = ap (λ (l : List Tag). add_tag (entry_of x.did) (tag_
 pub each_more : {A : Type 0} (P : A → Type 0) (xs : List A) (x : A) → Each P xs → P x → Each P (xs ++ x ∷ [])
 each_more P [] x each here = (here, tt)
 each_more P (y ∷ ys) x each here = (each.0, each_more P ys x each.1 here)
+
+-- TIGHT COMPACTIONS
+
+-- one that was tight is so still, unless the volume is frozen then
+abbrev pub TightStays : {D P : Type 0} → (D → Files) → Guarded D P → Guarded D P → Type 0
+TightStays files old new = (new.logical).frozen ≡ None → (j : ℕ) → IsTightAt files old.logical j → IsTightAt files new.logical j
+
+-- what was known is known still, and a compaction that was tight is so still
+abbrev pub Keeps : {D P : Type 0} → Type 0 → (D → Files) → Type 0 → Guarded D P → Guarded D P → Type 0
+Keeps Tells files PieceTells old new = Tells → (k : VolumeKnown) → Stands files PieceTells old.logical k
+    → Stands files PieceTells new.logical k
+    × ((new.logical).frozen ≡ None → (j : ℕ) (run : Run) → (replica_at k j).run ≡ Some run → IsTightAt files old.logical j → IsTightAt files new.logical j)
+
+module _ {D P : Type 0} (files : D → Files) (old new : Guarded D P) where
+  -- where of replica j alone anything changed
+  pub tight_rest : (j : ℕ) → length (new.logical).replicas ≡ length (old.logical).replicas
+      → ((new.logical).frozen ≡ None → (i : ℕ) → (i ≡ j → ⊥) → (r r' : Copy D) → At (old.logical).replicas i r → At (new.logical).replicas i r' → r' ≡ r)
+      → (new.logical).frozen ≡ None → (i : ℕ) → (i ≡ j → ⊥) → IsTightAt files old.logical i → IsTightAt files new.logical i
+  tight_rest j count others thawed i other =
+      tight_each files (old.logical).replicas (new.logical).replicas count i (λ r r' e f t. subst (λ (c : Copy D). RunsTight files c) (sym (others thawed i other r r' e f)) t)
+
+-- a compaction that ended does not stand
+pub ended_there : {D P : Type 0} (files : D → Files) (Tells : Type 0) (volume : Volume D P) (k : VolumeKnown) → Stands files Tells volume k → (j : ℕ) → j < (volume.settings).replicas
+    → (change : ReplicaKnown → ReplicaKnown) → ((r : ReplicaKnown) → (change r).run ≡ None) → (replica_at (change_at k j change) j).run ≡ None
+unfolding Stands
+ended_there files Tells volume k stands j within change ends =
+    ap (λ (r : ReplicaKnown). r.run) (changed_here k j change (let many = stands.many in (let h : j < length k.replicas = omega (arith, many, within) in h))) ∙ ends (replica_at k j)
+
+-- an act that enters nothing leaves the compactions tight that stand behind it, if they were so, or it begins them
+abbrev pub TightBehind : {D P : Type 0} → (D → Files) → CoreTag → Made → Guarded D P → Guarded D P → Standing → Type 0
+TightBehind files tag made old new before =
+    (new.logical).frozen ≡ None → entry_of (did_by made) ≡ None → (j : ℕ) (run : Run) → (replica_at (known_by tag (did_by made) before.volume) j).run ≡ Some run
+    → (did_of (did_by made) ≡ Begins j) ⊎ IsTightAt files old.logical j → IsTightAt files new.logical j
+
+module _ {D P : Type 0} (files : D → Files) (tag : CoreTag) (made : Made) (old new : Guarded D P) (before : Standing) where
+  abbrev BeginsNone : Type 0
+  BeginsNone = (i : ℕ) → did_of (did_by made) ≡ Begins i → ⊥
+
+  pub tight_still : BeginsNone → TightStays files old new → TightBehind files tag made old new before
+  tight_still none stays thawed quiet j run stands was = elim was [
+    | inl begins ↦ absurd (none j begins)
+    | inr tight ↦ stays thawed j tight
+  ]
+
+  pub tight_frozen : (m : ℕ) → (new.logical).frozen ≡ Some m → TightBehind files tag made old new before
+  tight_frozen m is thawed quiet j run stands was = absurd (none-some m (sym thawed ∙ is))
+
+  pub tight_entered : (change : Entry) → entry_of (did_by made) ≡ Some change → TightBehind files tag made old new before
+  tight_entered change is thawed quiet j run stands was = absurd (none-some change (sym quiet ∙ is))
+
+  -- of replica j alone anything changed
+  module _ (j : ℕ) (count : length (new.logical).replicas ≡ length (old.logical).replicas)
+      (others : (new.logical).frozen ≡ None → (i : ℕ) → (i ≡ j → ⊥) → (r r' : Copy D) → At (old.logical).replicas i r → At (new.logical).replicas i r' → r' ≡ r) where
+    -- whose compaction ended
+    pub tight_ended : BeginsNone → (replica_at (known_by tag (did_by made) before.volume) j).run ≡ None → TightBehind files tag made old new before
+    tight_ended none ended thawed quiet i run stands was = elim was [
+      | inl begins ↦ absurd (none i begins)
+      | inr tight ↦ dite (ℕ_discrete i j)
+          (λ same. absurd (none-some run (sym ended ∙ subst (λ (n : ℕ). (replica_at (known_by tag (did_by made) before.volume) n).run ≡ Some run) same stands)))
+          (λ other. tight_rest files old new j count others thawed i other tight)
+    ]
+
+    -- or began, and is tight
+    pub tight_begun : did_of (did_by made) ≡ Begins j → IsTightAt files new.logical j → TightBehind files tag made old new before
+    tight_begun begins tight thawed quiet i run stands was = dite (ℕ_discrete i j)
+        (λ same. subst (λ (n : ℕ). IsTightAt files new.logical n) (sym same) tight)
+        (λ other. elim was [
+          | inl other_begins ↦ absurd (other (let both : Begins j ≡ Begins i = sym begins ∙ other_begins in cc both))
+          | inr tight_then ↦ tight_rest files old new j count others thawed i other tight_then
+        ])
 
 -- The volume changed and nothing else, and no count of faults fell. Unless it is frozen it was not before, and its rows stay.
 pub record IsOfOne {D P : Type 0} (faults : D → ℕ) (old new : Guarded D P) : Type 0 where
@@ -154,6 +202,13 @@ module _ {D P : Type 0} (Tells : Type 0) (files : D → Files) (PieceTells : Typ
   abbrev stood : VolumeKnown → Standing
   stood k = stood_of faults fuses opened k acts
 
+  -- no count of a disk falls
+  none_falls : IsOfOne faults old new → (j : ℕ) → count_at faults (old.logical).replicas j ≤ count_at faults (new.logical).replicas j
+  none_falls of j = count_each faults (old.logical).replicas (new.logical).replicas of.count (λ a b. a ≤ b) (omega arith) of.rises j
+
+  rises_more : Kept acts old → IsOfOne faults old new → (j : ℕ) → count_at faults (opened.volume).replicas j ≤ count_at faults (new.logical).replicas j
+  rises_more h of j = let before = h.rises j in let more = none_falls of j in omega (arith, before, more)
+
   -- the rows stay those that are published
   rows_still : (h : Kept acts old) → IsOfOne faults old new → (new.logical).frozen ≡ None → (pair : Pair)
       → published_row opened.volume (h.from).rows ((new.front).shown).deeds pair ≡ row_at (new.logical).rows pair
@@ -175,27 +230,27 @@ module _ {D P : Type 0} (Tells : Type 0) (files : D → Files) (PieceTells : Typ
     none_fall : (h : Kept acts old) (of : IsOfOne faults old new) (k : VolumeKnown) → NoneFall (stood k).faults (left_by this_act (stood k)).faults
     none_fall h of k j =
         subst (λ (n : ℕ). n ≤ (left_by this_act (stood k)).faults j) (sym (h.fault_counts k j))
-        (subst (λ (n : ℕ). count_at faults (old.logical).replicas j ≤ n) (sym (faults_then h of k j))
-        (count_each faults (old.logical).replicas (new.logical).replicas of.count (λ a b. a ≤ b) (omega arith) of.rises j))
+        (subst (λ (n : ℕ). count_at faults (old.logical).replicas j ≤ n) (sym (faults_then h of k j)) (none_falls of j))
 
     pub kept_more : Kept acts old → IsOfOne faults old new → entry_of (did_by made) ≡ None → LeadsFusesOf fuses old new (did_of (did_by made))
         → (Tells → (k : VolumeKnown) → Stands files PieceTells opened.volume k → Leads (opened.volume).settings (opened.volume).number tag (did_of (did_by made)) (stood k) (left_by this_act (stood k)))
         → (Tells → (k : VolumeKnown) → Stands files PieceTells opened.volume k → Stands files PieceTells new.logical (known_by tag (did_by made) (stood k).volume))
+        → (Tells → (k : VolumeKnown) → Stands files PieceTells opened.volume k → TightBehind files tag made old new (stood k))
         → ((j : ℕ) → j < ((opened.volume).settings).replicas → slice_index_or new.begun j nobody ≡ begun_in j tag (did_of (did_by made)) (slice_index_or old.begun j nobody))
         → EndsRuns Tells files PieceTells old new this_act
         → Kept (acts ++ this_act ∷ []) new
-    kept_more h of quiet fuses_lead leads stands begun ends = record {
+    kept_more h of quiet fuses_lead leads stands tight begun ends = record {
       from = h.from;
       settings = of.settings ∙ h.settings;
       same_settings = (of.same).settings ∙ h.same_settings;
       number = (of.same).number ∙ h.number;
       is_open = of.is_open;
       stands = λ tells k s. subst (λ (z : Standing). Stands files PieceTells new.logical z.volume) (sym (left_append volume_lock (standing_of faults fuses opened k) acts (this_act ∷ []))) (stands tells k s);
-      follows = λ tells k s. follows_more (opened.volume).settings (opened.volume).number (standing_of faults fuses opened k) acts this_act (h.follows tells k s)
-          (record { leads = leads tells k s; faults = none_fall h of k; fuses = fuses_lead (stood k).fuses (left_by this_act (stood k)).fuses (h.fuse_counts k) (fuses_then h of k) });
+      follows = follows_now;
       sized = each_more (IsSized ((opened.volume).settings).replicas) acts this_act h.sized (record { faults = sized_by faults; fuses = sized_by fuses });
       fault_counts = λ k j. ap (λ (z : Standing). z.faults j) (left_append volume_lock (standing_of faults fuses opened k) acts (this_act ∷ [])) ∙ faults_then h of k j;
       fuse_counts = λ k j. ap (λ (z : Standing). z.fuses j) (left_append volume_lock (standing_of faults fuses opened k) acts (this_act ∷ [])) ∙ fuses_then h of k j;
+      rises = rises_more h of;
       front = ap (λ f. (f.shown).front) of.front ∙ h.front;
       base = ap (λ f. (f.shown).base) of.front ∙ h.base;
       entered = ap (λ f. entered_by (f.shown).deeds) of.front ∙ h.entered
@@ -216,28 +271,34 @@ module _ {D P : Type 0} (Tells : Type 0) (files : D → Files) (PieceTells : Typ
           (λ j less own. ends.owned j (subst (λ (s : Settings). j < s.replicas) (sym h.settings) less) own ∙ ap (λ (t : CoreTag). t.lane) (h.begun j less));
       cuts = λ tells k s. doings_more (λ doing. (j : ℕ) → ends_at j (doing.act).did ≡ true → (run : Run) × HasRun (stood_of faults fuses opened k doing.held) j run)
           acts this_act (h.cuts tells k s) (ends.cuts tells (stood k) (h.stands tells k s));
+      tight = λ tells thawed k s j. since_more (opened.volume).settings (opened.volume).number (standing_of faults fuses opened k) j acts this_act (follows_now tells k s)
+          (IsTightAt files old.logical j) (IsTightAt files new.logical j) (h.tight tells (of.thawed thawed) k s j) (λ enters run stands_then. tight tells k s thawed enters j run stands_then);
     }
       where
+        follows_now : Tells → (k : VolumeKnown) → Stands files PieceTells opened.volume k
+            → Follows (opened.volume).settings (opened.volume).number (standing_of faults fuses opened k) (replayed volume_lock (standing_of faults fuses opened k) (acts ++ this_act ∷ []))
+        follows_now tells k s = follows_more (opened.volume).settings (opened.volume).number (standing_of faults fuses opened k) acts this_act (h.follows tells k s)
+            (record { leads = leads tells k s; faults = none_fall h of k; fuses = fuses_lead (stood k).fuses (left_by this_act (stood k)).fuses (h.fuse_counts k) (fuses_then h of k) })
+
         sized_by : (count : D → ℕ) → length (counts count (new.logical).replicas) ≡ ((opened.volume).settings).replicas
         sized_by count = length-map (new.logical).replicas (λ (r : Copy D). count r.disk) ∙ (of.is_open).all ∙ ap (λ (s : Settings). s.replicas) ((of.same).settings ∙ h.same_settings)
 
   -- NO ACT, where no call of a disk has failed
 
   pub kept_same : Kept acts old → IsOfOne faults old new → counts faults (old.logical).replicas ≡ counts faults (new.logical).replicas
-      → FusesStay fuses old new
-      → (Tells → (k : VolumeKnown) → Stands files PieceTells old.logical k → Stands files PieceTells new.logical k)
-      → new.begun ≡ old.begun → new.ended ≡ old.ended → Kept acts new
-  kept_same h of even stay stands begun ended = record {
+      → FusesStay fuses old new → Keeps Tells files PieceTells old new → new.begun ≡ old.begun → new.ended ≡ old.ended → Kept acts new
+  kept_same h of even stay keeps begun ended = record {
     from = h.from;
     settings = of.settings ∙ h.settings;
     same_settings = (of.same).settings ∙ h.same_settings;
     number = (of.same).number ∙ h.number;
     is_open = of.is_open;
-    stands = λ tells k s. stands tells (stood k).volume (h.stands tells k s);
+    stands = λ tells k s. (keeps tells (stood k).volume (h.stands tells k s)).0;
     follows = h.follows;
     sized = h.sized;
     fault_counts = λ k j. h.fault_counts k j ∙ ap (λ (l : List ℕ). slice_index_or l j 0) even;
     fuse_counts = λ k j. h.fuse_counts k j ∙ sym (count_each fuses (old.logical).replicas (new.logical).replicas of.count (λ a b. b ≡ a) refl stay j);
+    rises = rises_more h of;
     front = ap (λ f. (f.shown).front) of.front ∙ h.front;
     base = ap (λ f. (f.shown).base) of.front ∙ h.base;
     entered = ap (λ f. entered_by (f.shown).deeds) of.front ∙ h.entered;
@@ -249,6 +310,8 @@ module _ {D P : Type 0} (Tells : Type 0) (files : D → Files) (PieceTells : Typ
     ended = λ j lane less few. ap (λ (l : List (List (Option ℕ))). ended_at l j lane) ended ∙ h.ended j lane less few;
     owned = h.owned;
     cuts = h.cuts;
+    tight = λ tells thawed k s j begins within is same run stands_then.
+        (keeps tells (stood k).volume (h.stands tells k s)).1 thawed j run stands_then (h.tight tells (of.thawed thawed) k s j begins within is same run stands_then);
   }
 
 -- WHAT A HOLDING LEAVES
@@ -261,6 +324,18 @@ module _ {D P : Type 0} (Tells : Type 0) (files : D → Files) (PieceTells : Typ
   pub record LeadsTo (made : Made) (before : Standing) : Type 0 where
     pub leads : Leads (old.logical).settings (old.logical).number tag (did_of (did_by made)) before (left_by (act_of faults fuses tag made (new.logical).replicas) before)
     pub stands : Stands files PieceTells new.logical (known_by tag (did_by made) before.volume)
+    pub tight : TightBehind files tag made old new before
+
+  -- nothing was changed
+  pub tries_leads : Keeps Tells files PieceTells old new → Tells → (before : Standing) → Stands files PieceTells old.logical before.volume → LeadsTo made_is.Tries before
+  tries_leads keeps tells before s = let kept = keeps tells before.volume s in record {
+    leads = refl;
+    stands = kept.0;
+    tight = λ thawed enters j run has was. elim was [
+      | inl begins ↦ absurd (cc begins)
+      | inr tight ↦ kept.1 thawed j run has tight
+    ];
+  }
 
   pub no_fuse : IsOfOne faults old new → FusesStay fuses old new → (before after : ℕ → ℕ) → ((j : ℕ) → before j ≡ count_at fuses (old.logical).replicas j)
       → ((j : ℕ) → after j ≡ count_at fuses (new.logical).replicas j) → (j : ℕ) → after j ≡ before j
@@ -277,6 +352,7 @@ module _ {D P : Type 0} (Tells : Type 0) (files : D → Files) (PieceTells : Typ
         (subst (λ (z : ℕ). Leads (old.logical).settings z tag (did_of (did_by made)) (stood_of faults fuses opened k held) (left_by this (stood_of faults fuses opened k held))) h.number
         (leads tells (stood_of faults fuses opened k held) (h.stands tells k s)).leads))
         (λ tells k s. (leads tells (stood_of faults fuses opened k held) (h.stands tells k s)).stands)
+        (λ tells k s. (leads tells (stood_of faults fuses opened k held) (h.stands tells k s)).tight)
         (λ j less. begun j (subst (λ (z : Settings). j < z.replicas) (sym h.settings) less)) ends;
     tags = (refl, tt);
     seats = (refl, tt);
@@ -288,10 +364,10 @@ module _ {D P : Type 0} (Tells : Type 0) (files : D → Files) (PieceTells : Typ
       this = act_of faults fuses tag made (new.logical).replicas
 
   pub goes_none : IsOfOne faults old new → FusesStay fuses old new → counts faults (old.logical).replicas ≡ counts faults (new.logical).replicas
-      → (Tells → (k : VolumeKnown) → Stands files PieceTells old.logical k → Stands files PieceTells new.logical k) → new.begun ≡ old.begun → new.ended ≡ old.ended → Goes None
-  goes_none of stay even stands begun ended = record {
+      → Keeps Tells files PieceTells old new → new.begun ≡ old.begun → new.ended ≡ old.ended → Goes None
+  goes_none of stay even keeps begun ended = record {
     kept = λ opened held h. subst (λ (l : List VolumeAct). IsKept Tells files PieceTells faults fuses opened l new) (sym (append-nil held))
-        (kept_same Tells files PieceTells faults fuses opened held old new h of even stay stands begun ended);
+        (kept_same Tells files PieceTells faults fuses opened held old new h of even stay keeps begun ended);
     tags = tt;
     seats = tt;
     quiet = refl;
@@ -299,13 +375,12 @@ module _ {D P : Type 0} (Tells : Type 0) (files : D → Files) (PieceTells : Typ
   }
 
   -- where nothing was changed: an act tells of it where a call of a disk has failed
-  pub goes_tried : IsOfOne faults old new → FusesStay fuses old new
-      → (Tells → (k : VolumeKnown) → Stands files PieceTells old.logical k → Stands files PieceTells new.logical k) → new.begun ≡ old.begun → new.ended ≡ old.ended
+  pub goes_tried : IsOfOne faults old new → FusesStay fuses old new → Keeps Tells files PieceTells old new → new.begun ≡ old.begun → new.ended ≡ old.ended
       → (made : Option VolumeAct) → (IsNone made ↔ (counts faults (old.logical).replicas ≡ counts faults (new.logical).replicas))
       → IfSome made (λ act. act ≡ act_of faults fuses tag made_is.Tries (new.logical).replicas) → Goes made
-  goes_tried of stay stands begun ended None even act = goes_none of stay (even.0 refl) stands begun ended
-  goes_tried of stay stands begun ended (Some made) even act = goes_more made_is.Tries of (no_fuse of stay) refl
-      (λ tells before s. record { leads = refl; stands = stands tells before.volume s }) (λ j less. ap (λ (l : List CoreTag). slice_index_or l j nobody) begun)
+  goes_tried of stay keeps begun ended None even act = goes_none of stay (even.0 refl) keeps begun ended
+  goes_tried of stay keeps begun ended (Some made) even act = goes_more made_is.Tries of (no_fuse of stay) refl
+      (tries_leads keeps) (λ j less. ap (λ (l : List CoreTag). slice_index_or l j nobody) begun)
       (ends_none Tells files PieceTells old new (act_of faults fuses tag made_is.Tries (new.logical).replicas) (λ j. refl) (λ j own. own) ended) made act
 
 -- a holding that made no act and changed nothing

@@ -85,7 +85,7 @@ module _ {D P : Type 0} (Tells : Type 0) (files : D → Files) (PieceTells : Typ
 
 -- WHERE IT BEGINS
 
-abbrev View : Type 0 → Type 0 → Type 0
+abbrev pub View : Type 0 → Type 0 → Type 0
 View D P = Witness (MapPast P (Volume D P)) (Volume D P) (Published P)
 
 -- a lane's seats at the turn and at the view

@@ -1,5 +1,6 @@
 pub mod Counting
 pub mod Deleting
+pub mod Doings
 pub mod Ending
 pub mod Erasing
 pub mod Examining
@@ -10,7 +11,9 @@ pub mod Holding
 pub mod Losing
 pub mod Lost
 pub mod Moving
+pub mod Refusing
 pub mod Opening
+pub mod Owning
 pub mod Published
 pub mod Publishing
 pub mod Putting

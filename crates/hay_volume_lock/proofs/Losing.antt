@@ -36,7 +36,7 @@ use Rattle.hay_meeting.proofs.RunsEnd.{run_ended}
 use Rattle.hay_holdings.specs.Volumes.{EndedAt, HasRunOf, RoseTo}
 use Rattle.hay_holdings.proofs.Ending.{all_or_before}
 use Rattle.hay_volume_lock.specs.Keeping.{EndsOwn, ended_of, ends_at}
-use Rattle.hay_volume_lock.proofs.Growing.{begun_more, ended_more}
+use Rattle.hay_volume_lock.proofs.Doings.{begun_more, ended_more}
 
 -- ONE ACT
 

@@ -22,9 +22,9 @@ use Rattle.hay_meeting.proofs.Standings.{follows_behind}
 use Rattle.hay_turn.specs.Acts.{acts_of}
 use Rattle.hay_turn.proofs.ActLists.{acts_of_append}
 use Rattle.hay_holdings.specs.Holdings.{Holding}
-use Rattle.hay_holdings.specs.Volumes.{HasRunOf, RunDeleted, RunFrozen}
+use Rattle.hay_holdings.specs.Volumes.{HasRunOf, RunDeleted, RunFrozen, VolumeCall}
 use Rattle.hay_volume_lock.specs.Answers.{Found, IsAt, Never, StoreVolume}
-use Rattle.hay_volume_lock.specs.Compactions.{IsOwnSight, OfOwn}
+use Rattle.hay_volume_lock.specs.Compactions.{OfOwn}
 use Rattle.hay_volume_lock.specs.Ended.{ended_at}
 use Rattle.hay_volume_lock.specs.Keeping.{IsKept, ended_of, standing_of, stood_of}
 use Rattle.hay_volume_lock.specs.declared.guarded.Guarded.{Guarded}
@@ -56,6 +56,14 @@ among n first act rest none own =
     let some : acts_of (λ act. act.seat) n (act ∷ rest) ≡ act ∷ acts_of (λ act. act.seat) n rest =
     ap (λ (b : Bool). if b then act ∷ acts_of (λ act. act.seat) n rest else acts_of (λ act. act.seat) n rest) (eq-eqb act.seat n own) in
     (let wrong : act ∷ acts_of (λ act. act.seat) n rest ≡ [] = sym some ∙ left in cc wrong)
+
+-- the acts of the line's lane that were seen are its own
+abbrev pub IsOwnSight : CoreTag → LockSight VolumeAct Entry → Type 0
+IsOwnSight tag a = acts_of volume_lock.seat tag.lane a.seen ≡ a.own
+
+-- so it is where both sights are such
+abbrev pub OwnSights : CoreTag → VolumeCall → VolumeCall
+OwnSights tag Is a b = IsOwnSight tag a → IsOwnSight tag b → Is a b
 
 module _ {D P : Type 0} (Tells : Type 0) (files : D → Files) (PieceTells : Type 0) (faults fuses : D → ℕ) (tag : CoreTag) (old : Guarded D P) (j : ℕ) (within : j < ((old.logical).settings).replicas) where
   abbrev owner : CoreTag
@@ -139,7 +147,7 @@ module _ {D P : Type 0} (Tells : Type 0) (files : D → Files) (PieceTells : Typ
             (stands_or_gone opened k volume at tells s a.seen more (subst (Kept opened) (sym (holding.from).1) h) none_since held_within has)
 
   pub frozen_lost : (m : ℕ) → (Tells → (k : VolumeKnown) → Stood k → (k.frozen ≡ Some m) × IsAway k)
-      → Found Tells files PieceTells faults fuses tag old None (λ volume. OfOwn volume tag j (RunFrozen volume.settings volume.start volume.number tag j tag m))
+      → Found Tells files PieceTells faults fuses tag old None (λ volume. OwnSights tag (OfOwn volume tag j (RunFrozen volume.settings volume.start volume.number tag j tag m)))
   frozen_lost m known opened held h tells k s volume at a b holding own_then own_now has =
       let is = known tells (stood_of faults fuses opened k held).volume (h.stands tells k s) in
       let gone = gone_now opened held h tells k s volume at a b holding own_then own_now is.1 has in
@@ -156,7 +164,7 @@ module _ {D P : Type 0} (Tells : Type 0) (files : D → Files) (PieceTells : Typ
     slot_is opened held h = sym slot ∙ h.ended j tag.lane (subst (λ (z : Settings). j < z.replicas) h.same_settings within) few
 
     pub deleted_lost : (f : ℕ) → kept ≡ Some f
-        → Found Tells files PieceTells faults fuses tag old None (λ volume. OfOwn volume tag j (RunDeleted volume.settings volume.start volume.number tag j tag f))
+        → Found Tells files PieceTells faults fuses tag old None (λ volume. OwnSights tag (OfOwn volume tag j (RunDeleted volume.settings volume.start volume.number tag j tag f)))
     deleted_lost f is opened held h tells k s volume at a b holding own_then own_now has =
         let now = known tells (stood_of faults fuses opened k held).volume (h.stands tells k s) in
         let gone = gone_now opened held h tells k s volume at a b holding own_then own_now now.1 has in
@@ -170,7 +178,7 @@ module _ {D P : Type 0} (Tells : Type 0) (files : D → Files) (PieceTells : Typ
           is = (refl, thawed, (gone.ended, by.thawed, ((by.rose).0, (by.rose).1, same ∙ (by.rose).2)));
         }
 
-    pub never_lost : kept ≡ None → Found Tells files PieceTells faults fuses tag old None (λ volume. OfOwn volume tag j Never)
+    pub never_lost : kept ≡ None → Found Tells files PieceTells faults fuses tag old None (λ volume. OwnSights tag (OfOwn volume tag j Never))
     never_lost none opened held h tells k s volume at a b holding own_then own_now has =
         let now = known tells (stood_of faults fuses opened k held).volume (h.stands tells k s) in
         let gone = gone_now opened held h tells k s volume at a b holding own_then own_now now.1 has in

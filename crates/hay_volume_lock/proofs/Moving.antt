@@ -141,18 +141,20 @@ module _ {D P : Type 0} (Tells : Type 0) (files : D → Files) (PieceTells : Typ
     }
 
     -- they were published
-    pub swap_shown : (item : LogEntry (Published P)) → new.front ≡ record { shown = with_deed (old.front).shown deed; log = logged (is_entry deed.change) (old.front).log item; closed = false }
+    pub swap_shown : (mid.frozen ≡ (old.logical).frozen → (i : ℕ) → (i ≡ j → ⊥) → (r r' : Copy D) → At (old.logical).replicas i r → At mid.replicas i r' → r' ≡ r)
+        → (item : LogEntry (Published P)) → new.front ≡ record { shown = with_deed (old.front).shown deed; log = logged (is_entry deed.change) (old.front).log item; closed = false }
         → new.logical ≡ mid → (act : VolumeAct) → act ≡ act_of faults fuses tag (made_is.Swaps j end count None) (new.logical).replicas → Leaves (Some act)
-    swap_shown item front is_mid act is =
+    swap_shown others item front is_mid act is =
         let shown_is : (new.front).shown ≡ with_deed (old.front).shown deed = ap (λ f. f.shown) front in
-        changes_acted Tells files PieceTells faults fuses tag old new (made_is.Swaps j end count None) both
+        changes_acted Tells files PieceTells faults fuses tag old new (made_is.Swaps j end count None) both (λ still. thawed)
         (shows_deed tag old new deed None entered_is shown_is
         (ap (λ f. map (λ e. e.tag) f.log) front ∙ ap (λ (b : Bool). map (λ e. e.tag) (logged b (old.front).log item)) (ap is_entry change_is) ∙ sym (append-nil (map (λ e. e.tag) (old.front).log))))
         (λ opened same_as. serves_deed tag old new deed opened (ap (λ f. f.closed) front) shown_is (λ still. thawed)
         (subst (λ (change : MapOp P). FitsRows ((opened.volume).settings).replicas change) (sym change_is) (subst (λ (z : Settings). j < z.replicas) same_as within))
         (λ pair. ap (λ (v : Volume D P). row_at v.rows pair) is_mid ∙ rows.rows pair ∙ ap (λ (change : MapOp P). changed_row change pair (row_at (old.logical).rows pair)) (sym change_is)))
         (fuses_stay Tells files PieceTells faults fuses tag old new both.count stay)
-        (λ tells before s. swap_leads Tells files PieceTells faults fuses tag old j g end count within new before
+        (λ tells before s. swap_leads Tells files PieceTells faults fuses tag old j g end count within new before s both.count
+        (λ still i other r r' e f. others (sym (ap (λ (v : Volume D P). v.frozen) is_mid) ∙ still ∙ sym thawed) i other r r' e (subst (λ (v : Volume D P). At v.replicas i r') is_mid f))
         (subst (λ (v : Volume D P). IsSwap files PieceTells before.volume j g end count v) (sym is_mid) (swap tells before.volume s)))
         with_begun (ends None) act is
       where
@@ -175,7 +177,7 @@ module _ {D P : Type 0} (Tells : Type 0) (files : D → Files) (PieceTells : Typ
       swap_unshown shown log act is =
           let m : ℕ = first_machine (old.logical).settings (old.logical).number in
           let both = both_again Tells files PieceTells faults fuses tag old new mid settings same is_open counts again new_open more in
-          changes_acted Tells files PieceTells faults fuses tag old new (made_is.Swaps j end count (Some m)) both.0
+          changes_acted Tells files PieceTells faults fuses tag old new (made_is.Swaps j end count (Some m)) both.0 (λ still. thawed)
           (shows_nothing tag old new shown log)
           (λ opened same_as. serves_frozen tag old new opened m (frozen ∙ ap Some first_same))
           (fuses_stay Tells files PieceTells faults fuses tag old new (both.0).count both.1)

@@ -130,6 +130,7 @@ module _ {D P : Type 0} (Tells : Type 0) (files : D → Files) (PieceTells : Typ
         sized = tt;
         fault_counts = λ k j. refl;
         fuse_counts = λ k j. refl;
+        rises = λ j. omega arith;
         front = refl;
         base = refl;
         entered = ap entered_by shows.blank;
@@ -141,6 +142,7 @@ module _ {D P : Type 0} (Tells : Type 0) (files : D → Files) (PieceTells : Typ
         ended = λ j lane less few. ended j lane;
         owned = λ doing begins. absurd (none_past doing begins);
         cuts = λ tells k s doing begins. absurd (none_past doing begins);
+        tight = λ tells thawed k s j doing begins. absurd (none_past doing begins);
       },
     )
 

@@ -11,18 +11,18 @@ use Rattle.hay_front.specs.Entries.{LogEntry}
 use Rattle.hay_front.specs.Fronts.{IsBehind, Witness, with_deed}
 use Rattle.hay_legal.specs.declared.known.Run.{Run}
 use Rattle.hay_legal.specs.declared.known.VolumeKnown.{VolumeKnown}
-use Rattle.hay_history.specs.Steps.{HasRun, Leads, NoneFall, Standing}
+use Rattle.hay_history.specs.Steps.{Follows, HasRun, Leads, NoneFall, Standing}
 use Rattle.hay_history.specs.Histories.{begun_in}
 use Rattle.hay_holdings.specs.Holdings.{Holding}
 use Rattle.hay_holdings.specs.Volumes.{VolumeCall}
 use Rattle.hay_logical.specs.Fits.{At}
-use Rattle.hay_logical.specs.Stands.{Stands}
+use Rattle.hay_logical.specs.Stands.{IsTightAt, Stands}
 use Rattle.hay_logical.specs.Volumes.{IsOpenVolume, IsSame, Volume}
 use Rattle.hay_map.specs.Rows.{FitsRows, changed_row, row_at}
 use Rattle.hay_map.specs.declared.place.Place.{Place}
 use Rattle.hay_meeting.specs.declared.act.VolumeAct.{VolumeAct}
 use Rattle.hay_meeting.specs.Acts.{IsSized, begun_of, did_of, entry_of, known_by, left_by, nobody, volume_lock}
-use Rattle.hay_meeting.specs.Locks.{add_shown}
+use Rattle.hay_meeting.specs.Locks.{add_shown, replayed}
 use Rattle.hay_meeting.proofs.Replays.{entries_append, left_append}
 use Rattle.hay_needle.specs.declared.needle.Pair.{Pair}
 use Rattle.hay_needle.specs.declared.settings.Settings.{Settings}
@@ -43,7 +43,9 @@ use Rattle.hay_volume_lock.specs.declared.act.Made.TheVariants as made_is
 use Rattle.hay_volume_lock.specs.declared.guarded.Guarded.{Guarded}
 use Rattle.hay_volume_lock.specs.declared.guarded.Opened.{Opened}
 use Rattle.hay_volume_lock.proofs.Counting.{count_behind, count_each}
-use Rattle.hay_volume_lock.proofs.Growing.{EndsRuns, FusesStay, LeadsFusesOf, LeadsTo, begun_more, doings_more, each_more, ended_more, ends_none, follows_more, tags_more}
+use Rattle.hay_volume_lock.proofs.Doings.{begun_more, doings_more, ended_more}
+use Rattle.hay_volume_lock.proofs.Tightening.{since_more}
+use Rattle.hay_volume_lock.proofs.Growing.{EndsRuns, FusesStay, Keeps, LeadsFusesOf, LeadsTo, TightBehind, each_more, ends_none, follows_more, tags_more, tries_leads}
 use Rattle.hay_volume_lock.proofs.Holding.{all_mine, seat_of, seated_behind, took}
 use Rattle.hay_volume_lock.proofs.Published.{entered_more, row_more}
 
@@ -68,6 +70,10 @@ pub record IsOfBoth {D P : Type 0} (faults : D → ℕ) (old new : Guarded D P) 
   pub count : length (new.logical).replicas ≡ length (old.logical).replicas
   pub rises : (j : ℕ) (r r' : Copy D) → At (old.logical).replicas j r → At (new.logical).replicas j r' → faults r.disk ≤ faults r'.disk
 
+-- unless it is frozen, it was not before
+abbrev pub Thaws : {D P : Type 0} → Guarded D P → Guarded D P → Type 0
+Thaws old new = (new.logical).frozen ≡ None → (old.logical).frozen ≡ None
+
 -- the front shows more: what was entered for the line, if anything was
 pub record Shows {D P : Type 0} (tag : CoreTag) (entered : Option Entry) (old new : Guarded D P) : Type 0 where
   pub front : ((new.front).shown).front ≡ ((old.front).shown).front
@@ -88,6 +94,13 @@ module _ {D P : Type 0} (Tells : Type 0) (files : D → Files) (PieceTells : Typ
   abbrev stood : VolumeKnown → Standing
   stood k = stood_of faults fuses opened k acts
 
+  -- no count of a disk falls
+  none_falls : IsOfBoth faults old new → (j : ℕ) → count_at faults (old.logical).replicas j ≤ count_at faults (new.logical).replicas j
+  none_falls of j = count_each faults (old.logical).replicas (new.logical).replicas of.count (λ a b. a ≤ b) (omega arith) of.rises j
+
+  rises_more : Kept acts old → IsOfBoth faults old new → (j : ℕ) → count_at faults (opened.volume).replicas j ≤ count_at faults (new.logical).replicas j
+  rises_more h of j = let before = h.rises j in let more = none_falls of j in omega (arith, before, more)
+
   -- AN ACT
 
   module _ (tag : CoreTag) (made : Made) where
@@ -103,27 +116,27 @@ module _ {D P : Type 0} (Tells : Type 0) (files : D → Files) (PieceTells : Typ
     none_fall : (h : Kept acts old) (of : IsOfBoth faults old new) (k : VolumeKnown) → NoneFall (stood k).faults (left_by this_act (stood k)).faults
     none_fall h of k j =
         subst (λ (n : ℕ). n ≤ (left_by this_act (stood k)).faults j) (sym (h.fault_counts k j))
-        (subst (λ (n : ℕ). count_at faults (old.logical).replicas j ≤ n) (sym (faults_then h of k j))
-        (count_each faults (old.logical).replicas (new.logical).replicas of.count (λ a b. a ≤ b) (omega arith) of.rises j))
+        (subst (λ (n : ℕ). count_at faults (old.logical).replicas j ≤ n) (sym (faults_then h of k j)) (none_falls of j))
 
-    pub kept_acted : Kept acts old → IsOfBoth faults old new → Shows tag (entry_of (did_by made)) old new → Serves opened old new → LeadsFusesOf fuses old new (did_of (did_by made))
+    pub kept_acted : Kept acts old → IsOfBoth faults old new → Thaws old new → Shows tag (entry_of (did_by made)) old new → Serves opened old new → LeadsFusesOf fuses old new (did_of (did_by made))
         → (Tells → (k : VolumeKnown) → Stands files PieceTells opened.volume k → Leads (opened.volume).settings (opened.volume).number tag (did_of (did_by made)) (stood k) (left_by this_act (stood k)))
         → (Tells → (k : VolumeKnown) → Stands files PieceTells opened.volume k → Stands files PieceTells new.logical (known_by tag (did_by made) (stood k).volume))
+        → (Tells → (k : VolumeKnown) → Stands files PieceTells opened.volume k → TightBehind files tag made old new (stood k))
         → ((j : ℕ) → j < ((opened.volume).settings).replicas → slice_index_or new.begun j nobody ≡ begun_in j tag (did_of (did_by made)) (slice_index_or old.begun j nobody))
         → EndsRuns Tells files PieceTells old new this_act
         → Kept (acts ++ this_act ∷ []) new
-    kept_acted h of shows serves fuses_lead leads stands begun ends = record {
+    kept_acted h of thaws shows serves fuses_lead leads stands tight begun ends = record {
       from = h.from;
       settings = of.settings ∙ h.settings;
       same_settings = (of.same).settings ∙ h.same_settings;
       number = (of.same).number ∙ h.number;
       is_open = of.is_open;
       stands = λ tells k s. subst (λ (z : Standing). Stands files PieceTells new.logical z.volume) (sym (left_append volume_lock (standing_of faults fuses opened k) acts (this_act ∷ []))) (stands tells k s);
-      follows = λ tells k s. follows_more (opened.volume).settings (opened.volume).number (standing_of faults fuses opened k) acts this_act (h.follows tells k s)
-          (record { leads = leads tells k s; faults = none_fall h of k; fuses = fuses_lead (stood k).fuses (left_by this_act (stood k)).fuses (h.fuse_counts k) (fuses_then h of k) });
+      follows = follows_now;
       sized = each_more (IsSized ((opened.volume).settings).replicas) acts this_act h.sized (record { faults = sized_by faults; fuses = sized_by fuses });
       fault_counts = λ k j. ap (λ (z : Standing). z.faults j) (left_append volume_lock (standing_of faults fuses opened k) acts (this_act ∷ [])) ∙ faults_then h of k j;
       fuse_counts = λ k j. ap (λ (z : Standing). z.fuses j) (left_append volume_lock (standing_of faults fuses opened k) acts (this_act ∷ [])) ∙ fuses_then h of k j;
+      rises = rises_more h of;
       front = shows.front ∙ h.front;
       base = shows.base ∙ h.base;
       entered = shows.more ∙ ap (λ (l : List Entry). l ++ add_shown (entry_of (did_by made)) []) h.entered ∙ sym (entries_append volume_lock acts (this_act ∷ []));
@@ -142,28 +155,35 @@ module _ {D P : Type 0} (Tells : Type 0) (files : D → Files) (PieceTells : Typ
           (λ j less own. ends.owned j (subst (λ (s : Settings). j < s.replicas) (sym h.settings) less) own ∙ ap (λ (t : CoreTag). t.lane) (h.begun j less));
       cuts = λ tells k s. doings_more (λ doing. (j : ℕ) → ends_at j (doing.act).did ≡ true → (run : Run) × HasRun (stood_of faults fuses opened k doing.held) j run)
           acts this_act (h.cuts tells k s) (ends.cuts tells (stood k) (h.stands tells k s));
+      tight = λ tells thawed k s j. since_more (opened.volume).settings (opened.volume).number (standing_of faults fuses opened k) j acts this_act (follows_now tells k s)
+          (IsTightAt files old.logical j) (IsTightAt files new.logical j) (h.tight tells (thaws thawed) k s j) (λ enters run stands_then. tight tells k s thawed enters j run stands_then);
     }
       where
+        follows_now : Tells → (k : VolumeKnown) → Stands files PieceTells opened.volume k
+            → Follows (opened.volume).settings (opened.volume).number (standing_of faults fuses opened k) (replayed volume_lock (standing_of faults fuses opened k) (acts ++ this_act ∷ []))
+        follows_now tells k s = follows_more (opened.volume).settings (opened.volume).number (standing_of faults fuses opened k) acts this_act (h.follows tells k s)
+            (record { leads = leads tells k s; faults = none_fall h of k; fuses = fuses_lead (stood k).fuses (left_by this_act (stood k)).fuses (h.fuse_counts k) (fuses_then h of k) })
+
         sized_by : (count : D → ℕ) → length (counts count (new.logical).replicas) ≡ ((opened.volume).settings).replicas
         sized_by count = length-map (new.logical).replicas (λ (r : Copy D). count r.disk) ∙ (of.is_open).all ∙ ap (λ (s : Settings). s.replicas) ((of.same).settings ∙ h.same_settings)
 
   -- NO ACT, where no call of a disk has failed
 
-  pub kept_seen : (tag : CoreTag) → Kept acts old → IsOfBoth faults old new → Shows tag None old new → Serves opened old new → FusesStay fuses old new
+  pub kept_seen : (tag : CoreTag) → Kept acts old → IsOfBoth faults old new → Thaws old new → Shows tag None old new → Serves opened old new → FusesStay fuses old new
       → counts faults (old.logical).replicas ≡ counts faults (new.logical).replicas
-      → (Tells → (k : VolumeKnown) → Stands files PieceTells old.logical k → Stands files PieceTells new.logical k)
-      → new.begun ≡ old.begun → new.ended ≡ old.ended → Kept acts new
-  kept_seen tag h of shows serves stay even stands begun ended = record {
+      → Keeps Tells files PieceTells old new → new.begun ≡ old.begun → new.ended ≡ old.ended → Kept acts new
+  kept_seen tag h of thaws shows serves stay even keeps begun ended = record {
     from = h.from;
     settings = of.settings ∙ h.settings;
     same_settings = (of.same).settings ∙ h.same_settings;
     number = (of.same).number ∙ h.number;
     is_open = of.is_open;
-    stands = λ tells k s. stands tells (stood k).volume (h.stands tells k s);
+    stands = λ tells k s. (keeps tells (stood k).volume (h.stands tells k s)).0;
     follows = h.follows;
     sized = h.sized;
     fault_counts = λ k j. h.fault_counts k j ∙ ap (λ (l : List ℕ). slice_index_or l j 0) even;
     fuse_counts = λ k j. h.fuse_counts k j ∙ sym (count_each fuses (old.logical).replicas (new.logical).replicas of.count (λ a b. b ≡ a) refl stay j);
+    rises = rises_more h of;
     front = shows.front ∙ h.front;
     base = shows.base ∙ h.base;
     entered = shows.more ∙ append-nil (entered_by ((old.front).shown).deeds) ∙ h.entered;
@@ -175,6 +195,8 @@ module _ {D P : Type 0} (Tells : Type 0) (files : D → Files) (PieceTells : Typ
     ended = λ j lane less few. ap (λ (l : List (List (Option ℕ))). ended_at l j lane) ended ∙ h.ended j lane less few;
     owned = h.owned;
     cuts = h.cuts;
+    tight = λ tells thawed k s j begins within is same run stands_then.
+        (keeps tells (stood k).volume (h.stands tells k s)).1 thawed j run stands_then (h.tight tells (thaws thawed) k s j begins within is same run stands_then);
   }
 
 -- WHAT A HOLDING LEAVES
@@ -193,19 +215,20 @@ module _ {D P : Type 0} (Tells : Type 0) (files : D → Files) (PieceTells : Typ
       → ((j : ℕ) → after j ≡ count_at fuses (new.logical).replicas j) → (j : ℕ) → after j ≡ before j
   fuses_stay count stay before after was is j = is j ∙ count_each fuses (old.logical).replicas (new.logical).replicas count (λ a b. b ≡ a) refl stay j ∙ sym (was j)
 
-  pub changes_acted : (made : Made) → IsOfBoth faults old new → Shows tag (entry_of (did_by made)) old new
+  pub changes_acted : (made : Made) → IsOfBoth faults old new → Thaws old new → Shows tag (entry_of (did_by made)) old new
       → ((opened : Opened D P) → (old.logical).settings ≡ (opened.volume).settings → Serves opened old new)
       → LeadsFusesOf fuses old new (did_of (did_by made))
       → (Tells → (before : Standing) → Stands files PieceTells old.logical before.volume → LeadsTo Tells files PieceTells faults fuses tag old new made before)
       → ((j : ℕ) → j < (old.settings).replicas → slice_index_or new.begun j nobody ≡ begun_in j tag (did_of (did_by made)) (slice_index_or old.begun j nobody))
       → EndsRuns Tells files PieceTells old new (act_of faults fuses tag made (new.logical).replicas)
       → (act : VolumeAct) → act ≡ act_of faults fuses tag made (new.logical).replicas → Leaves (Some act)
-  changes_acted made of shows serves fuses_lead leads begun ends act is = subst (λ (z : VolumeAct). Leaves (Some z)) (sym is) (record {
-    kept = λ opened held h. kept_acted Tells files PieceTells faults fuses opened held old new tag made h of shows (serves opened h.same_settings) fuses_lead
+  changes_acted made of thaws shows serves fuses_lead leads begun ends act is = subst (λ (z : VolumeAct). Leaves (Some z)) (sym is) (record {
+    kept = λ opened held h. kept_acted Tells files PieceTells faults fuses opened held old new tag made h of thaws shows (serves opened h.same_settings) fuses_lead
         (λ tells k s. subst (λ (z : Settings). Leads z (opened.volume).number tag (did_of (did_by made)) (stood_of faults fuses opened k held) (left_by this (stood_of faults fuses opened k held))) h.same_settings
         (subst (λ (z : ℕ). Leads (old.logical).settings z tag (did_of (did_by made)) (stood_of faults fuses opened k held) (left_by this (stood_of faults fuses opened k held))) h.number
         (leads tells (stood_of faults fuses opened k held) (h.stands tells k s)).leads))
         (λ tells k s. (leads tells (stood_of faults fuses opened k held) (h.stands tells k s)).stands)
+        (λ tells k s. (leads tells (stood_of faults fuses opened k held) (h.stands tells k s)).tight)
         (λ j less. begun j (subst (λ (z : Settings). j < z.replicas) (sym h.settings) less)) ends;
     tags = (refl, tt);
     seats = (refl, tt);
@@ -215,19 +238,18 @@ module _ {D P : Type 0} (Tells : Type 0) (files : D → Files) (PieceTells : Typ
       this = act_of faults fuses tag made (new.logical).replicas
 
   -- where what stands was not changed: an act tells of it where a call of a disk has failed
-  pub changes_seen : IsOfBoth faults old new → Shows tag None old new
+  pub changes_seen : IsOfBoth faults old new → Thaws old new → Shows tag None old new
       → ((opened : Opened D P) → (old.logical).settings ≡ (opened.volume).settings → Serves opened old new)
-      → FusesStay fuses old new → (Tells → (k : VolumeKnown) → Stands files PieceTells old.logical k → Stands files PieceTells new.logical k)
-      → new.begun ≡ old.begun → new.ended ≡ old.ended
+      → FusesStay fuses old new → Keeps Tells files PieceTells old new → new.begun ≡ old.begun → new.ended ≡ old.ended
       → (made : Option VolumeAct) → IsTried faults fuses tag (counts faults (old.logical).replicas) (new.logical).replicas made → Leaves made
-  changes_seen of shows serves stay stands begun ended None tried = record {
+  changes_seen of thaws shows serves stay keeps begun ended None tried = record {
     kept = λ opened held h. subst (λ (l : List VolumeAct). IsKept Tells files PieceTells faults fuses opened l new) (sym (append-nil held))
-        (kept_seen Tells files PieceTells faults fuses opened held old new tag h of shows (serves opened h.same_settings) stay (tried.quiet.0 refl) stands begun ended);
+        (kept_seen Tells files PieceTells faults fuses opened held old new tag h of thaws shows (serves opened h.same_settings) stay (tried.quiet.0 refl) keeps begun ended);
     tags = tt;
     seats = tt;
   }
-  changes_seen of shows serves stay stands begun ended (Some act) tried = changes_acted made_is.Tries of shows serves (fuses_stay of.count stay)
-      (λ tells before s. record { leads = refl; stands = stands tells before.volume s }) (λ j less. ap (λ (l : List CoreTag). slice_index_or l j nobody) begun)
+  changes_seen of thaws shows serves stay keeps begun ended (Some act) tried = changes_acted made_is.Tries of thaws shows serves (fuses_stay of.count stay)
+      (tries_leads Tells files PieceTells faults fuses tag old new keeps) (λ j less. ap (λ (l : List CoreTag). slice_index_or l j nobody) begun)
       (ends_none Tells files PieceTells old new (act_of faults fuses tag made_is.Tries (new.logical).replicas) (λ j. refl) (λ j own. own) ended) act tried.is
 
 -- WHAT IT TELLS

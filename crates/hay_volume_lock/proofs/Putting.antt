@@ -1,6 +1,7 @@
 -- What a put leaves and tells.
 use Rattle.std.proofs.Common.{◌≡◌, inl, inr, ℕ, ◌+◌, ◌<◌, Bool, true, false, List, [], ◌∷◌, ◌++◌, length, Option, Some, None, refl, sym, ap, subst, ◌∙◌, arith}
-use Rattle.std.specs.Prelude.{Result, Ok, Err, map, slice_index_or}
+use Rattle.std.specs.Prelude.{IfNone, Result, Ok, Err, map, slice_index_or}
+use Rattle.std.proofs.lemmas.Option.{none-some}
 use Rattle.std.proofs.lemmas.List.{map-append}
 use Rattle.hay_core.specs.declared.entry.CoreTag.{CoreTag}
 use Rattle.hay_core.specs.declared.entry.Entry.{Entry}
@@ -52,7 +53,7 @@ use Rattle.hay_volume_lock.specs.declared.act.Made.TheVariants as made_is
 use Rattle.hay_volume_lock.specs.declared.guarded.Guarded.{Guarded}
 use Rattle.hay_volume_lock.specs.declared.guarded.Opened.{Opened}
 use Rattle.hay_volume_lock.proofs.Counting.{count_there}
-use Rattle.hay_volume_lock.proofs.Growing.{FusesStay, IsOfOne, ends_none, goes_more, goes_tried, no_fuse}
+use Rattle.hay_volume_lock.proofs.Growing.{FusesStay, IsOfOne, TightStays, ends_none, goes_more, goes_tried, no_fuse, tight_entered, tight_frozen}
 use Rattle.hay_volume_lock.proofs.Holding.{stood_is}
 use Rattle.hay_volume_lock.proofs.Published.{Fact, fact_first, may_publish, put_tells}
 use Rattle.hay_volume_lock.proofs.Publishing.{Changes, IsOfBoth, Serves, Shows, changes_acted, fuses_stay, serves_deed, serves_frozen, shows_deed, shows_nothing}
@@ -63,6 +64,11 @@ use Rattle.hay_volume_lock.proofs.Publishing.{Changes, IsOfBoth, Serves, Shows, 
 pub frozen_known : {D P : Type 0} (files : D → Files) (PieceTells : Type 0) (volume : Volume D P) (k : VolumeKnown) → Stands files PieceTells volume k → k.frozen ≡ volume.frozen
 unfolding Stands
 frozen_known files PieceTells volume k s = s.frozen
+
+-- what holds where no machine froze a volume
+pub settled : {A : Type 0} (frozen : Option ℕ) → frozen ≡ None → IfNone frozen A → A
+settled None is none = none
+settled (Some m) is none = absurd (none-some m (sym is))
 
 module _ {D P : Type 0} (Tells : Type 0) (files : D → Files) (PieceTells : Type 0) (faults fuses : D → ℕ) (tag : CoreTag) (old new : Guarded D P) where
   abbrev Kept : Opened D P → List VolumeAct → Type 0
@@ -128,7 +134,7 @@ module _ {D P : Type 0} (Tells : Type 0) (files : D → Files) (PieceTells : Typ
       pub told : Found Tells files PieceTells faults fuses tag old made (λ volume. PutRefused volume tag pair cookie bytes fault)
       pub always : (m f : ℕ) → fault ≡ Failed m f → FoundAlways Tells files PieceTells faults fuses tag old made (λ volume. DiskFailed volume tag m f)
 
-    module _ (of : IsOfOne faults old new) (stay : FusesStay fuses old new) (begun : new.begun ≡ old.begun) (ended : new.ended ≡ old.ended) (thawed : (old.logical).frozen ≡ None) where
+    module _ (of : IsOfOne faults old new) (stay : FusesStay fuses old new) (begun : new.begun ≡ old.begun) (ended : new.ended ≡ old.ended) (thawed : (old.logical).frozen ≡ None) (tight : Tells → TightStays files old new) where
       thawed_known : (k : VolumeKnown) → Stands files PieceTells old.logical k → k.frozen ≡ None
       thawed_known k s = frozen_known files PieceTells old.logical k s ∙ thawed
 
@@ -136,13 +142,17 @@ module _ {D P : Type 0} (Tells : Type 0) (files : D → Files) (PieceTells : Typ
       pending : (m : ℕ) (failed : Bool) → (Tells → (k : VolumeKnown) → Stands files PieceTells old.logical k → Stands files PieceTells new.logical (frozen_with m tag change failed k))
           → (act : VolumeAct) → act ≡ act_of faults fuses tag (made_is.Pends m change failed) (new.logical).replicas → GoesOn Tells files PieceTells faults fuses tag old new (Some act)
       pending m failed stands act is = goes_more Tells files PieceTells faults fuses tag old new (made_is.Pends m change failed) of (no_fuse Tells files PieceTells faults fuses tag old new of stay) refl
-          (λ tells before s. record { leads = (thawed_known before.volume s, refl); stands = stands tells before.volume s })
+          (λ tells before s. let pending_known = stands tells before.volume s in record {
+            leads = (thawed_known before.volume s, refl);
+            stands = pending_known;
+            tight = tight_frozen files tag (made_is.Pends m change failed) old new before m (sym (frozen_known files PieceTells new.logical (frozen_with m tag change failed before.volume) pending_known));
+          })
           (λ j less. ap (λ (l : List CoreTag). slice_index_or l j nobody) begun)
           (ends_none Tells files PieceTells old new (act_of faults fuses tag (made_is.Pends m change failed) (new.logical).replicas) (λ j. refl) (λ j own. own) ended) act is
 
       tried : (Tells → (k : VolumeKnown) → Stands files PieceTells old.logical k → Stands files PieceTells new.logical k) → (made : Option VolumeAct)
           → IsTried faults fuses tag (counts faults (old.logical).replicas) (new.logical).replicas made → GoesOn Tells files PieceTells faults fuses tag old new made
-      tried stands made tries = goes_tried Tells files PieceTells faults fuses tag old new of stay stands begun ended made tries.quiet tries.is
+      tried stands made tries = goes_tried Tells files PieceTells faults fuses tag old new of stay (λ tells k s. (stands tells k s, λ frozen j run has. tight tells frozen j)) begun ended made tries.quiet tries.is
 
       wanted : (frozen : Option ℕ) → (new.logical).frozen ≡ frozen
           → (Tells → (k : VolumeKnown) → Stands files PieceTells old.logical k → logical.PutRefused files PieceTells k tag pair cookie bytes old.logical new.logical NoMemory)
@@ -264,8 +274,12 @@ module _ {D P : Type 0} (Tells : Type 0) (files : D → Files) (PieceTells : Typ
           → (act : VolumeAct) → act ≡ act_of faults fuses tag (made_is.Enters change []) (new.logical).replicas
           → Changes Tells files PieceTells faults fuses tag old new (Some act) × Found Tells files PieceTells faults fuses tag old (Some act) (λ volume. PutAnswer volume tag pair cookie bytes (Ok p))
       put_stored p put shows serves act is = (
-        changes_acted Tells files PieceTells faults fuses tag old new (made_is.Enters change []) of shows serves (fuses_stay Tells files PieceTells faults fuses tag old new of.count stay)
-            (λ tells before s. record { leads = (known_thawed before.volume s, refl); stands = (put tells before.volume s).stands })
+        changes_acted Tells files PieceTells faults fuses tag old new (made_is.Enters change []) of (λ still. thawed) shows serves (fuses_stay Tells files PieceTells faults fuses tag old new of.count stay)
+            (λ tells before s. record {
+              leads = (known_thawed before.volume s, refl);
+              stands = (put tells before.volume s).stands;
+              tight = tight_entered files tag (made_is.Enters change []) old new before change refl;
+            })
             (λ j less. ap (λ (l : List CoreTag). slice_index_or l j nobody) begun)
             (ends_none Tells files PieceTells old new (act_of faults fuses tag (made_is.Enters change []) (new.logical).replicas) (λ j. refl) (λ j own. own) ended) act is,
         λ opened held h tells k s volume at a b holding.
@@ -289,8 +303,12 @@ module _ {D P : Type 0} (Tells : Type 0) (files : D → Files) (PieceTells : Typ
           → Changes Tells files PieceTells faults fuses tag old new (Some act) × Found Tells files PieceTells faults fuses tag old (Some act) (λ volume. PutAnswer volume tag pair cookie bytes (Err NoMemory))
       put_given_up given shows serves act is =
           let m : ℕ = machine_of (old.logical).settings (old.logical).number 0 in (
-            changes_acted Tells files PieceTells faults fuses tag old new (made_is.Pends m change false) of shows serves (fuses_stay Tells files PieceTells faults fuses tag old new of.count stay)
-                (λ tells before s. record { leads = (known_thawed before.volume s, refl); stands = (given tells before.volume s).1 })
+            changes_acted Tells files PieceTells faults fuses tag old new (made_is.Pends m change false) of (λ still. thawed) shows serves (fuses_stay Tells files PieceTells faults fuses tag old new of.count stay)
+                (λ tells before s. let pending_known = (given tells before.volume s).1 in record {
+                  leads = (known_thawed before.volume s, refl);
+                  stands = pending_known;
+                  tight = tight_frozen files tag (made_is.Pends m change false) old new before m (sym (frozen_known files PieceTells new.logical (frozen_with m tag change false before.volume) pending_known));
+                })
                 (λ j less. ap (λ (l : List CoreTag). slice_index_or l j nobody) begun)
                 (ends_none Tells files PieceTells old new (act_of faults fuses tag (made_is.Pends m change false) (new.logical).replicas) (λ j. refl) (λ j own. own) ended) act is,
             λ opened held h tells k s volume at a b holding. record {

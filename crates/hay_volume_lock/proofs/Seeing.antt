@@ -1,5 +1,6 @@
 -- What a holding leaves that sees places, and what it tells.
 use Rattle.std.proofs.Common.{◌≡◌, inl, inr, ℕ, ◌+◌, ◌<◌, Bool, true, false, List, [], ◌++◌, length, Option, Some, None, refl, sym, ap, subst, ◌∙◌, append-nil, arith}
+use Rattle.std.proofs.lemmas.Option.{none-some}
 use Rattle.std.specs.Prelude.{fold, map, Ok, slice_index_or, slice_set}
 use Rattle.std.proofs.lemmas.Bool.{cond-true}
 use Rattle.hay_core.specs.declared.entry.CoreTag.{CoreTag}
@@ -56,7 +57,7 @@ use Rattle.hay_volume_lock.specs.declared.act.Made.TheVariants as made_is
 use Rattle.hay_volume_lock.specs.declared.guarded.Guarded.{Guarded}
 use Rattle.hay_volume_lock.specs.declared.guarded.Opened.{Opened}
 use Rattle.hay_volume_lock.proofs.Finding.{failed_act, on_machine}
-use Rattle.hay_volume_lock.proofs.Growing.{FusesStay, IsOfOne, ends_none, goes_more, goes_tried, no_fuse}
+use Rattle.hay_volume_lock.proofs.Growing.{FusesStay, IsOfOne, Keeps, ends_none, goes_more, goes_tried, no_fuse, tight_frozen, tries_leads}
 use Rattle.hay_volume_lock.proofs.Publishing.{Changes, IsOfBoth, Serves, Shows, changes_acted, changes_seen, fuses_stay, serves_deed, serves_frozen, shows_deed, shows_nothing}
 use Rattle.hay_volume_lock.proofs.Published.{Fact, fact_first, may_publish, seen_tells}
 use Rattle.hay_volume_lock.proofs.Putting.{IsMadeBy, frozen_known, nothing_made}
@@ -122,7 +123,7 @@ module _ {D P : Type 0} (Tells : Type 0) (files : D → Files) (PieceTells : Typ
     pub shows : Shows tag None old new
     pub serves : (opened : Opened D P) → (old.logical).settings ≡ (opened.volume).settings → Serves opened old new
     pub stay : FusesStay fuses old new
-    pub stands : Tells → (k : VolumeKnown) → Stands files PieceTells old.logical k → Stands files PieceTells new.logical k
+    pub keeps : Keeps Tells files PieceTells old new
     pub begun : new.begun ≡ old.begun
     pub ended : new.ended ≡ old.ended
     pub frozen : (new.logical).frozen ≡ (old.logical).frozen
@@ -139,7 +140,7 @@ module _ {D P : Type 0} (Tells : Type 0) (files : D → Files) (PieceTells : Typ
     shows = shows_nothing tag old old refl refl;
     serves = λ opened is. record { «open» = serves; rows = λ from were still. were still };
     stay = λ j r r' e f. ap (λ (c : Copy D). fuses c.disk) (at_same (old.logical).replicas j r' r f e);
-    stands = λ tells k s. s;
+    keeps = λ tells k s. (s, λ thawed j run has tight. tight);
     begun = refl;
     ended = refl;
     frozen = refl;
@@ -170,7 +171,9 @@ module _ {D P : Type 0} (Tells : Type 0) (files : D → Files) (PieceTells : Typ
           rows = λ from were still pair. t.rows from (λ thawed. s.rows from were thawed) still pair;
         };
     stay = λ j r r' e f. let m = there j r e in two.stay j m.0 r' m.1 f ∙ one.stay j r m.0 e m.1;
-    stands = λ tells k s. two.stands tells k (one.stands tells k s);
+    keeps = λ tells k s.
+        let mid_is = one.keeps tells k s in let new_is = two.keeps tells k mid_is.0 in
+        (new_is.0, λ thawed j run has tight. new_is.1 thawed j run has (mid_is.1 (sym two.frozen ∙ thawed) j run has tight));
     begun = two.begun ∙ one.begun;
     ended = two.ended ∙ one.ended;
     frozen = two.frozen ∙ one.frozen;
@@ -181,12 +184,12 @@ module _ {D P : Type 0} (Tells : Type 0) (files : D → Files) (PieceTells : Typ
 
   -- one was seen and published
   pub sees_published : (deed : Published P) (old new : Guarded D P) (pair : Pair) (replica : ℕ) (there : Place P) → IsOfBoth faults old new → FusesStay fuses old new
-      → (Tells → (k : VolumeKnown) → Stands files PieceTells old.logical k → Stands files PieceTells new.logical k)
+      → Keeps Tells files PieceTells old new
       → new.begun ≡ old.begun → new.ended ≡ old.ended → (new.logical).frozen ≡ (old.logical).frozen
       → deed ≡ record { change = op.Seen pair replica there; entered = [] } → replica < ((old.logical).settings).replicas
       → (new.front).shown ≡ with_deed (old.front).shown deed → (new.front).log ≡ (old.front).log → (new.front).closed ≡ false
       → SetsPlaceAt pair replica there (old.logical).rows (new.logical).rows → Sees old new
-  sees_published deed old new pair replica there of stay stands begun ended frozen is within shown log «open» sets = record {
+  sees_published deed old new pair replica there of stay keeps begun ended frozen is within shown log «open» sets = record {
     of = of;
     shows = shows_deed tag old new deed None (ap (λ (d : Published P). d.entered) is) shown
         (ap (λ (l : List (LogEntry (Published P))). map (λ e. e.tag) l) log ∙ sym (append-nil (map (λ e. e.tag) (old.front).log)));
@@ -194,7 +197,7 @@ module _ {D P : Type 0} (Tells : Type 0) (files : D → Files) (PieceTells : Typ
         (subst (λ (d : Published P). FitsRows ((opened.volume).settings).replicas d.change) (sym is) (subst (λ (s : Settings). replica < s.replicas) settings within))
         (λ other. sets other ∙ ap (λ (d : Published P). changed_row d.change other (row_at (old.logical).rows other)) (sym is));
     stay = stay;
-    stands = stands;
+    keeps = keeps;
     begun = begun;
     ended = ended;
     frozen = frozen;
@@ -202,14 +205,14 @@ module _ {D P : Type 0} (Tells : Type 0) (files : D → Files) (PieceTells : Typ
 
   -- or not, where the front of a frozen volume is closed
   pub sees_frozen : (old new : Guarded D P) (m : ℕ) → IsOfBoth faults old new → FusesStay fuses old new
-      → (Tells → (k : VolumeKnown) → Stands files PieceTells old.logical k → Stands files PieceTells new.logical k)
+      → Keeps Tells files PieceTells old new
       → new.begun ≡ old.begun → new.ended ≡ old.ended → (new.logical).frozen ≡ (old.logical).frozen → new.front ≡ old.front → (old.logical).frozen ≡ Some m → Sees old new
-  sees_frozen old new m of stay stands begun ended frozen front is = record {
+  sees_frozen old new m of stay keeps begun ended frozen front is = record {
     of = of;
     shows = shows_nothing tag old new (ap (λ f. f.shown) front) (ap (λ f. f.log) front);
     serves = λ opened settings. serves_frozen tag old new opened m (frozen ∙ is);
     stay = stay;
-    stands = stands;
+    keeps = keeps;
     begun = begun;
     ended = ended;
     frozen = frozen;
@@ -217,7 +220,7 @@ module _ {D P : Type 0} (Tells : Type 0) (files : D → Files) (PieceTells : Typ
 
   pub sees_changes : (old new : Guarded D P) → Sees old new → (made : Option VolumeAct) → IsTried faults fuses tag (counts faults (old.logical).replicas) (new.logical).replicas made
       → Changes Tells files PieceTells faults fuses tag old new made
-  sees_changes old new s made tried = changes_seen Tells files PieceTells faults fuses tag old new s.of s.shows s.serves s.stay s.stands s.begun s.ended made tried
+  sees_changes old new s made tried = changes_seen Tells files PieceTells faults fuses tag old new s.of (λ still. sym s.frozen ∙ still) s.shows s.serves s.stay s.keeps s.begun s.ended made tried
 
   -- WHAT MAY BE PUBLISHED of it
 
@@ -243,7 +246,7 @@ module _ {D P : Type 0} (Tells : Type 0) (files : D → Files) (PieceTells : Typ
       (seen_tells Tells files PieceTells (begun_at opened.volume (h.from).rows) ((mid.front).shown).deeds deed fit (fact_first Tells files PieceTells opened.volume (h.from).rows (mid.front).shown base fact).1 pair replica there is
       (λ tells k s. subst (λ (table : Table). PlaceMeans PieceTells pair there (outcome_at table pair))
       (table_kept opened held old h tells k s replica ∙ ap (fold apply_entry (now k (replica_at k replica))) (sym ((sees.shows).more ∙ append-nil (entered_by ((old.front).shown).deeds))))
-      (means tells (stood_of faults fuses opened k held).volume (sees.stands tells (stood_of faults fuses opened k held).volume (h.stands tells k s)))))
+      (means tells (stood_of faults fuses opened k held).volume (sees.keeps tells (stood_of faults fuses opened k held).volume (h.stands tells k s)).0)))
 
   -- WHAT IT TELLS
 
@@ -279,17 +282,17 @@ module _ {D P : Type 0} (Tells : Type 0) (files : D → Files) (PieceTells : Typ
       pub always : (m f : ℕ) → fault ≡ Failed m f → FoundAlways Tells files PieceTells faults fuses tag old made (λ volume. FailedLook volume tag replica m f)
 
     pub see_refused : (old new : Guarded D P) → IsOfOne faults old new → FusesStay fuses old new → new.begun ≡ old.begun → new.ended ≡ old.ended → replica < ((old.logical).settings).replicas
-        → (Tells → (k : VolumeKnown) → Stands files PieceTells old.logical k → Stands files PieceTells new.logical k)
+        → Keeps Tells files PieceTells old new
         → (fault : LogicalFault)
         → (Tells → (k : VolumeKnown) → Stands files PieceTells old.logical k → (m at : ℕ) → fault ≡ Damaged m at → ⊥)
         → logical.IsSightFault faults (old.logical).settings (old.logical).number (old.logical).replicas (new.logical).replicas fault
         → ((m f : ℕ) → fault ≡ Failed m f → m ≡ machine_of (old.logical).settings (old.logical).number replica)
         → (made : Option VolumeAct) → IsMadeBy Tells files PieceTells faults fuses tag old new (tried_made fault) made → RefusesSight old new fault made
-    see_refused old new of stay begun ended within stands (Failed m f) undamaged cause machine made by =
+    see_refused old new of stay begun ended within keeps (Failed m f) undamaged cause machine made by =
         let act : VolumeAct = act_of faults fuses tag made_is.Tries (new.logical).replicas in
         let goes : GoesOn Tells files PieceTells faults fuses tag old new (Some act) =
         goes_more Tells files PieceTells faults fuses tag old new made_is.Tries of (no_fuse Tells files PieceTells faults fuses tag old new of stay) refl
-        (λ tells before s. record { leads = refl; stands = stands tells before.volume s }) (λ j less. ap (λ (l : List CoreTag). slice_index_or l j nobody) begun)
+        (tries_leads Tells files PieceTells faults fuses tag old new keeps) (λ j less. ap (λ (l : List CoreTag). slice_index_or l j nobody) begun)
         (ends_none Tells files PieceTells old new act (λ j. refl) (λ j own. own) ended) act refl in
         let always : FoundAlways Tells files PieceTells faults fuses tag old (Some act) (λ volume. FailedLook volume tag replica m f) =
         λ opened held h k volume at a b holding. (
@@ -308,22 +311,22 @@ module _ {D P : Type 0} (Tells : Type 0) (files : D → Files) (PieceTells : Typ
               let mm : m ≡ n = cc e in let ff : f ≡ g = cc e in
               subst (λ (x : ℕ). FailedLook volume tag replica x g a b) mm (subst (λ (y : ℕ). FailedLook volume tag replica m y a b) ff (always opened held h k volume at a b holding));
         })
-    see_refused old new of stay begun ended within stands NoMemory undamaged cause machine made by = record {
-      goes = goes_tried Tells files PieceTells faults fuses tag old new of stay stands begun ended made (by.tries refl).quiet (by.tries refl).is;
+    see_refused old new of stay begun ended within keeps NoMemory undamaged cause machine made by = record {
+      goes = goes_tried Tells files PieceTells faults fuses tag old new of stay keeps begun ended made (by.tries refl).quiet (by.tries refl).is;
       told = λ opened held h tells k s volume at a b holding. record { held = held; made = made; holding = holding; is = inl (nothing_made Tells files PieceTells faults fuses tag old new made (by.tries refl)) };
       always = λ m f e. absurd (cc e);
     }
-    see_refused old new of stay begun ended within stands (Damaged m at) undamaged cause machine made by = record {
-      goes = goes_tried Tells files PieceTells faults fuses tag old new of stay stands begun ended made (by.tries refl).quiet (by.tries refl).is;
+    see_refused old new of stay begun ended within keeps (Damaged m at) undamaged cause machine made by = record {
+      goes = goes_tried Tells files PieceTells faults fuses tag old new of stay keeps begun ended made (by.tries refl).quiet (by.tries refl).is;
       told = λ opened held h tells k s volume there a b holding. absurd (undamaged tells (stood_of faults fuses opened k held).volume (h.stands tells k s) m at refl);
       always = λ m f e. absurd (cc e);
     }
-    see_refused old new of stay begun ended within stands (ReadOnly m) undamaged cause machine made by = absurd cause
-    see_refused old new of stay begun ended within stands (Full m end need capacity) undamaged cause machine made by = absurd cause
-    see_refused old new of stay begun ended within stands (Gone front) undamaged cause machine made by = absurd cause
-    see_refused old new of stay begun ended within stands (Busy m g) undamaged cause machine made by = absurd cause
-    see_refused old new of stay begun ended within stands (Worn m) undamaged cause machine made by = absurd cause
-    see_refused old new of stay begun ended within stands Idle undamaged cause machine made by = absurd cause
+    see_refused old new of stay begun ended within keeps (ReadOnly m) undamaged cause machine made by = absurd cause
+    see_refused old new of stay begun ended within keeps (Full m end need capacity) undamaged cause machine made by = absurd cause
+    see_refused old new of stay begun ended within keeps (Gone front) undamaged cause machine made by = absurd cause
+    see_refused old new of stay begun ended within keeps (Busy m g) undamaged cause machine made by = absurd cause
+    see_refused old new of stay begun ended within keeps (Worn m) undamaged cause machine made by = absurd cause
+    see_refused old new of stay begun ended within keeps Idle undamaged cause machine made by = absurd cause
 
   -- A VOLUME THAT WAS FROZEN for want of memory to publish what was seen
 
@@ -331,9 +334,13 @@ module _ {D P : Type 0} (Tells : Type 0) (files : D → Files) (PieceTells : Typ
       → (old.logical).frozen ≡ None → (new.logical).frozen ≡ Some m
       → (Tells → (k : VolumeKnown) → Stands files PieceTells old.logical k → Stands files PieceTells new.logical (frozen_by m k))
       → (act : VolumeAct) → act ≡ act_of faults fuses tag (made_is.Freezes m) (new.logical).replicas → Changes Tells files PieceTells faults fuses tag old new (Some act)
-  froze old new m of stay shows begun ended thawed frozen stands act is = changes_acted Tells files PieceTells faults fuses tag old new (made_is.Freezes m) of shows
+  froze old new m of stay shows begun ended thawed frozen stands act is = changes_acted Tells files PieceTells faults fuses tag old new (made_is.Freezes m) of (λ still. thawed) shows
       (λ opened settings. serves_frozen tag old new opened m frozen) (fuses_stay Tells files PieceTells faults fuses tag old new of.count stay)
-      (λ tells before s. record { leads = (frozen_known files PieceTells old.logical before.volume s ∙ thawed, refl); stands = stands tells before.volume s })
+      (λ tells before s. record {
+        leads = (frozen_known files PieceTells old.logical before.volume s ∙ thawed, refl);
+        stands = stands tells before.volume s;
+        tight = tight_frozen files tag (made_is.Freezes m) old new before m frozen;
+      })
       (λ j less. ap (λ (l : List CoreTag). slice_index_or l j nobody) begun)
       (ends_none Tells files PieceTells old new (act_of faults fuses tag (made_is.Freezes m) (new.logical).replicas) (λ j. refl) (λ j own. own) ended) act is
 
@@ -364,9 +371,9 @@ module _ {D P : Type 0} (Tells : Type 0) (files : D → Files) (PieceTells : Typ
       )
   see_wanted old new mid replica (Some m) was of stay shows begun ended same still stands freezes again now_frozen made by =
       let left : new.logical ≡ mid = again m (still ∙ was) in (
-        changes_seen Tells files PieceTells faults fuses tag old new of shows
+        changes_seen Tells files PieceTells faults fuses tag old new of (λ thawed. absurd (none-some m (sym thawed ∙ (ap (λ v. v.frozen) left ∙ still ∙ was)))) shows
             (λ opened settings. serves_frozen tag old new opened m (ap (λ v. v.frozen) left ∙ still ∙ was)) stay
-            (λ tells k s. subst (λ v. Stands files PieceTells v k) (sym left) (stands tells k s)) begun ended made (by.tries refl),
+            (λ tells k s. (subst (λ v. Stands files PieceTells v k) (sym left) (stands tells k s), λ thawed. absurd (none-some m (sym thawed ∙ (ap (λ v. v.frozen) left ∙ still ∙ was))))) begun ended made (by.tries refl),
         λ opened held h tells k s volume at a b holding. record { held = held; made = made; holding = holding; is = inl (nothing_made Tells files PieceTells faults fuses tag old new made (by.tries refl)) },
       )
 
@@ -402,7 +409,7 @@ row_long pair replica there old new sets =
 module _ {D P : Type 0} (Tells : Type 0) (files : D → Files) (PieceTells : Type 0) (faults fuses : D → ℕ) (tag : CoreTag) (old new : Guarded D P)
     (settings : new.settings ≡ old.settings) (begun : new.begun ≡ old.begun) (ended : new.ended ≡ old.ended)
     (same : IsSame old.logical new.logical) (is_open : IsOpenVolume new.logical) (counts : KeepsCounts faults fuses (old.logical).replicas (new.logical).replicas)
-    (stands : Tells → (k : VolumeKnown) → Stands files PieceTells old.logical k → Stands files PieceTells new.logical k) (frozen : (new.logical).frozen ≡ (old.logical).frozen) where
+    (keeps : Keeps Tells files PieceTells old new) (frozen : (new.logical).frozen ≡ (old.logical).frozen) where
   abbrev both : IsOfBoth faults old new
   both = record { settings = settings; same = same; is_open = is_open; count = counts.count; rises = counts.rises }
 
@@ -410,7 +417,7 @@ module _ {D P : Type 0} (Tells : Type 0) (files : D → Files) (PieceTells : Typ
   pub see_shown : (pair : Pair) (replica : ℕ) (there : Place P) (deed : Published P) (item : LogEntry (Published P)) → deed ≡ record { change = op.Seen pair replica there; entered = [] }
       → replica < ((old.logical).settings).replicas → SetsPlaceAt pair replica there (old.logical).rows (new.logical).rows
       → new.front ≡ record { shown = with_deed (old.front).shown deed; log = logged (is_entry deed.change) (old.front).log item; closed = false } → Sees Tells files PieceTells faults fuses tag old new
-  see_shown pair replica there deed item is within sets front = sees_published Tells files PieceTells faults fuses tag deed old new pair replica there both counts.stay stands begun ended frozen is within
+  see_shown pair replica there deed item is within sets front = sees_published Tells files PieceTells faults fuses tag deed old new pair replica there both counts.stay keeps begun ended frozen is within
       (ap (λ f. f.shown) front) (ap (λ f. f.log) front ∙ ap (λ (d : Published P). logged (is_entry d.change) (old.front).log item) is) (ap (λ f. f.closed) front) sets
 
   -- a frozen volume whose front is closed
@@ -419,7 +426,7 @@ module _ {D P : Type 0} (Tells : Type 0) (files : D → Files) (PieceTells : Typ
     where
       by_frozen : (f : Option ℕ) → (old.logical).frozen ≡ f → Sees Tells files PieceTells faults fuses tag old new
       by_frozen None is = absurd (let not : true ≡ false = sym closed ∙ serves is in cc not)
-      by_frozen (Some m) is = sees_frozen Tells files PieceTells faults fuses tag old new m both counts.stay stands begun ended frozen front is
+      by_frozen (Some m) is = sees_frozen Tells files PieceTells faults fuses tag old new m both counts.stay keeps begun ended frozen front is
 
   -- it was refused
   pub of_refused : new.front ≡ old.front → ((pair : Pair) → row_at (new.logical).rows pair ≡ row_at (old.logical).rows pair) → IsOfOne faults old new

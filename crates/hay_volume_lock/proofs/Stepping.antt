@@ -14,7 +14,8 @@ use Rattle.hay_history.specs.Steps.Did.{Examines, Tries}
 use Rattle.hay_logical.specs.Answers as logical
 use Rattle.hay_logical.specs.declared.fault.LogicalFault.{LogicalFault}
 use Rattle.hay_logical.specs.declared.fault.LogicalFault.TheVariants.{Busy, Damaged, Failed, Full, Gone, Idle, NoMemory, ReadOnly, Worn}
-use Rattle.hay_logical.specs.Stands.{Stands}
+use Rattle.hay_logical.specs.Fits.{At}
+use Rattle.hay_logical.specs.Stands.{IsTightAt, Stands}
 use Rattle.hay_meeting.specs.declared.act.VolumeAct.{VolumeAct}
 use Rattle.hay_meeting.specs.Acts.{begun_of, did_of, examined_by, known_by, nobody, volume_lock}
 use Rattle.hay_meeting.specs.Locks.{LockSight}
@@ -22,9 +23,10 @@ use Rattle.hay_meeting.specs.Sights.{stood}
 use Rattle.hay_holdings.specs.Holdings.{Holding}
 use Rattle.hay_holdings.specs.Volumes.{FailedAct, HasRunOf}
 use Rattle.hay_holdings.specs.Volumes as calls
+use Rattle.hay_physical.specs.Copies.{Copy}
 use Rattle.hay_volume_lock.specs.Acts.{act_of, did_by}
 use Rattle.hay_volume_lock.specs.Answers.{Found, FoundAlways, IsAt, StoreVolume}
-use Rattle.hay_volume_lock.specs.Compactions.{FailedHere, IsBarred, MayGoOn, OfLane, StepAnswer, StepHalted, StepStops, halted_made, step_made, stopped_made}
+use Rattle.hay_volume_lock.specs.Compactions.{FailedHere, IsBarred, MayGoOn, OfLane, StepAnswer, StepHalted, StepStops, StillGoes, halted_made, step_made, stopped_made}
 use Rattle.hay_volume_lock.specs.Compactions as steps
 use Rattle.hay_volume_lock.specs.Ended.{ended_at}
 use Rattle.hay_volume_lock.specs.Keeping.{GoesOn, IsKept, stood_of}
@@ -34,7 +36,7 @@ use Rattle.hay_volume_lock.specs.declared.compactions.Examined.{Examined}
 use Rattle.hay_volume_lock.specs.declared.guarded.Guarded.{Guarded}
 use Rattle.hay_volume_lock.specs.declared.guarded.Opened.{Opened}
 use Rattle.hay_volume_lock.proofs.Finding.{failed_act, on_machine}
-use Rattle.hay_volume_lock.proofs.Growing.{FusesStay, IsOfOne, LeadsFusesOf, ends_none, goes_more, no_fuse}
+use Rattle.hay_volume_lock.proofs.Growing.{FusesStay, IsOfOne, LeadsFusesOf, TightStays, ended_there, ends_none, goes_more, no_fuse, tight_ended, tight_still}
 use Rattle.hay_volume_lock.proofs.Holding.{stood_is}
 
 module _ {D P : Type 0} (Tells : Type 0) (files : D → Files) (PieceTells : Type 0) (faults fuses : D → ℕ) (tag : CoreTag) (old : Guarded D P) where
@@ -87,7 +89,8 @@ module _ {D P : Type 0} (Tells : Type 0) (files : D → Files) (PieceTells : Typ
     -- WHERE ONE GOES ON
 
     module _ (new : Guarded D P) (of : IsOfOne faults old new) (stay : FusesStay fuses old new) (begun : new.begun ≡ old.begun) (ended : new.ended ≡ old.ended) (own : (owner j).lane ≡ tag.lane)
-        (may : Tells → (k : VolumeKnown) → Stood k → MayGoOn k j tag.lane (owner j)) where
+        (may : Tells → (k : VolumeKnown) → Stood k → MayGoOn k j tag.lane (owner j))
+        (others : (i : ℕ) → (i ≡ j → ⊥) → (r r' : Copy D) → At (old.logical).replicas i r → At (new.logical).replicas i r' → r' ≡ r) where
       abbrev Goes : Option VolumeAct → Type 0
       Goes made = GoesOn Tells files PieceTells faults fuses tag old new made
 
@@ -101,22 +104,27 @@ module _ {D P : Type 0} (Tells : Type 0) (files : D → Files) (PieceTells : Typ
       none_set = no_fuse Tells files PieceTells faults fuses tag old new of stay
 
       -- it examined cells
-      examines : (n : ℕ) → (Tells → (k : VolumeKnown) → Stood k → (run : Run) × ((replica_at k j).run ≡ Some run) × (n ≤ run.left) × logical.StandsStepped files PieceTells k j run n new.logical)
+      examines : (n : ℕ) → (Tells → (k : VolumeKnown) → Stood k → TightStays files old new) → (Tells → (k : VolumeKnown) → Stood k → (run : Run) × ((replica_at k j).run ≡ Some run) × (n ≤ run.left) × logical.StandsStepped files PieceTells k j run n new.logical)
           → (act : VolumeAct) → Behind (made_is.Examines j n) act → Goes (Some act)
-      examines n told act is = goes_more Tells files PieceTells faults fuses tag old new (made_is.Examines j n) of none_set refl
+      examines n tight told act is = goes_more Tells files PieceTells faults fuses tag old new (made_is.Examines j n) of none_set refl
           (λ tells before s.
           let t = told tells before.volume s in
           let same : known_by tag (did_by (made_is.Examines j n)) before.volume ≡ logical.change_at before.volume j (with_run (stepped n t.0)) =
           ap (λ (o : Option Run). with_replica before.volume j (examined_by n o (replica_at before.volume j))) t.1 in record {
             leads = ((may tells before.volume s).thawed, within, (t.0, t.1, t.2, same));
             stands = subst (λ (z : VolumeKnown). Stands files PieceTells new.logical z) (sym same) t.3;
+            tight = tight_still files tag (made_is.Examines j n) old new before (λ i begins. absurd (cc begins)) (tight tells before.volume s);
           })
           with_begun (ends_none Tells files PieceTells old new (act_of faults fuses tag (made_is.Examines j n) (new.logical).replicas) (λ i. refl) (λ i none. none) ended) act is
 
       -- the compaction ended
       ends_run : (Tells → (k : VolumeKnown) → Stood k → Stands files PieceTells new.logical (logical.change_at k j without_run)) → (act : VolumeAct) → Behind (made_is.Ends j) act → Goes (Some act)
       ends_run told act is = goes_more Tells files PieceTells faults fuses tag old new (made_is.Ends j) of none_set refl
-          (λ tells before s. let m = may tells before.volume s in record { leads = (m.thawed, within, m.stands, refl); stands = told tells before.volume s })
+          (λ tells before s. let m = may tells before.volume s in record {
+            leads = (m.thawed, within, m.stands, refl);
+            stands = told tells before.volume s;
+            tight = tight_ended files tag (made_is.Ends j) old new before j of.count (λ thawed. others) (λ i begins. absurd (cc begins)) (ended_there files PieceTells old.logical before.volume s j within without_run (λ r. refl));
+          })
           with_begun (record {
             ended = λ i lane less few. ap (λ l. ended_at l i lane) ended;
             owned = λ i less same. subst (λ (n : ℕ). tag.lane ≡ (owner n).lane) same (sym own);
@@ -129,6 +137,14 @@ module _ {D P : Type 0} (Tells : Type 0) (files : D → Files) (PieceTells : Typ
           (ends_none Tells files PieceTells old new (act_of faults fuses tag made_is.Tries (new.logical).replicas) (λ i. refl) (λ i none. none) ended) act is
 
       module _ (n cells : ℕ) (act : VolumeAct) where
+        -- unless it ended, it is as tight as it was
+        abbrev Tight : Option LogicalFault → Type 0
+        Tight refused = Tells → (k : VolumeKnown) (run : Run) → Stood k → k.frozen ≡ None → (replica_at k j).run ≡ Some run → StillGoes refused
+            → (i : ℕ) → IsTightAt files old.logical i → IsTightAt files new.logical i
+
+        tight_at : (refused : Option LogicalFault) → Tight refused → StillGoes refused → Tells → (k : VolumeKnown) → Stood k → TightStays files old new
+        tight_at refused tight still tells k s thawed = let m = may tells k s in tight tells k (m.stands).0 s m.thawed (m.stands).1 still
+
         abbrev Told : Option LogicalFault → Type 0
         Told refused = Tells → (k : VolumeKnown) (run : Run) → Stood k → k.frozen ≡ None → (replica_at k j).run ≡ Some run
             → steps.Examines files PieceTells k j run cells old.logical new.logical n refused
@@ -138,22 +154,22 @@ module _ {D P : Type 0} (Tells : Type 0) (files : D → Files) (PieceTells : Typ
             → steps.Examines files PieceTells k j ((may tells k s).stands).0 cells old.logical new.logical n refused
         told_at refused told tells k s = let m = may tells k s in told tells k (m.stands).0 s m.thawed (m.stands).1
 
-        halted_goes : (fault : LogicalFault) → Told (Some fault) → Behind (halted_made j n fault) act → Goes (Some act)
-        halted_goes NoMemory told is =
-            examines n (λ tells k s. let t = told_at (Some NoMemory) told tells k s in let m = (may tells k s).stands in let few = t.0 in (m.0, m.1, (let less : n ≤ (m.0).left = omega (arith, few) in less), t.1)) act is
-        halted_goes (Failed m f) told is = ends_run (λ tells k s. (told_at (Some (Failed m f)) told tells k s).1) act is
-        halted_goes (Damaged m place) told is = ends_run (λ tells k s. absurd (told_at (Some (Damaged m place)) told tells k s)) act is
-        halted_goes (ReadOnly m) told is = tries (told_at (Some (ReadOnly m)) told) act is
-        halted_goes Idle told is = tries (told_at (Some Idle) told) act is
-        halted_goes (Full m end need capacity) told is = tries (told_at (Some (Full m end need capacity)) told) act is
-        halted_goes (Gone front) told is = tries (told_at (Some (Gone front)) told) act is
-        halted_goes (Busy m g) told is = tries (told_at (Some (Busy m g)) told) act is
-        halted_goes (Worn m) told is = tries (told_at (Some (Worn m)) told) act is
+        halted_goes : (fault : LogicalFault) → Tight (Some fault) → Told (Some fault) → Behind (halted_made j n fault) act → Goes (Some act)
+        halted_goes NoMemory tight told is =
+            examines n (tight_at (Some NoMemory) tight tt) (λ tells k s. let t = told_at (Some NoMemory) told tells k s in let m = (may tells k s).stands in let few = t.0 in (m.0, m.1, (let less : n ≤ (m.0).left = omega (arith, few) in less), t.1)) act is
+        halted_goes (Failed m f) tight told is = ends_run (λ tells k s. (told_at (Some (Failed m f)) told tells k s).1) act is
+        halted_goes (Damaged m place) tight told is = ends_run (λ tells k s. absurd (told_at (Some (Damaged m place)) told tells k s)) act is
+        halted_goes (ReadOnly m) tight told is = tries (told_at (Some (ReadOnly m)) told) act is
+        halted_goes Idle tight told is = tries (told_at (Some Idle) told) act is
+        halted_goes (Full m end need capacity) tight told is = tries (told_at (Some (Full m end need capacity)) told) act is
+        halted_goes (Gone front) tight told is = tries (told_at (Some (Gone front)) told) act is
+        halted_goes (Busy m g) tight told is = tries (told_at (Some (Busy m g)) told) act is
+        halted_goes (Worn m) tight told is = tries (told_at (Some (Worn m)) told) act is
 
-        stopped_goes : (refused : Option LogicalFault) → Told refused → Behind (stopped_made j n refused) act → Goes (Some act)
-        stopped_goes None told is =
-            examines n (λ tells k s. let t = told_at None told tells k s in let m = (may tells k s).stands in let few = t.0 in (m.0, m.1, (let less : n ≤ (m.0).left = omega (arith, few) in less), t.1)) act is
-        stopped_goes (Some fault) told is = halted_goes fault told is
+        stopped_goes : (refused : Option LogicalFault) → Tight refused → Told refused → Behind (stopped_made j n refused) act → Goes (Some act)
+        stopped_goes None tight told is =
+            examines n (tight_at None tight tt) (λ tells k s. let t = told_at None told tells k s in let m = (may tells k s).stands in let few = t.0 in (m.0, m.1, (let less : n ≤ (m.0).left = omega (arith, few) in less), t.1)) act is
+        stopped_goes (Some fault) tight told is = halted_goes fault tight told is
 
         -- WHAT IT FOUND
 
@@ -215,20 +231,20 @@ module _ {D P : Type 0} (Tells : Type 0) (files : D → Files) (PieceTells : Typ
             stopped_as (Some fault) told cause is = halted_as fault told cause is
 
       -- a step goes on, and is found to be one
-      pub step_goes : (cells : ℕ) (examined : Examined) (act : VolumeAct) → Told examined.cells cells act examined.refused → Behind (step_made j examined) act → Goes (Some act)
-      step_goes cells examined act told is = stopped_goes examined.cells cells act examined.refused told is
+      pub step_goes : (cells : ℕ) (examined : Examined) (act : VolumeAct) → Tight examined.cells cells act examined.refused → Told examined.cells cells act examined.refused → Behind (step_made j examined) act → Goes (Some act)
+      step_goes cells examined act tight told is = stopped_goes examined.cells cells act examined.refused tight told is
 
-      pub step_found : (cells : ℕ) (examined : Examined) (act : VolumeAct) → Told examined.cells cells act examined.refused
+      pub step_found : (cells : ℕ) (examined : Examined) (act : VolumeAct) → Tight examined.cells cells act examined.refused → Told examined.cells cells act examined.refused
           → IfSome examined.refused (logical.IsRunFault faults (old.logical).settings (old.logical).number j (old.logical).replicas (new.logical).replicas)
           → Behind (step_made j examined) act → Found Tells files PieceTells faults fuses tag old (Some act) (λ volume. StepAnswer volume tag j cells examined)
-      step_found cells examined act told cause is opened held h tells k s volume at a b holding =
-          stopped_as examined.cells cells act (step_goes cells examined act told is) opened held h k volume at tells s a b holding examined.refused told cause is
+      step_found cells examined act tight told cause is opened held h tells k s volume at a b holding =
+          stopped_as examined.cells cells act (step_goes cells examined act tight told is) opened held h k volume at tells s a b holding examined.refused told cause is
 
-      pub step_failed : (cells : ℕ) (examined : Examined) (act : VolumeAct) → Told examined.cells cells act examined.refused
+      pub step_failed : (cells : ℕ) (examined : Examined) (act : VolumeAct) → Tight examined.cells cells act examined.refused → Told examined.cells cells act examined.refused
           → IfSome examined.refused (logical.IsRunFault faults (old.logical).settings (old.logical).number j (old.logical).replicas (new.logical).replicas)
           → Behind (step_made j examined) act → (m f : ℕ) → examined.refused ≡ Some (Failed m f)
           → FoundAlways Tells files PieceTells faults fuses tag old (Some act) (λ volume. FailedHere volume tag j m f)
-      step_failed cells examined act told cause is m f fault opened held h k volume at a b holding =
-          let failed = failed_now examined.cells cells act (step_goes cells examined act told is) opened held h k volume at m f
+      step_failed cells examined act tight told cause is m f fault opened held h k volume at a b holding =
+          let failed = failed_now examined.cells cells act (step_goes cells examined act tight told is) opened held h k volume at m f
           (subst (λ (o : Option LogicalFault). IfSome o (logical.IsRunFault faults (old.logical).settings (old.logical).number j (old.logical).replicas (new.logical).replicas)) fault cause) in
           (failed.0, record { held = held; made = Some act; holding = holding; is = failed.1 })

@@ -1,6 +1,5 @@
 -- What the swap of a compaction's files is found to be, as a step of a lane.
-use Rattle.std.proofs.Common.{◌≡◌, ℕ, ◌+◌, ◌<◌, ◌≤◌, List, length, Option, Some, None, refl, sym, ap, subst, ◌∙◌, arith}
-use Rattle.std.specs.Prelude.{slice_index_or}
+use Rattle.std.proofs.Common.{◌≡◌, ℕ, ◌+◌, ◌<◌, ◌≤◌, length, Option, Some, None, refl, sym, ap, subst, ◌∙◌, arith}
 use Rattle.hay_core.specs.declared.entry.CoreTag.{CoreTag}
 use Rattle.hay_disk.specs.Disk.{Files}
 use Rattle.hay_legal.specs.declared.known.Run.{Run}
@@ -8,27 +7,18 @@ use Rattle.hay_legal.specs.declared.known.VolumeKnown.{VolumeKnown}
 use Rattle.hay_legal.specs.Known.{replica_at}
 use Rattle.hay_legal.specs.Plain.{first_machine, frozen_by, swapped}
 use Rattle.hay_history.specs.Steps.{MayHaveSizes, Standing}
-use Rattle.hay_history.specs.Steps.Did.{Swaps}
-use Rattle.hay_logical.specs.Answers.{HasSizes, IsFinished, IsLoose, change_at}
+use Rattle.hay_logical.specs.Answers.{HasSizes, IsFinished, IsLoose, IsTight, IsTightened, change_at}
 use Rattle.hay_logical.specs.Fits.{At, RunsAs, copier_run}
 use Rattle.hay_logical.specs.Stands.{ReplicaStands, Stands, StandsBy, TakesChanges}
 use Rattle.hay_logical.specs.Volumes.{Volume}
 use Rattle.hay_logical.proofs.Lists.{at_there}
-use Rattle.hay_meeting.specs.declared.act.VolumeAct.{VolumeAct}
-use Rattle.hay_meeting.specs.Acts.{did_of, is_frozen_then, nobody}
-use Rattle.hay_meeting.specs.Sights.{stood}
-use Rattle.hay_holdings.specs.Volumes.{IsTightSince, Swapped}
 use Rattle.hay_physical.specs.Copies.{Copy}
 use Rattle.hay_physical.specs.Runs as runs
 use Rattle.hay_physical.proofs.Laws.{run_next}
-use Rattle.hay_volume_lock.specs.Answers.{Found, IsAt, StoreVolume}
-use Rattle.hay_volume_lock.specs.Compactions.{MayGoOn}
-use Rattle.hay_volume_lock.specs.Keeping.{IsKept, stood_of}
 use Rattle.hay_volume_lock.specs.declared.act.Made.TheVariants as made_is
 use Rattle.hay_volume_lock.specs.declared.guarded.Guarded.{Guarded}
-use Rattle.hay_volume_lock.specs.declared.guarded.Opened.{Opened}
-use Rattle.hay_volume_lock.proofs.Growing.{LeadsTo}
-use Rattle.hay_volume_lock.proofs.Holding.{stood_is}
+use Rattle.hay_volume_lock.proofs.Finishing.{frozen_known}
+use Rattle.hay_volume_lock.proofs.Growing.{LeadsTo, ended_there, tight_ended, tight_frozen}
 
 -- WHAT IS KNOWN
 
@@ -59,6 +49,14 @@ module _ {D P : Type 0} (files : D → Files) (Tells : Type 0) (volume : Volume 
       let a = one r.0 r.1 is.stored is.stands in
       let b = other r.0 r.1 is.stored is.stands in
       (a.0 ∙ sym b.0, a.1 ∙ sym b.1)
+
+-- what a compaction that was tight gave a replica is just what stood
+pub tight_swap : {D P : Type 0} (files : D → Files) (Tells : Type 0) (k : VolumeKnown) (j end cells : ℕ) (new : Volume D P) → k.frozen ≡ None → j < (new.settings).replicas
+    → IsTightened files Tells k j new → ((r : Copy D) → At new.replicas j r → HasSizes files r end cells) → IsTight k j end cells
+tight_swap files Tells k j end cells new thawed less tightened sizes =
+    let swaps = tightened.swaps in
+    let same = same_sizes files Tells new (change_at k j (swapped swaps.0 swaps.1)) swaps.3 thawed j less swaps.0 swaps.1 end cells tightened.sizes sizes in
+    subst (λ (n : ℕ). IsTight k j end n) same.1 (subst (λ (n : ℕ). IsTight k j n swaps.1) same.0 swaps.2)
 
 -- A swap of replica j gave it this end and so many cells.
 pub record IsSwap {D P : Type 0} (files : D → Files) (Tells : Type 0) (k : VolumeKnown) (j g end cells : ℕ) (new : Volume D P) : Type 0 where
@@ -94,53 +92,26 @@ is_swap files Tells k j g end cells old new stands less less' finished sizes =
 -- AS A STEP
 
 module _ {D P : Type 0} (Tells : Type 0) (files : D → Files) (PieceTells : Type 0) (faults fuses : D → ℕ) (tag : CoreTag) (old : Guarded D P) (j g end cells : ℕ) (within : j < ((old.logical).settings).replicas) where
-  abbrev owner : CoreTag
-  owner = slice_index_or old.begun j nobody
-
-  abbrev Kept : Opened D P → List VolumeAct → Type 0
-  Kept opened held = IsKept Tells files PieceTells faults fuses opened held old
-
   abbrev Stood : VolumeKnown → Type 0
   Stood k = Stands files PieceTells old.logical k
 
-  pub swap_leads : (new : Guarded D P) (before : Standing) → IsSwap files PieceTells before.volume j g end cells new.logical
+  pub swap_leads : (new : Guarded D P) (before : Standing) → Stood before.volume → length (new.logical).replicas ≡ length (old.logical).replicas
+      → ((new.logical).frozen ≡ None → (i : ℕ) → (i ≡ j → ⊥) → (r r' : Copy D) → At (old.logical).replicas i r → At (new.logical).replicas i r' → r' ≡ r) → IsSwap files PieceTells before.volume j g end cells new.logical
       → LeadsTo Tells files PieceTells faults fuses tag old new (made_is.Swaps j end cells None) before
-  swap_leads new before swap = record {
+  swap_leads new before s count others swap = record {
     leads = (swap.thawed, within, (swap.run, swap.stood, swap.goal, swap.most), swap.sizes, refl);
     stands = swap.stands;
+    tight = tight_ended files tag (made_is.Swaps j end cells None) old new before j count others (λ i begins. absurd (cc begins))
+        (ended_there files PieceTells old.logical before.volume s j within (swapped end cells) (λ r. refl));
   }
 
   -- the volume was frozen besides
   pub froze_leads : (mid : Volume D P) (new : Guarded D P) (before : Standing) → IsSwap files PieceTells before.volume j g end cells mid
       → Stands files PieceTells new.logical (frozen_by (first_machine (old.logical).settings (old.logical).number) (change_at before.volume j (swapped end cells)))
       → LeadsTo Tells files PieceTells faults fuses tag old new (made_is.Swaps j end cells (Some (first_machine (old.logical).settings (old.logical).number))) before
-  froze_leads mid new before swap stands = record {
-    leads = (swap.thawed, within, (swap.run, swap.stood, swap.goal, swap.most), swap.sizes, refl);
-    stands = stands;
-  }
-
-  -- it is such a call, where the sizes are tight if no entry came since it began
-  pub swap_found : (frozen : Option ℕ) (act : VolumeAct) → did_of act.did ≡ Swaps j end cells (is_frozen_then frozen)
-      → (Tells → (k : VolumeKnown) → Stood k → MayGoOn k j tag.lane owner × (g ≡ (replica_at k j).generation + 1))
-      → ((opened : Opened D P) (held : List VolumeAct) → Kept opened held → Tells → (k : VolumeKnown) → Stands files PieceTells opened.volume k → (volume : StoreVolume) → IsAt faults fuses opened k volume
-      → IsTightSince volume.settings volume.start volume.number j end cells held)
-      → Found Tells files PieceTells faults fuses tag old (Some act)
-      (λ volume. Swapped volume.settings volume.start volume.number tag j owner g end cells (is_frozen_then frozen))
-  swap_found frozen act did known tight opened held h tells k s volume at a b holding =
-      let there : stood_of faults fuses opened k held ≡ stood volume.start volume.number held = stood_is faults fuses opened k volume held at in
-      let now = known tells (stood_of faults fuses opened k held).volume (h.stands tells k s) in
-      record {
-        held = held;
-        made = Some act;
-        holding = holding;
-        is = (
-          did,
-          record {
-            run = ((now.0).stands).0;
-            stands = sym (ap (λ (z : Standing). (replica_at z.volume j).run) there) ∙ ((now.0).stands).1;
-            begun = sym (h.begun j (subst (λ z. j < z.replicas) h.same_settings within));
-          },
-          now.1 ∙ ap (λ (z : Standing). (replica_at z.volume j).generation + 1) there,
-          tight opened held h tells k s volume at,
-        );
+  froze_leads mid new before swap stands =
+      let m : ℕ = first_machine (old.logical).settings (old.logical).number in record {
+        leads = (swap.thawed, within, (swap.run, swap.stood, swap.goal, swap.most), swap.sizes, refl);
+        stands = stands;
+        tight = tight_frozen files tag (made_is.Swaps j end cells (Some m)) old new before m (sym (frozen_known files PieceTells new.logical (frozen_by m (change_at before.volume j (swapped end cells))) stands));
       }

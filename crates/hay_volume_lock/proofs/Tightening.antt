@@ -23,7 +23,7 @@ use Rattle.hay_meeting.proofs.Standings.{extends, follows_behind, follows_first,
 use Rattle.hay_turn.proofs.Prefixes.{prefix_trans}
 use Rattle.hay_holdings.specs.Volumes.{HasRunOf, IsTightSince}
 use Rattle.hay_volume_lock.specs.Since.{SinceBegun}
-use Rattle.hay_volume_lock.proofs.Growing.{doings_more}
+use Rattle.hay_volume_lock.proofs.Doings.{doings_more}
 use Rattle.hay_volume_lock.proofs.Losing.{none_stays, some_or_none}
 
 -- an act that adds no entry to the log

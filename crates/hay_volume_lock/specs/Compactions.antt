@@ -12,11 +12,6 @@ use Rattle.hay_logical.specs.declared.fault.LogicalFault.TheVariants.{Busy, Dama
 use Rattle.hay_logical.specs.Stands.{Stands}
 use Rattle.hay_logical.specs.Volumes.{Volume}
 use Rattle.hay_holdings.specs.Volumes.{Call, FailedAct, HasRunOf, MetFrozen, MetIdle, RunFailed, RunWanted, Stepped, SwapFailed, VolumeCall}
-use Rattle.hay_core.specs.declared.entry.Entry.{Entry}
-use Rattle.hay_meeting.specs.declared.act.VolumeAct.{VolumeAct}
-use Rattle.hay_meeting.specs.Acts.{volume_lock}
-use Rattle.hay_meeting.specs.Locks.{LockSight}
-use Rattle.hay_turn.specs.Acts.{acts_of}
 use Rattle.hay_volume_lock.specs.Answers.{Never, StoreVolume, Where}
 use Rattle.hay_volume_lock.specs.declared.act.Made.{Made}
 use Rattle.hay_volume_lock.specs.declared.act.Made.TheVariants as made
@@ -36,6 +31,19 @@ Examines files Tells k j run cells old new n (Some (Full m end need capacity)) =
 Examines files Tells k j run cells old new n (Some (Gone front)) = ⊥
 Examines files Tells k j run cells old new n (Some (Busy m g)) = ⊥
 Examines files Tells k j run cells old new n (Some (Worn m)) = ⊥
+
+-- a step that nothing stopped, or want of memory alone
+abbrev pub StillGoes : Option LogicalFault → Type 0
+StillGoes None = Unit {0}
+StillGoes (Some NoMemory) = Unit {0}
+StillGoes (Some (Failed m f)) = ⊥
+StillGoes (Some (ReadOnly m)) = ⊥
+StillGoes (Some Idle) = ⊥
+StillGoes (Some (Damaged m at)) = ⊥
+StillGoes (Some (Full m end need capacity)) = ⊥
+StillGoes (Some (Gone front)) = ⊥
+StillGoes (Some (Busy m g)) = ⊥
+StillGoes (Some (Worn m)) = ⊥
 
 -- The volume is frozen, or no compaction of the replica stands that a line of this lane began.
 abbrev pub IsBarred : VolumeKnown → ℕ → ℕ → CoreTag → LogicalFault → Type 0
@@ -89,10 +97,6 @@ unswapped_made j (Gone front) frozen = made.Tries
 unswapped_made j (Busy m g) frozen = made.Tries
 unswapped_made j (Worn m) frozen = made.Tries
 
--- the acts of the line's lane that were seen are its own
-abbrev pub IsOwnSight : CoreTag → LockSight VolumeAct Entry → Type 0
-IsOwnSight tag a = acts_of volume_lock.seat tag.lane a.seen ≡ a.own
-
 module _ (volume : StoreVolume) (tag : CoreTag) where
   -- of a compaction that a line of this lane began
   abbrev pub OfLane : (CoreTag → VolumeCall) → VolumeCall
@@ -100,7 +104,7 @@ module _ (volume : StoreVolume) (tag : CoreTag) where
 
   -- of the line's own compaction, which stood behind all that its lane had seen
   abbrev pub OfOwn : ℕ → VolumeCall → VolumeCall
-  OfOwn j Is a b = IsOwnSight tag a → IsOwnSight tag b → HasRunOf volume.settings volume.start volume.number j tag a.seen → Is a b
+  OfOwn j Is a b = HasRunOf volume.settings volume.start volume.number j tag a.seen → Is a b
 
   -- a call of the disk of replica j failed in the act
   abbrev pub FailedHere : ℕ → ℕ → ℕ → VolumeCall

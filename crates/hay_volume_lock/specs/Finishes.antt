@@ -1,13 +1,11 @@
 -- What the ends of compactions answer, as steps of a lane.
-use Rattle.std.specs.Prelude.{◌≡◌, ℕ, ◌+◌, Bool, List, Option, Some, None, Result, Ok, Err}
+use Rattle.std.specs.Prelude.{◌≡◌, ℕ, List, Option, Some, None, Result, Ok, Err}
 use Rattle.hay_core.specs.declared.entry.CoreTag.{CoreTag}
 use Rattle.hay_legal.specs.declared.known.VolumeKnown.{VolumeKnown}
 use Rattle.hay_legal.specs.Known.{replica_at}
-use Rattle.hay_history.specs.Steps.Did.{Swaps}
 use Rattle.hay_logical.specs.declared.fault.LogicalFault.{LogicalFault}
 use Rattle.hay_logical.specs.declared.fault.LogicalFault.TheVariants.{Busy, Damaged, Failed, Full, Gone, Idle, NoMemory, ReadOnly, Worn}
-use Rattle.hay_meeting.specs.Facts.{volume_stood}
-use Rattle.hay_holdings.specs.Volumes.{Call, HasRunOf, MadeOne, MetFrozen, MetIdle, RunDeleted, RunFrozen, VolumeCall}
+use Rattle.hay_holdings.specs.Volumes.{MetFrozen, MetIdle, RunDeleted, RunFrozen, Swapped, Switched, VolumeCall}
 use Rattle.hay_volume_lock.specs.Answers.{Never, StoreVolume}
 use Rattle.hay_volume_lock.specs.Compactions.{OfLane, OfOwn, Unswapped}
 use Rattle.hay_volume_lock.specs.Ended.{ended_at}
@@ -24,13 +22,6 @@ IsLost k j tag begun ended (lost.Deleted f) = (k.frozen ≡ None) × (begun ≡ 
 IsLost k j tag begun ended lost.Idle = (k.frozen ≡ None) × (begun ≡ tag → (replica_at k j).run ≡ None) × (ended_at ended j tag.lane ≡ None)
 
 module _ (volume : StoreVolume) (tag : CoreTag) where
-  -- the files of the compaction that the line `who` began are the current ones, of these sizes
-  abbrev pub Switched : ℕ → ℕ → ℕ → ℕ → Bool → CoreTag → VolumeCall
-  Switched j g end cells frozen who =
-      Call volume.settings volume.start volume.number tag (λ held made.
-      MadeOne (Swaps j end cells frozen) made × HasRunOf volume.settings volume.start volume.number j who held
-      × (g ≡ (replica_at (volume_stood volume.start volume.number held) j).generation + 1))
-
   abbrev pub FinishRefused : ℕ → LogicalFault → Option ℕ → VolumeCall
   FinishRefused j (ReadOnly m) frozen = MetFrozen volume.settings volume.start volume.number tag m
   FinishRefused j Idle frozen = MetIdle volume.settings volume.start volume.number tag j
@@ -43,7 +34,8 @@ module _ (volume : StoreVolume) (tag : CoreTag) where
   FinishRefused j (Worn m) frozen = Never
 
   abbrev pub FinishAnswer : ℕ → Result Finished Unfinished → VolumeCall
-  FinishAnswer j (Ok finished) a b = (end : ℕ) × (cells : ℕ) × OfLane volume tag (Switched j finished.generation end cells finished.frozen) a b
+  FinishAnswer j (Ok finished) a b =
+      (end : ℕ) × (cells : ℕ) × OfLane volume tag (λ who. Switched volume.settings volume.start volume.number tag j who finished.generation end cells finished.frozen) a b
   FinishAnswer j (Err unfinished) a b = FinishRefused j unfinished.fault unfinished.frozen a b
 
   -- OF THE LINE'S OWN, which stood behind all that its lane had seen
@@ -55,7 +47,8 @@ module _ (volume : StoreVolume) (tag : CoreTag) where
   CompactRefused j lost.Idle = OfOwn volume tag j Never
 
   abbrev pub Compacts : ℕ → Finished → VolumeCall
-  Compacts j finished a b = (end : ℕ) × (cells : ℕ) × Switched j finished.generation end cells finished.frozen tag a b
+  Compacts j finished a b =
+      (end : ℕ) × (cells : ℕ) × Swapped volume.settings volume.start volume.number tag j tag finished.generation end cells finished.frozen a b
 
   abbrev pub CompactAnswer : ℕ → Result Finished Uncompacted → VolumeCall
   CompactAnswer j (Ok finished) = OfOwn volume tag j (Compacts j finished)

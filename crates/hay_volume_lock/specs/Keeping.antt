@@ -1,5 +1,5 @@
 -- What stands behind the lock.
-use Rattle.std.specs.Prelude.{◌≡◌, ℕ, ◌<◌, ◌==◌, Bool, false, List, [], ◌∷◌, ◌++◌, true, slice_index_or, map, Option, Some, None, if◌then◌else◌, fold}
+use Rattle.std.specs.Prelude.{◌≡◌, ℕ, ◌<◌, ◌≤◌, ◌==◌, Bool, false, List, [], ◌∷◌, ◌++◌, true, slice_index_or, map, Option, Some, None, if◌then◌else◌, fold}
 use mathlib.Core.List.{IsPrefix}
 use Rattle.std.specs.List.{AllByRecursion as Each}
 use Rattle.hay_core.specs.declared.entry.CoreTag.{CoreTag}
@@ -11,7 +11,7 @@ use Rattle.hay_legal.specs.declared.known.VolumeKnown.{VolumeKnown}
 use Rattle.hay_history.specs.Steps.{Did, Follows, HasRun, Standing}
 use Rattle.hay_history.specs.Steps.Did.{Begins, Ends, Entered, Examines, Flushes, Freezes, Fuses, Pends, Poises, Sticks, Swaps, Tries}
 use Rattle.hay_history.specs.Histories.{begun_in}
-use Rattle.hay_logical.specs.Stands.{Stands}
+use Rattle.hay_logical.specs.Stands.{IsTightAt, Stands}
 use Rattle.hay_logical.specs.Volumes.{IsOfSettings, IsOpenVolume, Volume}
 use Rattle.hay_map.specs.MapRows.{MapRows}
 use Rattle.hay_map.specs.Rows.{row_at}
@@ -28,6 +28,7 @@ use Rattle.hay_views.specs.declared.places.Published.{Published}
 use Rattle.hay_views.specs.MapPasts.{begun_at, entered_by, row_of, with_published}
 use Rattle.hay_volume_lock.specs.Acts.{counts}
 use Rattle.hay_volume_lock.specs.Ended.{ended_at}
+use Rattle.hay_volume_lock.specs.Since.{SinceBegun}
 use Rattle.hay_volume_lock.specs.declared.guarded.Guarded.{Guarded}
 use Rattle.hay_volume_lock.specs.declared.guarded.Opened.{Opened}
 
@@ -127,6 +128,7 @@ module _ {D P : Type 0} (Tells : Type 0) (files : D → Files) (PieceTells : Typ
     -- the counts of each disk, whatever it tells
     pub fault_counts : (k : VolumeKnown) (j : ℕ) → (stood_of faults fuses opened k acts).faults j ≡ count_at faults (kept.logical).replicas j
     pub fuse_counts : (k : VolumeKnown) (j : ℕ) → (stood_of faults fuses opened k acts).fuses j ≡ count_at fuses (kept.logical).replicas j
+    pub rises : (j : ℕ) → count_at faults (opened.volume).replicas j ≤ count_at faults (kept.logical).replicas j
     pub front : ((kept.front).shown).front ≡ (opened.view).front
     pub base : ((kept.front).shown).base ≡ (opened.view).base
     pub entered : entered_by ((kept.front).shown).deeds ≡ entries volume_lock acts
@@ -145,6 +147,9 @@ module _ {D P : Type 0} (Tells : Type 0) (files : D → Files) (PieceTells : Typ
         → EndsOwn (did_of (doing.act).did) j → (doing.act).seat ≡ (begun_of j nobody doing.held).lane
     pub cuts : Tells → (k : VolumeKnown) → Stands files PieceTells opened.volume k → (doing : Doing VolumeAct) → IsPrefix (past doing) acts → (j : ℕ)
         → ends_at j (doing.act).did ≡ true → (run : Run) × HasRun (stood_of faults fuses opened k doing.held) j run
+    -- a compaction since whose beginning no entry came has copied just what stands
+    pub tight : Tells → (kept.logical).frozen ≡ None → (k : VolumeKnown) → Stands files PieceTells opened.volume k → (j : ℕ)
+        → SinceBegun (standing_of faults fuses opened k) j acts (IsTightAt files kept.logical j)
 
   -- a holding for the line made this act, or none; a view shows nothing of it
   pub record GoesOn (tag : CoreTag) (old new : Guarded D P) (made : Option VolumeAct) : Type 0 where

@@ -6,6 +6,7 @@ pub mod Deletes
 pub mod Ended
 pub mod Finishes
 pub mod Keeping
+pub mod Refusing
 pub mod Opening
 pub mod Rows
 pub mod Seats

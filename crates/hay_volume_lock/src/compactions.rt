@@ -4,11 +4,14 @@ ghost use Rattle.hay_legal.specs.declared.known.Run.{Run};
 ghost use Rattle.hay_legal.specs.declared.known.VolumeKnown.{VolumeKnown};
 ghost use Rattle.hay_legal.specs.Known.{replica_at};
 ghost use Rattle.hay_logical.specs.Answers.{IsRunFault};
-ghost use Rattle.hay_logical.specs.Stands.{Stands};
+ghost use Rattle.hay_logical.specs.Fits.{At};
+ghost use Rattle.hay_logical.specs.Stands.{IsTightAt, Stands};
 ghost use Rattle.hay_logical.specs.Volumes.{IsOpenVolume, IsSame, KeepsCounts};
+ghost use Rattle.hay_physical.specs.Copies.{Copy};
 ghost use Rattle.hay_volume_lock.specs.Acts.{act_of};
 ghost use Rattle.hay_volume_lock.specs.Answers.{IsAlways, IsTold, OneHolding};
-ghost use Rattle.hay_volume_lock.specs.Compactions.{Examines, FailedHere, IsBarred, MayGoOn, StepAnswer, step_made};
+ghost use Rattle.hay_volume_lock.specs.Compactions.{Examines, FailedHere, IsBarred, MayGoOn, StepAnswer, StillGoes, step_made};
+ghost use Rattle.hay_volume_lock.specs.Refusing.{OfOpened, RefusesRun};
 ghost use Rattle.hay_volume_lock.specs.Seats.{HasReplica, IsSameSeat, MayAct};
 
 use crate::act::{Act, Made};
@@ -38,6 +41,7 @@ pub(crate) fn barred<D: Disk>(
     ensures barred { D.Tells → (k : VolumeKnown) → Stands D.files D.Piece.Tells logical.now k → IfSome result (IsBarred k replica lane begun) }
     ensures free { D.Tells → (k : VolumeKnown) → Stands D.files D.Piece.Tells logical.now k → IfNone result (MayGoOn k replica lane begun) }
     ensures own { IfNone result (begun.lane ≡ lane) }
+    ensures refusals { IfSome result (RefusesRun logical.now.settings logical.now.number replica) }
     ensures quiet { (m f : ℕ) → result ≡ Some (LogicalFault.Failed m f) → ⊥ }
 {
     if let Some(machine) = logical.frozen() {
@@ -59,6 +63,9 @@ fn examine<D: Disk>(logical: &mut Logical<D>, replica: u32, cells: u32) -> Exami
     ensures told { D.Tells → (k : VolumeKnown) (run : Run) → Stands D.files D.Piece.Tells logical.old k → k.frozen ≡ None → (replica_at k replica).run ≡ Some run →
         Examines D.files D.Piece.Tells k replica run cells logical.old logical.new result.cells result.refused }
     ensures causes { IfSome result.refused (IsRunFault D.fault_count logical.old.settings logical.old.number replica logical.old.replicas logical.new.replicas) }
+    ensures tight { D.Tells → (k : VolumeKnown) (run : Run) → Stands D.files D.Piece.Tells logical.old k → k.frozen ≡ None → (replica_at k replica).run ≡ Some run →
+        StillGoes result.refused → (j : ℕ) → IsTightAt D.files logical.old j → IsTightAt D.files logical.new j }
+    ensures others { (j : ℕ) → (j ≡ replica → ⊥) → (r r' : Copy D) → At logical.old.replicas j r → At logical.new.replicas j r' → r' ≡ r }
     ensures still { logical.new ≡ record logical.old { replicas = logical.new.replicas } }
     ensures open { IsOpenVolume logical.new }
     ensures counts { KeepsCounts D.fault_count D.fuse_count logical.old.replicas logical.new.replicas }
@@ -122,6 +129,7 @@ impl<D: Disk<Piece = P> + Send + Sync, P: Piece + Send + Sync> VolumeLock<D, P> 
         ensures stepped { IsTold D.Tells D.files P.Tells D.fault_count D.fuse_count seat.old.start (λ volume. StepAnswer volume tag replica cells result seat.old.sight seat.new.sight) }
         ensures causes { (m f : ℕ) → result.refused ≡ Some (LogicalFault.Failed m f) →
             IsAlways D.fault_count D.fuse_count seat.old.start (λ volume. FailedHere volume tag replica m f seat.old.sight seat.new.sight) }
+        ensures refusals { OfOpened seat.old.start (λ settings v. IfSome result.refused (RefusesRun settings v replica)) }
         ensures held { OneHolding tag seat.old.sight seat.new.sight }
         ensures same { IsSameSeat seat.old seat.new }
     {

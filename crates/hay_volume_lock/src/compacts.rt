@@ -1,5 +1,5 @@
 //! Compactions at a seat: how a line's own ends.
-ghost use Rattle.std.specs.Prelude.{◌≡◌, ◌<◌, ◌↔◌, ℕ, false, Option, Some, None, Err, IfSome, IfNone, IsTrue};
+ghost use Rattle.std.specs.Prelude.{◌≡◌, ◌<◌, ◌↔◌, ℕ, false, Option, Some, None, Err, IfErr, IfSome, IfNone, IsTrue};
 ghost use Rattle.hay_legal.specs.declared.known.VolumeKnown.{VolumeKnown};
 ghost use Rattle.hay_legal.specs.Known.{replica_at};
 ghost use Rattle.hay_logical.specs.Answers.{IsRunning};
@@ -8,6 +8,7 @@ ghost use Rattle.hay_logical.specs.Volumes.{IsOpenVolume};
 ghost use Rattle.hay_volume_lock.specs.Answers.{IsAlways, IsTold, OneHolding};
 ghost use Rattle.hay_volume_lock.specs.Compactions.{FailedHere, MayGoOn};
 ghost use Rattle.hay_volume_lock.specs.Finishes.{CompactAnswer, IsLost};
+ghost use Rattle.hay_volume_lock.specs.Refusing.{OfOpened, RefusesEnd};
 ghost use Rattle.hay_volume_lock.specs.Seats.{HasReplica, IsSameSeat, MayAct};
 ghost use Rattle.hay_volume_lock.specs.declared.refusals.Uncompacted.TheVariants as lost_as;
 ghost use Rattle.hay_volume_lock.specs.declared.refusals.Unfinished.{Unfinished as RefusedSo};
@@ -63,6 +64,7 @@ fn lost<D: Disk>(
     ensures lost { D.Tells → (k : VolumeKnown) → Stands D.files D.Piece.Tells logical.now k → IfSome result (IsLost k replica tag begun ended.now) }
     ensures free { D.Tells → (k : VolumeKnown) → Stands D.files D.Piece.Tells logical.now k → IfNone result (MayGoOn k replica tag.lane begun) }
     ensures own { IfNone result (begun ≡ tag) }
+    ensures refusals { IfSome result (RefusesEnd logical.now.settings logical.now.number replica) }
     ensures quiet { (unfinished : RefusedSo) → result ≡ Some (lost_as.Unfinished unfinished) → ⊥ }
 {
     if let Some(machine) = logical.frozen() {
@@ -93,6 +95,7 @@ impl<D: Disk<Piece = P> + Send + Sync, P: Piece + Send + Sync> VolumeLock<D, P> 
         ensures compacted { IsTold D.Tells D.files P.Tells D.fault_count D.fuse_count seat.old.start (λ volume. CompactAnswer volume tag replica result seat.old.sight seat.new.sight) }
         ensures causes { (m f : ℕ) (frozen : Option ℕ) → result ≡ Err (lost_as.Unfinished (record { fault = LogicalFault.Failed m f; frozen = frozen })) →
             IsAlways D.fault_count D.fuse_count seat.old.start (λ volume. FailedHere volume tag replica m f seat.old.sight seat.new.sight) }
+        ensures refusals { OfOpened seat.old.start (λ settings v. IfErr result (RefusesEnd settings v replica)) }
         ensures held { OneHolding tag seat.old.sight seat.new.sight }
         ensures same { IsSameSeat seat.old seat.new }
     {

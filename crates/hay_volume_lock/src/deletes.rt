@@ -1,5 +1,5 @@
 //! Deletes at a seat.
-ghost use Rattle.std.specs.Prelude.{◌≡◌, ◌≤◌, ◌<◌, ◌∷◌, [], ℕ, length, map, Err};
+ghost use Rattle.std.specs.Prelude.{◌≡◌, ◌≤◌, ◌<◌, ◌∷◌, [], ℕ, length, map, IfErr, Err};
 ghost use Rattle.hay_core.specs.declared.entry.Entry.TheVariants as change;
 ghost use Rattle.hay_logical.specs.Answers.{has_ended};
 ghost use Rattle.hay_physical.specs.Copies.{goal_of};
@@ -8,6 +8,7 @@ ghost use Rattle.hay_volume_lock.specs.Acts.{counts};
 ghost use Rattle.hay_volume_lock.specs.Changes.{DiskFailed};
 ghost use Rattle.hay_volume_lock.specs.Deletes.{DeleteAnswer, delete_made, noted, over_since};
 ghost use Rattle.hay_volume_lock.specs.Ended.{ended_at};
+ghost use Rattle.hay_volume_lock.specs.Refusing.{OfOpened, RefusesDelete};
 ghost use Rattle.hay_volume_lock.specs.Seats.{IsSameSeat, MayAct};
 
 use crate::act::{Act, Made};
@@ -149,6 +150,7 @@ impl<D: Disk<Piece = P> + Send + Sync, P: Piece + Send + Sync> VolumeLock<D, P> 
         ensures deleted { IsTold D.Tells D.files P.Tells D.fault_count D.fuse_count seat.old.start (λ volume. DeleteAnswer volume tag pair result seat.old.sight seat.new.sight) }
         ensures causes { (m f : ℕ) → result ≡ Err (LogicalFault.Failed m f) →
             IsAlways D.fault_count D.fuse_count seat.old.start (λ volume. DiskFailed volume tag m f seat.old.sight seat.new.sight) }
+        ensures refusals { OfOpened seat.old.start (λ settings v. IfErr result (RefusesDelete settings v)) }
         ensures held { OneHolding tag seat.old.sight seat.new.sight }
         ensures same { IsSameSeat seat.old seat.new }
     {

@@ -23,8 +23,8 @@
 //! change, and what it tells; `Putting` and `Seeing` are puts and places that are seen, `Deleting` and `Erasing` deletes, which see
 //! each place first within the same holding. `Examining` and `Stepping` are steps of a compaction, `Finishing` how one ends without a
 //! swap, `Swapping`, `Moving` and `Ending` the laws of a swap and of the places that it publishes, `Losing` and `Lost` how a line finds its
-//! compaction ended by other lanes, and `Tightening` what holds of one since whose beginning no entry came: what a swap tells
-//! of sizes is not here yet.
+//! compaction ended by other lanes, `Owning` what is told of the line's own one, and `Tightening` what holds of one since whose
+//! beginning no entry came, so that a swap tells its sizes. `Doings` has acts with one more.
 #![tactic(auto)]
 
 mod act;

@@ -1,8 +1,11 @@
 //! The lock, and the calls at a seat.
-ghost use Rattle.std.specs.Prelude.{◌≡◌, ℕ, Option, Err};
+ghost use Rattle.std.specs.Prelude.{◌≡◌, ℕ, Option, Err, IfErr, IfSome};
 ghost use Rattle.hay_core.specs.declared.entry.CoreTag.{CoreTag};
 ghost use Rattle.hay_holdings.specs.Volumes.{Fused};
+ghost use Rattle.hay_logical.specs.Answers.{IsRoomFault};
+ghost use Rattle.hay_logical.specs.Volumes.{IsMachineOf};
 ghost use Rattle.hay_volume_lock.specs.Answers.{BeginAnswer, FailedLook, FlushAnswer, FlushRefused, FrozenAnswer, IsAlways, IsTold, OneHolding, RoomAnswer};
+ghost use Rattle.hay_volume_lock.specs.Refusing.{OfOpened, RefusesBegin, RefusesFlush};
 ghost use Rattle.hay_volume_lock.specs.Seats.{HasReplica, IsSameSeat, MayAct, Rests};
 
 use crate::act::{Act, Made};
@@ -36,6 +39,7 @@ impl<D: Disk<Piece = P> + Send + Sync, P: Piece + Send + Sync> VolumeLock<D, P> 
     pub fn frozen<R: Wait>(&self, rt: &R, seat: &mut VolumeSeat<D, P>) -> Option<u32>
         requires rests { Rests self.now seat.old }
         ensures frozen { (tag : CoreTag) → IsTold D.Tells D.files P.Tells D.fault_count D.fuse_count seat.old.start (λ volume. FrozenAnswer volume tag result seat.old.sight seat.new.sight) }
+        ensures on { OfOpened seat.old.start (λ settings v. IfSome result (IsMachineOf settings v)) }
         ensures held { (tag : CoreTag) → OneHolding tag seat.old.sight seat.new.sight }
         ensures same { IsSameSeat seat.old seat.new }
     {
@@ -55,6 +59,7 @@ impl<D: Disk<Piece = P> + Send + Sync, P: Piece + Send + Sync> VolumeLock<D, P> 
     ) -> Result<(), LogicalFault>
         requires rests { Rests self.now seat.old }
         ensures room { (tag : CoreTag) → IsTold D.Tells D.files P.Tells D.fault_count D.fuse_count seat.old.start (λ volume. RoomAnswer volume tag size result seat.old.sight seat.new.sight) }
+        ensures refusals { OfOpened seat.old.start (λ settings v. IfErr result (IsRoomFault settings v)) }
         ensures held { (tag : CoreTag) → OneHolding tag seat.old.sight seat.new.sight }
         ensures same { IsSameSeat seat.old seat.new }
     {
@@ -79,6 +84,7 @@ impl<D: Disk<Piece = P> + Send + Sync, P: Piece + Send + Sync> VolumeLock<D, P> 
         ensures flushed { IsTold D.Tells D.files P.Tells D.fault_count D.fuse_count seat.old.start (λ volume. FlushAnswer volume tag replica result seat.old.sight seat.new.sight) }
         ensures causes { (m f : ℕ) (frozen : Option ℕ) → result ≡ Err (record { fault = LogicalFault.Failed m f; frozen = frozen }) →
             IsAlways D.fault_count D.fuse_count seat.old.start (λ volume. FlushRefused volume tag replica (LogicalFault.Failed m f) frozen seat.old.sight seat.new.sight) }
+        ensures refusals { OfOpened seat.old.start (λ settings v. IfErr result (λ unflushed. RefusesFlush settings v replica unflushed.fault)) }
         ensures held { OneHolding tag seat.old.sight seat.new.sight }
         ensures same { IsSameSeat seat.old seat.new }
     {
@@ -108,6 +114,7 @@ impl<D: Disk<Piece = P> + Send + Sync, P: Piece + Send + Sync> VolumeLock<D, P> 
         ensures begun { IsTold D.Tells D.files P.Tells D.fault_count D.fuse_count seat.old.start (λ volume. BeginAnswer volume tag replica result seat.old.sight seat.new.sight) }
         ensures causes { (m f : ℕ) → result ≡ Err (LogicalFault.Failed m f) →
             IsAlways D.fault_count D.fuse_count seat.old.start (λ volume. FailedLook volume tag replica m f seat.old.sight seat.new.sight) }
+        ensures refusals { OfOpened seat.old.start (λ settings v. IfErr result (RefusesBegin settings v replica)) }
         ensures held { OneHolding tag seat.old.sight seat.new.sight }
         ensures same { IsSameSeat seat.old seat.new }
     {

@@ -1,10 +1,11 @@
 //! Places that are seen at a seat.
-ghost use Rattle.std.specs.Prelude.{◌≡◌, ◌<◌, ◌↔◌, ◌⊎◌, [], ℕ, length, IsTrue, IfOk, Some, Err};
+ghost use Rattle.std.specs.Prelude.{◌≡◌, ◌<◌, ◌↔◌, ◌⊎◌, [], ℕ, length, IsTrue, IfOk, IfErr, Some, Err};
 ghost use Rattle.hay_compact.specs.Finishing.{IsSeen};
 ghost use Rattle.hay_logical.specs.Steps.{IsSeenBy};
 ghost use Rattle.hay_map.specs.Places.{place_in};
 ghost use Rattle.hay_volume_lock.specs.Answers.{FailedLook, IsAlways, IsTold, OneHolding};
 ghost use Rattle.hay_volume_lock.specs.Changes.{SeeAnswer, freezes_by};
+ghost use Rattle.hay_volume_lock.specs.Refusing.{OfOpened, RefusesSight};
 ghost use Rattle.hay_volume_lock.specs.Seats.{HasReplica, IsSameSeat, MayAct};
 ghost use Rattle.hay_volume_lock.specs.Tries.{tried_made};
 ghost use Rattle.hay_volume_lock.specs.declared.guarded.Opened.{Opened};
@@ -100,6 +101,7 @@ impl<D: Disk<Piece = P> + Send + Sync, P: Piece + Send + Sync> VolumeLock<D, P> 
         // On any disk the place is one that was seen. What `out` has then is its needle, where it was not looked at before.
         ensures sighted { IfOk result (λ looked. IsSeen (place_in looked.row replica)) }
         ensures needle { IfOk result (λ looked. (out.new.items ≡ out.old.items) ⊎ IsSeenBy D.Tells P.Tells out.new.items (place_in looked.row replica)) }
+        ensures refusals { OfOpened seat.old.start (λ settings v. IfErr result (RefusesSight settings v)) }
         ensures held { OneHolding tag seat.old.sight seat.new.sight }
         ensures same { IsSameSeat seat.old seat.new }
     {

@@ -1,6 +1,5 @@
-use Rattle.std.proofs.Common.{◌<◌, ◌≤◌, ◌+◌, ℕ, true, false, length, refl, sym, ap, subst, ◌∙◌, arith}
+use Rattle.std.proofs.Common.{◌<◌, length, sym, ap, ◌∙◌, arith}
 use Rattle.hay_logical.proofs.Lists.{at_there}
-use Rattle.hay_meeting.specs.Acts.{nobody}
 use Rattle.hay_volume_lock.specs.Acts.{counts}
 use Rattle.hay_volume_lock.specs.Ended.{ended_at}
 use Rattle.hay_volume_lock.proofs.Counting.{count_there}

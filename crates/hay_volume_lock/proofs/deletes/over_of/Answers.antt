@@ -1,4 +1,4 @@
-use Rattle.std.proofs.Common.{◌<◌, ◌≤◌, ◌+◌, [], ◌∷◌, None, length, ap, ◌∙◌, arith, length-append}
+use Rattle.std.proofs.Common.{◌<◌, ◌+◌, [], ◌∷◌, None, length, ap, ◌∙◌, arith, length-append}
 use Rattle.std.specs.Prelude.{slice_index_or}
 use Rattle.hay_logical.specs.Answers.{has_ended}
 use Rattle.hay_logical.proofs.Lists.{at_or, at_there}

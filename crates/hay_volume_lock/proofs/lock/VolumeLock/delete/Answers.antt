@@ -1,4 +1,4 @@
-use Rattle.std.proofs.Common.{[], ◌≡◌, ◌<◌, ◌+◌, ℕ, Bool, true, false, List, length, Option, Some, None, Ok, Err, refl, sym, ap, subst, ◌∙◌, arith}
+use Rattle.std.proofs.Common.{[], ◌≡◌, ◌<◌, ℕ, Bool, false, List, length, Option, Some, None, Ok, Err, refl, sym, ap, subst, ◌∙◌, arith}
 use Rattle.std.proofs.lemmas.List.{length-map}
 use Rattle.hay_core.specs.declared.entry.Entry.{Entry}
 use Rattle.hay_core.specs.declared.entry.Entry.TheVariants as change
@@ -24,12 +24,14 @@ use Rattle.hay_volume_lock.specs.Keeping.{IsKept}
 use Rattle.hay_volume_lock.specs.Seats.{IsSeated, Seated}
 use Rattle.hay_volume_lock.specs.Tries.{IsTried}
 use Rattle.hay_volume_lock.proofs.Deleting.{holds_more, over_long}
-use Rattle.hay_volume_lock.proofs.Erasing.{behind_itself, erase_may, erase_refused, erase_shown, erase_unshown, halts_refused, halts_wanted, later_more, made_act, met_frozen, seen_next, seen_set, sees_still, serves_now, settings_now, since, thawed_now}
+use Rattle.hay_volume_lock.proofs.Erasing.{behind_itself, erase_may, erase_refused, erase_shown, erase_unshown, halts_refused, halts_wanted, later_more, made_act, met_frozen, seen_next, seen_set, sees_still, serves_now, settings_now, since, thawed_now, unsure_kept}
 use Rattle.hay_volume_lock.proofs.Holding.{all_there, few_there, is_held, quiet_free, quiet_held, quiet_seated, quiet_told, seat_of}
 use Rattle.hay_volume_lock.proofs.Published.{Fact}
 use Rattle.hay_volume_lock.proofs.Publishing.{changed_always, changed_free, changed_held, changed_mine, changed_seated, changed_told, later_deed, later_same}
 use Rattle.hay_volume_lock.proofs.Seeing.{Sees, row_long, see_shown, seen_may, sees_more, sees_nothing}
 use Rattle.hay_volume_lock.proofs.lock.VolumeLock.delete.Goals.{else-not-is_seen, then-not-is_seen+in-Ok+in-Ok-publish+in-Live-1, then-not-is_seen+in-Ok+in-Ok-publish+in-None-1}
+use Rattle.hay_volume_lock.specs.Refusing.{OfOpened, RefusesDelete}
+use Rattle.hay_volume_lock.proofs.Refusing.{refuses_delete, refuses_look, of_opened, same_so}
 use Rattle.hay_volume_lock.proofs.lock.VolumeLock.delete.Goals as goal
 
 pub show_all-requires-after_bounds : goal.show_all-requires-after_bounds
@@ -92,11 +94,11 @@ pub free-requires-in-Err-clause-may : goal.free-requires-in-Err-clause-may
 free-requires-in-Err-clause-may g c = record {
   stands_for = changed_free g.D.Disk.Tells g.D.Disk.files g.P.Piece.Tells g.D.Disk.fault_count g.D.Disk.fuse_count c.args.tag c.seat.inside.turn c.loop-replica.seat-inside.turn c.seat.inside.view c.show_all.new.seat c.loop-replica.seat-inside.view c.hold-kept.result (record c.loop-replica.kept { logical = c.see.new.self }) c.act_made-made.result
       c.seat.invariant (subst (λ (t : SeatState (Opened g.row.D.Denot g.row.P.Denot) VolumeAct). Holds (λ act. act.seat) (λ opened acts x. IsKept g.D.Disk.Tells g.D.Disk.files g.P.Piece.Tells g.D.Disk.fault_count g.D.Disk.fuse_count opened acts x) c.seat.inside.turn t c.hold-kept.result) (sym c.loop-replica.invariant.turn) c.hold-kept.ensures) c.show_all.ensures.seen.0 c.show_all.ensures.seen.1 c.loop-replica.invariant.view
-      (halts_refused g.D.Disk.Tells g.D.Disk.files g.P.Piece.Tells g.D.Disk.fault_count g.D.Disk.fuse_count c.args.tag c.loop-replica.kept (record c.loop-replica.kept { logical = c.see.new.self }) c.args.pair (sees_still g.D.Disk.Tells g.D.Disk.files g.P.Piece.Tells g.D.Disk.fault_count g.D.Disk.fuse_count c.args.tag c.loop-replica.kept (record c.loop-replica.kept { logical = c.see.new.self }) refl refl refl refl (serves_now g.D.Disk.Tells g.D.Disk.files g.P.Piece.Tells g.D.Disk.fault_count g.D.Disk.fuse_count c.args.tag c.loop-replica.kept (since g.D.Disk.Tells g.D.Disk.files g.P.Piece.Tells g.D.Disk.fault_count g.D.Disk.fuse_count c.args.tag c.hold-kept.result c.loop-replica.kept c.seat.invariant.opened c.hold-kept.new.seat.seen (is_held g.D.Disk.Tells g.D.Disk.files g.P.Piece.Tells g.D.Disk.fault_count g.D.Disk.fuse_count c.seat.invariant c.hold-kept.ensures) (sym c.in_default.ensures.is) c.loop-replica.invariant.sees)) c.in-Err.ensures.same c.in-Err.ensures.open c.in-Err.ensures.counts c.in-Err.ensures.stands c.in-Err.ensures.still.0 c.in-Err.ensures.kept) c.in-Err.fault
+      (halts_refused g.D.Disk.Tells g.D.Disk.files g.P.Piece.Tells g.D.Disk.fault_count g.D.Disk.fuse_count c.args.tag c.loop-replica.kept (record c.loop-replica.kept { logical = c.see.new.self }) c.args.pair (sees_still g.D.Disk.Tells g.D.Disk.files g.P.Piece.Tells g.D.Disk.fault_count g.D.Disk.fuse_count c.args.tag c.loop-replica.kept (record c.loop-replica.kept { logical = c.see.new.self }) refl refl refl refl (serves_now g.D.Disk.Tells g.D.Disk.files g.P.Piece.Tells g.D.Disk.fault_count g.D.Disk.fuse_count c.args.tag c.loop-replica.kept (since g.D.Disk.Tells g.D.Disk.files g.P.Piece.Tells g.D.Disk.fault_count g.D.Disk.fuse_count c.args.tag c.hold-kept.result c.loop-replica.kept c.seat.invariant.opened c.hold-kept.new.seat.seen (is_held g.D.Disk.Tells g.D.Disk.files g.P.Piece.Tells g.D.Disk.fault_count g.D.Disk.fuse_count c.seat.invariant c.hold-kept.ensures) (sym c.in_default.ensures.is) c.loop-replica.invariant.sees)) c.in-Err.ensures.same c.in-Err.ensures.open c.in-Err.ensures.counts (λ tells k s. (c.in-Err.ensures.stands tells k s, λ thawed j run has. c.in-Err.ensures.tight tells k s j)) c.in-Err.ensures.still.0 c.in-Err.ensures.kept) c.in-Err.fault
       (λ tells k s m at e. c.in-Err.ensures.undamaged tells k s m at (ap Err e)) c.in-Err.ensures.causes c.hold-kept.result (sym c.in_default.ensures.is) c.loop-replica.invariant.sees c.act_made-made.result (record { acts = λ m is. c.act_made-made.ensures.did m (c.sight_did.ensures ∙ is); tries = λ none. (subst (λ (l : List ℕ). IsTried g.D.Disk.fault_count g.D.Disk.fuse_count c.args.tag l (record c.loop-replica.kept { logical = c.see.new.self }).logical.replicas c.act_made-made.result) c.faults_of-before.ensures (c.act_made-made.ensures.tried (c.sight_did.ensures ∙ none))) })).leaves;
   mine = changed_mine g.D.Disk.Tells g.D.Disk.files g.P.Piece.Tells g.D.Disk.fault_count g.D.Disk.fuse_count c.args.tag c.seat.inside.turn c.loop-replica.seat-inside.turn c.seat.inside.view c.show_all.new.seat c.loop-replica.seat-inside.view c.hold-kept.result (record c.loop-replica.kept { logical = c.see.new.self }) c.act_made-made.result
       c.seat.invariant (subst (λ (t : SeatState (Opened g.row.D.Denot g.row.P.Denot) VolumeAct). Holds (λ act. act.seat) (λ opened acts x. IsKept g.D.Disk.Tells g.D.Disk.files g.P.Piece.Tells g.D.Disk.fault_count g.D.Disk.fuse_count opened acts x) c.seat.inside.turn t c.hold-kept.result) (sym c.loop-replica.invariant.turn) c.hold-kept.ensures) c.show_all.ensures.seen.0 c.show_all.ensures.seen.1 c.loop-replica.invariant.view
-      (halts_refused g.D.Disk.Tells g.D.Disk.files g.P.Piece.Tells g.D.Disk.fault_count g.D.Disk.fuse_count c.args.tag c.loop-replica.kept (record c.loop-replica.kept { logical = c.see.new.self }) c.args.pair (sees_still g.D.Disk.Tells g.D.Disk.files g.P.Piece.Tells g.D.Disk.fault_count g.D.Disk.fuse_count c.args.tag c.loop-replica.kept (record c.loop-replica.kept { logical = c.see.new.self }) refl refl refl refl (serves_now g.D.Disk.Tells g.D.Disk.files g.P.Piece.Tells g.D.Disk.fault_count g.D.Disk.fuse_count c.args.tag c.loop-replica.kept (since g.D.Disk.Tells g.D.Disk.files g.P.Piece.Tells g.D.Disk.fault_count g.D.Disk.fuse_count c.args.tag c.hold-kept.result c.loop-replica.kept c.seat.invariant.opened c.hold-kept.new.seat.seen (is_held g.D.Disk.Tells g.D.Disk.files g.P.Piece.Tells g.D.Disk.fault_count g.D.Disk.fuse_count c.seat.invariant c.hold-kept.ensures) (sym c.in_default.ensures.is) c.loop-replica.invariant.sees)) c.in-Err.ensures.same c.in-Err.ensures.open c.in-Err.ensures.counts c.in-Err.ensures.stands c.in-Err.ensures.still.0 c.in-Err.ensures.kept) c.in-Err.fault
+      (halts_refused g.D.Disk.Tells g.D.Disk.files g.P.Piece.Tells g.D.Disk.fault_count g.D.Disk.fuse_count c.args.tag c.loop-replica.kept (record c.loop-replica.kept { logical = c.see.new.self }) c.args.pair (sees_still g.D.Disk.Tells g.D.Disk.files g.P.Piece.Tells g.D.Disk.fault_count g.D.Disk.fuse_count c.args.tag c.loop-replica.kept (record c.loop-replica.kept { logical = c.see.new.self }) refl refl refl refl (serves_now g.D.Disk.Tells g.D.Disk.files g.P.Piece.Tells g.D.Disk.fault_count g.D.Disk.fuse_count c.args.tag c.loop-replica.kept (since g.D.Disk.Tells g.D.Disk.files g.P.Piece.Tells g.D.Disk.fault_count g.D.Disk.fuse_count c.args.tag c.hold-kept.result c.loop-replica.kept c.seat.invariant.opened c.hold-kept.new.seat.seen (is_held g.D.Disk.Tells g.D.Disk.files g.P.Piece.Tells g.D.Disk.fault_count g.D.Disk.fuse_count c.seat.invariant c.hold-kept.ensures) (sym c.in_default.ensures.is) c.loop-replica.invariant.sees)) c.in-Err.ensures.same c.in-Err.ensures.open c.in-Err.ensures.counts (λ tells k s. (c.in-Err.ensures.stands tells k s, λ thawed j run has. c.in-Err.ensures.tight tells k s j)) c.in-Err.ensures.still.0 c.in-Err.ensures.kept) c.in-Err.fault
       (λ tells k s m at e. c.in-Err.ensures.undamaged tells k s m at (ap Err e)) c.in-Err.ensures.causes c.hold-kept.result (sym c.in_default.ensures.is) c.loop-replica.invariant.sees c.act_made-made.result (record { acts = λ m is. c.act_made-made.ensures.did m (c.sight_did.ensures ∙ is); tries = λ none. (subst (λ (l : List ℕ). IsTried g.D.Disk.fault_count g.D.Disk.fuse_count c.args.tag l (record c.loop-replica.kept { logical = c.see.new.self }).logical.replicas c.act_made-made.result) c.faults_of-before.ensures (c.act_made-made.ensures.tried (c.sight_did.ensures ∙ none))) })).leaves (ap (λ (s : Seated g.row.D.Denot g.row.P.Denot). s.number) c.seat.view_is ∙ c.requires.may.lane);
 }
 
@@ -105,7 +107,7 @@ invariant_of-seat-in-Err g c =
     subst (λ (n : ℕ). IsSeated c.free-in-Err.new.seat n c.loop-replica.seat-inside.view) (sym c.loop-replica.invariant.stood)
     (changed_seated g.D.Disk.Tells g.D.Disk.files g.P.Piece.Tells g.D.Disk.fault_count g.D.Disk.fuse_count c.args.tag c.seat.inside.turn c.loop-replica.seat-inside.turn c.seat.inside.view c.show_all.new.seat c.loop-replica.seat-inside.view c.hold-kept.result (record c.loop-replica.kept { logical = c.see.new.self }) c.act_made-made.result
     c.seat.invariant (subst (λ (t : SeatState (Opened g.row.D.Denot g.row.P.Denot) VolumeAct). Holds (λ act. act.seat) (λ opened acts x. IsKept g.D.Disk.Tells g.D.Disk.files g.P.Piece.Tells g.D.Disk.fault_count g.D.Disk.fuse_count opened acts x) c.seat.inside.turn t c.hold-kept.result) (sym c.loop-replica.invariant.turn) c.hold-kept.ensures) c.show_all.ensures.seen.0 c.show_all.ensures.seen.1 c.loop-replica.invariant.view
-    (halts_refused g.D.Disk.Tells g.D.Disk.files g.P.Piece.Tells g.D.Disk.fault_count g.D.Disk.fuse_count c.args.tag c.loop-replica.kept (record c.loop-replica.kept { logical = c.see.new.self }) c.args.pair (sees_still g.D.Disk.Tells g.D.Disk.files g.P.Piece.Tells g.D.Disk.fault_count g.D.Disk.fuse_count c.args.tag c.loop-replica.kept (record c.loop-replica.kept { logical = c.see.new.self }) refl refl refl refl (serves_now g.D.Disk.Tells g.D.Disk.files g.P.Piece.Tells g.D.Disk.fault_count g.D.Disk.fuse_count c.args.tag c.loop-replica.kept (since g.D.Disk.Tells g.D.Disk.files g.P.Piece.Tells g.D.Disk.fault_count g.D.Disk.fuse_count c.args.tag c.hold-kept.result c.loop-replica.kept c.seat.invariant.opened c.hold-kept.new.seat.seen (is_held g.D.Disk.Tells g.D.Disk.files g.P.Piece.Tells g.D.Disk.fault_count g.D.Disk.fuse_count c.seat.invariant c.hold-kept.ensures) (sym c.in_default.ensures.is) c.loop-replica.invariant.sees)) c.in-Err.ensures.same c.in-Err.ensures.open c.in-Err.ensures.counts c.in-Err.ensures.stands c.in-Err.ensures.still.0 c.in-Err.ensures.kept) c.in-Err.fault
+    (halts_refused g.D.Disk.Tells g.D.Disk.files g.P.Piece.Tells g.D.Disk.fault_count g.D.Disk.fuse_count c.args.tag c.loop-replica.kept (record c.loop-replica.kept { logical = c.see.new.self }) c.args.pair (sees_still g.D.Disk.Tells g.D.Disk.files g.P.Piece.Tells g.D.Disk.fault_count g.D.Disk.fuse_count c.args.tag c.loop-replica.kept (record c.loop-replica.kept { logical = c.see.new.self }) refl refl refl refl (serves_now g.D.Disk.Tells g.D.Disk.files g.P.Piece.Tells g.D.Disk.fault_count g.D.Disk.fuse_count c.args.tag c.loop-replica.kept (since g.D.Disk.Tells g.D.Disk.files g.P.Piece.Tells g.D.Disk.fault_count g.D.Disk.fuse_count c.args.tag c.hold-kept.result c.loop-replica.kept c.seat.invariant.opened c.hold-kept.new.seat.seen (is_held g.D.Disk.Tells g.D.Disk.files g.P.Piece.Tells g.D.Disk.fault_count g.D.Disk.fuse_count c.seat.invariant c.hold-kept.ensures) (sym c.in_default.ensures.is) c.loop-replica.invariant.sees)) c.in-Err.ensures.same c.in-Err.ensures.open c.in-Err.ensures.counts (λ tells k s. (c.in-Err.ensures.stands tells k s, λ thawed j run has. c.in-Err.ensures.tight tells k s j)) c.in-Err.ensures.still.0 c.in-Err.ensures.kept) c.in-Err.fault
     (λ tells k s m at e. c.in-Err.ensures.undamaged tells k s m at (ap Err e)) c.in-Err.ensures.causes c.hold-kept.result (sym c.in_default.ensures.is) c.loop-replica.invariant.sees c.act_made-made.result (record { acts = λ m is. c.act_made-made.ensures.did m (c.sight_did.ensures ∙ is); tries = λ none. (subst (λ (l : List ℕ). IsTried g.D.Disk.fault_count g.D.Disk.fuse_count c.args.tag l (record c.loop-replica.kept { logical = c.see.new.self }).logical.replicas c.act_made-made.result) c.faults_of-before.ensures (c.act_made-made.ensures.tried (c.sight_did.ensures ∙ none))) })).leaves c.free-in-Err.new.seat c.free-in-Err.ensures (ap (λ (s : Seated g.row.D.Denot g.row.P.Denot). s.number) c.seat.view_is ∙ c.requires.may.lane) (later_same c.seat.inside.view c.loop-replica.kept.front.shown c.loop-replica.seat-inside.view (later_more c.seat.inside.view c.hold-kept.result.front.shown c.loop-replica.kept.front.shown c.show_all.ensures.seen.0 c.loop-replica.invariant.later) c.loop-replica.invariant.view))
 
 pub returns-in-Err-clause-deleted : goal.returns-in-Err-clause-deleted
@@ -113,8 +115,8 @@ returns-in-Err-clause-deleted g c =
     subst (λ (s : Seated g.row.D.Denot g.row.P.Denot). IsTold g.D.Disk.Tells g.D.Disk.files g.P.Piece.Tells g.D.Disk.fault_count g.D.Disk.fuse_count s.start (λ volume. DeleteAnswer volume c.args.tag c.args.pair (Err c.in-Err.fault) s.sight (seat_of c.free-in-Err.new.seat c.loop-replica.seat-inside.view).sight)) c.seat.view_is
     (changed_told g.D.Disk.Tells g.D.Disk.files g.P.Piece.Tells g.D.Disk.fault_count g.D.Disk.fuse_count c.args.tag c.seat.inside.turn c.loop-replica.seat-inside.turn c.seat.inside.view c.show_all.new.seat c.loop-replica.seat-inside.view c.hold-kept.result (record c.loop-replica.kept { logical = c.see.new.self }) c.act_made-made.result
     c.seat.invariant (subst (λ (t : SeatState (Opened g.row.D.Denot g.row.P.Denot) VolumeAct). Holds (λ act. act.seat) (λ opened acts x. IsKept g.D.Disk.Tells g.D.Disk.files g.P.Piece.Tells g.D.Disk.fault_count g.D.Disk.fuse_count opened acts x) c.seat.inside.turn t c.hold-kept.result) (sym c.loop-replica.invariant.turn) c.hold-kept.ensures) c.show_all.ensures.seen.0 c.show_all.ensures.seen.1 c.loop-replica.invariant.view
-    (halts_refused g.D.Disk.Tells g.D.Disk.files g.P.Piece.Tells g.D.Disk.fault_count g.D.Disk.fuse_count c.args.tag c.loop-replica.kept (record c.loop-replica.kept { logical = c.see.new.self }) c.args.pair (sees_still g.D.Disk.Tells g.D.Disk.files g.P.Piece.Tells g.D.Disk.fault_count g.D.Disk.fuse_count c.args.tag c.loop-replica.kept (record c.loop-replica.kept { logical = c.see.new.self }) refl refl refl refl (serves_now g.D.Disk.Tells g.D.Disk.files g.P.Piece.Tells g.D.Disk.fault_count g.D.Disk.fuse_count c.args.tag c.loop-replica.kept (since g.D.Disk.Tells g.D.Disk.files g.P.Piece.Tells g.D.Disk.fault_count g.D.Disk.fuse_count c.args.tag c.hold-kept.result c.loop-replica.kept c.seat.invariant.opened c.hold-kept.new.seat.seen (is_held g.D.Disk.Tells g.D.Disk.files g.P.Piece.Tells g.D.Disk.fault_count g.D.Disk.fuse_count c.seat.invariant c.hold-kept.ensures) (sym c.in_default.ensures.is) c.loop-replica.invariant.sees)) c.in-Err.ensures.same c.in-Err.ensures.open c.in-Err.ensures.counts c.in-Err.ensures.stands c.in-Err.ensures.still.0 c.in-Err.ensures.kept) c.in-Err.fault
-    (λ tells k s m at e. c.in-Err.ensures.undamaged tells k s m at (ap Err e)) c.in-Err.ensures.causes c.hold-kept.result (sym c.in_default.ensures.is) c.loop-replica.invariant.sees c.act_made-made.result (record { acts = λ m is. c.act_made-made.ensures.did m (c.sight_did.ensures ∙ is); tries = λ none. (subst (λ (l : List ℕ). IsTried g.D.Disk.fault_count g.D.Disk.fuse_count c.args.tag l (record c.loop-replica.kept { logical = c.see.new.self }).logical.replicas c.act_made-made.result) c.faults_of-before.ensures (c.act_made-made.ensures.tried (c.sight_did.ensures ∙ none))) })).leaves c.free-in-Err.new.seat c.free-in-Err.ensures (λ volume. DeleteAnswer volume c.args.tag c.args.pair (Err c.in-Err.fault)) (halts_refused g.D.Disk.Tells g.D.Disk.files g.P.Piece.Tells g.D.Disk.fault_count g.D.Disk.fuse_count c.args.tag c.loop-replica.kept (record c.loop-replica.kept { logical = c.see.new.self }) c.args.pair (sees_still g.D.Disk.Tells g.D.Disk.files g.P.Piece.Tells g.D.Disk.fault_count g.D.Disk.fuse_count c.args.tag c.loop-replica.kept (record c.loop-replica.kept { logical = c.see.new.self }) refl refl refl refl (serves_now g.D.Disk.Tells g.D.Disk.files g.P.Piece.Tells g.D.Disk.fault_count g.D.Disk.fuse_count c.args.tag c.loop-replica.kept (since g.D.Disk.Tells g.D.Disk.files g.P.Piece.Tells g.D.Disk.fault_count g.D.Disk.fuse_count c.args.tag c.hold-kept.result c.loop-replica.kept c.seat.invariant.opened c.hold-kept.new.seat.seen (is_held g.D.Disk.Tells g.D.Disk.files g.P.Piece.Tells g.D.Disk.fault_count g.D.Disk.fuse_count c.seat.invariant c.hold-kept.ensures) (sym c.in_default.ensures.is) c.loop-replica.invariant.sees)) c.in-Err.ensures.same c.in-Err.ensures.open c.in-Err.ensures.counts c.in-Err.ensures.stands c.in-Err.ensures.still.0 c.in-Err.ensures.kept) c.in-Err.fault
+    (halts_refused g.D.Disk.Tells g.D.Disk.files g.P.Piece.Tells g.D.Disk.fault_count g.D.Disk.fuse_count c.args.tag c.loop-replica.kept (record c.loop-replica.kept { logical = c.see.new.self }) c.args.pair (sees_still g.D.Disk.Tells g.D.Disk.files g.P.Piece.Tells g.D.Disk.fault_count g.D.Disk.fuse_count c.args.tag c.loop-replica.kept (record c.loop-replica.kept { logical = c.see.new.self }) refl refl refl refl (serves_now g.D.Disk.Tells g.D.Disk.files g.P.Piece.Tells g.D.Disk.fault_count g.D.Disk.fuse_count c.args.tag c.loop-replica.kept (since g.D.Disk.Tells g.D.Disk.files g.P.Piece.Tells g.D.Disk.fault_count g.D.Disk.fuse_count c.args.tag c.hold-kept.result c.loop-replica.kept c.seat.invariant.opened c.hold-kept.new.seat.seen (is_held g.D.Disk.Tells g.D.Disk.files g.P.Piece.Tells g.D.Disk.fault_count g.D.Disk.fuse_count c.seat.invariant c.hold-kept.ensures) (sym c.in_default.ensures.is) c.loop-replica.invariant.sees)) c.in-Err.ensures.same c.in-Err.ensures.open c.in-Err.ensures.counts (λ tells k s. (c.in-Err.ensures.stands tells k s, λ thawed j run has. c.in-Err.ensures.tight tells k s j)) c.in-Err.ensures.still.0 c.in-Err.ensures.kept) c.in-Err.fault
+    (λ tells k s m at e. c.in-Err.ensures.undamaged tells k s m at (ap Err e)) c.in-Err.ensures.causes c.hold-kept.result (sym c.in_default.ensures.is) c.loop-replica.invariant.sees c.act_made-made.result (record { acts = λ m is. c.act_made-made.ensures.did m (c.sight_did.ensures ∙ is); tries = λ none. (subst (λ (l : List ℕ). IsTried g.D.Disk.fault_count g.D.Disk.fuse_count c.args.tag l (record c.loop-replica.kept { logical = c.see.new.self }).logical.replicas c.act_made-made.result) c.faults_of-before.ensures (c.act_made-made.ensures.tried (c.sight_did.ensures ∙ none))) })).leaves c.free-in-Err.new.seat c.free-in-Err.ensures (λ volume. DeleteAnswer volume c.args.tag c.args.pair (Err c.in-Err.fault)) (halts_refused g.D.Disk.Tells g.D.Disk.files g.P.Piece.Tells g.D.Disk.fault_count g.D.Disk.fuse_count c.args.tag c.loop-replica.kept (record c.loop-replica.kept { logical = c.see.new.self }) c.args.pair (sees_still g.D.Disk.Tells g.D.Disk.files g.P.Piece.Tells g.D.Disk.fault_count g.D.Disk.fuse_count c.args.tag c.loop-replica.kept (record c.loop-replica.kept { logical = c.see.new.self }) refl refl refl refl (serves_now g.D.Disk.Tells g.D.Disk.files g.P.Piece.Tells g.D.Disk.fault_count g.D.Disk.fuse_count c.args.tag c.loop-replica.kept (since g.D.Disk.Tells g.D.Disk.files g.P.Piece.Tells g.D.Disk.fault_count g.D.Disk.fuse_count c.args.tag c.hold-kept.result c.loop-replica.kept c.seat.invariant.opened c.hold-kept.new.seat.seen (is_held g.D.Disk.Tells g.D.Disk.files g.P.Piece.Tells g.D.Disk.fault_count g.D.Disk.fuse_count c.seat.invariant c.hold-kept.ensures) (sym c.in_default.ensures.is) c.loop-replica.invariant.sees)) c.in-Err.ensures.same c.in-Err.ensures.open c.in-Err.ensures.counts (λ tells k s. (c.in-Err.ensures.stands tells k s, λ thawed j run has. c.in-Err.ensures.tight tells k s j)) c.in-Err.ensures.still.0 c.in-Err.ensures.kept) c.in-Err.fault
     (λ tells k s m at e. c.in-Err.ensures.undamaged tells k s m at (ap Err e)) c.in-Err.ensures.causes c.hold-kept.result (sym c.in_default.ensures.is) c.loop-replica.invariant.sees c.act_made-made.result (record { acts = λ m is. c.act_made-made.ensures.did m (c.sight_did.ensures ∙ is); tries = λ none. (subst (λ (l : List ℕ). IsTried g.D.Disk.fault_count g.D.Disk.fuse_count c.args.tag l (record c.loop-replica.kept { logical = c.see.new.self }).logical.replicas c.act_made-made.result) c.faults_of-before.ensures (c.act_made-made.ensures.tried (c.sight_did.ensures ∙ none))) })).told)
 
 pub returns-in-Err-clause-causes : goal.returns-in-Err-clause-causes
@@ -122,8 +124,8 @@ returns-in-Err-clause-causes g c = λ m f is.
     subst (λ (s : Seated g.row.D.Denot g.row.P.Denot). IsAlways g.D.Disk.fault_count g.D.Disk.fuse_count s.start (λ volume. DiskFailed volume c.args.tag m f s.sight (seat_of c.free-in-Err.new.seat c.loop-replica.seat-inside.view).sight)) c.seat.view_is
     (changed_always g.D.Disk.Tells g.D.Disk.files g.P.Piece.Tells g.D.Disk.fault_count g.D.Disk.fuse_count c.args.tag c.seat.inside.turn c.loop-replica.seat-inside.turn c.seat.inside.view c.show_all.new.seat c.loop-replica.seat-inside.view c.hold-kept.result (record c.loop-replica.kept { logical = c.see.new.self }) c.act_made-made.result
     c.seat.invariant (subst (λ (t : SeatState (Opened g.row.D.Denot g.row.P.Denot) VolumeAct). Holds (λ act. act.seat) (λ opened acts x. IsKept g.D.Disk.Tells g.D.Disk.files g.P.Piece.Tells g.D.Disk.fault_count g.D.Disk.fuse_count opened acts x) c.seat.inside.turn t c.hold-kept.result) (sym c.loop-replica.invariant.turn) c.hold-kept.ensures) c.show_all.ensures.seen.0 c.show_all.ensures.seen.1 c.loop-replica.invariant.view
-    (halts_refused g.D.Disk.Tells g.D.Disk.files g.P.Piece.Tells g.D.Disk.fault_count g.D.Disk.fuse_count c.args.tag c.loop-replica.kept (record c.loop-replica.kept { logical = c.see.new.self }) c.args.pair (sees_still g.D.Disk.Tells g.D.Disk.files g.P.Piece.Tells g.D.Disk.fault_count g.D.Disk.fuse_count c.args.tag c.loop-replica.kept (record c.loop-replica.kept { logical = c.see.new.self }) refl refl refl refl (serves_now g.D.Disk.Tells g.D.Disk.files g.P.Piece.Tells g.D.Disk.fault_count g.D.Disk.fuse_count c.args.tag c.loop-replica.kept (since g.D.Disk.Tells g.D.Disk.files g.P.Piece.Tells g.D.Disk.fault_count g.D.Disk.fuse_count c.args.tag c.hold-kept.result c.loop-replica.kept c.seat.invariant.opened c.hold-kept.new.seat.seen (is_held g.D.Disk.Tells g.D.Disk.files g.P.Piece.Tells g.D.Disk.fault_count g.D.Disk.fuse_count c.seat.invariant c.hold-kept.ensures) (sym c.in_default.ensures.is) c.loop-replica.invariant.sees)) c.in-Err.ensures.same c.in-Err.ensures.open c.in-Err.ensures.counts c.in-Err.ensures.stands c.in-Err.ensures.still.0 c.in-Err.ensures.kept) c.in-Err.fault
-    (λ tells k s m at e. c.in-Err.ensures.undamaged tells k s m at (ap Err e)) c.in-Err.ensures.causes c.hold-kept.result (sym c.in_default.ensures.is) c.loop-replica.invariant.sees c.act_made-made.result (record { acts = λ m is. c.act_made-made.ensures.did m (c.sight_did.ensures ∙ is); tries = λ none. (subst (λ (l : List ℕ). IsTried g.D.Disk.fault_count g.D.Disk.fuse_count c.args.tag l (record c.loop-replica.kept { logical = c.see.new.self }).logical.replicas c.act_made-made.result) c.faults_of-before.ensures (c.act_made-made.ensures.tried (c.sight_did.ensures ∙ none))) })).leaves c.free-in-Err.new.seat c.free-in-Err.ensures (λ volume. DiskFailed volume c.args.tag m f) ((halts_refused g.D.Disk.Tells g.D.Disk.files g.P.Piece.Tells g.D.Disk.fault_count g.D.Disk.fuse_count c.args.tag c.loop-replica.kept (record c.loop-replica.kept { logical = c.see.new.self }) c.args.pair (sees_still g.D.Disk.Tells g.D.Disk.files g.P.Piece.Tells g.D.Disk.fault_count g.D.Disk.fuse_count c.args.tag c.loop-replica.kept (record c.loop-replica.kept { logical = c.see.new.self }) refl refl refl refl (serves_now g.D.Disk.Tells g.D.Disk.files g.P.Piece.Tells g.D.Disk.fault_count g.D.Disk.fuse_count c.args.tag c.loop-replica.kept (since g.D.Disk.Tells g.D.Disk.files g.P.Piece.Tells g.D.Disk.fault_count g.D.Disk.fuse_count c.args.tag c.hold-kept.result c.loop-replica.kept c.seat.invariant.opened c.hold-kept.new.seat.seen (is_held g.D.Disk.Tells g.D.Disk.files g.P.Piece.Tells g.D.Disk.fault_count g.D.Disk.fuse_count c.seat.invariant c.hold-kept.ensures) (sym c.in_default.ensures.is) c.loop-replica.invariant.sees)) c.in-Err.ensures.same c.in-Err.ensures.open c.in-Err.ensures.counts c.in-Err.ensures.stands c.in-Err.ensures.still.0 c.in-Err.ensures.kept) c.in-Err.fault
+    (halts_refused g.D.Disk.Tells g.D.Disk.files g.P.Piece.Tells g.D.Disk.fault_count g.D.Disk.fuse_count c.args.tag c.loop-replica.kept (record c.loop-replica.kept { logical = c.see.new.self }) c.args.pair (sees_still g.D.Disk.Tells g.D.Disk.files g.P.Piece.Tells g.D.Disk.fault_count g.D.Disk.fuse_count c.args.tag c.loop-replica.kept (record c.loop-replica.kept { logical = c.see.new.self }) refl refl refl refl (serves_now g.D.Disk.Tells g.D.Disk.files g.P.Piece.Tells g.D.Disk.fault_count g.D.Disk.fuse_count c.args.tag c.loop-replica.kept (since g.D.Disk.Tells g.D.Disk.files g.P.Piece.Tells g.D.Disk.fault_count g.D.Disk.fuse_count c.args.tag c.hold-kept.result c.loop-replica.kept c.seat.invariant.opened c.hold-kept.new.seat.seen (is_held g.D.Disk.Tells g.D.Disk.files g.P.Piece.Tells g.D.Disk.fault_count g.D.Disk.fuse_count c.seat.invariant c.hold-kept.ensures) (sym c.in_default.ensures.is) c.loop-replica.invariant.sees)) c.in-Err.ensures.same c.in-Err.ensures.open c.in-Err.ensures.counts (λ tells k s. (c.in-Err.ensures.stands tells k s, λ thawed j run has. c.in-Err.ensures.tight tells k s j)) c.in-Err.ensures.still.0 c.in-Err.ensures.kept) c.in-Err.fault
+    (λ tells k s m at e. c.in-Err.ensures.undamaged tells k s m at (ap Err e)) c.in-Err.ensures.causes c.hold-kept.result (sym c.in_default.ensures.is) c.loop-replica.invariant.sees c.act_made-made.result (record { acts = λ m is. c.act_made-made.ensures.did m (c.sight_did.ensures ∙ is); tries = λ none. (subst (λ (l : List ℕ). IsTried g.D.Disk.fault_count g.D.Disk.fuse_count c.args.tag l (record c.loop-replica.kept { logical = c.see.new.self }).logical.replicas c.act_made-made.result) c.faults_of-before.ensures (c.act_made-made.ensures.tried (c.sight_did.ensures ∙ none))) })).leaves c.free-in-Err.new.seat c.free-in-Err.ensures (λ volume. DiskFailed volume c.args.tag m f) ((halts_refused g.D.Disk.Tells g.D.Disk.files g.P.Piece.Tells g.D.Disk.fault_count g.D.Disk.fuse_count c.args.tag c.loop-replica.kept (record c.loop-replica.kept { logical = c.see.new.self }) c.args.pair (sees_still g.D.Disk.Tells g.D.Disk.files g.P.Piece.Tells g.D.Disk.fault_count g.D.Disk.fuse_count c.args.tag c.loop-replica.kept (record c.loop-replica.kept { logical = c.see.new.self }) refl refl refl refl (serves_now g.D.Disk.Tells g.D.Disk.files g.P.Piece.Tells g.D.Disk.fault_count g.D.Disk.fuse_count c.args.tag c.loop-replica.kept (since g.D.Disk.Tells g.D.Disk.files g.P.Piece.Tells g.D.Disk.fault_count g.D.Disk.fuse_count c.args.tag c.hold-kept.result c.loop-replica.kept c.seat.invariant.opened c.hold-kept.new.seat.seen (is_held g.D.Disk.Tells g.D.Disk.files g.P.Piece.Tells g.D.Disk.fault_count g.D.Disk.fuse_count c.seat.invariant c.hold-kept.ensures) (sym c.in_default.ensures.is) c.loop-replica.invariant.sees)) c.in-Err.ensures.same c.in-Err.ensures.open c.in-Err.ensures.counts (λ tells k s. (c.in-Err.ensures.stands tells k s, λ thawed j run has. c.in-Err.ensures.tight tells k s j)) c.in-Err.ensures.still.0 c.in-Err.ensures.kept) c.in-Err.fault
     (λ tells k s m at e. c.in-Err.ensures.undamaged tells k s m at (ap Err e)) c.in-Err.ensures.causes c.hold-kept.result (sym c.in_default.ensures.is) c.loop-replica.invariant.sees c.act_made-made.result (record { acts = λ m is. c.act_made-made.ensures.did m (c.sight_did.ensures ∙ is); tries = λ none. (subst (λ (l : List ℕ). IsTried g.D.Disk.fault_count g.D.Disk.fuse_count c.args.tag l (record c.loop-replica.kept { logical = c.see.new.self }).logical.replicas c.act_made-made.result) c.faults_of-before.ensures (c.act_made-made.ensures.tried (c.sight_did.ensures ∙ none))) })).always m f is))
 
 pub returns-in-Err-clause-held : goal.returns-in-Err-clause-held
@@ -131,7 +133,7 @@ returns-in-Err-clause-held g c =
     subst (λ (s : Seated g.row.D.Denot g.row.P.Denot). OneHolding c.args.tag s.sight (seat_of c.free-in-Err.new.seat c.loop-replica.seat-inside.view).sight) c.seat.view_is
     (changed_held g.D.Disk.Tells g.D.Disk.files g.P.Piece.Tells g.D.Disk.fault_count g.D.Disk.fuse_count c.args.tag c.seat.inside.turn c.loop-replica.seat-inside.turn c.seat.inside.view c.show_all.new.seat c.loop-replica.seat-inside.view c.hold-kept.result (record c.loop-replica.kept { logical = c.see.new.self }) c.act_made-made.result
     c.seat.invariant (subst (λ (t : SeatState (Opened g.row.D.Denot g.row.P.Denot) VolumeAct). Holds (λ act. act.seat) (λ opened acts x. IsKept g.D.Disk.Tells g.D.Disk.files g.P.Piece.Tells g.D.Disk.fault_count g.D.Disk.fuse_count opened acts x) c.seat.inside.turn t c.hold-kept.result) (sym c.loop-replica.invariant.turn) c.hold-kept.ensures) c.show_all.ensures.seen.0 c.show_all.ensures.seen.1 c.loop-replica.invariant.view
-    (halts_refused g.D.Disk.Tells g.D.Disk.files g.P.Piece.Tells g.D.Disk.fault_count g.D.Disk.fuse_count c.args.tag c.loop-replica.kept (record c.loop-replica.kept { logical = c.see.new.self }) c.args.pair (sees_still g.D.Disk.Tells g.D.Disk.files g.P.Piece.Tells g.D.Disk.fault_count g.D.Disk.fuse_count c.args.tag c.loop-replica.kept (record c.loop-replica.kept { logical = c.see.new.self }) refl refl refl refl (serves_now g.D.Disk.Tells g.D.Disk.files g.P.Piece.Tells g.D.Disk.fault_count g.D.Disk.fuse_count c.args.tag c.loop-replica.kept (since g.D.Disk.Tells g.D.Disk.files g.P.Piece.Tells g.D.Disk.fault_count g.D.Disk.fuse_count c.args.tag c.hold-kept.result c.loop-replica.kept c.seat.invariant.opened c.hold-kept.new.seat.seen (is_held g.D.Disk.Tells g.D.Disk.files g.P.Piece.Tells g.D.Disk.fault_count g.D.Disk.fuse_count c.seat.invariant c.hold-kept.ensures) (sym c.in_default.ensures.is) c.loop-replica.invariant.sees)) c.in-Err.ensures.same c.in-Err.ensures.open c.in-Err.ensures.counts c.in-Err.ensures.stands c.in-Err.ensures.still.0 c.in-Err.ensures.kept) c.in-Err.fault
+    (halts_refused g.D.Disk.Tells g.D.Disk.files g.P.Piece.Tells g.D.Disk.fault_count g.D.Disk.fuse_count c.args.tag c.loop-replica.kept (record c.loop-replica.kept { logical = c.see.new.self }) c.args.pair (sees_still g.D.Disk.Tells g.D.Disk.files g.P.Piece.Tells g.D.Disk.fault_count g.D.Disk.fuse_count c.args.tag c.loop-replica.kept (record c.loop-replica.kept { logical = c.see.new.self }) refl refl refl refl (serves_now g.D.Disk.Tells g.D.Disk.files g.P.Piece.Tells g.D.Disk.fault_count g.D.Disk.fuse_count c.args.tag c.loop-replica.kept (since g.D.Disk.Tells g.D.Disk.files g.P.Piece.Tells g.D.Disk.fault_count g.D.Disk.fuse_count c.args.tag c.hold-kept.result c.loop-replica.kept c.seat.invariant.opened c.hold-kept.new.seat.seen (is_held g.D.Disk.Tells g.D.Disk.files g.P.Piece.Tells g.D.Disk.fault_count g.D.Disk.fuse_count c.seat.invariant c.hold-kept.ensures) (sym c.in_default.ensures.is) c.loop-replica.invariant.sees)) c.in-Err.ensures.same c.in-Err.ensures.open c.in-Err.ensures.counts (λ tells k s. (c.in-Err.ensures.stands tells k s, λ thawed j run has. c.in-Err.ensures.tight tells k s j)) c.in-Err.ensures.still.0 c.in-Err.ensures.kept) c.in-Err.fault
     (λ tells k s m at e. c.in-Err.ensures.undamaged tells k s m at (ap Err e)) c.in-Err.ensures.causes c.hold-kept.result (sym c.in_default.ensures.is) c.loop-replica.invariant.sees c.act_made-made.result (record { acts = λ m is. c.act_made-made.ensures.did m (c.sight_did.ensures ∙ is); tries = λ none. (subst (λ (l : List ℕ). IsTried g.D.Disk.fault_count g.D.Disk.fuse_count c.args.tag l (record c.loop-replica.kept { logical = c.see.new.self }).logical.replicas c.act_made-made.result) c.faults_of-before.ensures (c.act_made-made.ensures.tried (c.sight_did.ensures ∙ none))) })).leaves c.free-in-Err.new.seat c.free-in-Err.ensures)
 
 pub sight_of-op-requires : goal.sight_of-op-requires
@@ -193,7 +195,7 @@ loop-replica-preserved g c =
     elim c.if-not-is_seen.branch [
       | then-not-is_seen+in-Ok+in-Ok-publish+in-Live-1 w ↦ record {
         sees = subst (λ (k : Guarded g.row.D.Denot g.row.P.Denot). Sees g.D.Disk.Tells g.D.Disk.files g.P.Piece.Tells g.D.Disk.fault_count g.D.Disk.fuse_count c.args.tag c.hold-kept.result k) (sym w.kept-is) (sees_more g.D.Disk.Tells g.D.Disk.files g.P.Piece.Tells g.D.Disk.fault_count g.D.Disk.fuse_count c.args.tag c.hold-kept.result c.loop-replica.kept (record c.loop-replica.kept { logical = w.see.new.self; front = w.publish.new.self }) c.loop-replica.invariant.sees
-            (see_shown g.D.Disk.Tells g.D.Disk.files g.P.Piece.Tells g.D.Disk.fault_count g.D.Disk.fuse_count c.args.tag c.loop-replica.kept (record c.loop-replica.kept { logical = w.see.new.self; front = w.publish.new.self }) refl refl refl w.in-Ok.ensures.same w.in-Ok.ensures.open w.in-Ok.ensures.counts w.in-Ok.ensures.stands w.in-Ok.ensures.still.0 c.args.pair c.loop-replica.replica (place_in w.in-Ok.seen.row c.loop-replica.replica) w.sight_of-op.result (record { tag = w.front_tag.result; deed = w.sight_of-op.result })
+            (see_shown g.D.Disk.Tells g.D.Disk.files g.P.Piece.Tells g.D.Disk.fault_count g.D.Disk.fuse_count c.args.tag c.loop-replica.kept (record c.loop-replica.kept { logical = w.see.new.self; front = w.publish.new.self }) refl refl refl w.in-Ok.ensures.same w.in-Ok.ensures.open w.in-Ok.ensures.counts (λ tells k s. (w.in-Ok.ensures.stands tells k s, λ thawed j run has. w.in-Ok.ensures.tight tells k s j)) w.in-Ok.ensures.still.0 c.args.pair c.loop-replica.replica (place_in w.in-Ok.seen.row c.loop-replica.replica) w.sight_of-op.result (record { tag = w.front_tag.result; deed = w.sight_of-op.result })
             w.sight_of-op.ensures (let same = c.loop-replica.invariant.sees.of.settings in let test = c.loop-replica-test.true in subst (λ (s : Settings). c.loop-replica.replica < s.replicas) (sym (settings_now g.D.Disk.Tells g.D.Disk.files g.P.Piece.Tells g.D.Disk.fault_count g.D.Disk.fuse_count c.args.tag c.loop-replica.kept (since g.D.Disk.Tells g.D.Disk.files g.P.Piece.Tells g.D.Disk.fault_count g.D.Disk.fuse_count c.args.tag c.hold-kept.result c.loop-replica.kept c.seat.invariant.opened c.hold-kept.new.seat.seen (is_held g.D.Disk.Tells g.D.Disk.files g.P.Piece.Tells g.D.Disk.fault_count g.D.Disk.fuse_count c.seat.invariant c.hold-kept.ensures) (sym c.in_default.ensures.is) c.loop-replica.invariant.sees) ∙ same)) test) w.in-Ok.ensures.row w.in-Ok-publish.ensures.done.0));
         turn = ap (λ s. s.turn) w.seat-inside-is ∙ c.loop-replica.invariant.turn;
         view = ap (λ s. s.view) w.seat-inside-is ∙ w.in-Ok-publish.ensures.seen.1 ∙ sym (ap (λ (k : Guarded g.row.D.Denot g.row.P.Denot). k.front.shown) w.kept-is);
@@ -207,7 +209,7 @@ loop-replica-preserved g c =
       }
       | then-not-is_seen+in-Ok+in-Ok-publish+in-None-1 w ↦ record {
         sees = subst (λ (k : Guarded g.row.D.Denot g.row.P.Denot). Sees g.D.Disk.Tells g.D.Disk.files g.P.Piece.Tells g.D.Disk.fault_count g.D.Disk.fuse_count c.args.tag c.hold-kept.result k) (sym w.kept-is) (sees_more g.D.Disk.Tells g.D.Disk.files g.P.Piece.Tells g.D.Disk.fault_count g.D.Disk.fuse_count c.args.tag c.hold-kept.result c.loop-replica.kept (record c.loop-replica.kept { logical = w.see.new.self; front = w.publish.new.self }) c.loop-replica.invariant.sees
-            (see_shown g.D.Disk.Tells g.D.Disk.files g.P.Piece.Tells g.D.Disk.fault_count g.D.Disk.fuse_count c.args.tag c.loop-replica.kept (record c.loop-replica.kept { logical = w.see.new.self; front = w.publish.new.self }) refl refl refl w.in-Ok.ensures.same w.in-Ok.ensures.open w.in-Ok.ensures.counts w.in-Ok.ensures.stands w.in-Ok.ensures.still.0 c.args.pair c.loop-replica.replica (place_in w.in-Ok.seen.row c.loop-replica.replica) w.sight_of-op.result (record { tag = w.front_tag.result; deed = w.sight_of-op.result })
+            (see_shown g.D.Disk.Tells g.D.Disk.files g.P.Piece.Tells g.D.Disk.fault_count g.D.Disk.fuse_count c.args.tag c.loop-replica.kept (record c.loop-replica.kept { logical = w.see.new.self; front = w.publish.new.self }) refl refl refl w.in-Ok.ensures.same w.in-Ok.ensures.open w.in-Ok.ensures.counts (λ tells k s. (w.in-Ok.ensures.stands tells k s, λ thawed j run has. w.in-Ok.ensures.tight tells k s j)) w.in-Ok.ensures.still.0 c.args.pair c.loop-replica.replica (place_in w.in-Ok.seen.row c.loop-replica.replica) w.sight_of-op.result (record { tag = w.front_tag.result; deed = w.sight_of-op.result })
             w.sight_of-op.ensures (let same = c.loop-replica.invariant.sees.of.settings in let test = c.loop-replica-test.true in subst (λ (s : Settings). c.loop-replica.replica < s.replicas) (sym (settings_now g.D.Disk.Tells g.D.Disk.files g.P.Piece.Tells g.D.Disk.fault_count g.D.Disk.fuse_count c.args.tag c.loop-replica.kept (since g.D.Disk.Tells g.D.Disk.files g.P.Piece.Tells g.D.Disk.fault_count g.D.Disk.fuse_count c.args.tag c.hold-kept.result c.loop-replica.kept c.seat.invariant.opened c.hold-kept.new.seat.seen (is_held g.D.Disk.Tells g.D.Disk.files g.P.Piece.Tells g.D.Disk.fault_count g.D.Disk.fuse_count c.seat.invariant c.hold-kept.ensures) (sym c.in_default.ensures.is) c.loop-replica.invariant.sees) ∙ same)) test) w.in-Ok.ensures.row w.in-Ok-publish.ensures.done.0));
         turn = ap (λ s. s.turn) w.seat-inside-is ∙ c.loop-replica.invariant.turn;
         view = ap (λ s. s.view) w.seat-inside-is ∙ w.in-Ok-publish.ensures.seen.1 ∙ sym (ap (λ (k : Guarded g.row.D.Denot g.row.P.Denot). k.front.shown) w.kept-is);
@@ -252,11 +254,11 @@ pub free-requires-in-Err-erase_seen-clause-may : goal.free-requires-in-Err-erase
 free-requires-in-Err-erase_seen-clause-may g c = record {
   stands_for = changed_free g.D.Disk.Tells g.D.Disk.files g.P.Piece.Tells g.D.Disk.fault_count g.D.Disk.fuse_count c.args.tag c.seat.inside.turn c.loop-replica.seat-inside.turn c.seat.inside.view c.show_all.new.seat c.loop-replica.seat-inside.view c.hold-kept.result (record c.loop-replica.kept { logical = c.erase_seen.new.self }) c.act_made-made-in-Err-erase_seen.result
       c.seat.invariant (subst (λ (t : SeatState (Opened g.row.D.Denot g.row.P.Denot) VolumeAct). Holds (λ act. act.seat) (λ opened acts x. IsKept g.D.Disk.Tells g.D.Disk.files g.P.Piece.Tells g.D.Disk.fault_count g.D.Disk.fuse_count opened acts x) c.seat.inside.turn t c.hold-kept.result) (sym c.loop-replica.invariant.turn) c.hold-kept.ensures) c.show_all.ensures.seen.0 c.show_all.ensures.seen.1 c.loop-replica.invariant.view
-      (erase_refused g.D.Disk.Tells g.D.Disk.files g.P.Piece.Tells g.D.Disk.fault_count g.D.Disk.fuse_count c.args.tag c.loop-replica.kept (record c.loop-replica.kept { logical = c.erase_seen.new.self }) c.args.pair refl refl refl refl (serves_now g.D.Disk.Tells g.D.Disk.files g.P.Piece.Tells g.D.Disk.fault_count g.D.Disk.fuse_count c.args.tag c.loop-replica.kept (since g.D.Disk.Tells g.D.Disk.files g.P.Piece.Tells g.D.Disk.fault_count g.D.Disk.fuse_count c.args.tag c.hold-kept.result c.loop-replica.kept c.seat.invariant.opened c.hold-kept.new.seat.seen (is_held g.D.Disk.Tells g.D.Disk.files g.P.Piece.Tells g.D.Disk.fault_count g.D.Disk.fuse_count c.seat.invariant c.hold-kept.ensures) (sym c.in_default.ensures.is) c.loop-replica.invariant.sees)) (thawed_now g.D.Disk.Tells g.D.Disk.files g.P.Piece.Tells g.D.Disk.fault_count g.D.Disk.fuse_count c.args.tag c.loop-replica.kept (since g.D.Disk.Tells g.D.Disk.files g.P.Piece.Tells g.D.Disk.fault_count g.D.Disk.fuse_count c.args.tag c.hold-kept.result c.loop-replica.kept c.seat.invariant.opened c.hold-kept.new.seat.seen (is_held g.D.Disk.Tells g.D.Disk.files g.P.Piece.Tells g.D.Disk.fault_count g.D.Disk.fuse_count c.seat.invariant c.hold-kept.ensures) (sym c.in_default.ensures.is) c.loop-replica.invariant.sees)) c.in-Err-erase_seen.ensures.same c.in-Err-erase_seen.ensures.open c.in-Err-erase_seen.ensures.counts c.in-Err-erase_seen.ensures.kept c.in-Err-erase_seen.fault c.in-Err-erase_seen.ensures.refused c.in-Err-erase_seen.ensures.causes
+      (erase_refused g.D.Disk.Tells g.D.Disk.files g.P.Piece.Tells g.D.Disk.fault_count g.D.Disk.fuse_count c.args.tag c.loop-replica.kept (record c.loop-replica.kept { logical = c.erase_seen.new.self }) c.args.pair refl refl refl refl (serves_now g.D.Disk.Tells g.D.Disk.files g.P.Piece.Tells g.D.Disk.fault_count g.D.Disk.fuse_count c.args.tag c.loop-replica.kept (since g.D.Disk.Tells g.D.Disk.files g.P.Piece.Tells g.D.Disk.fault_count g.D.Disk.fuse_count c.args.tag c.hold-kept.result c.loop-replica.kept c.seat.invariant.opened c.hold-kept.new.seat.seen (is_held g.D.Disk.Tells g.D.Disk.files g.P.Piece.Tells g.D.Disk.fault_count g.D.Disk.fuse_count c.seat.invariant c.hold-kept.ensures) (sym c.in_default.ensures.is) c.loop-replica.invariant.sees)) (thawed_now g.D.Disk.Tells g.D.Disk.files g.P.Piece.Tells g.D.Disk.fault_count g.D.Disk.fuse_count c.args.tag c.loop-replica.kept (since g.D.Disk.Tells g.D.Disk.files g.P.Piece.Tells g.D.Disk.fault_count g.D.Disk.fuse_count c.args.tag c.hold-kept.result c.loop-replica.kept c.seat.invariant.opened c.hold-kept.new.seat.seen (is_held g.D.Disk.Tells g.D.Disk.files g.P.Piece.Tells g.D.Disk.fault_count g.D.Disk.fuse_count c.seat.invariant c.hold-kept.ensures) (sym c.in_default.ensures.is) c.loop-replica.invariant.sees)) c.in-Err-erase_seen.ensures.same c.in-Err-erase_seen.ensures.open c.in-Err-erase_seen.ensures.counts c.in-Err-erase_seen.ensures.kept (λ tells thawed j tight. c.in-Err-erase_seen.ensures.tight tells j tight (unsure_kept c.args.tag c.args.pair c.loop-replica.kept.logical c.erase_seen.new.self c.in-Err-erase_seen.fault c.in-Err-erase_seen.ensures.refused_seen thawed)) c.in-Err-erase_seen.fault c.in-Err-erase_seen.ensures.refused c.in-Err-erase_seen.ensures.causes
       (λ m at e. c.in-Err-erase_seen.ensures.undamaged m at (ap Err e)) c.hold-kept.result (sym c.in_default.ensures.is) c.loop-replica.invariant.sees c.act_made-made-in-Err-erase_seen.result (record { acts = λ m is. c.act_made-made-in-Err-erase_seen.ensures.did m ((c.delete_did-did.ensures ∙ ap (λ (f : Option ℕ). delete_made f (change.Del c.args.pair) c.in-Err-erase_seen.fault) c.frozen-in-Err-erase_seen.ensures.is) ∙ is); tries = λ none. (subst (λ (l : List ℕ). IsTried g.D.Disk.fault_count g.D.Disk.fuse_count c.args.tag l (record c.loop-replica.kept { logical = c.erase_seen.new.self }).logical.replicas c.act_made-made-in-Err-erase_seen.result) c.faults_of-before.ensures (c.act_made-made-in-Err-erase_seen.ensures.tried ((c.delete_did-did.ensures ∙ ap (λ (f : Option ℕ). delete_made f (change.Del c.args.pair) c.in-Err-erase_seen.fault) c.frozen-in-Err-erase_seen.ensures.is) ∙ none))) })).leaves;
   mine = changed_mine g.D.Disk.Tells g.D.Disk.files g.P.Piece.Tells g.D.Disk.fault_count g.D.Disk.fuse_count c.args.tag c.seat.inside.turn c.loop-replica.seat-inside.turn c.seat.inside.view c.show_all.new.seat c.loop-replica.seat-inside.view c.hold-kept.result (record c.loop-replica.kept { logical = c.erase_seen.new.self }) c.act_made-made-in-Err-erase_seen.result
       c.seat.invariant (subst (λ (t : SeatState (Opened g.row.D.Denot g.row.P.Denot) VolumeAct). Holds (λ act. act.seat) (λ opened acts x. IsKept g.D.Disk.Tells g.D.Disk.files g.P.Piece.Tells g.D.Disk.fault_count g.D.Disk.fuse_count opened acts x) c.seat.inside.turn t c.hold-kept.result) (sym c.loop-replica.invariant.turn) c.hold-kept.ensures) c.show_all.ensures.seen.0 c.show_all.ensures.seen.1 c.loop-replica.invariant.view
-      (erase_refused g.D.Disk.Tells g.D.Disk.files g.P.Piece.Tells g.D.Disk.fault_count g.D.Disk.fuse_count c.args.tag c.loop-replica.kept (record c.loop-replica.kept { logical = c.erase_seen.new.self }) c.args.pair refl refl refl refl (serves_now g.D.Disk.Tells g.D.Disk.files g.P.Piece.Tells g.D.Disk.fault_count g.D.Disk.fuse_count c.args.tag c.loop-replica.kept (since g.D.Disk.Tells g.D.Disk.files g.P.Piece.Tells g.D.Disk.fault_count g.D.Disk.fuse_count c.args.tag c.hold-kept.result c.loop-replica.kept c.seat.invariant.opened c.hold-kept.new.seat.seen (is_held g.D.Disk.Tells g.D.Disk.files g.P.Piece.Tells g.D.Disk.fault_count g.D.Disk.fuse_count c.seat.invariant c.hold-kept.ensures) (sym c.in_default.ensures.is) c.loop-replica.invariant.sees)) (thawed_now g.D.Disk.Tells g.D.Disk.files g.P.Piece.Tells g.D.Disk.fault_count g.D.Disk.fuse_count c.args.tag c.loop-replica.kept (since g.D.Disk.Tells g.D.Disk.files g.P.Piece.Tells g.D.Disk.fault_count g.D.Disk.fuse_count c.args.tag c.hold-kept.result c.loop-replica.kept c.seat.invariant.opened c.hold-kept.new.seat.seen (is_held g.D.Disk.Tells g.D.Disk.files g.P.Piece.Tells g.D.Disk.fault_count g.D.Disk.fuse_count c.seat.invariant c.hold-kept.ensures) (sym c.in_default.ensures.is) c.loop-replica.invariant.sees)) c.in-Err-erase_seen.ensures.same c.in-Err-erase_seen.ensures.open c.in-Err-erase_seen.ensures.counts c.in-Err-erase_seen.ensures.kept c.in-Err-erase_seen.fault c.in-Err-erase_seen.ensures.refused c.in-Err-erase_seen.ensures.causes
+      (erase_refused g.D.Disk.Tells g.D.Disk.files g.P.Piece.Tells g.D.Disk.fault_count g.D.Disk.fuse_count c.args.tag c.loop-replica.kept (record c.loop-replica.kept { logical = c.erase_seen.new.self }) c.args.pair refl refl refl refl (serves_now g.D.Disk.Tells g.D.Disk.files g.P.Piece.Tells g.D.Disk.fault_count g.D.Disk.fuse_count c.args.tag c.loop-replica.kept (since g.D.Disk.Tells g.D.Disk.files g.P.Piece.Tells g.D.Disk.fault_count g.D.Disk.fuse_count c.args.tag c.hold-kept.result c.loop-replica.kept c.seat.invariant.opened c.hold-kept.new.seat.seen (is_held g.D.Disk.Tells g.D.Disk.files g.P.Piece.Tells g.D.Disk.fault_count g.D.Disk.fuse_count c.seat.invariant c.hold-kept.ensures) (sym c.in_default.ensures.is) c.loop-replica.invariant.sees)) (thawed_now g.D.Disk.Tells g.D.Disk.files g.P.Piece.Tells g.D.Disk.fault_count g.D.Disk.fuse_count c.args.tag c.loop-replica.kept (since g.D.Disk.Tells g.D.Disk.files g.P.Piece.Tells g.D.Disk.fault_count g.D.Disk.fuse_count c.args.tag c.hold-kept.result c.loop-replica.kept c.seat.invariant.opened c.hold-kept.new.seat.seen (is_held g.D.Disk.Tells g.D.Disk.files g.P.Piece.Tells g.D.Disk.fault_count g.D.Disk.fuse_count c.seat.invariant c.hold-kept.ensures) (sym c.in_default.ensures.is) c.loop-replica.invariant.sees)) c.in-Err-erase_seen.ensures.same c.in-Err-erase_seen.ensures.open c.in-Err-erase_seen.ensures.counts c.in-Err-erase_seen.ensures.kept (λ tells thawed j tight. c.in-Err-erase_seen.ensures.tight tells j tight (unsure_kept c.args.tag c.args.pair c.loop-replica.kept.logical c.erase_seen.new.self c.in-Err-erase_seen.fault c.in-Err-erase_seen.ensures.refused_seen thawed)) c.in-Err-erase_seen.fault c.in-Err-erase_seen.ensures.refused c.in-Err-erase_seen.ensures.causes
       (λ m at e. c.in-Err-erase_seen.ensures.undamaged m at (ap Err e)) c.hold-kept.result (sym c.in_default.ensures.is) c.loop-replica.invariant.sees c.act_made-made-in-Err-erase_seen.result (record { acts = λ m is. c.act_made-made-in-Err-erase_seen.ensures.did m ((c.delete_did-did.ensures ∙ ap (λ (f : Option ℕ). delete_made f (change.Del c.args.pair) c.in-Err-erase_seen.fault) c.frozen-in-Err-erase_seen.ensures.is) ∙ is); tries = λ none. (subst (λ (l : List ℕ). IsTried g.D.Disk.fault_count g.D.Disk.fuse_count c.args.tag l (record c.loop-replica.kept { logical = c.erase_seen.new.self }).logical.replicas c.act_made-made-in-Err-erase_seen.result) c.faults_of-before.ensures (c.act_made-made-in-Err-erase_seen.ensures.tried ((c.delete_did-did.ensures ∙ ap (λ (f : Option ℕ). delete_made f (change.Del c.args.pair) c.in-Err-erase_seen.fault) c.frozen-in-Err-erase_seen.ensures.is) ∙ none))) })).leaves (ap (λ (s : Seated g.row.D.Denot g.row.P.Denot). s.number) c.seat.view_is ∙ c.requires.may.lane);
 }
 
@@ -265,7 +267,7 @@ invariant_of-seat-in-Err-erase_seen g c =
     subst (λ (n : ℕ). IsSeated c.free-in-Err-erase_seen.new.seat n c.loop-replica.seat-inside.view) (sym c.loop-replica.invariant.stood)
     (changed_seated g.D.Disk.Tells g.D.Disk.files g.P.Piece.Tells g.D.Disk.fault_count g.D.Disk.fuse_count c.args.tag c.seat.inside.turn c.loop-replica.seat-inside.turn c.seat.inside.view c.show_all.new.seat c.loop-replica.seat-inside.view c.hold-kept.result (record c.loop-replica.kept { logical = c.erase_seen.new.self }) c.act_made-made-in-Err-erase_seen.result
     c.seat.invariant (subst (λ (t : SeatState (Opened g.row.D.Denot g.row.P.Denot) VolumeAct). Holds (λ act. act.seat) (λ opened acts x. IsKept g.D.Disk.Tells g.D.Disk.files g.P.Piece.Tells g.D.Disk.fault_count g.D.Disk.fuse_count opened acts x) c.seat.inside.turn t c.hold-kept.result) (sym c.loop-replica.invariant.turn) c.hold-kept.ensures) c.show_all.ensures.seen.0 c.show_all.ensures.seen.1 c.loop-replica.invariant.view
-    (erase_refused g.D.Disk.Tells g.D.Disk.files g.P.Piece.Tells g.D.Disk.fault_count g.D.Disk.fuse_count c.args.tag c.loop-replica.kept (record c.loop-replica.kept { logical = c.erase_seen.new.self }) c.args.pair refl refl refl refl (serves_now g.D.Disk.Tells g.D.Disk.files g.P.Piece.Tells g.D.Disk.fault_count g.D.Disk.fuse_count c.args.tag c.loop-replica.kept (since g.D.Disk.Tells g.D.Disk.files g.P.Piece.Tells g.D.Disk.fault_count g.D.Disk.fuse_count c.args.tag c.hold-kept.result c.loop-replica.kept c.seat.invariant.opened c.hold-kept.new.seat.seen (is_held g.D.Disk.Tells g.D.Disk.files g.P.Piece.Tells g.D.Disk.fault_count g.D.Disk.fuse_count c.seat.invariant c.hold-kept.ensures) (sym c.in_default.ensures.is) c.loop-replica.invariant.sees)) (thawed_now g.D.Disk.Tells g.D.Disk.files g.P.Piece.Tells g.D.Disk.fault_count g.D.Disk.fuse_count c.args.tag c.loop-replica.kept (since g.D.Disk.Tells g.D.Disk.files g.P.Piece.Tells g.D.Disk.fault_count g.D.Disk.fuse_count c.args.tag c.hold-kept.result c.loop-replica.kept c.seat.invariant.opened c.hold-kept.new.seat.seen (is_held g.D.Disk.Tells g.D.Disk.files g.P.Piece.Tells g.D.Disk.fault_count g.D.Disk.fuse_count c.seat.invariant c.hold-kept.ensures) (sym c.in_default.ensures.is) c.loop-replica.invariant.sees)) c.in-Err-erase_seen.ensures.same c.in-Err-erase_seen.ensures.open c.in-Err-erase_seen.ensures.counts c.in-Err-erase_seen.ensures.kept c.in-Err-erase_seen.fault c.in-Err-erase_seen.ensures.refused c.in-Err-erase_seen.ensures.causes
+    (erase_refused g.D.Disk.Tells g.D.Disk.files g.P.Piece.Tells g.D.Disk.fault_count g.D.Disk.fuse_count c.args.tag c.loop-replica.kept (record c.loop-replica.kept { logical = c.erase_seen.new.self }) c.args.pair refl refl refl refl (serves_now g.D.Disk.Tells g.D.Disk.files g.P.Piece.Tells g.D.Disk.fault_count g.D.Disk.fuse_count c.args.tag c.loop-replica.kept (since g.D.Disk.Tells g.D.Disk.files g.P.Piece.Tells g.D.Disk.fault_count g.D.Disk.fuse_count c.args.tag c.hold-kept.result c.loop-replica.kept c.seat.invariant.opened c.hold-kept.new.seat.seen (is_held g.D.Disk.Tells g.D.Disk.files g.P.Piece.Tells g.D.Disk.fault_count g.D.Disk.fuse_count c.seat.invariant c.hold-kept.ensures) (sym c.in_default.ensures.is) c.loop-replica.invariant.sees)) (thawed_now g.D.Disk.Tells g.D.Disk.files g.P.Piece.Tells g.D.Disk.fault_count g.D.Disk.fuse_count c.args.tag c.loop-replica.kept (since g.D.Disk.Tells g.D.Disk.files g.P.Piece.Tells g.D.Disk.fault_count g.D.Disk.fuse_count c.args.tag c.hold-kept.result c.loop-replica.kept c.seat.invariant.opened c.hold-kept.new.seat.seen (is_held g.D.Disk.Tells g.D.Disk.files g.P.Piece.Tells g.D.Disk.fault_count g.D.Disk.fuse_count c.seat.invariant c.hold-kept.ensures) (sym c.in_default.ensures.is) c.loop-replica.invariant.sees)) c.in-Err-erase_seen.ensures.same c.in-Err-erase_seen.ensures.open c.in-Err-erase_seen.ensures.counts c.in-Err-erase_seen.ensures.kept (λ tells thawed j tight. c.in-Err-erase_seen.ensures.tight tells j tight (unsure_kept c.args.tag c.args.pair c.loop-replica.kept.logical c.erase_seen.new.self c.in-Err-erase_seen.fault c.in-Err-erase_seen.ensures.refused_seen thawed)) c.in-Err-erase_seen.fault c.in-Err-erase_seen.ensures.refused c.in-Err-erase_seen.ensures.causes
     (λ m at e. c.in-Err-erase_seen.ensures.undamaged m at (ap Err e)) c.hold-kept.result (sym c.in_default.ensures.is) c.loop-replica.invariant.sees c.act_made-made-in-Err-erase_seen.result (record { acts = λ m is. c.act_made-made-in-Err-erase_seen.ensures.did m ((c.delete_did-did.ensures ∙ ap (λ (f : Option ℕ). delete_made f (change.Del c.args.pair) c.in-Err-erase_seen.fault) c.frozen-in-Err-erase_seen.ensures.is) ∙ is); tries = λ none. (subst (λ (l : List ℕ). IsTried g.D.Disk.fault_count g.D.Disk.fuse_count c.args.tag l (record c.loop-replica.kept { logical = c.erase_seen.new.self }).logical.replicas c.act_made-made-in-Err-erase_seen.result) c.faults_of-before.ensures (c.act_made-made-in-Err-erase_seen.ensures.tried ((c.delete_did-did.ensures ∙ ap (λ (f : Option ℕ). delete_made f (change.Del c.args.pair) c.in-Err-erase_seen.fault) c.frozen-in-Err-erase_seen.ensures.is) ∙ none))) })).leaves c.free-in-Err-erase_seen.new.seat c.free-in-Err-erase_seen.ensures (ap (λ (s : Seated g.row.D.Denot g.row.P.Denot). s.number) c.seat.view_is ∙ c.requires.may.lane) (later_same c.seat.inside.view c.loop-replica.kept.front.shown c.loop-replica.seat-inside.view (later_more c.seat.inside.view c.hold-kept.result.front.shown c.loop-replica.kept.front.shown c.show_all.ensures.seen.0 c.loop-replica.invariant.later) c.loop-replica.invariant.view))
 
 pub returns-in-Err-erase_seen-clause-deleted : goal.returns-in-Err-erase_seen-clause-deleted
@@ -273,8 +275,8 @@ returns-in-Err-erase_seen-clause-deleted g c =
     subst (λ (s : Seated g.row.D.Denot g.row.P.Denot). IsTold g.D.Disk.Tells g.D.Disk.files g.P.Piece.Tells g.D.Disk.fault_count g.D.Disk.fuse_count s.start (λ volume. DeleteAnswer volume c.args.tag c.args.pair (Err c.in-Err-erase_seen.fault) s.sight (seat_of c.free-in-Err-erase_seen.new.seat c.loop-replica.seat-inside.view).sight)) c.seat.view_is
     (changed_told g.D.Disk.Tells g.D.Disk.files g.P.Piece.Tells g.D.Disk.fault_count g.D.Disk.fuse_count c.args.tag c.seat.inside.turn c.loop-replica.seat-inside.turn c.seat.inside.view c.show_all.new.seat c.loop-replica.seat-inside.view c.hold-kept.result (record c.loop-replica.kept { logical = c.erase_seen.new.self }) c.act_made-made-in-Err-erase_seen.result
     c.seat.invariant (subst (λ (t : SeatState (Opened g.row.D.Denot g.row.P.Denot) VolumeAct). Holds (λ act. act.seat) (λ opened acts x. IsKept g.D.Disk.Tells g.D.Disk.files g.P.Piece.Tells g.D.Disk.fault_count g.D.Disk.fuse_count opened acts x) c.seat.inside.turn t c.hold-kept.result) (sym c.loop-replica.invariant.turn) c.hold-kept.ensures) c.show_all.ensures.seen.0 c.show_all.ensures.seen.1 c.loop-replica.invariant.view
-    (erase_refused g.D.Disk.Tells g.D.Disk.files g.P.Piece.Tells g.D.Disk.fault_count g.D.Disk.fuse_count c.args.tag c.loop-replica.kept (record c.loop-replica.kept { logical = c.erase_seen.new.self }) c.args.pair refl refl refl refl (serves_now g.D.Disk.Tells g.D.Disk.files g.P.Piece.Tells g.D.Disk.fault_count g.D.Disk.fuse_count c.args.tag c.loop-replica.kept (since g.D.Disk.Tells g.D.Disk.files g.P.Piece.Tells g.D.Disk.fault_count g.D.Disk.fuse_count c.args.tag c.hold-kept.result c.loop-replica.kept c.seat.invariant.opened c.hold-kept.new.seat.seen (is_held g.D.Disk.Tells g.D.Disk.files g.P.Piece.Tells g.D.Disk.fault_count g.D.Disk.fuse_count c.seat.invariant c.hold-kept.ensures) (sym c.in_default.ensures.is) c.loop-replica.invariant.sees)) (thawed_now g.D.Disk.Tells g.D.Disk.files g.P.Piece.Tells g.D.Disk.fault_count g.D.Disk.fuse_count c.args.tag c.loop-replica.kept (since g.D.Disk.Tells g.D.Disk.files g.P.Piece.Tells g.D.Disk.fault_count g.D.Disk.fuse_count c.args.tag c.hold-kept.result c.loop-replica.kept c.seat.invariant.opened c.hold-kept.new.seat.seen (is_held g.D.Disk.Tells g.D.Disk.files g.P.Piece.Tells g.D.Disk.fault_count g.D.Disk.fuse_count c.seat.invariant c.hold-kept.ensures) (sym c.in_default.ensures.is) c.loop-replica.invariant.sees)) c.in-Err-erase_seen.ensures.same c.in-Err-erase_seen.ensures.open c.in-Err-erase_seen.ensures.counts c.in-Err-erase_seen.ensures.kept c.in-Err-erase_seen.fault c.in-Err-erase_seen.ensures.refused c.in-Err-erase_seen.ensures.causes
-    (λ m at e. c.in-Err-erase_seen.ensures.undamaged m at (ap Err e)) c.hold-kept.result (sym c.in_default.ensures.is) c.loop-replica.invariant.sees c.act_made-made-in-Err-erase_seen.result (record { acts = λ m is. c.act_made-made-in-Err-erase_seen.ensures.did m ((c.delete_did-did.ensures ∙ ap (λ (f : Option ℕ). delete_made f (change.Del c.args.pair) c.in-Err-erase_seen.fault) c.frozen-in-Err-erase_seen.ensures.is) ∙ is); tries = λ none. (subst (λ (l : List ℕ). IsTried g.D.Disk.fault_count g.D.Disk.fuse_count c.args.tag l (record c.loop-replica.kept { logical = c.erase_seen.new.self }).logical.replicas c.act_made-made-in-Err-erase_seen.result) c.faults_of-before.ensures (c.act_made-made-in-Err-erase_seen.ensures.tried ((c.delete_did-did.ensures ∙ ap (λ (f : Option ℕ). delete_made f (change.Del c.args.pair) c.in-Err-erase_seen.fault) c.frozen-in-Err-erase_seen.ensures.is) ∙ none))) })).leaves c.free-in-Err-erase_seen.new.seat c.free-in-Err-erase_seen.ensures (λ volume. DeleteAnswer volume c.args.tag c.args.pair (Err c.in-Err-erase_seen.fault)) (erase_refused g.D.Disk.Tells g.D.Disk.files g.P.Piece.Tells g.D.Disk.fault_count g.D.Disk.fuse_count c.args.tag c.loop-replica.kept (record c.loop-replica.kept { logical = c.erase_seen.new.self }) c.args.pair refl refl refl refl (serves_now g.D.Disk.Tells g.D.Disk.files g.P.Piece.Tells g.D.Disk.fault_count g.D.Disk.fuse_count c.args.tag c.loop-replica.kept (since g.D.Disk.Tells g.D.Disk.files g.P.Piece.Tells g.D.Disk.fault_count g.D.Disk.fuse_count c.args.tag c.hold-kept.result c.loop-replica.kept c.seat.invariant.opened c.hold-kept.new.seat.seen (is_held g.D.Disk.Tells g.D.Disk.files g.P.Piece.Tells g.D.Disk.fault_count g.D.Disk.fuse_count c.seat.invariant c.hold-kept.ensures) (sym c.in_default.ensures.is) c.loop-replica.invariant.sees)) (thawed_now g.D.Disk.Tells g.D.Disk.files g.P.Piece.Tells g.D.Disk.fault_count g.D.Disk.fuse_count c.args.tag c.loop-replica.kept (since g.D.Disk.Tells g.D.Disk.files g.P.Piece.Tells g.D.Disk.fault_count g.D.Disk.fuse_count c.args.tag c.hold-kept.result c.loop-replica.kept c.seat.invariant.opened c.hold-kept.new.seat.seen (is_held g.D.Disk.Tells g.D.Disk.files g.P.Piece.Tells g.D.Disk.fault_count g.D.Disk.fuse_count c.seat.invariant c.hold-kept.ensures) (sym c.in_default.ensures.is) c.loop-replica.invariant.sees)) c.in-Err-erase_seen.ensures.same c.in-Err-erase_seen.ensures.open c.in-Err-erase_seen.ensures.counts c.in-Err-erase_seen.ensures.kept c.in-Err-erase_seen.fault c.in-Err-erase_seen.ensures.refused c.in-Err-erase_seen.ensures.causes
+    (erase_refused g.D.Disk.Tells g.D.Disk.files g.P.Piece.Tells g.D.Disk.fault_count g.D.Disk.fuse_count c.args.tag c.loop-replica.kept (record c.loop-replica.kept { logical = c.erase_seen.new.self }) c.args.pair refl refl refl refl (serves_now g.D.Disk.Tells g.D.Disk.files g.P.Piece.Tells g.D.Disk.fault_count g.D.Disk.fuse_count c.args.tag c.loop-replica.kept (since g.D.Disk.Tells g.D.Disk.files g.P.Piece.Tells g.D.Disk.fault_count g.D.Disk.fuse_count c.args.tag c.hold-kept.result c.loop-replica.kept c.seat.invariant.opened c.hold-kept.new.seat.seen (is_held g.D.Disk.Tells g.D.Disk.files g.P.Piece.Tells g.D.Disk.fault_count g.D.Disk.fuse_count c.seat.invariant c.hold-kept.ensures) (sym c.in_default.ensures.is) c.loop-replica.invariant.sees)) (thawed_now g.D.Disk.Tells g.D.Disk.files g.P.Piece.Tells g.D.Disk.fault_count g.D.Disk.fuse_count c.args.tag c.loop-replica.kept (since g.D.Disk.Tells g.D.Disk.files g.P.Piece.Tells g.D.Disk.fault_count g.D.Disk.fuse_count c.args.tag c.hold-kept.result c.loop-replica.kept c.seat.invariant.opened c.hold-kept.new.seat.seen (is_held g.D.Disk.Tells g.D.Disk.files g.P.Piece.Tells g.D.Disk.fault_count g.D.Disk.fuse_count c.seat.invariant c.hold-kept.ensures) (sym c.in_default.ensures.is) c.loop-replica.invariant.sees)) c.in-Err-erase_seen.ensures.same c.in-Err-erase_seen.ensures.open c.in-Err-erase_seen.ensures.counts c.in-Err-erase_seen.ensures.kept (λ tells thawed j tight. c.in-Err-erase_seen.ensures.tight tells j tight (unsure_kept c.args.tag c.args.pair c.loop-replica.kept.logical c.erase_seen.new.self c.in-Err-erase_seen.fault c.in-Err-erase_seen.ensures.refused_seen thawed)) c.in-Err-erase_seen.fault c.in-Err-erase_seen.ensures.refused c.in-Err-erase_seen.ensures.causes
+    (λ m at e. c.in-Err-erase_seen.ensures.undamaged m at (ap Err e)) c.hold-kept.result (sym c.in_default.ensures.is) c.loop-replica.invariant.sees c.act_made-made-in-Err-erase_seen.result (record { acts = λ m is. c.act_made-made-in-Err-erase_seen.ensures.did m ((c.delete_did-did.ensures ∙ ap (λ (f : Option ℕ). delete_made f (change.Del c.args.pair) c.in-Err-erase_seen.fault) c.frozen-in-Err-erase_seen.ensures.is) ∙ is); tries = λ none. (subst (λ (l : List ℕ). IsTried g.D.Disk.fault_count g.D.Disk.fuse_count c.args.tag l (record c.loop-replica.kept { logical = c.erase_seen.new.self }).logical.replicas c.act_made-made-in-Err-erase_seen.result) c.faults_of-before.ensures (c.act_made-made-in-Err-erase_seen.ensures.tried ((c.delete_did-did.ensures ∙ ap (λ (f : Option ℕ). delete_made f (change.Del c.args.pair) c.in-Err-erase_seen.fault) c.frozen-in-Err-erase_seen.ensures.is) ∙ none))) })).leaves c.free-in-Err-erase_seen.new.seat c.free-in-Err-erase_seen.ensures (λ volume. DeleteAnswer volume c.args.tag c.args.pair (Err c.in-Err-erase_seen.fault)) (erase_refused g.D.Disk.Tells g.D.Disk.files g.P.Piece.Tells g.D.Disk.fault_count g.D.Disk.fuse_count c.args.tag c.loop-replica.kept (record c.loop-replica.kept { logical = c.erase_seen.new.self }) c.args.pair refl refl refl refl (serves_now g.D.Disk.Tells g.D.Disk.files g.P.Piece.Tells g.D.Disk.fault_count g.D.Disk.fuse_count c.args.tag c.loop-replica.kept (since g.D.Disk.Tells g.D.Disk.files g.P.Piece.Tells g.D.Disk.fault_count g.D.Disk.fuse_count c.args.tag c.hold-kept.result c.loop-replica.kept c.seat.invariant.opened c.hold-kept.new.seat.seen (is_held g.D.Disk.Tells g.D.Disk.files g.P.Piece.Tells g.D.Disk.fault_count g.D.Disk.fuse_count c.seat.invariant c.hold-kept.ensures) (sym c.in_default.ensures.is) c.loop-replica.invariant.sees)) (thawed_now g.D.Disk.Tells g.D.Disk.files g.P.Piece.Tells g.D.Disk.fault_count g.D.Disk.fuse_count c.args.tag c.loop-replica.kept (since g.D.Disk.Tells g.D.Disk.files g.P.Piece.Tells g.D.Disk.fault_count g.D.Disk.fuse_count c.args.tag c.hold-kept.result c.loop-replica.kept c.seat.invariant.opened c.hold-kept.new.seat.seen (is_held g.D.Disk.Tells g.D.Disk.files g.P.Piece.Tells g.D.Disk.fault_count g.D.Disk.fuse_count c.seat.invariant c.hold-kept.ensures) (sym c.in_default.ensures.is) c.loop-replica.invariant.sees)) c.in-Err-erase_seen.ensures.same c.in-Err-erase_seen.ensures.open c.in-Err-erase_seen.ensures.counts c.in-Err-erase_seen.ensures.kept (λ tells thawed j tight. c.in-Err-erase_seen.ensures.tight tells j tight (unsure_kept c.args.tag c.args.pair c.loop-replica.kept.logical c.erase_seen.new.self c.in-Err-erase_seen.fault c.in-Err-erase_seen.ensures.refused_seen thawed)) c.in-Err-erase_seen.fault c.in-Err-erase_seen.ensures.refused c.in-Err-erase_seen.ensures.causes
     (λ m at e. c.in-Err-erase_seen.ensures.undamaged m at (ap Err e)) c.hold-kept.result (sym c.in_default.ensures.is) c.loop-replica.invariant.sees c.act_made-made-in-Err-erase_seen.result (record { acts = λ m is. c.act_made-made-in-Err-erase_seen.ensures.did m ((c.delete_did-did.ensures ∙ ap (λ (f : Option ℕ). delete_made f (change.Del c.args.pair) c.in-Err-erase_seen.fault) c.frozen-in-Err-erase_seen.ensures.is) ∙ is); tries = λ none. (subst (λ (l : List ℕ). IsTried g.D.Disk.fault_count g.D.Disk.fuse_count c.args.tag l (record c.loop-replica.kept { logical = c.erase_seen.new.self }).logical.replicas c.act_made-made-in-Err-erase_seen.result) c.faults_of-before.ensures (c.act_made-made-in-Err-erase_seen.ensures.tried ((c.delete_did-did.ensures ∙ ap (λ (f : Option ℕ). delete_made f (change.Del c.args.pair) c.in-Err-erase_seen.fault) c.frozen-in-Err-erase_seen.ensures.is) ∙ none))) })).told)
 
 pub returns-in-Err-erase_seen-clause-causes : goal.returns-in-Err-erase_seen-clause-causes
@@ -282,8 +284,8 @@ returns-in-Err-erase_seen-clause-causes g c = λ m f is.
     subst (λ (s : Seated g.row.D.Denot g.row.P.Denot). IsAlways g.D.Disk.fault_count g.D.Disk.fuse_count s.start (λ volume. DiskFailed volume c.args.tag m f s.sight (seat_of c.free-in-Err-erase_seen.new.seat c.loop-replica.seat-inside.view).sight)) c.seat.view_is
     (changed_always g.D.Disk.Tells g.D.Disk.files g.P.Piece.Tells g.D.Disk.fault_count g.D.Disk.fuse_count c.args.tag c.seat.inside.turn c.loop-replica.seat-inside.turn c.seat.inside.view c.show_all.new.seat c.loop-replica.seat-inside.view c.hold-kept.result (record c.loop-replica.kept { logical = c.erase_seen.new.self }) c.act_made-made-in-Err-erase_seen.result
     c.seat.invariant (subst (λ (t : SeatState (Opened g.row.D.Denot g.row.P.Denot) VolumeAct). Holds (λ act. act.seat) (λ opened acts x. IsKept g.D.Disk.Tells g.D.Disk.files g.P.Piece.Tells g.D.Disk.fault_count g.D.Disk.fuse_count opened acts x) c.seat.inside.turn t c.hold-kept.result) (sym c.loop-replica.invariant.turn) c.hold-kept.ensures) c.show_all.ensures.seen.0 c.show_all.ensures.seen.1 c.loop-replica.invariant.view
-    (erase_refused g.D.Disk.Tells g.D.Disk.files g.P.Piece.Tells g.D.Disk.fault_count g.D.Disk.fuse_count c.args.tag c.loop-replica.kept (record c.loop-replica.kept { logical = c.erase_seen.new.self }) c.args.pair refl refl refl refl (serves_now g.D.Disk.Tells g.D.Disk.files g.P.Piece.Tells g.D.Disk.fault_count g.D.Disk.fuse_count c.args.tag c.loop-replica.kept (since g.D.Disk.Tells g.D.Disk.files g.P.Piece.Tells g.D.Disk.fault_count g.D.Disk.fuse_count c.args.tag c.hold-kept.result c.loop-replica.kept c.seat.invariant.opened c.hold-kept.new.seat.seen (is_held g.D.Disk.Tells g.D.Disk.files g.P.Piece.Tells g.D.Disk.fault_count g.D.Disk.fuse_count c.seat.invariant c.hold-kept.ensures) (sym c.in_default.ensures.is) c.loop-replica.invariant.sees)) (thawed_now g.D.Disk.Tells g.D.Disk.files g.P.Piece.Tells g.D.Disk.fault_count g.D.Disk.fuse_count c.args.tag c.loop-replica.kept (since g.D.Disk.Tells g.D.Disk.files g.P.Piece.Tells g.D.Disk.fault_count g.D.Disk.fuse_count c.args.tag c.hold-kept.result c.loop-replica.kept c.seat.invariant.opened c.hold-kept.new.seat.seen (is_held g.D.Disk.Tells g.D.Disk.files g.P.Piece.Tells g.D.Disk.fault_count g.D.Disk.fuse_count c.seat.invariant c.hold-kept.ensures) (sym c.in_default.ensures.is) c.loop-replica.invariant.sees)) c.in-Err-erase_seen.ensures.same c.in-Err-erase_seen.ensures.open c.in-Err-erase_seen.ensures.counts c.in-Err-erase_seen.ensures.kept c.in-Err-erase_seen.fault c.in-Err-erase_seen.ensures.refused c.in-Err-erase_seen.ensures.causes
-    (λ m at e. c.in-Err-erase_seen.ensures.undamaged m at (ap Err e)) c.hold-kept.result (sym c.in_default.ensures.is) c.loop-replica.invariant.sees c.act_made-made-in-Err-erase_seen.result (record { acts = λ m is. c.act_made-made-in-Err-erase_seen.ensures.did m ((c.delete_did-did.ensures ∙ ap (λ (f : Option ℕ). delete_made f (change.Del c.args.pair) c.in-Err-erase_seen.fault) c.frozen-in-Err-erase_seen.ensures.is) ∙ is); tries = λ none. (subst (λ (l : List ℕ). IsTried g.D.Disk.fault_count g.D.Disk.fuse_count c.args.tag l (record c.loop-replica.kept { logical = c.erase_seen.new.self }).logical.replicas c.act_made-made-in-Err-erase_seen.result) c.faults_of-before.ensures (c.act_made-made-in-Err-erase_seen.ensures.tried ((c.delete_did-did.ensures ∙ ap (λ (f : Option ℕ). delete_made f (change.Del c.args.pair) c.in-Err-erase_seen.fault) c.frozen-in-Err-erase_seen.ensures.is) ∙ none))) })).leaves c.free-in-Err-erase_seen.new.seat c.free-in-Err-erase_seen.ensures (λ volume. DiskFailed volume c.args.tag m f) ((erase_refused g.D.Disk.Tells g.D.Disk.files g.P.Piece.Tells g.D.Disk.fault_count g.D.Disk.fuse_count c.args.tag c.loop-replica.kept (record c.loop-replica.kept { logical = c.erase_seen.new.self }) c.args.pair refl refl refl refl (serves_now g.D.Disk.Tells g.D.Disk.files g.P.Piece.Tells g.D.Disk.fault_count g.D.Disk.fuse_count c.args.tag c.loop-replica.kept (since g.D.Disk.Tells g.D.Disk.files g.P.Piece.Tells g.D.Disk.fault_count g.D.Disk.fuse_count c.args.tag c.hold-kept.result c.loop-replica.kept c.seat.invariant.opened c.hold-kept.new.seat.seen (is_held g.D.Disk.Tells g.D.Disk.files g.P.Piece.Tells g.D.Disk.fault_count g.D.Disk.fuse_count c.seat.invariant c.hold-kept.ensures) (sym c.in_default.ensures.is) c.loop-replica.invariant.sees)) (thawed_now g.D.Disk.Tells g.D.Disk.files g.P.Piece.Tells g.D.Disk.fault_count g.D.Disk.fuse_count c.args.tag c.loop-replica.kept (since g.D.Disk.Tells g.D.Disk.files g.P.Piece.Tells g.D.Disk.fault_count g.D.Disk.fuse_count c.args.tag c.hold-kept.result c.loop-replica.kept c.seat.invariant.opened c.hold-kept.new.seat.seen (is_held g.D.Disk.Tells g.D.Disk.files g.P.Piece.Tells g.D.Disk.fault_count g.D.Disk.fuse_count c.seat.invariant c.hold-kept.ensures) (sym c.in_default.ensures.is) c.loop-replica.invariant.sees)) c.in-Err-erase_seen.ensures.same c.in-Err-erase_seen.ensures.open c.in-Err-erase_seen.ensures.counts c.in-Err-erase_seen.ensures.kept c.in-Err-erase_seen.fault c.in-Err-erase_seen.ensures.refused c.in-Err-erase_seen.ensures.causes
+    (erase_refused g.D.Disk.Tells g.D.Disk.files g.P.Piece.Tells g.D.Disk.fault_count g.D.Disk.fuse_count c.args.tag c.loop-replica.kept (record c.loop-replica.kept { logical = c.erase_seen.new.self }) c.args.pair refl refl refl refl (serves_now g.D.Disk.Tells g.D.Disk.files g.P.Piece.Tells g.D.Disk.fault_count g.D.Disk.fuse_count c.args.tag c.loop-replica.kept (since g.D.Disk.Tells g.D.Disk.files g.P.Piece.Tells g.D.Disk.fault_count g.D.Disk.fuse_count c.args.tag c.hold-kept.result c.loop-replica.kept c.seat.invariant.opened c.hold-kept.new.seat.seen (is_held g.D.Disk.Tells g.D.Disk.files g.P.Piece.Tells g.D.Disk.fault_count g.D.Disk.fuse_count c.seat.invariant c.hold-kept.ensures) (sym c.in_default.ensures.is) c.loop-replica.invariant.sees)) (thawed_now g.D.Disk.Tells g.D.Disk.files g.P.Piece.Tells g.D.Disk.fault_count g.D.Disk.fuse_count c.args.tag c.loop-replica.kept (since g.D.Disk.Tells g.D.Disk.files g.P.Piece.Tells g.D.Disk.fault_count g.D.Disk.fuse_count c.args.tag c.hold-kept.result c.loop-replica.kept c.seat.invariant.opened c.hold-kept.new.seat.seen (is_held g.D.Disk.Tells g.D.Disk.files g.P.Piece.Tells g.D.Disk.fault_count g.D.Disk.fuse_count c.seat.invariant c.hold-kept.ensures) (sym c.in_default.ensures.is) c.loop-replica.invariant.sees)) c.in-Err-erase_seen.ensures.same c.in-Err-erase_seen.ensures.open c.in-Err-erase_seen.ensures.counts c.in-Err-erase_seen.ensures.kept (λ tells thawed j tight. c.in-Err-erase_seen.ensures.tight tells j tight (unsure_kept c.args.tag c.args.pair c.loop-replica.kept.logical c.erase_seen.new.self c.in-Err-erase_seen.fault c.in-Err-erase_seen.ensures.refused_seen thawed)) c.in-Err-erase_seen.fault c.in-Err-erase_seen.ensures.refused c.in-Err-erase_seen.ensures.causes
+    (λ m at e. c.in-Err-erase_seen.ensures.undamaged m at (ap Err e)) c.hold-kept.result (sym c.in_default.ensures.is) c.loop-replica.invariant.sees c.act_made-made-in-Err-erase_seen.result (record { acts = λ m is. c.act_made-made-in-Err-erase_seen.ensures.did m ((c.delete_did-did.ensures ∙ ap (λ (f : Option ℕ). delete_made f (change.Del c.args.pair) c.in-Err-erase_seen.fault) c.frozen-in-Err-erase_seen.ensures.is) ∙ is); tries = λ none. (subst (λ (l : List ℕ). IsTried g.D.Disk.fault_count g.D.Disk.fuse_count c.args.tag l (record c.loop-replica.kept { logical = c.erase_seen.new.self }).logical.replicas c.act_made-made-in-Err-erase_seen.result) c.faults_of-before.ensures (c.act_made-made-in-Err-erase_seen.ensures.tried ((c.delete_did-did.ensures ∙ ap (λ (f : Option ℕ). delete_made f (change.Del c.args.pair) c.in-Err-erase_seen.fault) c.frozen-in-Err-erase_seen.ensures.is) ∙ none))) })).leaves c.free-in-Err-erase_seen.new.seat c.free-in-Err-erase_seen.ensures (λ volume. DiskFailed volume c.args.tag m f) ((erase_refused g.D.Disk.Tells g.D.Disk.files g.P.Piece.Tells g.D.Disk.fault_count g.D.Disk.fuse_count c.args.tag c.loop-replica.kept (record c.loop-replica.kept { logical = c.erase_seen.new.self }) c.args.pair refl refl refl refl (serves_now g.D.Disk.Tells g.D.Disk.files g.P.Piece.Tells g.D.Disk.fault_count g.D.Disk.fuse_count c.args.tag c.loop-replica.kept (since g.D.Disk.Tells g.D.Disk.files g.P.Piece.Tells g.D.Disk.fault_count g.D.Disk.fuse_count c.args.tag c.hold-kept.result c.loop-replica.kept c.seat.invariant.opened c.hold-kept.new.seat.seen (is_held g.D.Disk.Tells g.D.Disk.files g.P.Piece.Tells g.D.Disk.fault_count g.D.Disk.fuse_count c.seat.invariant c.hold-kept.ensures) (sym c.in_default.ensures.is) c.loop-replica.invariant.sees)) (thawed_now g.D.Disk.Tells g.D.Disk.files g.P.Piece.Tells g.D.Disk.fault_count g.D.Disk.fuse_count c.args.tag c.loop-replica.kept (since g.D.Disk.Tells g.D.Disk.files g.P.Piece.Tells g.D.Disk.fault_count g.D.Disk.fuse_count c.args.tag c.hold-kept.result c.loop-replica.kept c.seat.invariant.opened c.hold-kept.new.seat.seen (is_held g.D.Disk.Tells g.D.Disk.files g.P.Piece.Tells g.D.Disk.fault_count g.D.Disk.fuse_count c.seat.invariant c.hold-kept.ensures) (sym c.in_default.ensures.is) c.loop-replica.invariant.sees)) c.in-Err-erase_seen.ensures.same c.in-Err-erase_seen.ensures.open c.in-Err-erase_seen.ensures.counts c.in-Err-erase_seen.ensures.kept (λ tells thawed j tight. c.in-Err-erase_seen.ensures.tight tells j tight (unsure_kept c.args.tag c.args.pair c.loop-replica.kept.logical c.erase_seen.new.self c.in-Err-erase_seen.fault c.in-Err-erase_seen.ensures.refused_seen thawed)) c.in-Err-erase_seen.fault c.in-Err-erase_seen.ensures.refused c.in-Err-erase_seen.ensures.causes
     (λ m at e. c.in-Err-erase_seen.ensures.undamaged m at (ap Err e)) c.hold-kept.result (sym c.in_default.ensures.is) c.loop-replica.invariant.sees c.act_made-made-in-Err-erase_seen.result (record { acts = λ m is. c.act_made-made-in-Err-erase_seen.ensures.did m ((c.delete_did-did.ensures ∙ ap (λ (f : Option ℕ). delete_made f (change.Del c.args.pair) c.in-Err-erase_seen.fault) c.frozen-in-Err-erase_seen.ensures.is) ∙ is); tries = λ none. (subst (λ (l : List ℕ). IsTried g.D.Disk.fault_count g.D.Disk.fuse_count c.args.tag l (record c.loop-replica.kept { logical = c.erase_seen.new.self }).logical.replicas c.act_made-made-in-Err-erase_seen.result) c.faults_of-before.ensures (c.act_made-made-in-Err-erase_seen.ensures.tried ((c.delete_did-did.ensures ∙ ap (λ (f : Option ℕ). delete_made f (change.Del c.args.pair) c.in-Err-erase_seen.fault) c.frozen-in-Err-erase_seen.ensures.is) ∙ none))) })).always m f is))
 
 pub returns-in-Err-erase_seen-clause-held : goal.returns-in-Err-erase_seen-clause-held
@@ -291,7 +293,7 @@ returns-in-Err-erase_seen-clause-held g c =
     subst (λ (s : Seated g.row.D.Denot g.row.P.Denot). OneHolding c.args.tag s.sight (seat_of c.free-in-Err-erase_seen.new.seat c.loop-replica.seat-inside.view).sight) c.seat.view_is
     (changed_held g.D.Disk.Tells g.D.Disk.files g.P.Piece.Tells g.D.Disk.fault_count g.D.Disk.fuse_count c.args.tag c.seat.inside.turn c.loop-replica.seat-inside.turn c.seat.inside.view c.show_all.new.seat c.loop-replica.seat-inside.view c.hold-kept.result (record c.loop-replica.kept { logical = c.erase_seen.new.self }) c.act_made-made-in-Err-erase_seen.result
     c.seat.invariant (subst (λ (t : SeatState (Opened g.row.D.Denot g.row.P.Denot) VolumeAct). Holds (λ act. act.seat) (λ opened acts x. IsKept g.D.Disk.Tells g.D.Disk.files g.P.Piece.Tells g.D.Disk.fault_count g.D.Disk.fuse_count opened acts x) c.seat.inside.turn t c.hold-kept.result) (sym c.loop-replica.invariant.turn) c.hold-kept.ensures) c.show_all.ensures.seen.0 c.show_all.ensures.seen.1 c.loop-replica.invariant.view
-    (erase_refused g.D.Disk.Tells g.D.Disk.files g.P.Piece.Tells g.D.Disk.fault_count g.D.Disk.fuse_count c.args.tag c.loop-replica.kept (record c.loop-replica.kept { logical = c.erase_seen.new.self }) c.args.pair refl refl refl refl (serves_now g.D.Disk.Tells g.D.Disk.files g.P.Piece.Tells g.D.Disk.fault_count g.D.Disk.fuse_count c.args.tag c.loop-replica.kept (since g.D.Disk.Tells g.D.Disk.files g.P.Piece.Tells g.D.Disk.fault_count g.D.Disk.fuse_count c.args.tag c.hold-kept.result c.loop-replica.kept c.seat.invariant.opened c.hold-kept.new.seat.seen (is_held g.D.Disk.Tells g.D.Disk.files g.P.Piece.Tells g.D.Disk.fault_count g.D.Disk.fuse_count c.seat.invariant c.hold-kept.ensures) (sym c.in_default.ensures.is) c.loop-replica.invariant.sees)) (thawed_now g.D.Disk.Tells g.D.Disk.files g.P.Piece.Tells g.D.Disk.fault_count g.D.Disk.fuse_count c.args.tag c.loop-replica.kept (since g.D.Disk.Tells g.D.Disk.files g.P.Piece.Tells g.D.Disk.fault_count g.D.Disk.fuse_count c.args.tag c.hold-kept.result c.loop-replica.kept c.seat.invariant.opened c.hold-kept.new.seat.seen (is_held g.D.Disk.Tells g.D.Disk.files g.P.Piece.Tells g.D.Disk.fault_count g.D.Disk.fuse_count c.seat.invariant c.hold-kept.ensures) (sym c.in_default.ensures.is) c.loop-replica.invariant.sees)) c.in-Err-erase_seen.ensures.same c.in-Err-erase_seen.ensures.open c.in-Err-erase_seen.ensures.counts c.in-Err-erase_seen.ensures.kept c.in-Err-erase_seen.fault c.in-Err-erase_seen.ensures.refused c.in-Err-erase_seen.ensures.causes
+    (erase_refused g.D.Disk.Tells g.D.Disk.files g.P.Piece.Tells g.D.Disk.fault_count g.D.Disk.fuse_count c.args.tag c.loop-replica.kept (record c.loop-replica.kept { logical = c.erase_seen.new.self }) c.args.pair refl refl refl refl (serves_now g.D.Disk.Tells g.D.Disk.files g.P.Piece.Tells g.D.Disk.fault_count g.D.Disk.fuse_count c.args.tag c.loop-replica.kept (since g.D.Disk.Tells g.D.Disk.files g.P.Piece.Tells g.D.Disk.fault_count g.D.Disk.fuse_count c.args.tag c.hold-kept.result c.loop-replica.kept c.seat.invariant.opened c.hold-kept.new.seat.seen (is_held g.D.Disk.Tells g.D.Disk.files g.P.Piece.Tells g.D.Disk.fault_count g.D.Disk.fuse_count c.seat.invariant c.hold-kept.ensures) (sym c.in_default.ensures.is) c.loop-replica.invariant.sees)) (thawed_now g.D.Disk.Tells g.D.Disk.files g.P.Piece.Tells g.D.Disk.fault_count g.D.Disk.fuse_count c.args.tag c.loop-replica.kept (since g.D.Disk.Tells g.D.Disk.files g.P.Piece.Tells g.D.Disk.fault_count g.D.Disk.fuse_count c.args.tag c.hold-kept.result c.loop-replica.kept c.seat.invariant.opened c.hold-kept.new.seat.seen (is_held g.D.Disk.Tells g.D.Disk.files g.P.Piece.Tells g.D.Disk.fault_count g.D.Disk.fuse_count c.seat.invariant c.hold-kept.ensures) (sym c.in_default.ensures.is) c.loop-replica.invariant.sees)) c.in-Err-erase_seen.ensures.same c.in-Err-erase_seen.ensures.open c.in-Err-erase_seen.ensures.counts c.in-Err-erase_seen.ensures.kept (λ tells thawed j tight. c.in-Err-erase_seen.ensures.tight tells j tight (unsure_kept c.args.tag c.args.pair c.loop-replica.kept.logical c.erase_seen.new.self c.in-Err-erase_seen.fault c.in-Err-erase_seen.ensures.refused_seen thawed)) c.in-Err-erase_seen.fault c.in-Err-erase_seen.ensures.refused c.in-Err-erase_seen.ensures.causes
     (λ m at e. c.in-Err-erase_seen.ensures.undamaged m at (ap Err e)) c.hold-kept.result (sym c.in_default.ensures.is) c.loop-replica.invariant.sees c.act_made-made-in-Err-erase_seen.result (record { acts = λ m is. c.act_made-made-in-Err-erase_seen.ensures.did m ((c.delete_did-did.ensures ∙ ap (λ (f : Option ℕ). delete_made f (change.Del c.args.pair) c.in-Err-erase_seen.fault) c.frozen-in-Err-erase_seen.ensures.is) ∙ is); tries = λ none. (subst (λ (l : List ℕ). IsTried g.D.Disk.fault_count g.D.Disk.fuse_count c.args.tag l (record c.loop-replica.kept { logical = c.erase_seen.new.self }).logical.replicas c.act_made-made-in-Err-erase_seen.result) c.faults_of-before.ensures (c.act_made-made-in-Err-erase_seen.ensures.tried ((c.delete_did-did.ensures ∙ ap (λ (f : Option ℕ). delete_made f (change.Del c.args.pair) c.in-Err-erase_seen.fault) c.frozen-in-Err-erase_seen.ensures.is) ∙ none))) })).leaves c.free-in-Err-erase_seen.new.seat c.free-in-Err-erase_seen.ensures)
 
 pub publish-requires-2-clause-open : goal.publish-requires-2-clause-open
@@ -403,3 +405,23 @@ returns-clause-held g c =
     (erase_shown g.D.Disk.Tells g.D.Disk.files g.P.Piece.Tells g.D.Disk.fault_count g.D.Disk.fuse_count c.args.tag c.loop-replica.kept c.args.pair c.deletion.result c.deletion.ensures.change c.deletion.ensures.entered (record c.loop-replica.kept { logical = c.hide-position.new.self; front = c.publish-2.new.self; ended = c.note_ended.new.ended }) c.erase_seen.new.self c.in-Ok-erase_seen.erased refl refl (thawed_now g.D.Disk.Tells g.D.Disk.files g.P.Piece.Tells g.D.Disk.fault_count g.D.Disk.fuse_count c.args.tag c.loop-replica.kept (since g.D.Disk.Tells g.D.Disk.files g.P.Piece.Tells g.D.Disk.fault_count g.D.Disk.fuse_count c.args.tag c.hold-kept.result c.loop-replica.kept c.seat.invariant.opened c.hold-kept.new.seat.seen (is_held g.D.Disk.Tells g.D.Disk.files g.P.Piece.Tells g.D.Disk.fault_count g.D.Disk.fuse_count c.seat.invariant c.hold-kept.ensures) (sym c.in_default.ensures.is) c.loop-replica.invariant.sees)) c.in-Ok-erase_seen.ensures.same c.in-Ok-erase_seen.ensures.open c.in-Ok-erase_seen.ensures.counts c.in-Ok-erase_seen.ensures.erased c.hide-position.result c.past_of.result (record { tag = c.front_tag-2.result; deed = c.deletion.result }) c.front_tag-2.ensures c.in-Ok-publish-2.ensures.done.0
     c.in-Ok-erase_seen.ensures.of.0 c.in-Ok-erase_seen.ensures.still c.hide-position.ensures.rows c.hide-position.ensures.still c.hide-position.ensures.deleted (c.past_of.ensures ∙ c.as_slice-2.ensures.value ∙ (c.over_of-over.ensures ∙ ap (λ (l : List (Option ℕ)). over_since l c.hide-position.new.self.replicas) c.runs_of-runs.ensures)) (λ j lane less few. c.note_ended.ensures j lane (subst (λ (s : Settings). j < s.replicas) c.loop-replica.invariant.sees.of.settings less) few ∙ ap (λ (l : List Bool). noted l c.loop-replica.kept.begun (counts g.D.Disk.fault_count c.hide-position.new.self.replicas) c.loop-replica.kept.ended j lane) (c.as_slice.ensures.value ∙ sym (c.past_of.ensures ∙ c.as_slice-2.ensures.value))) c.hold-kept.result (sym c.in_default.ensures.is) c.loop-replica.invariant.sees (Some c.new-act.result)
     (made_act g.D.Disk.Tells g.D.Disk.files g.P.Piece.Tells g.D.Disk.fault_count g.D.Disk.fuse_count c.args.tag c.hold-kept.result (record c.loop-replica.kept { logical = c.hide-position.new.self; front = c.publish-2.new.self; ended = c.note_ended.new.ended }) (made_is.Enters (change.Del c.args.pair) c.past_of.result) c.new-act.result (c.new-act.ensures ∙ ap (λ (e : Entry). act_of g.D.Disk.fault_count g.D.Disk.fuse_count c.args.tag (made_is.Enters e c.past_of.result) c.hide-position.new.self.replicas) c.of.ensures))).leaves c.free-2.new.seat c.free-2.ensures)
+
+pub returns-in-Some-clause-refusals : goal.returns-in-Some-clause-refusals
+returns-in-Some-clause-refusals g c =
+    subst (λ (s : Seated g.row.D.Denot g.row.P.Denot). OfOpened s.start (λ settings v. RefusesDelete settings v (ReadOnly c.in-Some.machine))) c.seat.view_is
+    (of_opened g.D.Disk.Tells g.D.Disk.files g.P.Piece.Tells g.D.Disk.fault_count g.D.Disk.fuse_count c.seat.invariant c.hold-kept.ensures (λ settings v. RefusesDelete settings v (ReadOnly c.in-Some.machine))
+    c.in-Some.ensures.on)
+
+pub returns-in-Err-clause-refusals : goal.returns-in-Err-clause-refusals
+returns-in-Err-clause-refusals g c =
+    subst (λ (s : Seated g.row.D.Denot g.row.P.Denot). OfOpened s.start (λ settings v. RefusesDelete settings v c.in-Err.fault)) c.seat.view_is
+    (of_opened g.D.Disk.Tells g.D.Disk.files g.P.Piece.Tells g.D.Disk.fault_count g.D.Disk.fuse_count c.seat.invariant c.hold-kept.ensures (λ settings v. RefusesDelete settings v c.in-Err.fault)
+    (same_so c.hold-kept.result.logical c.loop-replica.kept.logical (λ settings v. RefusesDelete settings v c.in-Err.fault) c.loop-replica.invariant.sees.of.same
+    (refuses_look c.loop-replica.kept.logical.settings c.loop-replica.kept.logical.number g.D.Disk.fault_count c.loop-replica.kept.logical.replicas c.see.new.self.replicas c.in-Err.fault c.in-Err.ensures.causes)))
+
+pub returns-in-Err-erase_seen-clause-refusals : goal.returns-in-Err-erase_seen-clause-refusals
+returns-in-Err-erase_seen-clause-refusals g c =
+    subst (λ (s : Seated g.row.D.Denot g.row.P.Denot). OfOpened s.start (λ settings v. RefusesDelete settings v c.in-Err-erase_seen.fault)) c.seat.view_is
+    (of_opened g.D.Disk.Tells g.D.Disk.files g.P.Piece.Tells g.D.Disk.fault_count g.D.Disk.fuse_count c.seat.invariant c.hold-kept.ensures (λ settings v. RefusesDelete settings v c.in-Err-erase_seen.fault)
+    (same_so c.hold-kept.result.logical c.loop-replica.kept.logical (λ settings v. RefusesDelete settings v c.in-Err-erase_seen.fault) c.loop-replica.invariant.sees.of.same
+    (refuses_delete c.loop-replica.kept.logical.settings c.loop-replica.kept.logical.number g.D.Disk.fault_count c.loop-replica.kept.logical.replicas c.erase_seen.new.self.replicas c.in-Err-erase_seen.fault c.in-Err-erase_seen.ensures.causes)))

@@ -1,5 +1,5 @@
 use Rattle.std.proofs.Common.{ℕ, Option, refl, sym, ap, subst, ◌∙◌}
-use Rattle.std.specs.Prelude.{Result}
+use Rattle.std.specs.Prelude.{IfErr, Result}
 use Rattle.hay_logical.specs.declared.fault.LogicalFault.TheVariants.{Failed}
 use Rattle.hay_turn.specs.Seats.{after_free}
 use Rattle.hay_turn.specs.Slots.{acts_in}
@@ -9,6 +9,8 @@ use Rattle.hay_volume_lock.specs.declared.guarded.Guarded.{Guarded}
 use Rattle.hay_volume_lock.specs.declared.refusals.Unflushed.{Unflushed}
 use Rattle.hay_volume_lock.proofs.Finding.{flush_call, flush_failed_by}
 use Rattle.hay_volume_lock.proofs.Holding.{all_there, few_there, is_held, made_always, made_free, made_held, made_mine, made_same, made_seated, made_told, seat_of, within_it}
+use Rattle.hay_volume_lock.specs.Refusing.{OfOpened, RefusesFlush}
+use Rattle.hay_volume_lock.proofs.Refusing.{err_refused, flush_refused, refuses_flush, of_opened}
 use Rattle.hay_volume_lock.proofs.lock.VolumeLock.flush.Goals as goal
 
 pub show_all-requires-after_bounds : goal.show_all-requires-after_bounds
@@ -41,7 +43,7 @@ free-requires-clause-may g c =
     let found = flush_call g.D.Disk.Tells g.D.Disk.files g.P.Piece.Tells g.D.Disk.fault_count g.D.Disk.fuse_count c.args.tag c.hold-kept.result after
     (record { settings = refl; front = refl; ended = refl; same = c.flush-answer.ensures.same; is_open = c.flush-answer.ensures.open; counts = c.flush-answer.ensures.counts; still = c.flush-answer.ensures.still })
     c.args.replica within c.flush-answer.result c.faults_of-before.result.items c.faults_of-before.ensures c.flush_did-did.result c.act_made-made.result
-    c.act_made-made.ensures.did c.act_made-made.ensures.tried refl c.flush-answer.ensures.flushed c.flush-answer.ensures.refused c.flush-answer.ensures.causes c.flush_did-did.ensures c.frozen-frozen.result (sym c.frozen-frozen.ensures.is) in
+    c.act_made-made.ensures.did c.act_made-made.ensures.tried refl (λ tells thawed. c.flush-answer.ensures.tight tells) c.flush-answer.ensures.flushed c.flush-answer.ensures.refused c.flush-answer.ensures.causes c.flush_did-did.ensures c.frozen-frozen.result (sym c.frozen-frozen.ensures.is) in
     record {
       stands_for = made_free g.D.Disk.Tells g.D.Disk.files g.P.Piece.Tells g.D.Disk.fault_count g.D.Disk.fuse_count c.args.tag c.seat.inside.turn c.hold-kept.new.seat (after_free c.hold-kept.new.seat (acts_in c.act_made-made.result))
           c.seat.inside.view c.show_all.new.seat c.hold-kept.result after c.act_made-made.result c.seat.invariant c.hold-kept.ensures c.show_all.ensures.seen.0 c.show_all.ensures.seen.1 found.0 refl;
@@ -57,7 +59,7 @@ invariant_of-seat g c =
     let found = flush_call g.D.Disk.Tells g.D.Disk.files g.P.Piece.Tells g.D.Disk.fault_count g.D.Disk.fuse_count c.args.tag c.hold-kept.result after
     (record { settings = refl; front = refl; ended = refl; same = c.flush-answer.ensures.same; is_open = c.flush-answer.ensures.open; counts = c.flush-answer.ensures.counts; still = c.flush-answer.ensures.still })
     c.args.replica within c.flush-answer.result c.faults_of-before.result.items c.faults_of-before.ensures c.flush_did-did.result c.act_made-made.result
-    c.act_made-made.ensures.did c.act_made-made.ensures.tried refl c.flush-answer.ensures.flushed c.flush-answer.ensures.refused c.flush-answer.ensures.causes c.flush_did-did.ensures c.frozen-frozen.result (sym c.frozen-frozen.ensures.is) in
+    c.act_made-made.ensures.did c.act_made-made.ensures.tried refl (λ tells thawed. c.flush-answer.ensures.tight tells) c.flush-answer.ensures.flushed c.flush-answer.ensures.refused c.flush-answer.ensures.causes c.flush_did-did.ensures c.frozen-frozen.result (sym c.frozen-frozen.ensures.is) in
     made_seated g.D.Disk.Tells g.D.Disk.files g.P.Piece.Tells g.D.Disk.fault_count g.D.Disk.fuse_count c.args.tag c.seat.inside.turn c.hold-kept.new.seat c.free.new.seat
     c.seat.inside.view c.show_all.new.seat c.hold-kept.result after c.act_made-made.result c.seat.invariant c.hold-kept.ensures c.show_all.ensures.seen.0 c.show_all.ensures.seen.1 found.0 c.free.ensures (ap (λ (s : Seated g.row.D.Denot g.row.P.Denot). s.number) c.seat.view_is ∙ c.requires.may.lane)
 
@@ -69,7 +71,7 @@ returns-clause-flushed g c =
     let found = flush_call g.D.Disk.Tells g.D.Disk.files g.P.Piece.Tells g.D.Disk.fault_count g.D.Disk.fuse_count c.args.tag c.hold-kept.result after
     (record { settings = refl; front = refl; ended = refl; same = c.flush-answer.ensures.same; is_open = c.flush-answer.ensures.open; counts = c.flush-answer.ensures.counts; still = c.flush-answer.ensures.still })
     c.args.replica within c.flush-answer.result c.faults_of-before.result.items c.faults_of-before.ensures c.flush_did-did.result c.act_made-made.result
-    c.act_made-made.ensures.did c.act_made-made.ensures.tried refl c.flush-answer.ensures.flushed c.flush-answer.ensures.refused c.flush-answer.ensures.causes c.flush_did-did.ensures c.frozen-frozen.result (sym c.frozen-frozen.ensures.is) in
+    c.act_made-made.ensures.did c.act_made-made.ensures.tried refl (λ tells thawed. c.flush-answer.ensures.tight tells) c.flush-answer.ensures.flushed c.flush-answer.ensures.refused c.flush-answer.ensures.causes c.flush_did-did.ensures c.frozen-frozen.result (sym c.frozen-frozen.ensures.is) in
     subst (λ (s : Seated g.row.D.Denot g.row.P.Denot). IsTold g.D.Disk.Tells g.D.Disk.files g.P.Piece.Tells g.D.Disk.fault_count g.D.Disk.fuse_count s.start
     (λ volume. FlushAnswer volume c.args.tag c.args.replica c.flush_answer.result s.sight (seat_of c.free.new.seat c.show_all.new.seat).sight)) c.seat.view_is
     (made_told g.D.Disk.Tells g.D.Disk.files g.P.Piece.Tells g.D.Disk.fault_count g.D.Disk.fuse_count c.args.tag c.seat.inside.turn c.hold-kept.new.seat c.free.new.seat
@@ -85,7 +87,7 @@ returns-clause-causes g c = λ m f o is.
     let found = flush_call g.D.Disk.Tells g.D.Disk.files g.P.Piece.Tells g.D.Disk.fault_count g.D.Disk.fuse_count c.args.tag c.hold-kept.result after
     (record { settings = refl; front = refl; ended = refl; same = c.flush-answer.ensures.same; is_open = c.flush-answer.ensures.open; counts = c.flush-answer.ensures.counts; still = c.flush-answer.ensures.still })
     c.args.replica within c.flush-answer.result c.faults_of-before.result.items c.faults_of-before.ensures c.flush_did-did.result c.act_made-made.result
-    c.act_made-made.ensures.did c.act_made-made.ensures.tried refl c.flush-answer.ensures.flushed c.flush-answer.ensures.refused c.flush-answer.ensures.causes c.flush_did-did.ensures c.frozen-frozen.result (sym c.frozen-frozen.ensures.is) in
+    c.act_made-made.ensures.did c.act_made-made.ensures.tried refl (λ tells thawed. c.flush-answer.ensures.tight tells) c.flush-answer.ensures.flushed c.flush-answer.ensures.refused c.flush-answer.ensures.causes c.flush_did-did.ensures c.frozen-frozen.result (sym c.frozen-frozen.ensures.is) in
     subst (λ (s : Seated g.row.D.Denot g.row.P.Denot). IsAlways g.D.Disk.fault_count g.D.Disk.fuse_count s.start (λ volume. FlushRefused volume c.args.tag c.args.replica (Failed m f) o s.sight (seat_of c.free.new.seat c.show_all.new.seat).sight)) c.seat.view_is
     (made_always g.D.Disk.Tells g.D.Disk.files g.P.Piece.Tells g.D.Disk.fault_count g.D.Disk.fuse_count c.args.tag c.seat.inside.turn c.hold-kept.new.seat c.free.new.seat
     c.seat.inside.view c.show_all.new.seat c.hold-kept.result after c.act_made-made.result c.seat.invariant c.hold-kept.ensures c.show_all.ensures.seen.0 c.show_all.ensures.seen.1 found.0 c.free.ensures
@@ -102,7 +104,7 @@ returns-clause-held g c =
     let found = flush_call g.D.Disk.Tells g.D.Disk.files g.P.Piece.Tells g.D.Disk.fault_count g.D.Disk.fuse_count c.args.tag c.hold-kept.result after
     (record { settings = refl; front = refl; ended = refl; same = c.flush-answer.ensures.same; is_open = c.flush-answer.ensures.open; counts = c.flush-answer.ensures.counts; still = c.flush-answer.ensures.still })
     c.args.replica within c.flush-answer.result c.faults_of-before.result.items c.faults_of-before.ensures c.flush_did-did.result c.act_made-made.result
-    c.act_made-made.ensures.did c.act_made-made.ensures.tried refl c.flush-answer.ensures.flushed c.flush-answer.ensures.refused c.flush-answer.ensures.causes c.flush_did-did.ensures c.frozen-frozen.result (sym c.frozen-frozen.ensures.is) in
+    c.act_made-made.ensures.did c.act_made-made.ensures.tried refl (λ tells thawed. c.flush-answer.ensures.tight tells) c.flush-answer.ensures.flushed c.flush-answer.ensures.refused c.flush-answer.ensures.causes c.flush_did-did.ensures c.frozen-frozen.result (sym c.frozen-frozen.ensures.is) in
     subst (λ (s : Seated g.row.D.Denot g.row.P.Denot). OneHolding c.args.tag s.sight (seat_of c.free.new.seat c.show_all.new.seat).sight) c.seat.view_is
     (made_held g.D.Disk.Tells g.D.Disk.files g.P.Piece.Tells g.D.Disk.fault_count g.D.Disk.fuse_count c.args.tag c.seat.inside.turn c.hold-kept.new.seat c.free.new.seat
     c.seat.inside.view c.show_all.new.seat c.hold-kept.result after c.act_made-made.result c.seat.invariant c.hold-kept.ensures c.show_all.ensures.seen.0 c.show_all.ensures.seen.1 found.0 c.free.ensures)
@@ -115,8 +117,16 @@ returns-clause-same g c =
     let found = flush_call g.D.Disk.Tells g.D.Disk.files g.P.Piece.Tells g.D.Disk.fault_count g.D.Disk.fuse_count c.args.tag c.hold-kept.result after
     (record { settings = refl; front = refl; ended = refl; same = c.flush-answer.ensures.same; is_open = c.flush-answer.ensures.open; counts = c.flush-answer.ensures.counts; still = c.flush-answer.ensures.still })
     c.args.replica within c.flush-answer.result c.faults_of-before.result.items c.faults_of-before.ensures c.flush_did-did.result c.act_made-made.result
-    c.act_made-made.ensures.did c.act_made-made.ensures.tried refl c.flush-answer.ensures.flushed c.flush-answer.ensures.refused c.flush-answer.ensures.causes c.flush_did-did.ensures c.frozen-frozen.result (sym c.frozen-frozen.ensures.is) in
+    c.act_made-made.ensures.did c.act_made-made.ensures.tried refl (λ tells thawed. c.flush-answer.ensures.tight tells) c.flush-answer.ensures.flushed c.flush-answer.ensures.refused c.flush-answer.ensures.causes c.flush_did-did.ensures c.frozen-frozen.result (sym c.frozen-frozen.ensures.is) in
     subst (λ (s : Seated g.row.D.Denot g.row.P.Denot). IsSameSeat s (seat_of c.free.new.seat c.show_all.new.seat)) c.seat.view_is
     (made_same g.D.Disk.Tells g.D.Disk.files g.P.Piece.Tells g.D.Disk.fault_count g.D.Disk.fuse_count c.args.tag c.seat.inside.turn c.hold-kept.new.seat c.free.new.seat
     c.seat.inside.view c.show_all.new.seat c.hold-kept.result after c.act_made-made.result c.seat.invariant c.hold-kept.ensures c.show_all.ensures.seen.0 c.show_all.ensures.seen.1 found.0 c.free.ensures
     (ap (λ (s : Seated g.row.D.Denot g.row.P.Denot). s.holds) c.seat.view_is ∙ c.requires.may.rests.rests))
+
+pub returns-clause-refusals : goal.returns-clause-refusals
+returns-clause-refusals g c =
+    subst (λ (s : Seated g.row.D.Denot g.row.P.Denot). OfOpened s.start (λ settings v. IfErr c.flush_answer.result (λ unflushed. RefusesFlush settings v c.args.replica unflushed.fault))) c.seat.view_is
+    (of_opened g.D.Disk.Tells g.D.Disk.files g.P.Piece.Tells g.D.Disk.fault_count g.D.Disk.fuse_count c.seat.invariant c.hold-kept.ensures (λ settings v. IfErr c.flush_answer.result (λ unflushed. RefusesFlush settings v c.args.replica unflushed.fault))
+    (subst (λ (r : Result ℕ Unflushed). IfErr r (λ unflushed. RefusesFlush c.hold-kept.result.logical.settings c.hold-kept.result.logical.number c.args.replica unflushed.fault)) (sym c.flush_answer.ensures)
+    (flush_refused (RefusesFlush c.hold-kept.result.logical.settings c.hold-kept.result.logical.number c.args.replica) c.frozen-frozen.result c.flush-answer.result
+    (err_refused (refuses_flush c.hold-kept.result.logical.settings c.hold-kept.result.logical.number g.D.Disk.fault_count c.hold-kept.result.logical.replicas c.flush-answer.new.self.replicas c.args.replica) c.flush-answer.result c.flush-answer.ensures.causes))))

@@ -25,7 +25,7 @@ free-requires-clause-may g c =
     (c.requires.within c.seat.invariant.opened (sym (ap (λ (s : Seated g.row.D.Denot g.row.P.Denot). s.start) c.seat.view_is) ∙ c.seat.invariant.is)) in
     let after : Guarded g.row.D.Denot g.row.P.Denot = record c.hold-kept.result { logical = c.fuse.new.self } in
     let found = fuse_goes g.D.Disk.Tells g.D.Disk.files g.P.Piece.Tells g.D.Disk.fault_count g.D.Disk.fuse_count c.args.tag c.hold-kept.result after is_open (c.fuse.ensures.open is_open) c.fuse.ensures.same c.fuse.ensures.count
-    c.fuse.ensures.still refl refl refl refl c.args.replica within c.fuse.ensures.fused c.fuse.ensures.others c.fuse.ensures.stands c.new-act.result c.new-act.ensures in
+    c.fuse.ensures.still refl refl refl refl c.args.replica within c.fuse.ensures.fused c.fuse.ensures.others c.fuse.ensures.stands (λ tells thawed. c.fuse.ensures.tight tells) c.new-act.result c.new-act.ensures in
     record {
       stands_for = made_free g.D.Disk.Tells g.D.Disk.files g.P.Piece.Tells g.D.Disk.fault_count g.D.Disk.fuse_count c.args.tag c.seat.inside.turn c.hold-kept.new.seat (after_free c.hold-kept.new.seat (acts_in (Some c.new-act.result)))
           c.seat.inside.view c.show_all.new.seat c.hold-kept.result after (Some c.new-act.result) c.seat.invariant c.hold-kept.ensures c.show_all.ensures.seen.0 c.show_all.ensures.seen.1 found.0 refl;
@@ -40,7 +40,7 @@ invariant_of-seat g c =
     (c.requires.within c.seat.invariant.opened (sym (ap (λ (s : Seated g.row.D.Denot g.row.P.Denot). s.start) c.seat.view_is) ∙ c.seat.invariant.is)) in
     let after : Guarded g.row.D.Denot g.row.P.Denot = record c.hold-kept.result { logical = c.fuse.new.self } in
     let found = fuse_goes g.D.Disk.Tells g.D.Disk.files g.P.Piece.Tells g.D.Disk.fault_count g.D.Disk.fuse_count c.args.tag c.hold-kept.result after is_open (c.fuse.ensures.open is_open) c.fuse.ensures.same c.fuse.ensures.count
-    c.fuse.ensures.still refl refl refl refl c.args.replica within c.fuse.ensures.fused c.fuse.ensures.others c.fuse.ensures.stands c.new-act.result c.new-act.ensures in
+    c.fuse.ensures.still refl refl refl refl c.args.replica within c.fuse.ensures.fused c.fuse.ensures.others c.fuse.ensures.stands (λ tells thawed. c.fuse.ensures.tight tells) c.new-act.result c.new-act.ensures in
     made_seated g.D.Disk.Tells g.D.Disk.files g.P.Piece.Tells g.D.Disk.fault_count g.D.Disk.fuse_count c.args.tag c.seat.inside.turn c.hold-kept.new.seat c.free.new.seat
     c.seat.inside.view c.show_all.new.seat c.hold-kept.result after (Some c.new-act.result) c.seat.invariant c.hold-kept.ensures c.show_all.ensures.seen.0 c.show_all.ensures.seen.1 found.0 c.free.ensures (ap (λ (s : Seated g.row.D.Denot g.row.P.Denot). s.number) c.seat.view_is ∙ c.requires.may.lane)
 
@@ -51,7 +51,7 @@ returns-clause-fused g c =
     (c.requires.within c.seat.invariant.opened (sym (ap (λ (s : Seated g.row.D.Denot g.row.P.Denot). s.start) c.seat.view_is) ∙ c.seat.invariant.is)) in
     let after : Guarded g.row.D.Denot g.row.P.Denot = record c.hold-kept.result { logical = c.fuse.new.self } in
     let found = fuse_goes g.D.Disk.Tells g.D.Disk.files g.P.Piece.Tells g.D.Disk.fault_count g.D.Disk.fuse_count c.args.tag c.hold-kept.result after is_open (c.fuse.ensures.open is_open) c.fuse.ensures.same c.fuse.ensures.count
-    c.fuse.ensures.still refl refl refl refl c.args.replica within c.fuse.ensures.fused c.fuse.ensures.others c.fuse.ensures.stands c.new-act.result c.new-act.ensures in
+    c.fuse.ensures.still refl refl refl refl c.args.replica within c.fuse.ensures.fused c.fuse.ensures.others c.fuse.ensures.stands (λ tells thawed. c.fuse.ensures.tight tells) c.new-act.result c.new-act.ensures in
     subst (λ (s : Seated g.row.D.Denot g.row.P.Denot). IsAlways g.D.Disk.fault_count g.D.Disk.fuse_count s.start (λ volume. Fused volume.settings volume.start volume.number c.args.tag c.args.replica s.sight (seat_of c.free.new.seat c.show_all.new.seat).sight)) c.seat.view_is
     (made_always g.D.Disk.Tells g.D.Disk.files g.P.Piece.Tells g.D.Disk.fault_count g.D.Disk.fuse_count c.args.tag c.seat.inside.turn c.hold-kept.new.seat c.free.new.seat
     c.seat.inside.view c.show_all.new.seat c.hold-kept.result after (Some c.new-act.result) c.seat.invariant c.hold-kept.ensures c.show_all.ensures.seen.0 c.show_all.ensures.seen.1 found.0 c.free.ensures
@@ -64,7 +64,7 @@ returns-clause-held g c =
     (c.requires.within c.seat.invariant.opened (sym (ap (λ (s : Seated g.row.D.Denot g.row.P.Denot). s.start) c.seat.view_is) ∙ c.seat.invariant.is)) in
     let after : Guarded g.row.D.Denot g.row.P.Denot = record c.hold-kept.result { logical = c.fuse.new.self } in
     let found = fuse_goes g.D.Disk.Tells g.D.Disk.files g.P.Piece.Tells g.D.Disk.fault_count g.D.Disk.fuse_count c.args.tag c.hold-kept.result after is_open (c.fuse.ensures.open is_open) c.fuse.ensures.same c.fuse.ensures.count
-    c.fuse.ensures.still refl refl refl refl c.args.replica within c.fuse.ensures.fused c.fuse.ensures.others c.fuse.ensures.stands c.new-act.result c.new-act.ensures in
+    c.fuse.ensures.still refl refl refl refl c.args.replica within c.fuse.ensures.fused c.fuse.ensures.others c.fuse.ensures.stands (λ tells thawed. c.fuse.ensures.tight tells) c.new-act.result c.new-act.ensures in
     subst (λ (s : Seated g.row.D.Denot g.row.P.Denot). OneHolding c.args.tag s.sight (seat_of c.free.new.seat c.show_all.new.seat).sight) c.seat.view_is
     (made_held g.D.Disk.Tells g.D.Disk.files g.P.Piece.Tells g.D.Disk.fault_count g.D.Disk.fuse_count c.args.tag c.seat.inside.turn c.hold-kept.new.seat c.free.new.seat
     c.seat.inside.view c.show_all.new.seat c.hold-kept.result after (Some c.new-act.result) c.seat.invariant c.hold-kept.ensures c.show_all.ensures.seen.0 c.show_all.ensures.seen.1 found.0 c.free.ensures)
@@ -76,7 +76,7 @@ returns-clause-same g c =
     (c.requires.within c.seat.invariant.opened (sym (ap (λ (s : Seated g.row.D.Denot g.row.P.Denot). s.start) c.seat.view_is) ∙ c.seat.invariant.is)) in
     let after : Guarded g.row.D.Denot g.row.P.Denot = record c.hold-kept.result { logical = c.fuse.new.self } in
     let found = fuse_goes g.D.Disk.Tells g.D.Disk.files g.P.Piece.Tells g.D.Disk.fault_count g.D.Disk.fuse_count c.args.tag c.hold-kept.result after is_open (c.fuse.ensures.open is_open) c.fuse.ensures.same c.fuse.ensures.count
-    c.fuse.ensures.still refl refl refl refl c.args.replica within c.fuse.ensures.fused c.fuse.ensures.others c.fuse.ensures.stands c.new-act.result c.new-act.ensures in
+    c.fuse.ensures.still refl refl refl refl c.args.replica within c.fuse.ensures.fused c.fuse.ensures.others c.fuse.ensures.stands (λ tells thawed. c.fuse.ensures.tight tells) c.new-act.result c.new-act.ensures in
     subst (λ (s : Seated g.row.D.Denot g.row.P.Denot). IsSameSeat s (seat_of c.free.new.seat c.show_all.new.seat)) c.seat.view_is
     (made_same g.D.Disk.Tells g.D.Disk.files g.P.Piece.Tells g.D.Disk.fault_count g.D.Disk.fuse_count c.args.tag c.seat.inside.turn c.hold-kept.new.seat c.free.new.seat
     c.seat.inside.view c.show_all.new.seat c.hold-kept.result after (Some c.new-act.result) c.seat.invariant c.hold-kept.ensures c.show_all.ensures.seen.0 c.show_all.ensures.seen.1 found.0 c.free.ensures

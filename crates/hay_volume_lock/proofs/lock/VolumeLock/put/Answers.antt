@@ -13,7 +13,9 @@ use Rattle.hay_volume_lock.specs.Tries.{IsTried}
 use Rattle.hay_volume_lock.specs.Seats.{Seated}
 use Rattle.hay_volume_lock.proofs.Holding.{all_there, few_there, is_held, made_always, made_free, made_held, made_mine, made_seated, made_told, quiet_free, quiet_held, quiet_seated, quiet_told, seat_of}
 use Rattle.hay_volume_lock.proofs.Publishing.{changed_free, changed_held, changed_mine, changed_seated, changed_told, later_deed, later_same}
-use Rattle.hay_volume_lock.proofs.Putting.{err_same, met_frozen, put_may, put_refused, put_shown, put_unshown, wanted_nothing}
+use Rattle.hay_volume_lock.proofs.Putting.{err_same, met_frozen, put_may, put_refused, put_shown, put_unshown, settled, wanted_nothing}
+use Rattle.hay_volume_lock.specs.Refusing.{OfOpened, RefusesPut}
+use Rattle.hay_volume_lock.proofs.Refusing.{refuses_put, of_opened}
 use Rattle.hay_volume_lock.proofs.lock.VolumeLock.put.Goals as goal
 
 pub show_all-requires-after_bounds : goal.show_all-requires-after_bounds
@@ -87,12 +89,12 @@ free-requires-in-Err-clause-may g c = record {
       c.act_made-made.result c.seat.invariant c.hold-kept.ensures c.show_all.ensures.seen.0 c.show_all.ensures.seen.1
       (put_refused g.D.Disk.Tells g.D.Disk.files g.P.Piece.Tells g.D.Disk.fault_count g.D.Disk.fuse_count c.args.tag c.hold-kept.result (record c.hold-kept.result { logical = c.write.new.self }) c.args.pair c.args.cookie c.args.bytes.now
       (record { settings = refl; front = refl; same = c.in-Err.ensures.same; is_open = c.in-Err.ensures.open; count = c.in-Err.ensures.counts.count; rises = c.in-Err.ensures.counts.rises; thawed = λ thawed. (sym c.in_default.ensures.is); rows = λ thawed pair. c.in-Err.ensures.kept pair })
-      c.in-Err.ensures.counts.stay refl refl (sym c.in_default.ensures.is) c.in-Err.fault c.in-Err.ensures.refused c.in-Err.ensures.causes c.act_made-made.result (record { acts = λ m is. c.act_made-made.ensures.did m ((c.put_did-did.ensures ∙ ap (λ (e : Entry). put_made c.frozen-in-Err.result e c.in-Err.fault) c.in-Ok.ensures ∙ ap (λ (f : Option ℕ). put_made f (change.Put c.args.pair c.args.cookie c.args.bytes.now) c.in-Err.fault) c.frozen-in-Err.ensures.is) ∙ is); tries = λ none. subst (λ (l : List ℕ). IsTried g.D.Disk.fault_count g.D.Disk.fuse_count c.args.tag l c.write.new.self.replicas c.act_made-made.result) c.faults_of-before.ensures (c.act_made-made.ensures.tried ((c.put_did-did.ensures ∙ ap (λ (e : Entry). put_made c.frozen-in-Err.result e c.in-Err.fault) c.in-Ok.ensures ∙ ap (λ (f : Option ℕ). put_made f (change.Put c.args.pair c.args.cookie c.args.bytes.now) c.in-Err.fault) c.frozen-in-Err.ensures.is) ∙ none)) })).goes refl;
+      c.in-Err.ensures.counts.stay refl refl (sym c.in_default.ensures.is) (λ tells thawed j tight. c.in-Err.ensures.tight tells j tight (settled c.frozen-in-Err.result (c.frozen-in-Err.ensures.is ∙ thawed) c.frozen-in-Err.ensures.settled ∙ sym c.in_default.ensures.settled)) c.in-Err.fault c.in-Err.ensures.refused c.in-Err.ensures.causes c.act_made-made.result (record { acts = λ m is. c.act_made-made.ensures.did m ((c.put_did-did.ensures ∙ ap (λ (e : Entry). put_made c.frozen-in-Err.result e c.in-Err.fault) c.in-Ok.ensures ∙ ap (λ (f : Option ℕ). put_made f (change.Put c.args.pair c.args.cookie c.args.bytes.now) c.in-Err.fault) c.frozen-in-Err.ensures.is) ∙ is); tries = λ none. subst (λ (l : List ℕ). IsTried g.D.Disk.fault_count g.D.Disk.fuse_count c.args.tag l c.write.new.self.replicas c.act_made-made.result) c.faults_of-before.ensures (c.act_made-made.ensures.tried ((c.put_did-did.ensures ∙ ap (λ (e : Entry). put_made c.frozen-in-Err.result e c.in-Err.fault) c.in-Ok.ensures ∙ ap (λ (f : Option ℕ). put_made f (change.Put c.args.pair c.args.cookie c.args.bytes.now) c.in-Err.fault) c.frozen-in-Err.ensures.is) ∙ none)) })).goes refl;
   mine = made_mine g.D.Disk.Tells g.D.Disk.files g.P.Piece.Tells g.D.Disk.fault_count g.D.Disk.fuse_count c.args.tag c.seat.inside.turn c.hold-kept.new.seat (after_free c.hold-kept.new.seat (acts_in c.act_made-made.result)) c.seat.inside.view c.show_all.new.seat c.hold-kept.result (record c.hold-kept.result { logical = c.write.new.self })
       c.act_made-made.result c.seat.invariant c.hold-kept.ensures c.show_all.ensures.seen.0 c.show_all.ensures.seen.1
       (put_refused g.D.Disk.Tells g.D.Disk.files g.P.Piece.Tells g.D.Disk.fault_count g.D.Disk.fuse_count c.args.tag c.hold-kept.result (record c.hold-kept.result { logical = c.write.new.self }) c.args.pair c.args.cookie c.args.bytes.now
       (record { settings = refl; front = refl; same = c.in-Err.ensures.same; is_open = c.in-Err.ensures.open; count = c.in-Err.ensures.counts.count; rises = c.in-Err.ensures.counts.rises; thawed = λ thawed. (sym c.in_default.ensures.is); rows = λ thawed pair. c.in-Err.ensures.kept pair })
-      c.in-Err.ensures.counts.stay refl refl (sym c.in_default.ensures.is) c.in-Err.fault c.in-Err.ensures.refused c.in-Err.ensures.causes c.act_made-made.result (record { acts = λ m is. c.act_made-made.ensures.did m ((c.put_did-did.ensures ∙ ap (λ (e : Entry). put_made c.frozen-in-Err.result e c.in-Err.fault) c.in-Ok.ensures ∙ ap (λ (f : Option ℕ). put_made f (change.Put c.args.pair c.args.cookie c.args.bytes.now) c.in-Err.fault) c.frozen-in-Err.ensures.is) ∙ is); tries = λ none. subst (λ (l : List ℕ). IsTried g.D.Disk.fault_count g.D.Disk.fuse_count c.args.tag l c.write.new.self.replicas c.act_made-made.result) c.faults_of-before.ensures (c.act_made-made.ensures.tried ((c.put_did-did.ensures ∙ ap (λ (e : Entry). put_made c.frozen-in-Err.result e c.in-Err.fault) c.in-Ok.ensures ∙ ap (λ (f : Option ℕ). put_made f (change.Put c.args.pair c.args.cookie c.args.bytes.now) c.in-Err.fault) c.frozen-in-Err.ensures.is) ∙ none)) })).goes refl (ap (λ (s : Seated g.row.D.Denot g.row.P.Denot). s.number) c.seat.view_is ∙ c.requires.may.lane);
+      c.in-Err.ensures.counts.stay refl refl (sym c.in_default.ensures.is) (λ tells thawed j tight. c.in-Err.ensures.tight tells j tight (settled c.frozen-in-Err.result (c.frozen-in-Err.ensures.is ∙ thawed) c.frozen-in-Err.ensures.settled ∙ sym c.in_default.ensures.settled)) c.in-Err.fault c.in-Err.ensures.refused c.in-Err.ensures.causes c.act_made-made.result (record { acts = λ m is. c.act_made-made.ensures.did m ((c.put_did-did.ensures ∙ ap (λ (e : Entry). put_made c.frozen-in-Err.result e c.in-Err.fault) c.in-Ok.ensures ∙ ap (λ (f : Option ℕ). put_made f (change.Put c.args.pair c.args.cookie c.args.bytes.now) c.in-Err.fault) c.frozen-in-Err.ensures.is) ∙ is); tries = λ none. subst (λ (l : List ℕ). IsTried g.D.Disk.fault_count g.D.Disk.fuse_count c.args.tag l c.write.new.self.replicas c.act_made-made.result) c.faults_of-before.ensures (c.act_made-made.ensures.tried ((c.put_did-did.ensures ∙ ap (λ (e : Entry). put_made c.frozen-in-Err.result e c.in-Err.fault) c.in-Ok.ensures ∙ ap (λ (f : Option ℕ). put_made f (change.Put c.args.pair c.args.cookie c.args.bytes.now) c.in-Err.fault) c.frozen-in-Err.ensures.is) ∙ none)) })).goes refl (ap (λ (s : Seated g.row.D.Denot g.row.P.Denot). s.number) c.seat.view_is ∙ c.requires.may.lane);
 }
 
 pub invariant_of-seat-in-Err : goal.invariant_of-seat-in-Err
@@ -101,7 +103,7 @@ invariant_of-seat-in-Err g c =
     c.act_made-made.result c.seat.invariant c.hold-kept.ensures c.show_all.ensures.seen.0 c.show_all.ensures.seen.1
     (put_refused g.D.Disk.Tells g.D.Disk.files g.P.Piece.Tells g.D.Disk.fault_count g.D.Disk.fuse_count c.args.tag c.hold-kept.result (record c.hold-kept.result { logical = c.write.new.self }) c.args.pair c.args.cookie c.args.bytes.now
     (record { settings = refl; front = refl; same = c.in-Err.ensures.same; is_open = c.in-Err.ensures.open; count = c.in-Err.ensures.counts.count; rises = c.in-Err.ensures.counts.rises; thawed = λ thawed. (sym c.in_default.ensures.is); rows = λ thawed pair. c.in-Err.ensures.kept pair })
-    c.in-Err.ensures.counts.stay refl refl (sym c.in_default.ensures.is) c.in-Err.fault c.in-Err.ensures.refused c.in-Err.ensures.causes c.act_made-made.result (record { acts = λ m is. c.act_made-made.ensures.did m ((c.put_did-did.ensures ∙ ap (λ (e : Entry). put_made c.frozen-in-Err.result e c.in-Err.fault) c.in-Ok.ensures ∙ ap (λ (f : Option ℕ). put_made f (change.Put c.args.pair c.args.cookie c.args.bytes.now) c.in-Err.fault) c.frozen-in-Err.ensures.is) ∙ is); tries = λ none. subst (λ (l : List ℕ). IsTried g.D.Disk.fault_count g.D.Disk.fuse_count c.args.tag l c.write.new.self.replicas c.act_made-made.result) c.faults_of-before.ensures (c.act_made-made.ensures.tried ((c.put_did-did.ensures ∙ ap (λ (e : Entry). put_made c.frozen-in-Err.result e c.in-Err.fault) c.in-Ok.ensures ∙ ap (λ (f : Option ℕ). put_made f (change.Put c.args.pair c.args.cookie c.args.bytes.now) c.in-Err.fault) c.frozen-in-Err.ensures.is) ∙ none)) })).goes c.free-in-Err.ensures (ap (λ (s : Seated g.row.D.Denot g.row.P.Denot). s.number) c.seat.view_is ∙ c.requires.may.lane)
+    c.in-Err.ensures.counts.stay refl refl (sym c.in_default.ensures.is) (λ tells thawed j tight. c.in-Err.ensures.tight tells j tight (settled c.frozen-in-Err.result (c.frozen-in-Err.ensures.is ∙ thawed) c.frozen-in-Err.ensures.settled ∙ sym c.in_default.ensures.settled)) c.in-Err.fault c.in-Err.ensures.refused c.in-Err.ensures.causes c.act_made-made.result (record { acts = λ m is. c.act_made-made.ensures.did m ((c.put_did-did.ensures ∙ ap (λ (e : Entry). put_made c.frozen-in-Err.result e c.in-Err.fault) c.in-Ok.ensures ∙ ap (λ (f : Option ℕ). put_made f (change.Put c.args.pair c.args.cookie c.args.bytes.now) c.in-Err.fault) c.frozen-in-Err.ensures.is) ∙ is); tries = λ none. subst (λ (l : List ℕ). IsTried g.D.Disk.fault_count g.D.Disk.fuse_count c.args.tag l c.write.new.self.replicas c.act_made-made.result) c.faults_of-before.ensures (c.act_made-made.ensures.tried ((c.put_did-did.ensures ∙ ap (λ (e : Entry). put_made c.frozen-in-Err.result e c.in-Err.fault) c.in-Ok.ensures ∙ ap (λ (f : Option ℕ). put_made f (change.Put c.args.pair c.args.cookie c.args.bytes.now) c.in-Err.fault) c.frozen-in-Err.ensures.is) ∙ none)) })).goes c.free-in-Err.ensures (ap (λ (s : Seated g.row.D.Denot g.row.P.Denot). s.number) c.seat.view_is ∙ c.requires.may.lane)
 
 pub returns-in-Err-clause-put : goal.returns-in-Err-clause-put
 returns-in-Err-clause-put g c =
@@ -110,9 +112,9 @@ returns-in-Err-clause-put g c =
     c.act_made-made.result c.seat.invariant c.hold-kept.ensures c.show_all.ensures.seen.0 c.show_all.ensures.seen.1
     (put_refused g.D.Disk.Tells g.D.Disk.files g.P.Piece.Tells g.D.Disk.fault_count g.D.Disk.fuse_count c.args.tag c.hold-kept.result (record c.hold-kept.result { logical = c.write.new.self }) c.args.pair c.args.cookie c.args.bytes.now
     (record { settings = refl; front = refl; same = c.in-Err.ensures.same; is_open = c.in-Err.ensures.open; count = c.in-Err.ensures.counts.count; rises = c.in-Err.ensures.counts.rises; thawed = λ thawed. (sym c.in_default.ensures.is); rows = λ thawed pair. c.in-Err.ensures.kept pair })
-    c.in-Err.ensures.counts.stay refl refl (sym c.in_default.ensures.is) c.in-Err.fault c.in-Err.ensures.refused c.in-Err.ensures.causes c.act_made-made.result (record { acts = λ m is. c.act_made-made.ensures.did m ((c.put_did-did.ensures ∙ ap (λ (e : Entry). put_made c.frozen-in-Err.result e c.in-Err.fault) c.in-Ok.ensures ∙ ap (λ (f : Option ℕ). put_made f (change.Put c.args.pair c.args.cookie c.args.bytes.now) c.in-Err.fault) c.frozen-in-Err.ensures.is) ∙ is); tries = λ none. subst (λ (l : List ℕ). IsTried g.D.Disk.fault_count g.D.Disk.fuse_count c.args.tag l c.write.new.self.replicas c.act_made-made.result) c.faults_of-before.ensures (c.act_made-made.ensures.tried ((c.put_did-did.ensures ∙ ap (λ (e : Entry). put_made c.frozen-in-Err.result e c.in-Err.fault) c.in-Ok.ensures ∙ ap (λ (f : Option ℕ). put_made f (change.Put c.args.pair c.args.cookie c.args.bytes.now) c.in-Err.fault) c.frozen-in-Err.ensures.is) ∙ none)) })).goes c.free-in-Err.ensures (λ volume. PutAnswer volume c.args.tag c.args.pair c.args.cookie c.args.bytes.now (Err c.in-Err.fault)) (put_refused g.D.Disk.Tells g.D.Disk.files g.P.Piece.Tells g.D.Disk.fault_count g.D.Disk.fuse_count c.args.tag c.hold-kept.result (record c.hold-kept.result { logical = c.write.new.self }) c.args.pair c.args.cookie c.args.bytes.now
+    c.in-Err.ensures.counts.stay refl refl (sym c.in_default.ensures.is) (λ tells thawed j tight. c.in-Err.ensures.tight tells j tight (settled c.frozen-in-Err.result (c.frozen-in-Err.ensures.is ∙ thawed) c.frozen-in-Err.ensures.settled ∙ sym c.in_default.ensures.settled)) c.in-Err.fault c.in-Err.ensures.refused c.in-Err.ensures.causes c.act_made-made.result (record { acts = λ m is. c.act_made-made.ensures.did m ((c.put_did-did.ensures ∙ ap (λ (e : Entry). put_made c.frozen-in-Err.result e c.in-Err.fault) c.in-Ok.ensures ∙ ap (λ (f : Option ℕ). put_made f (change.Put c.args.pair c.args.cookie c.args.bytes.now) c.in-Err.fault) c.frozen-in-Err.ensures.is) ∙ is); tries = λ none. subst (λ (l : List ℕ). IsTried g.D.Disk.fault_count g.D.Disk.fuse_count c.args.tag l c.write.new.self.replicas c.act_made-made.result) c.faults_of-before.ensures (c.act_made-made.ensures.tried ((c.put_did-did.ensures ∙ ap (λ (e : Entry). put_made c.frozen-in-Err.result e c.in-Err.fault) c.in-Ok.ensures ∙ ap (λ (f : Option ℕ). put_made f (change.Put c.args.pair c.args.cookie c.args.bytes.now) c.in-Err.fault) c.frozen-in-Err.ensures.is) ∙ none)) })).goes c.free-in-Err.ensures (λ volume. PutAnswer volume c.args.tag c.args.pair c.args.cookie c.args.bytes.now (Err c.in-Err.fault)) (put_refused g.D.Disk.Tells g.D.Disk.files g.P.Piece.Tells g.D.Disk.fault_count g.D.Disk.fuse_count c.args.tag c.hold-kept.result (record c.hold-kept.result { logical = c.write.new.self }) c.args.pair c.args.cookie c.args.bytes.now
     (record { settings = refl; front = refl; same = c.in-Err.ensures.same; is_open = c.in-Err.ensures.open; count = c.in-Err.ensures.counts.count; rises = c.in-Err.ensures.counts.rises; thawed = λ thawed. (sym c.in_default.ensures.is); rows = λ thawed pair. c.in-Err.ensures.kept pair })
-    c.in-Err.ensures.counts.stay refl refl (sym c.in_default.ensures.is) c.in-Err.fault c.in-Err.ensures.refused c.in-Err.ensures.causes c.act_made-made.result (record { acts = λ m is. c.act_made-made.ensures.did m ((c.put_did-did.ensures ∙ ap (λ (e : Entry). put_made c.frozen-in-Err.result e c.in-Err.fault) c.in-Ok.ensures ∙ ap (λ (f : Option ℕ). put_made f (change.Put c.args.pair c.args.cookie c.args.bytes.now) c.in-Err.fault) c.frozen-in-Err.ensures.is) ∙ is); tries = λ none. subst (λ (l : List ℕ). IsTried g.D.Disk.fault_count g.D.Disk.fuse_count c.args.tag l c.write.new.self.replicas c.act_made-made.result) c.faults_of-before.ensures (c.act_made-made.ensures.tried ((c.put_did-did.ensures ∙ ap (λ (e : Entry). put_made c.frozen-in-Err.result e c.in-Err.fault) c.in-Ok.ensures ∙ ap (λ (f : Option ℕ). put_made f (change.Put c.args.pair c.args.cookie c.args.bytes.now) c.in-Err.fault) c.frozen-in-Err.ensures.is) ∙ none)) })).told)
+    c.in-Err.ensures.counts.stay refl refl (sym c.in_default.ensures.is) (λ tells thawed j tight. c.in-Err.ensures.tight tells j tight (settled c.frozen-in-Err.result (c.frozen-in-Err.ensures.is ∙ thawed) c.frozen-in-Err.ensures.settled ∙ sym c.in_default.ensures.settled)) c.in-Err.fault c.in-Err.ensures.refused c.in-Err.ensures.causes c.act_made-made.result (record { acts = λ m is. c.act_made-made.ensures.did m ((c.put_did-did.ensures ∙ ap (λ (e : Entry). put_made c.frozen-in-Err.result e c.in-Err.fault) c.in-Ok.ensures ∙ ap (λ (f : Option ℕ). put_made f (change.Put c.args.pair c.args.cookie c.args.bytes.now) c.in-Err.fault) c.frozen-in-Err.ensures.is) ∙ is); tries = λ none. subst (λ (l : List ℕ). IsTried g.D.Disk.fault_count g.D.Disk.fuse_count c.args.tag l c.write.new.self.replicas c.act_made-made.result) c.faults_of-before.ensures (c.act_made-made.ensures.tried ((c.put_did-did.ensures ∙ ap (λ (e : Entry). put_made c.frozen-in-Err.result e c.in-Err.fault) c.in-Ok.ensures ∙ ap (λ (f : Option ℕ). put_made f (change.Put c.args.pair c.args.cookie c.args.bytes.now) c.in-Err.fault) c.frozen-in-Err.ensures.is) ∙ none)) })).told)
 
 pub returns-in-Err-clause-causes : goal.returns-in-Err-clause-causes
 returns-in-Err-clause-causes g c = λ m f is.
@@ -121,9 +123,9 @@ returns-in-Err-clause-causes g c = λ m f is.
     c.act_made-made.result c.seat.invariant c.hold-kept.ensures c.show_all.ensures.seen.0 c.show_all.ensures.seen.1
     (put_refused g.D.Disk.Tells g.D.Disk.files g.P.Piece.Tells g.D.Disk.fault_count g.D.Disk.fuse_count c.args.tag c.hold-kept.result (record c.hold-kept.result { logical = c.write.new.self }) c.args.pair c.args.cookie c.args.bytes.now
     (record { settings = refl; front = refl; same = c.in-Err.ensures.same; is_open = c.in-Err.ensures.open; count = c.in-Err.ensures.counts.count; rises = c.in-Err.ensures.counts.rises; thawed = λ thawed. (sym c.in_default.ensures.is); rows = λ thawed pair. c.in-Err.ensures.kept pair })
-    c.in-Err.ensures.counts.stay refl refl (sym c.in_default.ensures.is) c.in-Err.fault c.in-Err.ensures.refused c.in-Err.ensures.causes c.act_made-made.result (record { acts = λ m is. c.act_made-made.ensures.did m ((c.put_did-did.ensures ∙ ap (λ (e : Entry). put_made c.frozen-in-Err.result e c.in-Err.fault) c.in-Ok.ensures ∙ ap (λ (f : Option ℕ). put_made f (change.Put c.args.pair c.args.cookie c.args.bytes.now) c.in-Err.fault) c.frozen-in-Err.ensures.is) ∙ is); tries = λ none. subst (λ (l : List ℕ). IsTried g.D.Disk.fault_count g.D.Disk.fuse_count c.args.tag l c.write.new.self.replicas c.act_made-made.result) c.faults_of-before.ensures (c.act_made-made.ensures.tried ((c.put_did-did.ensures ∙ ap (λ (e : Entry). put_made c.frozen-in-Err.result e c.in-Err.fault) c.in-Ok.ensures ∙ ap (λ (f : Option ℕ). put_made f (change.Put c.args.pair c.args.cookie c.args.bytes.now) c.in-Err.fault) c.frozen-in-Err.ensures.is) ∙ none)) })).goes c.free-in-Err.ensures (λ volume. DiskFailed volume c.args.tag m f) ((put_refused g.D.Disk.Tells g.D.Disk.files g.P.Piece.Tells g.D.Disk.fault_count g.D.Disk.fuse_count c.args.tag c.hold-kept.result (record c.hold-kept.result { logical = c.write.new.self }) c.args.pair c.args.cookie c.args.bytes.now
+    c.in-Err.ensures.counts.stay refl refl (sym c.in_default.ensures.is) (λ tells thawed j tight. c.in-Err.ensures.tight tells j tight (settled c.frozen-in-Err.result (c.frozen-in-Err.ensures.is ∙ thawed) c.frozen-in-Err.ensures.settled ∙ sym c.in_default.ensures.settled)) c.in-Err.fault c.in-Err.ensures.refused c.in-Err.ensures.causes c.act_made-made.result (record { acts = λ m is. c.act_made-made.ensures.did m ((c.put_did-did.ensures ∙ ap (λ (e : Entry). put_made c.frozen-in-Err.result e c.in-Err.fault) c.in-Ok.ensures ∙ ap (λ (f : Option ℕ). put_made f (change.Put c.args.pair c.args.cookie c.args.bytes.now) c.in-Err.fault) c.frozen-in-Err.ensures.is) ∙ is); tries = λ none. subst (λ (l : List ℕ). IsTried g.D.Disk.fault_count g.D.Disk.fuse_count c.args.tag l c.write.new.self.replicas c.act_made-made.result) c.faults_of-before.ensures (c.act_made-made.ensures.tried ((c.put_did-did.ensures ∙ ap (λ (e : Entry). put_made c.frozen-in-Err.result e c.in-Err.fault) c.in-Ok.ensures ∙ ap (λ (f : Option ℕ). put_made f (change.Put c.args.pair c.args.cookie c.args.bytes.now) c.in-Err.fault) c.frozen-in-Err.ensures.is) ∙ none)) })).goes c.free-in-Err.ensures (λ volume. DiskFailed volume c.args.tag m f) ((put_refused g.D.Disk.Tells g.D.Disk.files g.P.Piece.Tells g.D.Disk.fault_count g.D.Disk.fuse_count c.args.tag c.hold-kept.result (record c.hold-kept.result { logical = c.write.new.self }) c.args.pair c.args.cookie c.args.bytes.now
     (record { settings = refl; front = refl; same = c.in-Err.ensures.same; is_open = c.in-Err.ensures.open; count = c.in-Err.ensures.counts.count; rises = c.in-Err.ensures.counts.rises; thawed = λ thawed. (sym c.in_default.ensures.is); rows = λ thawed pair. c.in-Err.ensures.kept pair })
-    c.in-Err.ensures.counts.stay refl refl (sym c.in_default.ensures.is) c.in-Err.fault c.in-Err.ensures.refused c.in-Err.ensures.causes c.act_made-made.result (record { acts = λ m is. c.act_made-made.ensures.did m ((c.put_did-did.ensures ∙ ap (λ (e : Entry). put_made c.frozen-in-Err.result e c.in-Err.fault) c.in-Ok.ensures ∙ ap (λ (f : Option ℕ). put_made f (change.Put c.args.pair c.args.cookie c.args.bytes.now) c.in-Err.fault) c.frozen-in-Err.ensures.is) ∙ is); tries = λ none. subst (λ (l : List ℕ). IsTried g.D.Disk.fault_count g.D.Disk.fuse_count c.args.tag l c.write.new.self.replicas c.act_made-made.result) c.faults_of-before.ensures (c.act_made-made.ensures.tried ((c.put_did-did.ensures ∙ ap (λ (e : Entry). put_made c.frozen-in-Err.result e c.in-Err.fault) c.in-Ok.ensures ∙ ap (λ (f : Option ℕ). put_made f (change.Put c.args.pair c.args.cookie c.args.bytes.now) c.in-Err.fault) c.frozen-in-Err.ensures.is) ∙ none)) })).always m f (err_same is)))
+    c.in-Err.ensures.counts.stay refl refl (sym c.in_default.ensures.is) (λ tells thawed j tight. c.in-Err.ensures.tight tells j tight (settled c.frozen-in-Err.result (c.frozen-in-Err.ensures.is ∙ thawed) c.frozen-in-Err.ensures.settled ∙ sym c.in_default.ensures.settled)) c.in-Err.fault c.in-Err.ensures.refused c.in-Err.ensures.causes c.act_made-made.result (record { acts = λ m is. c.act_made-made.ensures.did m ((c.put_did-did.ensures ∙ ap (λ (e : Entry). put_made c.frozen-in-Err.result e c.in-Err.fault) c.in-Ok.ensures ∙ ap (λ (f : Option ℕ). put_made f (change.Put c.args.pair c.args.cookie c.args.bytes.now) c.in-Err.fault) c.frozen-in-Err.ensures.is) ∙ is); tries = λ none. subst (λ (l : List ℕ). IsTried g.D.Disk.fault_count g.D.Disk.fuse_count c.args.tag l c.write.new.self.replicas c.act_made-made.result) c.faults_of-before.ensures (c.act_made-made.ensures.tried ((c.put_did-did.ensures ∙ ap (λ (e : Entry). put_made c.frozen-in-Err.result e c.in-Err.fault) c.in-Ok.ensures ∙ ap (λ (f : Option ℕ). put_made f (change.Put c.args.pair c.args.cookie c.args.bytes.now) c.in-Err.fault) c.frozen-in-Err.ensures.is) ∙ none)) })).always m f (err_same is)))
 
 pub returns-in-Err-clause-held : goal.returns-in-Err-clause-held
 returns-in-Err-clause-held g c =
@@ -132,7 +134,7 @@ returns-in-Err-clause-held g c =
     c.act_made-made.result c.seat.invariant c.hold-kept.ensures c.show_all.ensures.seen.0 c.show_all.ensures.seen.1
     (put_refused g.D.Disk.Tells g.D.Disk.files g.P.Piece.Tells g.D.Disk.fault_count g.D.Disk.fuse_count c.args.tag c.hold-kept.result (record c.hold-kept.result { logical = c.write.new.self }) c.args.pair c.args.cookie c.args.bytes.now
     (record { settings = refl; front = refl; same = c.in-Err.ensures.same; is_open = c.in-Err.ensures.open; count = c.in-Err.ensures.counts.count; rises = c.in-Err.ensures.counts.rises; thawed = λ thawed. (sym c.in_default.ensures.is); rows = λ thawed pair. c.in-Err.ensures.kept pair })
-    c.in-Err.ensures.counts.stay refl refl (sym c.in_default.ensures.is) c.in-Err.fault c.in-Err.ensures.refused c.in-Err.ensures.causes c.act_made-made.result (record { acts = λ m is. c.act_made-made.ensures.did m ((c.put_did-did.ensures ∙ ap (λ (e : Entry). put_made c.frozen-in-Err.result e c.in-Err.fault) c.in-Ok.ensures ∙ ap (λ (f : Option ℕ). put_made f (change.Put c.args.pair c.args.cookie c.args.bytes.now) c.in-Err.fault) c.frozen-in-Err.ensures.is) ∙ is); tries = λ none. subst (λ (l : List ℕ). IsTried g.D.Disk.fault_count g.D.Disk.fuse_count c.args.tag l c.write.new.self.replicas c.act_made-made.result) c.faults_of-before.ensures (c.act_made-made.ensures.tried ((c.put_did-did.ensures ∙ ap (λ (e : Entry). put_made c.frozen-in-Err.result e c.in-Err.fault) c.in-Ok.ensures ∙ ap (λ (f : Option ℕ). put_made f (change.Put c.args.pair c.args.cookie c.args.bytes.now) c.in-Err.fault) c.frozen-in-Err.ensures.is) ∙ none)) })).goes c.free-in-Err.ensures)
+    c.in-Err.ensures.counts.stay refl refl (sym c.in_default.ensures.is) (λ tells thawed j tight. c.in-Err.ensures.tight tells j tight (settled c.frozen-in-Err.result (c.frozen-in-Err.ensures.is ∙ thawed) c.frozen-in-Err.ensures.settled ∙ sym c.in_default.ensures.settled)) c.in-Err.fault c.in-Err.ensures.refused c.in-Err.ensures.causes c.act_made-made.result (record { acts = λ m is. c.act_made-made.ensures.did m ((c.put_did-did.ensures ∙ ap (λ (e : Entry). put_made c.frozen-in-Err.result e c.in-Err.fault) c.in-Ok.ensures ∙ ap (λ (f : Option ℕ). put_made f (change.Put c.args.pair c.args.cookie c.args.bytes.now) c.in-Err.fault) c.frozen-in-Err.ensures.is) ∙ is); tries = λ none. subst (λ (l : List ℕ). IsTried g.D.Disk.fault_count g.D.Disk.fuse_count c.args.tag l c.write.new.self.replicas c.act_made-made.result) c.faults_of-before.ensures (c.act_made-made.ensures.tried ((c.put_did-did.ensures ∙ ap (λ (e : Entry). put_made c.frozen-in-Err.result e c.in-Err.fault) c.in-Ok.ensures ∙ ap (λ (f : Option ℕ). put_made f (change.Put c.args.pair c.args.cookie c.args.bytes.now) c.in-Err.fault) c.frozen-in-Err.ensures.is) ∙ none)) })).goes c.free-in-Err.ensures)
 
 pub publish-requires-clause-open : goal.publish-requires-clause-open
 publish-requires-clause-open g c = λ κs within. (is_held g.D.Disk.Tells g.D.Disk.files g.P.Piece.Tells g.D.Disk.fault_count g.D.Disk.fuse_count c.seat.invariant c.hold-kept.ensures).serves (sym c.in_default.ensures.is)
@@ -226,3 +228,15 @@ returns-clause-held g c =
     c.seat.invariant c.hold-kept.ensures c.show_all.ensures.seen.0 c.show_all.ensures.seen.1 c.in-Ok-publish.ensures.seen.1
     (put_shown g.D.Disk.Tells g.D.Disk.files g.P.Piece.Tells g.D.Disk.fault_count g.D.Disk.fuse_count c.args.tag c.hold-kept.result c.args.pair c.args.cookie c.args.bytes.now c.write.new.self c.in-Ok-write.written c.published-op.result c.in-Ok-write.ensures.of.0 c.in-Ok-write.ensures.of.2 c.in-Ok-write.ensures.written c.published-op.ensures.change (c.published-op.ensures.entered ∙ ap (λ (e : Entry). e ∷ []) c.in-Ok.ensures) c.in-Ok-write.ensures.same (record c.hold-kept.result { logical = c.show-position.new.self; front = c.publish.new.self }) refl refl refl (sym c.in_default.ensures.is) c.in-Ok-write.ensures.open c.in-Ok-write.ensures.counts
     c.show-position.result (record { tag = c.front_tag.result; deed = c.published-op.result }) c.front_tag.ensures c.in-Ok-publish.ensures.done.0 c.in-Ok-write.ensures.still c.show-position.ensures.rows c.show-position.ensures.still c.show-position.ensures.put c.new-act.result (c.new-act.ensures ∙ ap (λ (e : Entry). act_of g.D.Disk.fault_count g.D.Disk.fuse_count c.args.tag (made_is.Enters e c.new.result) c.show-position.new.self.replicas) (c.of.ensures ∙ c.in-Ok.ensures) ∙ ap (λ (l : List Bool). act_of g.D.Disk.fault_count g.D.Disk.fuse_count c.args.tag (made_is.Enters (change.Put c.args.pair c.args.cookie c.args.bytes.now) l) c.show-position.new.self.replicas) c.new.ensures)).0 c.free-2.new.seat c.free-2.ensures)
+
+pub returns-in-Some-clause-refusals : goal.returns-in-Some-clause-refusals
+returns-in-Some-clause-refusals g c =
+    subst (λ (s : Seated g.row.D.Denot g.row.P.Denot). OfOpened s.start (λ settings v. RefusesPut settings v (ReadOnly c.in-Some.machine))) c.seat.view_is
+    (of_opened g.D.Disk.Tells g.D.Disk.files g.P.Piece.Tells g.D.Disk.fault_count g.D.Disk.fuse_count c.seat.invariant c.hold-kept.ensures (λ settings v. RefusesPut settings v (ReadOnly c.in-Some.machine))
+    c.in-Some.ensures.on)
+
+pub returns-in-Err-clause-refusals : goal.returns-in-Err-clause-refusals
+returns-in-Err-clause-refusals g c =
+    subst (λ (s : Seated g.row.D.Denot g.row.P.Denot). OfOpened s.start (λ settings v. RefusesPut settings v c.in-Err.fault)) c.seat.view_is
+    (of_opened g.D.Disk.Tells g.D.Disk.files g.P.Piece.Tells g.D.Disk.fault_count g.D.Disk.fuse_count c.seat.invariant c.hold-kept.ensures (λ settings v. RefusesPut settings v c.in-Err.fault)
+    (refuses_put c.hold-kept.result.logical.settings c.hold-kept.result.logical.number g.D.Disk.fault_count c.hold-kept.result.logical.replicas c.write.new.self.replicas c.in-Err.fault c.in-Err.ensures.causes))

@@ -1,10 +1,14 @@
 use Rattle.std.proofs.Common.{[], refl, sym, ap, subst, ◌∙◌}
+use Rattle.std.specs.Prelude.{IfErr}
 use Rattle.hay_meeting.specs.Acts.{nobody}
 use Rattle.hay_turn.specs.Seats.{after_free}
 use Rattle.hay_volume_lock.specs.Answers.{RoomAnswer, IsTold, OneHolding}
 use Rattle.hay_volume_lock.specs.Seats.{IsSameSeat, Seated}
 use Rattle.hay_volume_lock.proofs.Finding.{room_found}
 use Rattle.hay_volume_lock.proofs.Holding.{quiet_free, quiet_held, quiet_same, quiet_seated, quiet_told, seat_of}
+use Rattle.hay_logical.specs.Answers.{IsRoomFault}
+use Rattle.hay_volume_lock.specs.Refusing.{OfOpened}
+use Rattle.hay_volume_lock.proofs.Refusing.{of_opened}
 use Rattle.hay_volume_lock.proofs.lock.VolumeLock.room.Goals as goal
 
 pub show_all-requires-after_bounds : goal.show_all-requires-after_bounds
@@ -40,3 +44,9 @@ room-answer-requires g c = record { «open» = (c.hold-kept.ensures.stands_for c
 pub invariant_of-seat : goal.invariant_of-seat
 invariant_of-seat g c =
     quiet_seated g.D.Disk.Tells g.D.Disk.files g.P.Piece.Tells g.D.Disk.fault_count g.D.Disk.fuse_count nobody c.seat.inside.turn c.hold-kept.new.seat c.free.new.seat c.seat.inside.view c.show_all.new.seat c.hold-kept.result c.seat.invariant c.hold-kept.ensures c.show_all.ensures.seen.0 c.show_all.ensures.seen.1 c.free.ensures
+
+pub returns-clause-refusals : goal.returns-clause-refusals
+returns-clause-refusals g c =
+    subst (λ (s : Seated g.row.D.Denot g.row.P.Denot). OfOpened s.start (λ settings v. IfErr c.room-answer.result (IsRoomFault settings v))) c.seat.view_is
+    (of_opened g.D.Disk.Tells g.D.Disk.files g.P.Piece.Tells g.D.Disk.fault_count g.D.Disk.fuse_count c.seat.invariant c.hold-kept.ensures (λ settings v. IfErr c.room-answer.result (IsRoomFault settings v))
+    c.room-answer.ensures.causes)

@@ -14,6 +14,8 @@ use Rattle.hay_volume_lock.proofs.Holding.{all_there, few_there, is_held, made_a
 use Rattle.hay_volume_lock.proofs.Publishing.{changed_free, changed_held, changed_mine, changed_seated, changed_told, later_deed, later_same, shows_nothing}
 use Rattle.hay_volume_lock.proofs.Putting.{both_again, err_same, nothing_made}
 use Rattle.hay_volume_lock.proofs.Seeing.{long_at, look_known, of_refused, row_long, see_closed, see_known, see_refused, see_shown, see_wanted, seen_found, seen_may, sees_changes, sees_nothing, tried_quiet, unseen}
+use Rattle.hay_volume_lock.specs.Refusing.{OfOpened, RefusesSight}
+use Rattle.hay_volume_lock.proofs.Refusing.{refuses_sight, of_opened}
 use Rattle.hay_volume_lock.proofs.lock.VolumeLock.see.Goals as goal
 
 pub show_all-requires-after_bounds : goal.show_all-requires-after_bounds
@@ -68,12 +70,12 @@ free-requires-in-Err-clause-may g c = record {
   stands_for = made_free g.D.Disk.Tells g.D.Disk.files g.P.Piece.Tells g.D.Disk.fault_count g.D.Disk.fuse_count c.args.tag c.seat.inside.turn c.hold-kept.new.seat (after_free c.hold-kept.new.seat (acts_in c.act_made-made.result)) c.seat.inside.view c.show_all.new.seat c.hold-kept.result (record c.hold-kept.result { logical = c.see.new.self })
       c.act_made-made.result c.seat.invariant c.hold-kept.ensures c.show_all.ensures.seen.0 c.show_all.ensures.seen.1
       (see_refused g.D.Disk.Tells g.D.Disk.files g.P.Piece.Tells g.D.Disk.fault_count g.D.Disk.fuse_count c.args.tag c.args.pair c.args.replica c.hold-kept.result (record c.hold-kept.result { logical = c.see.new.self })
-      (of_refused g.D.Disk.Tells g.D.Disk.files g.P.Piece.Tells g.D.Disk.fault_count g.D.Disk.fuse_count c.args.tag c.hold-kept.result (record c.hold-kept.result { logical = c.see.new.self }) refl refl refl c.in-Err.ensures.same c.in-Err.ensures.open c.in-Err.ensures.counts c.in-Err.ensures.stands c.in-Err.ensures.still.0 refl c.in-Err.ensures.kept) c.in-Err.ensures.counts.stay refl refl (within_it g.D.Disk.Tells g.D.Disk.files g.P.Piece.Tells g.D.Disk.fault_count g.D.Disk.fuse_count c.seat.invariant c.hold-kept.ensures c.args.replica (c.requires.within c.seat.invariant.opened (sym (ap (λ (s : Seated g.row.D.Denot g.row.P.Denot). s.start) c.seat.view_is) ∙ c.seat.invariant.is))) c.in-Err.ensures.stands
+      (of_refused g.D.Disk.Tells g.D.Disk.files g.P.Piece.Tells g.D.Disk.fault_count g.D.Disk.fuse_count c.args.tag c.hold-kept.result (record c.hold-kept.result { logical = c.see.new.self }) refl refl refl c.in-Err.ensures.same c.in-Err.ensures.open c.in-Err.ensures.counts (λ tells k s. (c.in-Err.ensures.stands tells k s, λ thawed j run has. c.in-Err.ensures.tight tells k s j)) c.in-Err.ensures.still.0 refl c.in-Err.ensures.kept) c.in-Err.ensures.counts.stay refl refl (within_it g.D.Disk.Tells g.D.Disk.files g.P.Piece.Tells g.D.Disk.fault_count g.D.Disk.fuse_count c.seat.invariant c.hold-kept.ensures c.args.replica (c.requires.within c.seat.invariant.opened (sym (ap (λ (s : Seated g.row.D.Denot g.row.P.Denot). s.start) c.seat.view_is) ∙ c.seat.invariant.is))) (λ tells k s. (c.in-Err.ensures.stands tells k s, λ thawed j run has. c.in-Err.ensures.tight tells k s j))
       c.in-Err.fault (λ tells k s m at e. c.in-Err.ensures.undamaged tells k s m at (ap Err e)) c.in-Err.ensures.causes (λ m f e. c.in-Err.ensures.machine m f (ap Err e)) c.act_made-made.result (record { acts = λ m is. c.act_made-made.ensures.did m (c.sight_did.ensures ∙ is); tries = λ none. (subst (λ (l : List ℕ). IsTried g.D.Disk.fault_count g.D.Disk.fuse_count c.args.tag l c.see.new.self.replicas c.act_made-made.result) c.faults_of-before.ensures (c.act_made-made.ensures.tried (c.sight_did.ensures ∙ none))) })).goes refl;
   mine = made_mine g.D.Disk.Tells g.D.Disk.files g.P.Piece.Tells g.D.Disk.fault_count g.D.Disk.fuse_count c.args.tag c.seat.inside.turn c.hold-kept.new.seat (after_free c.hold-kept.new.seat (acts_in c.act_made-made.result)) c.seat.inside.view c.show_all.new.seat c.hold-kept.result (record c.hold-kept.result { logical = c.see.new.self })
       c.act_made-made.result c.seat.invariant c.hold-kept.ensures c.show_all.ensures.seen.0 c.show_all.ensures.seen.1
       (see_refused g.D.Disk.Tells g.D.Disk.files g.P.Piece.Tells g.D.Disk.fault_count g.D.Disk.fuse_count c.args.tag c.args.pair c.args.replica c.hold-kept.result (record c.hold-kept.result { logical = c.see.new.self })
-      (of_refused g.D.Disk.Tells g.D.Disk.files g.P.Piece.Tells g.D.Disk.fault_count g.D.Disk.fuse_count c.args.tag c.hold-kept.result (record c.hold-kept.result { logical = c.see.new.self }) refl refl refl c.in-Err.ensures.same c.in-Err.ensures.open c.in-Err.ensures.counts c.in-Err.ensures.stands c.in-Err.ensures.still.0 refl c.in-Err.ensures.kept) c.in-Err.ensures.counts.stay refl refl (within_it g.D.Disk.Tells g.D.Disk.files g.P.Piece.Tells g.D.Disk.fault_count g.D.Disk.fuse_count c.seat.invariant c.hold-kept.ensures c.args.replica (c.requires.within c.seat.invariant.opened (sym (ap (λ (s : Seated g.row.D.Denot g.row.P.Denot). s.start) c.seat.view_is) ∙ c.seat.invariant.is))) c.in-Err.ensures.stands
+      (of_refused g.D.Disk.Tells g.D.Disk.files g.P.Piece.Tells g.D.Disk.fault_count g.D.Disk.fuse_count c.args.tag c.hold-kept.result (record c.hold-kept.result { logical = c.see.new.self }) refl refl refl c.in-Err.ensures.same c.in-Err.ensures.open c.in-Err.ensures.counts (λ tells k s. (c.in-Err.ensures.stands tells k s, λ thawed j run has. c.in-Err.ensures.tight tells k s j)) c.in-Err.ensures.still.0 refl c.in-Err.ensures.kept) c.in-Err.ensures.counts.stay refl refl (within_it g.D.Disk.Tells g.D.Disk.files g.P.Piece.Tells g.D.Disk.fault_count g.D.Disk.fuse_count c.seat.invariant c.hold-kept.ensures c.args.replica (c.requires.within c.seat.invariant.opened (sym (ap (λ (s : Seated g.row.D.Denot g.row.P.Denot). s.start) c.seat.view_is) ∙ c.seat.invariant.is))) (λ tells k s. (c.in-Err.ensures.stands tells k s, λ thawed j run has. c.in-Err.ensures.tight tells k s j))
       c.in-Err.fault (λ tells k s m at e. c.in-Err.ensures.undamaged tells k s m at (ap Err e)) c.in-Err.ensures.causes (λ m f e. c.in-Err.ensures.machine m f (ap Err e)) c.act_made-made.result (record { acts = λ m is. c.act_made-made.ensures.did m (c.sight_did.ensures ∙ is); tries = λ none. (subst (λ (l : List ℕ). IsTried g.D.Disk.fault_count g.D.Disk.fuse_count c.args.tag l c.see.new.self.replicas c.act_made-made.result) c.faults_of-before.ensures (c.act_made-made.ensures.tried (c.sight_did.ensures ∙ none))) })).goes refl (ap (λ (s : Seated g.row.D.Denot g.row.P.Denot). s.number) c.seat.view_is ∙ c.requires.may.lane);
 }
 
@@ -82,7 +84,7 @@ invariant_of-seat-in-Err g c =
     made_seated g.D.Disk.Tells g.D.Disk.files g.P.Piece.Tells g.D.Disk.fault_count g.D.Disk.fuse_count c.args.tag c.seat.inside.turn c.hold-kept.new.seat c.free-in-Err.new.seat c.seat.inside.view c.show_all.new.seat c.hold-kept.result (record c.hold-kept.result { logical = c.see.new.self })
     c.act_made-made.result c.seat.invariant c.hold-kept.ensures c.show_all.ensures.seen.0 c.show_all.ensures.seen.1
     (see_refused g.D.Disk.Tells g.D.Disk.files g.P.Piece.Tells g.D.Disk.fault_count g.D.Disk.fuse_count c.args.tag c.args.pair c.args.replica c.hold-kept.result (record c.hold-kept.result { logical = c.see.new.self })
-    (of_refused g.D.Disk.Tells g.D.Disk.files g.P.Piece.Tells g.D.Disk.fault_count g.D.Disk.fuse_count c.args.tag c.hold-kept.result (record c.hold-kept.result { logical = c.see.new.self }) refl refl refl c.in-Err.ensures.same c.in-Err.ensures.open c.in-Err.ensures.counts c.in-Err.ensures.stands c.in-Err.ensures.still.0 refl c.in-Err.ensures.kept) c.in-Err.ensures.counts.stay refl refl (within_it g.D.Disk.Tells g.D.Disk.files g.P.Piece.Tells g.D.Disk.fault_count g.D.Disk.fuse_count c.seat.invariant c.hold-kept.ensures c.args.replica (c.requires.within c.seat.invariant.opened (sym (ap (λ (s : Seated g.row.D.Denot g.row.P.Denot). s.start) c.seat.view_is) ∙ c.seat.invariant.is))) c.in-Err.ensures.stands
+    (of_refused g.D.Disk.Tells g.D.Disk.files g.P.Piece.Tells g.D.Disk.fault_count g.D.Disk.fuse_count c.args.tag c.hold-kept.result (record c.hold-kept.result { logical = c.see.new.self }) refl refl refl c.in-Err.ensures.same c.in-Err.ensures.open c.in-Err.ensures.counts (λ tells k s. (c.in-Err.ensures.stands tells k s, λ thawed j run has. c.in-Err.ensures.tight tells k s j)) c.in-Err.ensures.still.0 refl c.in-Err.ensures.kept) c.in-Err.ensures.counts.stay refl refl (within_it g.D.Disk.Tells g.D.Disk.files g.P.Piece.Tells g.D.Disk.fault_count g.D.Disk.fuse_count c.seat.invariant c.hold-kept.ensures c.args.replica (c.requires.within c.seat.invariant.opened (sym (ap (λ (s : Seated g.row.D.Denot g.row.P.Denot). s.start) c.seat.view_is) ∙ c.seat.invariant.is))) (λ tells k s. (c.in-Err.ensures.stands tells k s, λ thawed j run has. c.in-Err.ensures.tight tells k s j))
     c.in-Err.fault (λ tells k s m at e. c.in-Err.ensures.undamaged tells k s m at (ap Err e)) c.in-Err.ensures.causes (λ m f e. c.in-Err.ensures.machine m f (ap Err e)) c.act_made-made.result (record { acts = λ m is. c.act_made-made.ensures.did m (c.sight_did.ensures ∙ is); tries = λ none. (subst (λ (l : List ℕ). IsTried g.D.Disk.fault_count g.D.Disk.fuse_count c.args.tag l c.see.new.self.replicas c.act_made-made.result) c.faults_of-before.ensures (c.act_made-made.ensures.tried (c.sight_did.ensures ∙ none))) })).goes c.free-in-Err.ensures (ap (λ (s : Seated g.row.D.Denot g.row.P.Denot). s.number) c.seat.view_is ∙ c.requires.may.lane)
 
 pub returns-in-Err-clause-seen : goal.returns-in-Err-clause-seen
@@ -91,9 +93,9 @@ returns-in-Err-clause-seen g c =
     (made_told g.D.Disk.Tells g.D.Disk.files g.P.Piece.Tells g.D.Disk.fault_count g.D.Disk.fuse_count c.args.tag c.seat.inside.turn c.hold-kept.new.seat c.free-in-Err.new.seat c.seat.inside.view c.show_all.new.seat c.hold-kept.result (record c.hold-kept.result { logical = c.see.new.self })
     c.act_made-made.result c.seat.invariant c.hold-kept.ensures c.show_all.ensures.seen.0 c.show_all.ensures.seen.1
     (see_refused g.D.Disk.Tells g.D.Disk.files g.P.Piece.Tells g.D.Disk.fault_count g.D.Disk.fuse_count c.args.tag c.args.pair c.args.replica c.hold-kept.result (record c.hold-kept.result { logical = c.see.new.self })
-    (of_refused g.D.Disk.Tells g.D.Disk.files g.P.Piece.Tells g.D.Disk.fault_count g.D.Disk.fuse_count c.args.tag c.hold-kept.result (record c.hold-kept.result { logical = c.see.new.self }) refl refl refl c.in-Err.ensures.same c.in-Err.ensures.open c.in-Err.ensures.counts c.in-Err.ensures.stands c.in-Err.ensures.still.0 refl c.in-Err.ensures.kept) c.in-Err.ensures.counts.stay refl refl (within_it g.D.Disk.Tells g.D.Disk.files g.P.Piece.Tells g.D.Disk.fault_count g.D.Disk.fuse_count c.seat.invariant c.hold-kept.ensures c.args.replica (c.requires.within c.seat.invariant.opened (sym (ap (λ (s : Seated g.row.D.Denot g.row.P.Denot). s.start) c.seat.view_is) ∙ c.seat.invariant.is))) c.in-Err.ensures.stands
+    (of_refused g.D.Disk.Tells g.D.Disk.files g.P.Piece.Tells g.D.Disk.fault_count g.D.Disk.fuse_count c.args.tag c.hold-kept.result (record c.hold-kept.result { logical = c.see.new.self }) refl refl refl c.in-Err.ensures.same c.in-Err.ensures.open c.in-Err.ensures.counts (λ tells k s. (c.in-Err.ensures.stands tells k s, λ thawed j run has. c.in-Err.ensures.tight tells k s j)) c.in-Err.ensures.still.0 refl c.in-Err.ensures.kept) c.in-Err.ensures.counts.stay refl refl (within_it g.D.Disk.Tells g.D.Disk.files g.P.Piece.Tells g.D.Disk.fault_count g.D.Disk.fuse_count c.seat.invariant c.hold-kept.ensures c.args.replica (c.requires.within c.seat.invariant.opened (sym (ap (λ (s : Seated g.row.D.Denot g.row.P.Denot). s.start) c.seat.view_is) ∙ c.seat.invariant.is))) (λ tells k s. (c.in-Err.ensures.stands tells k s, λ thawed j run has. c.in-Err.ensures.tight tells k s j))
     c.in-Err.fault (λ tells k s m at e. c.in-Err.ensures.undamaged tells k s m at (ap Err e)) c.in-Err.ensures.causes (λ m f e. c.in-Err.ensures.machine m f (ap Err e)) c.act_made-made.result (record { acts = λ m is. c.act_made-made.ensures.did m (c.sight_did.ensures ∙ is); tries = λ none. (subst (λ (l : List ℕ). IsTried g.D.Disk.fault_count g.D.Disk.fuse_count c.args.tag l c.see.new.self.replicas c.act_made-made.result) c.faults_of-before.ensures (c.act_made-made.ensures.tried (c.sight_did.ensures ∙ none))) })).goes c.free-in-Err.ensures (λ volume. SeeAnswer volume c.args.tag {P = g.row.P.Denot} g.P.Piece.Tells c.args.pair c.args.replica (Err c.in-Err.fault)) (see_refused g.D.Disk.Tells g.D.Disk.files g.P.Piece.Tells g.D.Disk.fault_count g.D.Disk.fuse_count c.args.tag c.args.pair c.args.replica c.hold-kept.result (record c.hold-kept.result { logical = c.see.new.self })
-    (of_refused g.D.Disk.Tells g.D.Disk.files g.P.Piece.Tells g.D.Disk.fault_count g.D.Disk.fuse_count c.args.tag c.hold-kept.result (record c.hold-kept.result { logical = c.see.new.self }) refl refl refl c.in-Err.ensures.same c.in-Err.ensures.open c.in-Err.ensures.counts c.in-Err.ensures.stands c.in-Err.ensures.still.0 refl c.in-Err.ensures.kept) c.in-Err.ensures.counts.stay refl refl (within_it g.D.Disk.Tells g.D.Disk.files g.P.Piece.Tells g.D.Disk.fault_count g.D.Disk.fuse_count c.seat.invariant c.hold-kept.ensures c.args.replica (c.requires.within c.seat.invariant.opened (sym (ap (λ (s : Seated g.row.D.Denot g.row.P.Denot). s.start) c.seat.view_is) ∙ c.seat.invariant.is))) c.in-Err.ensures.stands
+    (of_refused g.D.Disk.Tells g.D.Disk.files g.P.Piece.Tells g.D.Disk.fault_count g.D.Disk.fuse_count c.args.tag c.hold-kept.result (record c.hold-kept.result { logical = c.see.new.self }) refl refl refl c.in-Err.ensures.same c.in-Err.ensures.open c.in-Err.ensures.counts (λ tells k s. (c.in-Err.ensures.stands tells k s, λ thawed j run has. c.in-Err.ensures.tight tells k s j)) c.in-Err.ensures.still.0 refl c.in-Err.ensures.kept) c.in-Err.ensures.counts.stay refl refl (within_it g.D.Disk.Tells g.D.Disk.files g.P.Piece.Tells g.D.Disk.fault_count g.D.Disk.fuse_count c.seat.invariant c.hold-kept.ensures c.args.replica (c.requires.within c.seat.invariant.opened (sym (ap (λ (s : Seated g.row.D.Denot g.row.P.Denot). s.start) c.seat.view_is) ∙ c.seat.invariant.is))) (λ tells k s. (c.in-Err.ensures.stands tells k s, λ thawed j run has. c.in-Err.ensures.tight tells k s j))
     c.in-Err.fault (λ tells k s m at e. c.in-Err.ensures.undamaged tells k s m at (ap Err e)) c.in-Err.ensures.causes (λ m f e. c.in-Err.ensures.machine m f (ap Err e)) c.act_made-made.result (record { acts = λ m is. c.act_made-made.ensures.did m (c.sight_did.ensures ∙ is); tries = λ none. (subst (λ (l : List ℕ). IsTried g.D.Disk.fault_count g.D.Disk.fuse_count c.args.tag l c.see.new.self.replicas c.act_made-made.result) c.faults_of-before.ensures (c.act_made-made.ensures.tried (c.sight_did.ensures ∙ none))) })).told)
 
 pub returns-in-Err-clause-causes : goal.returns-in-Err-clause-causes
@@ -102,9 +104,9 @@ returns-in-Err-clause-causes g c = λ m f is.
     (made_always g.D.Disk.Tells g.D.Disk.files g.P.Piece.Tells g.D.Disk.fault_count g.D.Disk.fuse_count c.args.tag c.seat.inside.turn c.hold-kept.new.seat c.free-in-Err.new.seat c.seat.inside.view c.show_all.new.seat c.hold-kept.result (record c.hold-kept.result { logical = c.see.new.self })
     c.act_made-made.result c.seat.invariant c.hold-kept.ensures c.show_all.ensures.seen.0 c.show_all.ensures.seen.1
     (see_refused g.D.Disk.Tells g.D.Disk.files g.P.Piece.Tells g.D.Disk.fault_count g.D.Disk.fuse_count c.args.tag c.args.pair c.args.replica c.hold-kept.result (record c.hold-kept.result { logical = c.see.new.self })
-    (of_refused g.D.Disk.Tells g.D.Disk.files g.P.Piece.Tells g.D.Disk.fault_count g.D.Disk.fuse_count c.args.tag c.hold-kept.result (record c.hold-kept.result { logical = c.see.new.self }) refl refl refl c.in-Err.ensures.same c.in-Err.ensures.open c.in-Err.ensures.counts c.in-Err.ensures.stands c.in-Err.ensures.still.0 refl c.in-Err.ensures.kept) c.in-Err.ensures.counts.stay refl refl (within_it g.D.Disk.Tells g.D.Disk.files g.P.Piece.Tells g.D.Disk.fault_count g.D.Disk.fuse_count c.seat.invariant c.hold-kept.ensures c.args.replica (c.requires.within c.seat.invariant.opened (sym (ap (λ (s : Seated g.row.D.Denot g.row.P.Denot). s.start) c.seat.view_is) ∙ c.seat.invariant.is))) c.in-Err.ensures.stands
+    (of_refused g.D.Disk.Tells g.D.Disk.files g.P.Piece.Tells g.D.Disk.fault_count g.D.Disk.fuse_count c.args.tag c.hold-kept.result (record c.hold-kept.result { logical = c.see.new.self }) refl refl refl c.in-Err.ensures.same c.in-Err.ensures.open c.in-Err.ensures.counts (λ tells k s. (c.in-Err.ensures.stands tells k s, λ thawed j run has. c.in-Err.ensures.tight tells k s j)) c.in-Err.ensures.still.0 refl c.in-Err.ensures.kept) c.in-Err.ensures.counts.stay refl refl (within_it g.D.Disk.Tells g.D.Disk.files g.P.Piece.Tells g.D.Disk.fault_count g.D.Disk.fuse_count c.seat.invariant c.hold-kept.ensures c.args.replica (c.requires.within c.seat.invariant.opened (sym (ap (λ (s : Seated g.row.D.Denot g.row.P.Denot). s.start) c.seat.view_is) ∙ c.seat.invariant.is))) (λ tells k s. (c.in-Err.ensures.stands tells k s, λ thawed j run has. c.in-Err.ensures.tight tells k s j))
     c.in-Err.fault (λ tells k s m at e. c.in-Err.ensures.undamaged tells k s m at (ap Err e)) c.in-Err.ensures.causes (λ m f e. c.in-Err.ensures.machine m f (ap Err e)) c.act_made-made.result (record { acts = λ m is. c.act_made-made.ensures.did m (c.sight_did.ensures ∙ is); tries = λ none. (subst (λ (l : List ℕ). IsTried g.D.Disk.fault_count g.D.Disk.fuse_count c.args.tag l c.see.new.self.replicas c.act_made-made.result) c.faults_of-before.ensures (c.act_made-made.ensures.tried (c.sight_did.ensures ∙ none))) })).goes c.free-in-Err.ensures (λ volume. FailedLook volume c.args.tag c.args.replica m f) ((see_refused g.D.Disk.Tells g.D.Disk.files g.P.Piece.Tells g.D.Disk.fault_count g.D.Disk.fuse_count c.args.tag c.args.pair c.args.replica c.hold-kept.result (record c.hold-kept.result { logical = c.see.new.self })
-    (of_refused g.D.Disk.Tells g.D.Disk.files g.P.Piece.Tells g.D.Disk.fault_count g.D.Disk.fuse_count c.args.tag c.hold-kept.result (record c.hold-kept.result { logical = c.see.new.self }) refl refl refl c.in-Err.ensures.same c.in-Err.ensures.open c.in-Err.ensures.counts c.in-Err.ensures.stands c.in-Err.ensures.still.0 refl c.in-Err.ensures.kept) c.in-Err.ensures.counts.stay refl refl (within_it g.D.Disk.Tells g.D.Disk.files g.P.Piece.Tells g.D.Disk.fault_count g.D.Disk.fuse_count c.seat.invariant c.hold-kept.ensures c.args.replica (c.requires.within c.seat.invariant.opened (sym (ap (λ (s : Seated g.row.D.Denot g.row.P.Denot). s.start) c.seat.view_is) ∙ c.seat.invariant.is))) c.in-Err.ensures.stands
+    (of_refused g.D.Disk.Tells g.D.Disk.files g.P.Piece.Tells g.D.Disk.fault_count g.D.Disk.fuse_count c.args.tag c.hold-kept.result (record c.hold-kept.result { logical = c.see.new.self }) refl refl refl c.in-Err.ensures.same c.in-Err.ensures.open c.in-Err.ensures.counts (λ tells k s. (c.in-Err.ensures.stands tells k s, λ thawed j run has. c.in-Err.ensures.tight tells k s j)) c.in-Err.ensures.still.0 refl c.in-Err.ensures.kept) c.in-Err.ensures.counts.stay refl refl (within_it g.D.Disk.Tells g.D.Disk.files g.P.Piece.Tells g.D.Disk.fault_count g.D.Disk.fuse_count c.seat.invariant c.hold-kept.ensures c.args.replica (c.requires.within c.seat.invariant.opened (sym (ap (λ (s : Seated g.row.D.Denot g.row.P.Denot). s.start) c.seat.view_is) ∙ c.seat.invariant.is))) (λ tells k s. (c.in-Err.ensures.stands tells k s, λ thawed j run has. c.in-Err.ensures.tight tells k s j))
     c.in-Err.fault (λ tells k s m at e. c.in-Err.ensures.undamaged tells k s m at (ap Err e)) c.in-Err.ensures.causes (λ m f e. c.in-Err.ensures.machine m f (ap Err e)) c.act_made-made.result (record { acts = λ m is. c.act_made-made.ensures.did m (c.sight_did.ensures ∙ is); tries = λ none. (subst (λ (l : List ℕ). IsTried g.D.Disk.fault_count g.D.Disk.fuse_count c.args.tag l c.see.new.self.replicas c.act_made-made.result) c.faults_of-before.ensures (c.act_made-made.ensures.tried (c.sight_did.ensures ∙ none))) })).always m f (err_same is)))
 
 pub returns-in-Err-clause-held : goal.returns-in-Err-clause-held
@@ -113,7 +115,7 @@ returns-in-Err-clause-held g c =
     (made_held g.D.Disk.Tells g.D.Disk.files g.P.Piece.Tells g.D.Disk.fault_count g.D.Disk.fuse_count c.args.tag c.seat.inside.turn c.hold-kept.new.seat c.free-in-Err.new.seat c.seat.inside.view c.show_all.new.seat c.hold-kept.result (record c.hold-kept.result { logical = c.see.new.self })
     c.act_made-made.result c.seat.invariant c.hold-kept.ensures c.show_all.ensures.seen.0 c.show_all.ensures.seen.1
     (see_refused g.D.Disk.Tells g.D.Disk.files g.P.Piece.Tells g.D.Disk.fault_count g.D.Disk.fuse_count c.args.tag c.args.pair c.args.replica c.hold-kept.result (record c.hold-kept.result { logical = c.see.new.self })
-    (of_refused g.D.Disk.Tells g.D.Disk.files g.P.Piece.Tells g.D.Disk.fault_count g.D.Disk.fuse_count c.args.tag c.hold-kept.result (record c.hold-kept.result { logical = c.see.new.self }) refl refl refl c.in-Err.ensures.same c.in-Err.ensures.open c.in-Err.ensures.counts c.in-Err.ensures.stands c.in-Err.ensures.still.0 refl c.in-Err.ensures.kept) c.in-Err.ensures.counts.stay refl refl (within_it g.D.Disk.Tells g.D.Disk.files g.P.Piece.Tells g.D.Disk.fault_count g.D.Disk.fuse_count c.seat.invariant c.hold-kept.ensures c.args.replica (c.requires.within c.seat.invariant.opened (sym (ap (λ (s : Seated g.row.D.Denot g.row.P.Denot). s.start) c.seat.view_is) ∙ c.seat.invariant.is))) c.in-Err.ensures.stands
+    (of_refused g.D.Disk.Tells g.D.Disk.files g.P.Piece.Tells g.D.Disk.fault_count g.D.Disk.fuse_count c.args.tag c.hold-kept.result (record c.hold-kept.result { logical = c.see.new.self }) refl refl refl c.in-Err.ensures.same c.in-Err.ensures.open c.in-Err.ensures.counts (λ tells k s. (c.in-Err.ensures.stands tells k s, λ thawed j run has. c.in-Err.ensures.tight tells k s j)) c.in-Err.ensures.still.0 refl c.in-Err.ensures.kept) c.in-Err.ensures.counts.stay refl refl (within_it g.D.Disk.Tells g.D.Disk.files g.P.Piece.Tells g.D.Disk.fault_count g.D.Disk.fuse_count c.seat.invariant c.hold-kept.ensures c.args.replica (c.requires.within c.seat.invariant.opened (sym (ap (λ (s : Seated g.row.D.Denot g.row.P.Denot). s.start) c.seat.view_is) ∙ c.seat.invariant.is))) (λ tells k s. (c.in-Err.ensures.stands tells k s, λ thawed j run has. c.in-Err.ensures.tight tells k s j))
     c.in-Err.fault (λ tells k s m at e. c.in-Err.ensures.undamaged tells k s m at (ap Err e)) c.in-Err.ensures.causes (λ m f e. c.in-Err.ensures.machine m f (ap Err e)) c.act_made-made.result (record { acts = λ m is. c.act_made-made.ensures.did m (c.sight_did.ensures ∙ is); tries = λ none. (subst (λ (l : List ℕ). IsTried g.D.Disk.fault_count g.D.Disk.fuse_count c.args.tag l c.see.new.self.replicas c.act_made-made.result) c.faults_of-before.ensures (c.act_made-made.ensures.tried (c.sight_did.ensures ∙ none))) })).goes c.free-in-Err.ensures)
 
 pub act_made-made-requires-then-is_closed-clause-all : goal.act_made-made-requires-then-is_closed-clause-all
@@ -147,24 +149,24 @@ pub free-requires-then-is_closed-clause-may : goal.free-requires-then-is_closed-
 free-requires-then-is_closed-clause-may g c = record {
   stands_for = changed_free g.D.Disk.Tells g.D.Disk.files g.P.Piece.Tells g.D.Disk.fault_count g.D.Disk.fuse_count c.args.tag c.seat.inside.turn c.hold-kept.new.seat c.seat.inside.view c.show_all.new.seat c.show_all.new.seat c.hold-kept.result (record c.hold-kept.result { logical = c.see.new.self }) c.act_made-made-then-is_closed.result
       c.seat.invariant c.hold-kept.ensures c.show_all.ensures.seen.0 c.show_all.ensures.seen.1 c.show_all.ensures.seen.1
-      (sees_changes g.D.Disk.Tells g.D.Disk.files g.P.Piece.Tells g.D.Disk.fault_count g.D.Disk.fuse_count c.args.tag c.hold-kept.result (record c.hold-kept.result { logical = c.see.new.self }) (see_closed g.D.Disk.Tells g.D.Disk.files g.P.Piece.Tells g.D.Disk.fault_count g.D.Disk.fuse_count c.args.tag c.hold-kept.result (record c.hold-kept.result { logical = c.see.new.self }) refl refl refl c.in-Ok.ensures.same c.in-Ok.ensures.open c.in-Ok.ensures.counts c.in-Ok.ensures.stands c.in-Ok.ensures.still.0 refl (sym c.is_closed.ensures ∙ c.if-is_closed.true) (is_held g.D.Disk.Tells g.D.Disk.files g.P.Piece.Tells g.D.Disk.fault_count g.D.Disk.fuse_count c.seat.invariant c.hold-kept.ensures).serves) c.act_made-made-then-is_closed.result (subst (λ (l : List ℕ). IsTried g.D.Disk.fault_count g.D.Disk.fuse_count c.args.tag l c.see.new.self.replicas c.act_made-made-then-is_closed.result) c.faults_of-before.ensures (c.act_made-made-then-is_closed.ensures.tried refl)));
+      (sees_changes g.D.Disk.Tells g.D.Disk.files g.P.Piece.Tells g.D.Disk.fault_count g.D.Disk.fuse_count c.args.tag c.hold-kept.result (record c.hold-kept.result { logical = c.see.new.self }) (see_closed g.D.Disk.Tells g.D.Disk.files g.P.Piece.Tells g.D.Disk.fault_count g.D.Disk.fuse_count c.args.tag c.hold-kept.result (record c.hold-kept.result { logical = c.see.new.self }) refl refl refl c.in-Ok.ensures.same c.in-Ok.ensures.open c.in-Ok.ensures.counts (λ tells k s. (c.in-Ok.ensures.stands tells k s, λ thawed j run has. c.in-Ok.ensures.tight tells k s j)) c.in-Ok.ensures.still.0 refl (sym c.is_closed.ensures ∙ c.if-is_closed.true) (is_held g.D.Disk.Tells g.D.Disk.files g.P.Piece.Tells g.D.Disk.fault_count g.D.Disk.fuse_count c.seat.invariant c.hold-kept.ensures).serves) c.act_made-made-then-is_closed.result (subst (λ (l : List ℕ). IsTried g.D.Disk.fault_count g.D.Disk.fuse_count c.args.tag l c.see.new.self.replicas c.act_made-made-then-is_closed.result) c.faults_of-before.ensures (c.act_made-made-then-is_closed.ensures.tried refl)));
   mine = changed_mine g.D.Disk.Tells g.D.Disk.files g.P.Piece.Tells g.D.Disk.fault_count g.D.Disk.fuse_count c.args.tag c.seat.inside.turn c.hold-kept.new.seat c.seat.inside.view c.show_all.new.seat c.show_all.new.seat c.hold-kept.result (record c.hold-kept.result { logical = c.see.new.self }) c.act_made-made-then-is_closed.result
       c.seat.invariant c.hold-kept.ensures c.show_all.ensures.seen.0 c.show_all.ensures.seen.1 c.show_all.ensures.seen.1
-      (sees_changes g.D.Disk.Tells g.D.Disk.files g.P.Piece.Tells g.D.Disk.fault_count g.D.Disk.fuse_count c.args.tag c.hold-kept.result (record c.hold-kept.result { logical = c.see.new.self }) (see_closed g.D.Disk.Tells g.D.Disk.files g.P.Piece.Tells g.D.Disk.fault_count g.D.Disk.fuse_count c.args.tag c.hold-kept.result (record c.hold-kept.result { logical = c.see.new.self }) refl refl refl c.in-Ok.ensures.same c.in-Ok.ensures.open c.in-Ok.ensures.counts c.in-Ok.ensures.stands c.in-Ok.ensures.still.0 refl (sym c.is_closed.ensures ∙ c.if-is_closed.true) (is_held g.D.Disk.Tells g.D.Disk.files g.P.Piece.Tells g.D.Disk.fault_count g.D.Disk.fuse_count c.seat.invariant c.hold-kept.ensures).serves) c.act_made-made-then-is_closed.result (subst (λ (l : List ℕ). IsTried g.D.Disk.fault_count g.D.Disk.fuse_count c.args.tag l c.see.new.self.replicas c.act_made-made-then-is_closed.result) c.faults_of-before.ensures (c.act_made-made-then-is_closed.ensures.tried refl))) (ap (λ (s : Seated g.row.D.Denot g.row.P.Denot). s.number) c.seat.view_is ∙ c.requires.may.lane);
+      (sees_changes g.D.Disk.Tells g.D.Disk.files g.P.Piece.Tells g.D.Disk.fault_count g.D.Disk.fuse_count c.args.tag c.hold-kept.result (record c.hold-kept.result { logical = c.see.new.self }) (see_closed g.D.Disk.Tells g.D.Disk.files g.P.Piece.Tells g.D.Disk.fault_count g.D.Disk.fuse_count c.args.tag c.hold-kept.result (record c.hold-kept.result { logical = c.see.new.self }) refl refl refl c.in-Ok.ensures.same c.in-Ok.ensures.open c.in-Ok.ensures.counts (λ tells k s. (c.in-Ok.ensures.stands tells k s, λ thawed j run has. c.in-Ok.ensures.tight tells k s j)) c.in-Ok.ensures.still.0 refl (sym c.is_closed.ensures ∙ c.if-is_closed.true) (is_held g.D.Disk.Tells g.D.Disk.files g.P.Piece.Tells g.D.Disk.fault_count g.D.Disk.fuse_count c.seat.invariant c.hold-kept.ensures).serves) c.act_made-made-then-is_closed.result (subst (λ (l : List ℕ). IsTried g.D.Disk.fault_count g.D.Disk.fuse_count c.args.tag l c.see.new.self.replicas c.act_made-made-then-is_closed.result) c.faults_of-before.ensures (c.act_made-made-then-is_closed.ensures.tried refl))) (ap (λ (s : Seated g.row.D.Denot g.row.P.Denot). s.number) c.seat.view_is ∙ c.requires.may.lane);
 }
 
 pub invariant_of-seat-then-is_closed : goal.invariant_of-seat-then-is_closed
 invariant_of-seat-then-is_closed g c =
     changed_seated g.D.Disk.Tells g.D.Disk.files g.P.Piece.Tells g.D.Disk.fault_count g.D.Disk.fuse_count c.args.tag c.seat.inside.turn c.hold-kept.new.seat c.seat.inside.view c.show_all.new.seat c.show_all.new.seat c.hold-kept.result (record c.hold-kept.result { logical = c.see.new.self }) c.act_made-made-then-is_closed.result
     c.seat.invariant c.hold-kept.ensures c.show_all.ensures.seen.0 c.show_all.ensures.seen.1 c.show_all.ensures.seen.1
-    (sees_changes g.D.Disk.Tells g.D.Disk.files g.P.Piece.Tells g.D.Disk.fault_count g.D.Disk.fuse_count c.args.tag c.hold-kept.result (record c.hold-kept.result { logical = c.see.new.self }) (see_closed g.D.Disk.Tells g.D.Disk.files g.P.Piece.Tells g.D.Disk.fault_count g.D.Disk.fuse_count c.args.tag c.hold-kept.result (record c.hold-kept.result { logical = c.see.new.self }) refl refl refl c.in-Ok.ensures.same c.in-Ok.ensures.open c.in-Ok.ensures.counts c.in-Ok.ensures.stands c.in-Ok.ensures.still.0 refl (sym c.is_closed.ensures ∙ c.if-is_closed.true) (is_held g.D.Disk.Tells g.D.Disk.files g.P.Piece.Tells g.D.Disk.fault_count g.D.Disk.fuse_count c.seat.invariant c.hold-kept.ensures).serves) c.act_made-made-then-is_closed.result (subst (λ (l : List ℕ). IsTried g.D.Disk.fault_count g.D.Disk.fuse_count c.args.tag l c.see.new.self.replicas c.act_made-made-then-is_closed.result) c.faults_of-before.ensures (c.act_made-made-then-is_closed.ensures.tried refl))) c.free-then-is_closed.new.seat c.free-then-is_closed.ensures (ap (λ (s : Seated g.row.D.Denot g.row.P.Denot). s.number) c.seat.view_is ∙ c.requires.may.lane) (later_same c.seat.inside.view c.hold-kept.result.front.shown c.show_all.new.seat c.show_all.ensures.seen.0 c.show_all.ensures.seen.1)
+    (sees_changes g.D.Disk.Tells g.D.Disk.files g.P.Piece.Tells g.D.Disk.fault_count g.D.Disk.fuse_count c.args.tag c.hold-kept.result (record c.hold-kept.result { logical = c.see.new.self }) (see_closed g.D.Disk.Tells g.D.Disk.files g.P.Piece.Tells g.D.Disk.fault_count g.D.Disk.fuse_count c.args.tag c.hold-kept.result (record c.hold-kept.result { logical = c.see.new.self }) refl refl refl c.in-Ok.ensures.same c.in-Ok.ensures.open c.in-Ok.ensures.counts (λ tells k s. (c.in-Ok.ensures.stands tells k s, λ thawed j run has. c.in-Ok.ensures.tight tells k s j)) c.in-Ok.ensures.still.0 refl (sym c.is_closed.ensures ∙ c.if-is_closed.true) (is_held g.D.Disk.Tells g.D.Disk.files g.P.Piece.Tells g.D.Disk.fault_count g.D.Disk.fuse_count c.seat.invariant c.hold-kept.ensures).serves) c.act_made-made-then-is_closed.result (subst (λ (l : List ℕ). IsTried g.D.Disk.fault_count g.D.Disk.fuse_count c.args.tag l c.see.new.self.replicas c.act_made-made-then-is_closed.result) c.faults_of-before.ensures (c.act_made-made-then-is_closed.ensures.tried refl))) c.free-then-is_closed.new.seat c.free-then-is_closed.ensures (ap (λ (s : Seated g.row.D.Denot g.row.P.Denot). s.number) c.seat.view_is ∙ c.requires.may.lane) (later_same c.seat.inside.view c.hold-kept.result.front.shown c.show_all.new.seat c.show_all.ensures.seen.0 c.show_all.ensures.seen.1)
 
 pub returns-then-is_closed-clause-seen : goal.returns-then-is_closed-clause-seen
 returns-then-is_closed-clause-seen g c =
     subst (λ (s : Seated g.row.D.Denot g.row.P.Denot). IsTold g.D.Disk.Tells g.D.Disk.files g.P.Piece.Tells g.D.Disk.fault_count g.D.Disk.fuse_count s.start (λ volume. SeeAnswer volume c.args.tag {P = g.row.P.Denot} g.P.Piece.Tells c.args.pair c.args.replica (Ok c.in-Ok.seen) s.sight (seat_of c.free-then-is_closed.new.seat c.show_all.new.seat).sight)) c.seat.view_is
     (changed_told g.D.Disk.Tells g.D.Disk.files g.P.Piece.Tells g.D.Disk.fault_count g.D.Disk.fuse_count c.args.tag c.seat.inside.turn c.hold-kept.new.seat c.seat.inside.view c.show_all.new.seat c.show_all.new.seat c.hold-kept.result (record c.hold-kept.result { logical = c.see.new.self }) c.act_made-made-then-is_closed.result
     c.seat.invariant c.hold-kept.ensures c.show_all.ensures.seen.0 c.show_all.ensures.seen.1 c.show_all.ensures.seen.1
-    (sees_changes g.D.Disk.Tells g.D.Disk.files g.P.Piece.Tells g.D.Disk.fault_count g.D.Disk.fuse_count c.args.tag c.hold-kept.result (record c.hold-kept.result { logical = c.see.new.self }) (see_closed g.D.Disk.Tells g.D.Disk.files g.P.Piece.Tells g.D.Disk.fault_count g.D.Disk.fuse_count c.args.tag c.hold-kept.result (record c.hold-kept.result { logical = c.see.new.self }) refl refl refl c.in-Ok.ensures.same c.in-Ok.ensures.open c.in-Ok.ensures.counts c.in-Ok.ensures.stands c.in-Ok.ensures.still.0 refl (sym c.is_closed.ensures ∙ c.if-is_closed.true) (is_held g.D.Disk.Tells g.D.Disk.files g.P.Piece.Tells g.D.Disk.fault_count g.D.Disk.fuse_count c.seat.invariant c.hold-kept.ensures).serves) c.act_made-made-then-is_closed.result (subst (λ (l : List ℕ). IsTried g.D.Disk.fault_count g.D.Disk.fuse_count c.args.tag l c.see.new.self.replicas c.act_made-made-then-is_closed.result) c.faults_of-before.ensures (c.act_made-made-then-is_closed.ensures.tried refl))) c.free-then-is_closed.new.seat c.free-then-is_closed.ensures (λ volume. SeeAnswer volume c.args.tag {P = g.row.P.Denot} g.P.Piece.Tells c.args.pair c.args.replica (Ok c.in-Ok.seen))
+    (sees_changes g.D.Disk.Tells g.D.Disk.files g.P.Piece.Tells g.D.Disk.fault_count g.D.Disk.fuse_count c.args.tag c.hold-kept.result (record c.hold-kept.result { logical = c.see.new.self }) (see_closed g.D.Disk.Tells g.D.Disk.files g.P.Piece.Tells g.D.Disk.fault_count g.D.Disk.fuse_count c.args.tag c.hold-kept.result (record c.hold-kept.result { logical = c.see.new.self }) refl refl refl c.in-Ok.ensures.same c.in-Ok.ensures.open c.in-Ok.ensures.counts (λ tells k s. (c.in-Ok.ensures.stands tells k s, λ thawed j run has. c.in-Ok.ensures.tight tells k s j)) c.in-Ok.ensures.still.0 refl (sym c.is_closed.ensures ∙ c.if-is_closed.true) (is_held g.D.Disk.Tells g.D.Disk.files g.P.Piece.Tells g.D.Disk.fault_count g.D.Disk.fuse_count c.seat.invariant c.hold-kept.ensures).serves) c.act_made-made-then-is_closed.result (subst (λ (l : List ℕ). IsTried g.D.Disk.fault_count g.D.Disk.fuse_count c.args.tag l c.see.new.self.replicas c.act_made-made-then-is_closed.result) c.faults_of-before.ensures (c.act_made-made-then-is_closed.ensures.tried refl))) c.free-then-is_closed.new.seat c.free-then-is_closed.ensures (λ volume. SeeAnswer volume c.args.tag {P = g.row.P.Denot} g.P.Piece.Tells c.args.pair c.args.replica (Ok c.in-Ok.seen))
     (seen_found g.D.Disk.Tells g.D.Disk.files g.P.Piece.Tells g.D.Disk.fault_count g.D.Disk.fuse_count c.args.tag c.args.pair c.args.replica c.hold-kept.result c.act_made-made-then-is_closed.result (tried_quiet g.D.Disk.fault_count g.D.Disk.fuse_count c.args.tag (counts g.D.Disk.fault_count c.hold-kept.result.logical.replicas) c.see.new.self.replicas c.act_made-made-then-is_closed.result (subst (λ (l : List ℕ). IsTried g.D.Disk.fault_count g.D.Disk.fuse_count c.args.tag l c.see.new.self.replicas c.act_made-made-then-is_closed.result) c.faults_of-before.ensures (c.act_made-made-then-is_closed.ensures.tried refl)))
     (nothing_made g.D.Disk.Tells g.D.Disk.files g.P.Piece.Tells g.D.Disk.fault_count g.D.Disk.fuse_count c.args.tag c.hold-kept.result (record c.hold-kept.result { logical = c.see.new.self }) c.act_made-made-then-is_closed.result (subst (λ (l : List ℕ). IsTried g.D.Disk.fault_count g.D.Disk.fuse_count c.args.tag l c.see.new.self.replicas c.act_made-made-then-is_closed.result) c.faults_of-before.ensures (c.act_made-made-then-is_closed.ensures.tried refl))) c.in-Ok.seen
     (see_known g.D.Disk.Tells g.D.Disk.files g.P.Piece.Tells g.D.Disk.fault_count g.D.Disk.fuse_count c.hold-kept.result.logical c.see.new.self c.args.pair c.args.replica c.in-Ok.seen c.in-Ok.ensures.same.settings c.in-Ok.ensures.answered.1 c.in-Ok.ensures.stands c.in-Ok.ensures.known)))
@@ -174,17 +176,17 @@ returns-then-is_closed-clause-held g c =
     subst (λ (s : Seated g.row.D.Denot g.row.P.Denot). OneHolding c.args.tag s.sight (seat_of c.free-then-is_closed.new.seat c.show_all.new.seat).sight) c.seat.view_is
     (changed_held g.D.Disk.Tells g.D.Disk.files g.P.Piece.Tells g.D.Disk.fault_count g.D.Disk.fuse_count c.args.tag c.seat.inside.turn c.hold-kept.new.seat c.seat.inside.view c.show_all.new.seat c.show_all.new.seat c.hold-kept.result (record c.hold-kept.result { logical = c.see.new.self }) c.act_made-made-then-is_closed.result
     c.seat.invariant c.hold-kept.ensures c.show_all.ensures.seen.0 c.show_all.ensures.seen.1 c.show_all.ensures.seen.1
-    (sees_changes g.D.Disk.Tells g.D.Disk.files g.P.Piece.Tells g.D.Disk.fault_count g.D.Disk.fuse_count c.args.tag c.hold-kept.result (record c.hold-kept.result { logical = c.see.new.self }) (see_closed g.D.Disk.Tells g.D.Disk.files g.P.Piece.Tells g.D.Disk.fault_count g.D.Disk.fuse_count c.args.tag c.hold-kept.result (record c.hold-kept.result { logical = c.see.new.self }) refl refl refl c.in-Ok.ensures.same c.in-Ok.ensures.open c.in-Ok.ensures.counts c.in-Ok.ensures.stands c.in-Ok.ensures.still.0 refl (sym c.is_closed.ensures ∙ c.if-is_closed.true) (is_held g.D.Disk.Tells g.D.Disk.files g.P.Piece.Tells g.D.Disk.fault_count g.D.Disk.fuse_count c.seat.invariant c.hold-kept.ensures).serves) c.act_made-made-then-is_closed.result (subst (λ (l : List ℕ). IsTried g.D.Disk.fault_count g.D.Disk.fuse_count c.args.tag l c.see.new.self.replicas c.act_made-made-then-is_closed.result) c.faults_of-before.ensures (c.act_made-made-then-is_closed.ensures.tried refl))) c.free-then-is_closed.new.seat c.free-then-is_closed.ensures)
+    (sees_changes g.D.Disk.Tells g.D.Disk.files g.P.Piece.Tells g.D.Disk.fault_count g.D.Disk.fuse_count c.args.tag c.hold-kept.result (record c.hold-kept.result { logical = c.see.new.self }) (see_closed g.D.Disk.Tells g.D.Disk.files g.P.Piece.Tells g.D.Disk.fault_count g.D.Disk.fuse_count c.args.tag c.hold-kept.result (record c.hold-kept.result { logical = c.see.new.self }) refl refl refl c.in-Ok.ensures.same c.in-Ok.ensures.open c.in-Ok.ensures.counts (λ tells k s. (c.in-Ok.ensures.stands tells k s, λ thawed j run has. c.in-Ok.ensures.tight tells k s j)) c.in-Ok.ensures.still.0 refl (sym c.is_closed.ensures ∙ c.if-is_closed.true) (is_held g.D.Disk.Tells g.D.Disk.files g.P.Piece.Tells g.D.Disk.fault_count g.D.Disk.fuse_count c.seat.invariant c.hold-kept.ensures).serves) c.act_made-made-then-is_closed.result (subst (λ (l : List ℕ). IsTried g.D.Disk.fault_count g.D.Disk.fuse_count c.args.tag l c.see.new.self.replicas c.act_made-made-then-is_closed.result) c.faults_of-before.ensures (c.act_made-made-then-is_closed.ensures.tried refl))) c.free-then-is_closed.new.seat c.free-then-is_closed.ensures)
 
 pub free-requires-2-clause-may : goal.free-requires-2-clause-may
 free-requires-2-clause-may g c = record {
   stands_for = changed_free g.D.Disk.Tells g.D.Disk.files g.P.Piece.Tells g.D.Disk.fault_count g.D.Disk.fuse_count c.args.tag c.seat.inside.turn c.hold-kept.new.seat c.seat.inside.view c.show_all.new.seat c.publish.new.seat c.hold-kept.result (record c.hold-kept.result { logical = c.see.new.self; front = c.publish.new.self }) c.act_made-made-2.result
       c.seat.invariant c.hold-kept.ensures c.show_all.ensures.seen.0 c.show_all.ensures.seen.1 c.in-Ok-publish.ensures.seen.1
-      (sees_changes g.D.Disk.Tells g.D.Disk.files g.P.Piece.Tells g.D.Disk.fault_count g.D.Disk.fuse_count c.args.tag c.hold-kept.result (record c.hold-kept.result { logical = c.see.new.self; front = c.publish.new.self }) (see_shown g.D.Disk.Tells g.D.Disk.files g.P.Piece.Tells g.D.Disk.fault_count g.D.Disk.fuse_count c.args.tag c.hold-kept.result (record c.hold-kept.result { logical = c.see.new.self; front = c.publish.new.self }) refl refl refl c.in-Ok.ensures.same c.in-Ok.ensures.open c.in-Ok.ensures.counts c.in-Ok.ensures.stands c.in-Ok.ensures.still.0 c.args.pair c.args.replica (place_in c.in-Ok.seen.row c.args.replica) c.sight_of-op.result (record { tag = c.front_tag.result; deed = c.sight_of-op.result })
+      (sees_changes g.D.Disk.Tells g.D.Disk.files g.P.Piece.Tells g.D.Disk.fault_count g.D.Disk.fuse_count c.args.tag c.hold-kept.result (record c.hold-kept.result { logical = c.see.new.self; front = c.publish.new.self }) (see_shown g.D.Disk.Tells g.D.Disk.files g.P.Piece.Tells g.D.Disk.fault_count g.D.Disk.fuse_count c.args.tag c.hold-kept.result (record c.hold-kept.result { logical = c.see.new.self; front = c.publish.new.self }) refl refl refl c.in-Ok.ensures.same c.in-Ok.ensures.open c.in-Ok.ensures.counts (λ tells k s. (c.in-Ok.ensures.stands tells k s, λ thawed j run has. c.in-Ok.ensures.tight tells k s j)) c.in-Ok.ensures.still.0 c.args.pair c.args.replica (place_in c.in-Ok.seen.row c.args.replica) c.sight_of-op.result (record { tag = c.front_tag.result; deed = c.sight_of-op.result })
       c.sight_of-op.ensures (within_it g.D.Disk.Tells g.D.Disk.files g.P.Piece.Tells g.D.Disk.fault_count g.D.Disk.fuse_count c.seat.invariant c.hold-kept.ensures c.args.replica (c.requires.within c.seat.invariant.opened (sym (ap (λ (s : Seated g.row.D.Denot g.row.P.Denot). s.start) c.seat.view_is) ∙ c.seat.invariant.is))) c.in-Ok.ensures.row c.in-Ok-publish.ensures.done.0) c.act_made-made-2.result (subst (λ (l : List ℕ). IsTried g.D.Disk.fault_count g.D.Disk.fuse_count c.args.tag l c.see.new.self.replicas c.act_made-made-2.result) c.faults_of-before.ensures (c.act_made-made-2.ensures.tried refl)));
   mine = changed_mine g.D.Disk.Tells g.D.Disk.files g.P.Piece.Tells g.D.Disk.fault_count g.D.Disk.fuse_count c.args.tag c.seat.inside.turn c.hold-kept.new.seat c.seat.inside.view c.show_all.new.seat c.publish.new.seat c.hold-kept.result (record c.hold-kept.result { logical = c.see.new.self; front = c.publish.new.self }) c.act_made-made-2.result
       c.seat.invariant c.hold-kept.ensures c.show_all.ensures.seen.0 c.show_all.ensures.seen.1 c.in-Ok-publish.ensures.seen.1
-      (sees_changes g.D.Disk.Tells g.D.Disk.files g.P.Piece.Tells g.D.Disk.fault_count g.D.Disk.fuse_count c.args.tag c.hold-kept.result (record c.hold-kept.result { logical = c.see.new.self; front = c.publish.new.self }) (see_shown g.D.Disk.Tells g.D.Disk.files g.P.Piece.Tells g.D.Disk.fault_count g.D.Disk.fuse_count c.args.tag c.hold-kept.result (record c.hold-kept.result { logical = c.see.new.self; front = c.publish.new.self }) refl refl refl c.in-Ok.ensures.same c.in-Ok.ensures.open c.in-Ok.ensures.counts c.in-Ok.ensures.stands c.in-Ok.ensures.still.0 c.args.pair c.args.replica (place_in c.in-Ok.seen.row c.args.replica) c.sight_of-op.result (record { tag = c.front_tag.result; deed = c.sight_of-op.result })
+      (sees_changes g.D.Disk.Tells g.D.Disk.files g.P.Piece.Tells g.D.Disk.fault_count g.D.Disk.fuse_count c.args.tag c.hold-kept.result (record c.hold-kept.result { logical = c.see.new.self; front = c.publish.new.self }) (see_shown g.D.Disk.Tells g.D.Disk.files g.P.Piece.Tells g.D.Disk.fault_count g.D.Disk.fuse_count c.args.tag c.hold-kept.result (record c.hold-kept.result { logical = c.see.new.self; front = c.publish.new.self }) refl refl refl c.in-Ok.ensures.same c.in-Ok.ensures.open c.in-Ok.ensures.counts (λ tells k s. (c.in-Ok.ensures.stands tells k s, λ thawed j run has. c.in-Ok.ensures.tight tells k s j)) c.in-Ok.ensures.still.0 c.args.pair c.args.replica (place_in c.in-Ok.seen.row c.args.replica) c.sight_of-op.result (record { tag = c.front_tag.result; deed = c.sight_of-op.result })
       c.sight_of-op.ensures (within_it g.D.Disk.Tells g.D.Disk.files g.P.Piece.Tells g.D.Disk.fault_count g.D.Disk.fuse_count c.seat.invariant c.hold-kept.ensures c.args.replica (c.requires.within c.seat.invariant.opened (sym (ap (λ (s : Seated g.row.D.Denot g.row.P.Denot). s.start) c.seat.view_is) ∙ c.seat.invariant.is))) c.in-Ok.ensures.row c.in-Ok-publish.ensures.done.0) c.act_made-made-2.result (subst (λ (l : List ℕ). IsTried g.D.Disk.fault_count g.D.Disk.fuse_count c.args.tag l c.see.new.self.replicas c.act_made-made-2.result) c.faults_of-before.ensures (c.act_made-made-2.ensures.tried refl))) (ap (λ (s : Seated g.row.D.Denot g.row.P.Denot). s.number) c.seat.view_is ∙ c.requires.may.lane);
 }
 
@@ -192,7 +194,7 @@ pub invariant_of-seat-2 : goal.invariant_of-seat-2
 invariant_of-seat-2 g c =
     changed_seated g.D.Disk.Tells g.D.Disk.files g.P.Piece.Tells g.D.Disk.fault_count g.D.Disk.fuse_count c.args.tag c.seat.inside.turn c.hold-kept.new.seat c.seat.inside.view c.show_all.new.seat c.publish.new.seat c.hold-kept.result (record c.hold-kept.result { logical = c.see.new.self; front = c.publish.new.self }) c.act_made-made-2.result
     c.seat.invariant c.hold-kept.ensures c.show_all.ensures.seen.0 c.show_all.ensures.seen.1 c.in-Ok-publish.ensures.seen.1
-    (sees_changes g.D.Disk.Tells g.D.Disk.files g.P.Piece.Tells g.D.Disk.fault_count g.D.Disk.fuse_count c.args.tag c.hold-kept.result (record c.hold-kept.result { logical = c.see.new.self; front = c.publish.new.self }) (see_shown g.D.Disk.Tells g.D.Disk.files g.P.Piece.Tells g.D.Disk.fault_count g.D.Disk.fuse_count c.args.tag c.hold-kept.result (record c.hold-kept.result { logical = c.see.new.self; front = c.publish.new.self }) refl refl refl c.in-Ok.ensures.same c.in-Ok.ensures.open c.in-Ok.ensures.counts c.in-Ok.ensures.stands c.in-Ok.ensures.still.0 c.args.pair c.args.replica (place_in c.in-Ok.seen.row c.args.replica) c.sight_of-op.result (record { tag = c.front_tag.result; deed = c.sight_of-op.result })
+    (sees_changes g.D.Disk.Tells g.D.Disk.files g.P.Piece.Tells g.D.Disk.fault_count g.D.Disk.fuse_count c.args.tag c.hold-kept.result (record c.hold-kept.result { logical = c.see.new.self; front = c.publish.new.self }) (see_shown g.D.Disk.Tells g.D.Disk.files g.P.Piece.Tells g.D.Disk.fault_count g.D.Disk.fuse_count c.args.tag c.hold-kept.result (record c.hold-kept.result { logical = c.see.new.self; front = c.publish.new.self }) refl refl refl c.in-Ok.ensures.same c.in-Ok.ensures.open c.in-Ok.ensures.counts (λ tells k s. (c.in-Ok.ensures.stands tells k s, λ thawed j run has. c.in-Ok.ensures.tight tells k s j)) c.in-Ok.ensures.still.0 c.args.pair c.args.replica (place_in c.in-Ok.seen.row c.args.replica) c.sight_of-op.result (record { tag = c.front_tag.result; deed = c.sight_of-op.result })
     c.sight_of-op.ensures (within_it g.D.Disk.Tells g.D.Disk.files g.P.Piece.Tells g.D.Disk.fault_count g.D.Disk.fuse_count c.seat.invariant c.hold-kept.ensures c.args.replica (c.requires.within c.seat.invariant.opened (sym (ap (λ (s : Seated g.row.D.Denot g.row.P.Denot). s.start) c.seat.view_is) ∙ c.seat.invariant.is))) c.in-Ok.ensures.row c.in-Ok-publish.ensures.done.0) c.act_made-made-2.result (subst (λ (l : List ℕ). IsTried g.D.Disk.fault_count g.D.Disk.fuse_count c.args.tag l c.see.new.self.replicas c.act_made-made-2.result) c.faults_of-before.ensures (c.act_made-made-2.ensures.tried refl))) c.free-2.new.seat c.free-2.ensures (ap (λ (s : Seated g.row.D.Denot g.row.P.Denot). s.number) c.seat.view_is ∙ c.requires.may.lane) (later_deed c.seat.inside.view c.hold-kept.result.front.shown c.publish.new.seat c.sight_of-op.result c.show_all.ensures.seen.0 (c.in-Ok-publish.ensures.seen.1 ∙ ap (λ f. f.shown) c.in-Ok-publish.ensures.done.0))
 
 pub returns-clause-seen : goal.returns-clause-seen
@@ -200,7 +202,7 @@ returns-clause-seen g c =
     subst (λ (s : Seated g.row.D.Denot g.row.P.Denot). IsTold g.D.Disk.Tells g.D.Disk.files g.P.Piece.Tells g.D.Disk.fault_count g.D.Disk.fuse_count s.start (λ volume. SeeAnswer volume c.args.tag {P = g.row.P.Denot} g.P.Piece.Tells c.args.pair c.args.replica (Ok c.in-Ok.seen) s.sight (seat_of c.free-2.new.seat c.publish.new.seat).sight)) c.seat.view_is
     (changed_told g.D.Disk.Tells g.D.Disk.files g.P.Piece.Tells g.D.Disk.fault_count g.D.Disk.fuse_count c.args.tag c.seat.inside.turn c.hold-kept.new.seat c.seat.inside.view c.show_all.new.seat c.publish.new.seat c.hold-kept.result (record c.hold-kept.result { logical = c.see.new.self; front = c.publish.new.self }) c.act_made-made-2.result
     c.seat.invariant c.hold-kept.ensures c.show_all.ensures.seen.0 c.show_all.ensures.seen.1 c.in-Ok-publish.ensures.seen.1
-    (sees_changes g.D.Disk.Tells g.D.Disk.files g.P.Piece.Tells g.D.Disk.fault_count g.D.Disk.fuse_count c.args.tag c.hold-kept.result (record c.hold-kept.result { logical = c.see.new.self; front = c.publish.new.self }) (see_shown g.D.Disk.Tells g.D.Disk.files g.P.Piece.Tells g.D.Disk.fault_count g.D.Disk.fuse_count c.args.tag c.hold-kept.result (record c.hold-kept.result { logical = c.see.new.self; front = c.publish.new.self }) refl refl refl c.in-Ok.ensures.same c.in-Ok.ensures.open c.in-Ok.ensures.counts c.in-Ok.ensures.stands c.in-Ok.ensures.still.0 c.args.pair c.args.replica (place_in c.in-Ok.seen.row c.args.replica) c.sight_of-op.result (record { tag = c.front_tag.result; deed = c.sight_of-op.result })
+    (sees_changes g.D.Disk.Tells g.D.Disk.files g.P.Piece.Tells g.D.Disk.fault_count g.D.Disk.fuse_count c.args.tag c.hold-kept.result (record c.hold-kept.result { logical = c.see.new.self; front = c.publish.new.self }) (see_shown g.D.Disk.Tells g.D.Disk.files g.P.Piece.Tells g.D.Disk.fault_count g.D.Disk.fuse_count c.args.tag c.hold-kept.result (record c.hold-kept.result { logical = c.see.new.self; front = c.publish.new.self }) refl refl refl c.in-Ok.ensures.same c.in-Ok.ensures.open c.in-Ok.ensures.counts (λ tells k s. (c.in-Ok.ensures.stands tells k s, λ thawed j run has. c.in-Ok.ensures.tight tells k s j)) c.in-Ok.ensures.still.0 c.args.pair c.args.replica (place_in c.in-Ok.seen.row c.args.replica) c.sight_of-op.result (record { tag = c.front_tag.result; deed = c.sight_of-op.result })
     c.sight_of-op.ensures (within_it g.D.Disk.Tells g.D.Disk.files g.P.Piece.Tells g.D.Disk.fault_count g.D.Disk.fuse_count c.seat.invariant c.hold-kept.ensures c.args.replica (c.requires.within c.seat.invariant.opened (sym (ap (λ (s : Seated g.row.D.Denot g.row.P.Denot). s.start) c.seat.view_is) ∙ c.seat.invariant.is))) c.in-Ok.ensures.row c.in-Ok-publish.ensures.done.0) c.act_made-made-2.result (subst (λ (l : List ℕ). IsTried g.D.Disk.fault_count g.D.Disk.fuse_count c.args.tag l c.see.new.self.replicas c.act_made-made-2.result) c.faults_of-before.ensures (c.act_made-made-2.ensures.tried refl))) c.free-2.new.seat c.free-2.ensures (λ volume. SeeAnswer volume c.args.tag {P = g.row.P.Denot} g.P.Piece.Tells c.args.pair c.args.replica (Ok c.in-Ok.seen))
     (seen_found g.D.Disk.Tells g.D.Disk.files g.P.Piece.Tells g.D.Disk.fault_count g.D.Disk.fuse_count c.args.tag c.args.pair c.args.replica c.hold-kept.result c.act_made-made-2.result (tried_quiet g.D.Disk.fault_count g.D.Disk.fuse_count c.args.tag (counts g.D.Disk.fault_count c.hold-kept.result.logical.replicas) c.see.new.self.replicas c.act_made-made-2.result (subst (λ (l : List ℕ). IsTried g.D.Disk.fault_count g.D.Disk.fuse_count c.args.tag l c.see.new.self.replicas c.act_made-made-2.result) c.faults_of-before.ensures (c.act_made-made-2.ensures.tried refl)))
     (nothing_made g.D.Disk.Tells g.D.Disk.files g.P.Piece.Tells g.D.Disk.fault_count g.D.Disk.fuse_count c.args.tag c.hold-kept.result (record c.hold-kept.result { logical = c.see.new.self; front = c.publish.new.self }) c.act_made-made-2.result (subst (λ (l : List ℕ). IsTried g.D.Disk.fault_count g.D.Disk.fuse_count c.args.tag l c.see.new.self.replicas c.act_made-made-2.result) c.faults_of-before.ensures (c.act_made-made-2.ensures.tried refl))) c.in-Ok.seen
@@ -211,7 +213,7 @@ returns-clause-held g c =
     subst (λ (s : Seated g.row.D.Denot g.row.P.Denot). OneHolding c.args.tag s.sight (seat_of c.free-2.new.seat c.publish.new.seat).sight) c.seat.view_is
     (changed_held g.D.Disk.Tells g.D.Disk.files g.P.Piece.Tells g.D.Disk.fault_count g.D.Disk.fuse_count c.args.tag c.seat.inside.turn c.hold-kept.new.seat c.seat.inside.view c.show_all.new.seat c.publish.new.seat c.hold-kept.result (record c.hold-kept.result { logical = c.see.new.self; front = c.publish.new.self }) c.act_made-made-2.result
     c.seat.invariant c.hold-kept.ensures c.show_all.ensures.seen.0 c.show_all.ensures.seen.1 c.in-Ok-publish.ensures.seen.1
-    (sees_changes g.D.Disk.Tells g.D.Disk.files g.P.Piece.Tells g.D.Disk.fault_count g.D.Disk.fuse_count c.args.tag c.hold-kept.result (record c.hold-kept.result { logical = c.see.new.self; front = c.publish.new.self }) (see_shown g.D.Disk.Tells g.D.Disk.files g.P.Piece.Tells g.D.Disk.fault_count g.D.Disk.fuse_count c.args.tag c.hold-kept.result (record c.hold-kept.result { logical = c.see.new.self; front = c.publish.new.self }) refl refl refl c.in-Ok.ensures.same c.in-Ok.ensures.open c.in-Ok.ensures.counts c.in-Ok.ensures.stands c.in-Ok.ensures.still.0 c.args.pair c.args.replica (place_in c.in-Ok.seen.row c.args.replica) c.sight_of-op.result (record { tag = c.front_tag.result; deed = c.sight_of-op.result })
+    (sees_changes g.D.Disk.Tells g.D.Disk.files g.P.Piece.Tells g.D.Disk.fault_count g.D.Disk.fuse_count c.args.tag c.hold-kept.result (record c.hold-kept.result { logical = c.see.new.self; front = c.publish.new.self }) (see_shown g.D.Disk.Tells g.D.Disk.files g.P.Piece.Tells g.D.Disk.fault_count g.D.Disk.fuse_count c.args.tag c.hold-kept.result (record c.hold-kept.result { logical = c.see.new.self; front = c.publish.new.self }) refl refl refl c.in-Ok.ensures.same c.in-Ok.ensures.open c.in-Ok.ensures.counts (λ tells k s. (c.in-Ok.ensures.stands tells k s, λ thawed j run has. c.in-Ok.ensures.tight tells k s j)) c.in-Ok.ensures.still.0 c.args.pair c.args.replica (place_in c.in-Ok.seen.row c.args.replica) c.sight_of-op.result (record { tag = c.front_tag.result; deed = c.sight_of-op.result })
     c.sight_of-op.ensures (within_it g.D.Disk.Tells g.D.Disk.files g.P.Piece.Tells g.D.Disk.fault_count g.D.Disk.fuse_count c.seat.invariant c.hold-kept.ensures c.args.replica (c.requires.within c.seat.invariant.opened (sym (ap (λ (s : Seated g.row.D.Denot g.row.P.Denot). s.start) c.seat.view_is) ∙ c.seat.invariant.is))) c.in-Ok.ensures.row c.in-Ok-publish.ensures.done.0) c.act_made-made-2.result (subst (λ (l : List ℕ). IsTried g.D.Disk.fault_count g.D.Disk.fuse_count c.args.tag l c.see.new.self.replicas c.act_made-made-2.result) c.faults_of-before.ensures (c.act_made-made-2.ensures.tried refl))) c.free-2.new.seat c.free-2.ensures)
 
 pub free-requires-in_default-clause-may : goal.free-requires-in_default-clause-may
@@ -292,3 +294,9 @@ returns-clause-sighted g c = c.in-Ok.ensures.seen
 pub returns-clause-needle : goal.returns-clause-needle
 returns-clause-needle g c = inr (c.in-Ok.ensures.needle
     (unseen c.look-looked.result.row (row_at c.hold-kept.result.logical.rows c.args.pair) c.args.replica c.is_seen.result c.is_seen.ensures.1 c.if-is_seen.false c.look-looked.ensures.row))
+
+pub returns-in-Err-clause-refusals : goal.returns-in-Err-clause-refusals
+returns-in-Err-clause-refusals g c =
+    subst (λ (s : Seated g.row.D.Denot g.row.P.Denot). OfOpened s.start (λ settings v. RefusesSight settings v c.in-Err.fault)) c.seat.view_is
+    (of_opened g.D.Disk.Tells g.D.Disk.files g.P.Piece.Tells g.D.Disk.fault_count g.D.Disk.fuse_count c.seat.invariant c.hold-kept.ensures (λ settings v. RefusesSight settings v c.in-Err.fault)
+    (refuses_sight c.hold-kept.result.logical.settings c.hold-kept.result.logical.number g.D.Disk.fault_count c.hold-kept.result.logical.replicas c.see.new.self.replicas c.in-Err.fault c.in-Err.ensures.causes))
