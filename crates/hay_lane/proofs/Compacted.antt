@@ -18,7 +18,7 @@ use Rattle.hay_lane.specs.declared.answers.Begin.TheVariants as begin
 use Rattle.hay_lane.specs.declared.answers.Compaction.{Compaction}
 use Rattle.hay_lane.specs.declared.answers.Compaction.TheVariants as compaction
 use Rattle.hay_lane.specs.Replies.{IsBeginReply, IsCompactionReply}
-use Rattle.hay_lane.specs.Tellings.{BeginTells, CompactionTells}
+use Rattle.hay_lane.specs.Tellings.{BeginTells, CompactionTells, EndTells, StoreVolume}
 use Rattle.hay_lane.proofs.Maintained.{call_as}
 
 module _ (settings : Settings) (start : Start) (drained : List Bool) (tag : CoreTag) (v m j : ℕ) (there : replica_on settings v m ≡ Some j) (below : v < settings.volumes) where
@@ -43,26 +43,37 @@ module _ (settings : Settings) (start : Start) (drained : List Bool) (tag : Core
     run : Compacting settings start drained tag v j a k
     run = work.compact_begins settings start drained tag v j begun
 
+    abbrev here : StoreVolume
+    here = record { settings = settings; start = start; number = v }
+
+    -- it stands behind all that the lane has seen then
+    stands : calls.HasRunOf settings start v j tag (k.volumes v).seen
+    stands = subst (calls.HasRunOf settings start v j tag) (sym ((begun.is).holding).seen) ((begun.is).is).1
+
     module _ {b : Sight} where
-      pub end_answered : (answer : Compaction) (r : Reply) → AtVolume v (CompactionTells (record { settings = settings; start = start; number = v }) tag j answer) k b
+      ended_answered : (answer : Compaction) (r : Reply) → AtVolume v (EndTells here tag j answer) k b
           → IsCompactionReply v m answer r → CompactAnswered a b r
-      end_answered (compaction.Compacted n) r x is =
+      ended_answered (compaction.Compacted n) r x is =
           let swap = x.is in
           subst (CompactAnswered a b) (sym is) (work.compact_done settings start drained tag v j m there below run (call_as _ (calls.Swapped settings start v tag j tag n swap.0 swap.1 false) x swap.2))
-      end_answered (compaction.Frozen by) r x (inl is) =
+      ended_answered (compaction.Frozen by) r x (inl is) =
           subst (CompactAnswered a b) (sym is) (work.compact_met_frozen settings start drained tag v j m there below run (call_as _ (calls.RunFrozen settings start v tag j tag by) x x.is))
-      end_answered (compaction.Frozen by) r x (inr is) =
+      ended_answered (compaction.Frozen by) r x (inr is) =
           subst (CompactAnswered a b) (sym is) (work.compact_frozen_wanted settings start drained tag v j m there below run (call_as _ (calls.RunFrozen settings start v tag j tag by) x x.is))
-      end_answered (compaction.Deleted f) r x is =
+      ended_answered (compaction.Deleted f) r x is =
           subst (CompactAnswered a b) (sym is) (work.compact_deleted settings start drained tag v j m there below run (call_as _ (calls.RunDeleted settings start v tag j tag f) x x.is))
-      end_answered (compaction.Failed f) r x is =
+      ended_answered (compaction.Failed f) r x is =
           subst (CompactAnswered a b) (sym is) (work.compact_failed settings start drained tag v j m there below run (call_as _ (calls.RunFailed settings start v tag j tag f) x x.is))
-      end_answered (compaction.Poised f) r x is =
+      ended_answered (compaction.Poised f) r x is =
           let poised : AtVolume v (calls.SwapFailed settings start v tag j tag m f) k b =
           subst (λ w. AtVolume v (calls.SwapFailed settings start v tag j tag w f) k b) on (call_as _ (calls.SwapFailed settings start v tag j tag (machine_of settings v j) f) x x.is) in
           subst (CompactAnswered a b) (sym is) (work.compact_poised settings start drained tag v j m there below run poised)
-      end_answered compaction.NoMemory r x is =
+      ended_answered (compaction.Damaged at) r x is = absurd x.is
+      ended_answered compaction.NoMemory r x is =
           subst (CompactAnswered a b) (sym is) (elim x.is [
             | inl ended ↦ work.compact_wanted settings start drained tag v j m there below run (call_as _ (calls.RunWanted settings start v tag j tag) x ended)
             | inr swap ↦ work.compact_froze settings start drained tag v j m there below run (call_as _ (calls.Swapped settings start v tag j tag swap.0 swap.1 swap.2 true) x swap.3)
           ])
+
+      pub end_answered : (answer : Compaction) (r : Reply) → AtVolume v (CompactionTells here tag j answer) k b → IsCompactionReply v m answer r → CompactAnswered a b r
+      end_answered answer r x is = ended_answered answer r (call_as (CompactionTells here tag j answer) (EndTells here tag j answer) x (x.is stands)) is

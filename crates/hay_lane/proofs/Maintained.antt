@@ -81,6 +81,7 @@ module _ (settings : Settings) (start : Start) (drained : List Bool) (tag : Core
     step_answered cells step.Idle r x is = subst (Answered (command.Step v m cells)) (sym is) (work.step_idle settings start drained tag a b v m j there below cells x)
     step_answered cells (step.Failed f) r x is =
         subst (Answered (command.Step v m cells)) (sym is) (work.step_failed settings start drained tag a b v m j there below cells (x.is).own (own_as _ x))
+    step_answered cells (step.Damaged at) r x is = absurd x.is
     step_answered cells (step.NoMemory None) r x is =
         subst (Answered (command.Step v m cells)) (sym is) (quiet_wanted (command.Step v m cells) (λ pick e. absurd (cc e)) (call_unchanged settings start x))
     step_answered cells (step.NoMemory (Some n)) r x is =
@@ -100,6 +101,7 @@ module _ (settings : Settings) (start : Start) (drained : List Bool) (tag : Core
         let poised : AtVolume v (calls.SwapFailed settings start v tag j (x.is).who m f) a b =
         subst (λ w. AtVolume v (calls.SwapFailed settings start v tag j (x.is).who w f) a b) on (call_as _ _ x (x.is).is) in
         subst (Answered (command.Finish v m)) (sym is) (work.finish_poised settings start drained tag a b v m j there below (x.is).own poised)
+    finish_answered (finish.Damaged at) r x is = absurd x.is
     finish_answered finish.NoMemory r x is = subst (Answered (command.Finish v m)) (sym is) (wanting x.is)
       where
         wanting : FinishTells here tag j finish.NoMemory (a.volumes v) (b.volumes v) → Answered (command.Finish v m) reply.NoMem

@@ -50,6 +50,7 @@ IsStepReply v m (step.Stepped n) r = r ≡ reply.Stepped v m n
 IsStepReply v m (step.Frozen by) r = IsReadOnly v by r
 IsStepReply v m step.Idle r = r ≡ reply.Idle v m
 IsStepReply v m (step.Failed f) r = r ≡ reply.Failed v m f
+IsStepReply v m (step.Damaged at) r = r ≡ reply.Damaged v m at
 IsStepReply v m (step.NoMemory some) r = r ≡ reply.NoMem
 
 abbrev pub IsFinishReply : ℕ → ℕ → Finish → Reply → Type 0
@@ -58,6 +59,7 @@ IsFinishReply v m (finish.Frozen by) r = IsReadOnly v by r
 IsFinishReply v m finish.Idle r = r ≡ reply.Idle v m
 IsFinishReply v m (finish.Failed f) r = r ≡ reply.Failed v m f
 IsFinishReply v m (finish.Poised f) r = r ≡ reply.Failed v m f
+IsFinishReply v m (finish.Damaged at) r = r ≡ reply.Damaged v m at
 IsFinishReply v m finish.NoMemory r = r ≡ reply.NoMem
 
 abbrev pub IsCompactionReply : ℕ → ℕ → Compaction → Reply → Type 0
@@ -66,4 +68,5 @@ IsCompactionReply v m (compaction.Frozen by) r = IsReadOnly v by r
 IsCompactionReply v m (compaction.Deleted f) r = r ≡ reply.Failed v m f
 IsCompactionReply v m (compaction.Failed f) r = r ≡ reply.Failed v m f
 IsCompactionReply v m (compaction.Poised f) r = r ≡ reply.Failed v m f
+IsCompactionReply v m (compaction.Damaged at) r = r ≡ reply.Damaged v m at
 IsCompactionReply v m compaction.NoMemory r = r ≡ reply.NoMem

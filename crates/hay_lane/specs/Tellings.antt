@@ -99,6 +99,7 @@ module _ (volume : StoreVolume) (tag : CoreTag) where
   StepTells j cells (step.Frozen m) = calls.MetFrozen volume.settings volume.start volume.number tag m
   StepTells j cells step.Idle = calls.MetIdle volume.settings volume.start volume.number tag j
   StepTells j cells (step.Failed f) = Own tag (λ who. calls.RunFailed volume.settings volume.start volume.number tag j who f)
+  StepTells j cells (step.Damaged at) = λ a b. ⊥
   StepTells j cells (step.NoMemory None) = calls.ChangedNothing volume.settings volume.start volume.number tag
   StepTells j cells (step.NoMemory (Some n)) = Own tag (λ who. calls.Stepped volume.settings volume.start volume.number tag j who n (λ left. n ≤ min cells left))
 
@@ -107,30 +108,36 @@ module _ (volume : StoreVolume) (tag : CoreTag) where
   FinishWanted j a b =
       calls.ChangedNothing volume.settings volume.start volume.number tag a b
       ⊎ Own tag (λ who. calls.RunWanted volume.settings volume.start volume.number tag j who) a b
-      ⊎ ((g : ℕ) × (end : ℕ) × (cells : ℕ) × Own tag (λ who. calls.Swapped volume.settings volume.start volume.number tag j who g end cells true) a b)
+      ⊎ ((g : ℕ) × (end : ℕ) × (cells : ℕ) × Own tag (λ who. calls.Switched volume.settings volume.start volume.number tag j who g end cells true) a b)
 
   abbrev pub FinishTells : ℕ → Finish → VolumeCall
   FinishTells j (finish.Compacted g) a b =
-      (end : ℕ) × (cells : ℕ) × Own tag (λ who. calls.Swapped volume.settings volume.start volume.number tag j who g end cells false) a b
+      (end : ℕ) × (cells : ℕ) × Own tag (λ who. calls.Switched volume.settings volume.start volume.number tag j who g end cells false) a b
   FinishTells j (finish.Frozen m) a b = calls.MetFrozen volume.settings volume.start volume.number tag m a b
   FinishTells j finish.Idle a b = calls.MetIdle volume.settings volume.start volume.number tag j a b
   FinishTells j (finish.Failed f) a b = Own tag (λ who. calls.RunFailed volume.settings volume.start volume.number tag j who f) a b
   FinishTells j (finish.Poised f) a b =
       Own tag (λ who. calls.SwapFailed volume.settings volume.start volume.number tag j who (machine_of volume.settings volume.number j) f) a b
+  FinishTells j (finish.Damaged at) a b = ⊥
   FinishTells j finish.NoMemory a b = FinishWanted j a b
 
   -- the line's own compaction came to its end
-  abbrev pub CompactionTells : ℕ → Compaction → VolumeCall
-  CompactionTells j (compaction.Compacted g) a b =
+  abbrev pub EndTells : ℕ → Compaction → VolumeCall
+  EndTells j (compaction.Compacted g) a b =
       (end : ℕ) × (cells : ℕ) × calls.Swapped volume.settings volume.start volume.number tag j tag g end cells false a b
-  CompactionTells j (compaction.Frozen m) a b = calls.RunFrozen volume.settings volume.start volume.number tag j tag m a b
-  CompactionTells j (compaction.Deleted f) a b = calls.RunDeleted volume.settings volume.start volume.number tag j tag f a b
-  CompactionTells j (compaction.Failed f) a b = calls.RunFailed volume.settings volume.start volume.number tag j tag f a b
-  CompactionTells j (compaction.Poised f) a b =
+  EndTells j (compaction.Frozen m) a b = calls.RunFrozen volume.settings volume.start volume.number tag j tag m a b
+  EndTells j (compaction.Deleted f) a b = calls.RunDeleted volume.settings volume.start volume.number tag j tag f a b
+  EndTells j (compaction.Failed f) a b = calls.RunFailed volume.settings volume.start volume.number tag j tag f a b
+  EndTells j (compaction.Poised f) a b =
       calls.SwapFailed volume.settings volume.start volume.number tag j tag (machine_of volume.settings volume.number j) f a b
-  CompactionTells j compaction.NoMemory a b =
+  EndTells j (compaction.Damaged at) a b = ⊥
+  EndTells j compaction.NoMemory a b =
       calls.RunWanted volume.settings volume.start volume.number tag j tag a b
       ⊎ ((g : ℕ) × (end : ℕ) × (cells : ℕ) × calls.Swapped volume.settings volume.start volume.number tag j tag g end cells true a b)
+
+  -- so it is told where it stood behind all that its lane had seen
+  abbrev pub CompactionTells : ℕ → Compaction → VolumeCall
+  CompactionTells j answer a b = calls.HasRunOf volume.settings volume.start volume.number j tag a.seen → EndTells j answer a b
 
 -- the home of the row's pair, and how many rows there are
 abbrev pub SettleTells : Start → CoreTag → HomeRow → Result (ℕ × ℕ) DirFault → DirectoryCall

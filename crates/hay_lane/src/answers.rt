@@ -88,6 +88,8 @@ pub enum Step {
     Idle,
     /// A call of the replica's disk failed, and the compaction ended.
     Failed { faults: u64 },
+    /// A disk that does not tell what it has may be found damaged.
+    Damaged { at: u64 },
     /// Nothing was changed, or memory was wanting behind some cells.
     NoMemory { cells: Option<u64> },
 }
@@ -102,6 +104,8 @@ pub enum Finish {
     Failed { faults: u64 },
     /// The switch of its head failed, and the volume is frozen.
     Poised { faults: u64 },
+    /// A disk that does not tell what it has may be found damaged.
+    Damaged { at: u64 },
     NoMemory,
 }
 
@@ -117,6 +121,8 @@ pub enum Compaction {
     Failed { faults: u64 },
     /// The switch of its head failed, and the volume is frozen.
     Poised { faults: u64 },
+    /// A disk that does not tell what it has may be found damaged.
+    Damaged { at: u64 },
     /// It ended, or its files are the current ones and the volume is frozen.
     NoMemory,
 }

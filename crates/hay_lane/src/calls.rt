@@ -151,7 +151,8 @@ pub trait VolumeCalls {
         ensures stays { Stays fits is_at self.now seat.old seat.new }
         ensures tells { (volume : StoreVolume) → is_at seat.old volume → FinishTells volume tag replica result (sight seat.old) (sight seat.new) };
 
-    /// Finishes the compaction of a replica that the line itself began.
+    /// Finishes the compaction of a replica that the line itself began. What it tells is of one that stood behind all that the lane had
+    /// seen.
     fn compact<R: Wait>(
         &self,
         rt: &R,

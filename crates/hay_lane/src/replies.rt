@@ -116,6 +116,11 @@ pub(crate) fn step_reply(alloc: Global, volume: u32, machine: u32, answer: Step)
             machine,
             faults,
         },
+        Step::Damaged { at } => Reply::Damaged {
+            volume,
+            machine,
+            at,
+        },
         Step::NoMemory { .. } => Reply::NoMem,
     }
 }
@@ -137,6 +142,11 @@ pub(crate) fn finish_reply(alloc: Global, volume: u32, machine: u32, answer: Fin
             volume,
             machine,
             faults,
+        },
+        Finish::Damaged { at } => Reply::Damaged {
+            volume,
+            machine,
+            at,
         },
         Finish::NoMemory => Reply::NoMem,
     }
@@ -165,6 +175,11 @@ pub(crate) fn compaction_reply(
             volume,
             machine,
             faults,
+        },
+        Compaction::Damaged { at } => Reply::Damaged {
+            volume,
+            machine,
+            at,
         },
         Compaction::NoMemory => Reply::NoMem,
     }
