@@ -10,9 +10,11 @@ pub mod Formatted
 pub mod GivenDraws
 pub mod Leaving
 pub mod Lists
+pub mod Lying
 pub mod Machines
 pub mod Maintaining
 pub mod Moves
+pub mod Needling
 pub mod OpeningDamage
 pub mod OpeningDirectory
 pub mod OpeningDraws

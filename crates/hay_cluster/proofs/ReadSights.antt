@@ -20,10 +20,15 @@ use Rattle.hay_reader.specs.declared.seat.ReadReply.TheVariants as read
 use Rattle.hay_reader.specs.declared.trial.Shown.{Shown}
 use Rattle.hay_reader.specs.declared.trial.Shown.TheVariants as shown
 use Rattle.hay_reader.proofs.Passing.{all_weaken}
-use Rattle.hay_logical.specs.Sights.{SeesPair, Sight, Sights, sight}
-use Rattle.hay_logical.specs.Sights.Sight.{Live, Unseen}
+use Rattle.hay_logical.specs.Sights.{AwaitsLook, AwaitsLookAt, IsLiveSight, SeesPair, Sight, Sights, sight}
+use Rattle.hay_logical.specs.Sights.Sight.{Gone, Live, Never, Unseen}
+use Rattle.hay_logical.specs.declared.fault.LogicalFault.{LogicalFault}
+use Rattle.hay_logical.specs.declared.fault.LogicalFault.TheVariants as refusal
+use Rattle.hay_reply.specs.declared.Cause.{Cause}
+use Rattle.hay_reply.specs.declared.Cause.TheVariants.{Damage}
+use Rattle.hay_cluster.specs.Passing.{StandsFor}
 use Rattle.hay_cluster.specs.declared.reading.Found.{Found}
-use Rattle.hay_cluster.specs.Reads.{FoundSees, IsFoundAs, MayHave, ReadSees, passed_at}
+use Rattle.hay_cluster.specs.Reads.{AwaitsFor, FoundSees, IsFoundAs, IsSightCause, MayHave, ReadSees, passed_at}
 use Rattle.hay_cluster.specs.Seen.{StoreSeen}
 use Rattle.hay_cluster.specs.Sights.{IsAbsent, MayStand, SeesOn}
 use Rattle.hay_cluster.specs.Store.{IsBuilt}
@@ -34,8 +39,8 @@ use Rattle.hay_cluster.proofs.Showing.{all_append, all_tried}
 
 module _ {P : Type 0} (Tells : Type 0) (sure : Bool) (cookie : Cookie) (put : List ℕ) where
   -- a photo that is shown stands there
-  gives_live : (there : Place P) (what : Shown) → IsRead what → PlaceGives Tells sure cookie put there (Ok what) → sight there ≡ Live
-  gives_live (place.Live needle) what is gives = refl
+  gives_live : (there : Place P) (what : Shown) → IsRead what → PlaceGives Tells sure cookie put there (Ok what) → IsLiveSight (sight there)
+  gives_live (place.Live needle) what is gives = tt
   gives_live place.None what is gives = let same : what ≡ shown.Gone = cc in absurd (subst IsRead same is)
   gives_live place.Gone what is gives = let same : what ≡ shown.Gone = cc in absurd (subst IsRead same is)
   gives_live (place.Unseen at size) what is gives = let same : what ≡ shown.Unseen = cc in absurd (subst IsRead same is)
@@ -46,11 +51,11 @@ module _ {P : Type 0} (Tells : Type 0) (sure : Bool) (cookie : Cookie) (put : Li
   gives_none place.Gone gives = tt
   gives_none (place.Unseen at size) gives = absurd cc
 
-  gives_unseen : (there : Place P) → PlaceGives Tells sure cookie put there (Ok shown.Unseen) → sight there ≡ Unseen
+  gives_unseen : (there : Place P) → PlaceGives Tells sure cookie put there (Ok shown.Unseen) → AwaitsLook (sight there)
   gives_unseen (place.Live needle) gives = absurd gives.0
   gives_unseen place.None gives = absurd cc
   gives_unseen place.Gone gives = absurd cc
-  gives_unseen (place.Unseen at size) gives = refl
+  gives_unseen (place.Unseen at size) gives = tt
 
 -- ROWS
 
@@ -66,8 +71,8 @@ module _ {P : Type 0} (row : List (Place P)) (cookie : Cookie) (passed : List Pa
   -- what was read to see the place of the next replica shows it
   shown_at : (put bytes : List ℕ) (j : ℕ) (there : Place P) (what : Shown) → sight (place_in row j) ≡ sight there → ShowsSeen cookie put bytes there what
       → ReadSees (λ i. sight (place_in row i)) (reply_at j passed what)
-  shown_at put bytes j (place.Live needle) shown.Photo same h = same
-  shown_at put bytes j (place.Live needle) shown.WrongCookie same h = same
+  shown_at put bytes j (place.Live needle) shown.Photo same h = subst IsLiveSight (sym same) tt
+  shown_at put bytes j (place.Live needle) shown.WrongCookie same h = subst IsLiveSight (sym same) tt
   shown_at put bytes j (place.Live needle) shown.Gone same h = absurd h
   shown_at put bytes j (place.Live needle) shown.Unseen same h = absurd h
   shown_at put bytes j place.None what same h =
@@ -89,29 +94,53 @@ sees_in {P} row now seen reply is same sees = go reply sees
     here j = ap (λ (l : List (Place P)). sight (place_in l j)) is ∙ sym (same j)
 
     go : (r : ReadReply) → ReadSees (λ j. sight (place_in row j)) r → ReadSees seen r
-    go (read.Photo j) s = sym (here j) ∙ s
+    go (read.Photo j) s = subst IsLiveSight (here j) s
     go (read.Gone j) s = subst IsAbsent (here j) s
-    go (read.WrongCookie j) s = sym (here j) ∙ s
-    go (read.Unseen j causes) s = sym (here j) ∙ s
+    go (read.WrongCookie j) s = subst IsLiveSight (here j) s
+    go (read.Unseen j causes) s = subst AwaitsLook (here j) s
     go (read.Unreadable causes) s = tt
 
 -- REPLICAS THAT WERE PASSED OVER
 
 pub may_stand_as : (seen now : ℕ → Sight) (causes : List PassedReplica) → ((j : ℕ) → now j ≡ seen j) → MayHave seen causes → MayHave now causes
 may_stand_as seen now causes same all =
-    all_weaken (λ over. MayStand (seen over.replica)) (λ over. MayStand (now over.replica)) (λ over may. subst MayStand (sym (same over.replica)) may) causes all
+    all_weaken (λ over. StandsFor over.cause (seen over.replica)) (λ over. StandsFor over.cause (now over.replica))
+    (λ over may. subst (StandsFor over.cause) (sym (same over.replica)) may) causes all
 
 -- the place of another replica was looked at
 pub may_stand_still : (pair : Pair) (replica : ℕ) (old new : Sights) (causes : List PassedReplica) → SeesPair pair replica old new → AllByRecursion (λ over. over.replica ≡ replica → ⊥) causes
     → MayHave (old pair) causes → MayHave (new pair) causes
 may_stand_still pair replica old new [] sees apart all = tt
 may_stand_still pair replica old new (over ∷ causes) sees apart all =
-    (subst MayStand (sym (sees.others over.replica apart.0)) all.0, may_stand_still pair replica old new causes sees apart.1 all.1)
+    (subst (StandsFor over.cause) (sym (sees.others over.replica apart.0)) all.0, may_stand_still pair replica old new causes sees apart.1 all.1)
 
 -- one more, which was not seen
-pub may_stand_more : (seen : ℕ → Sight) (causes : List PassedReplica) (over : PassedReplica) → seen over.replica ≡ Unseen → MayHave seen causes
-    → MayHave seen (causes ++ over ∷ [])
-may_stand_more seen causes over unseen all = all_append (λ p. MayStand (seen p.replica)) causes (over ∷ []) all (subst MayStand (sym unseen) tt, tt)
+pub may_stand_more : (seen : ℕ → Sight) (causes : List PassedReplica) (over : PassedReplica) → StandsFor over.cause (seen over.replica) → MayHave seen causes → MayHave seen (causes ++ over ∷ [])
+may_stand_more seen causes over stands all = all_append (λ p. StandsFor p.cause (seen p.replica)) causes (over ∷ []) all (stands, tt)
+
+awaits_stands : (seen : Sight) → AwaitsLook seen → MayStand seen
+awaits_stands Never awaits = awaits
+awaits_stands (Live at) awaits = absurd awaits
+awaits_stands Gone awaits = awaits
+awaits_stands (Unseen at size) awaits = tt
+
+damage_stands : (place : ℕ) (seen : Sight) → AwaitsLookAt place seen → StandsFor (Damage place) seen
+damage_stands place Never awaits = awaits
+damage_stands place (Live at) awaits = absurd awaits
+damage_stands place Gone awaits = awaits
+damage_stands place (Unseen at size) awaits = awaits
+
+-- what awaits a look that was refused may stand
+pub awaits_for : (fault : LogicalFault) (cause : Cause) (seen : Sight) → IsSightCause fault cause → AwaitsFor fault seen → StandsFor cause seen
+awaits_for (refusal.Failed m count) cause seen is awaits = subst (λ (c : Cause). StandsFor c seen) (sym is) (awaits_stands seen awaits)
+awaits_for (refusal.Damaged m place) cause seen is awaits = subst (λ (c : Cause). StandsFor c seen) (sym is) (damage_stands place seen awaits)
+awaits_for refusal.NoMemory cause seen is awaits = absurd is
+awaits_for (refusal.ReadOnly m) cause seen is awaits = absurd is
+awaits_for (refusal.Full m end need capacity) cause seen is awaits = absurd is
+awaits_for (refusal.Gone front) cause seen is awaits = absurd is
+awaits_for (refusal.Busy m generation) cause seen is awaits = absurd is
+awaits_for (refusal.Worn m) cause seen is awaits = absurd is
+awaits_for refusal.Idle cause seen is awaits = absurd is
 
 -- the next replica is none of those before it
 pub next_apart : (settings : Settings) (start : ℕ) (causes : List PassedReplica) (replica : ℕ) → ComeFirst start settings.replicas causes → length causes < settings.replicas
@@ -133,13 +162,13 @@ module _ (settings : Settings) (v : ℕ) (pair : Pair) (seen : StoreSeen) (built
   pub sees_on : (Is : Sight → Type 0) (j m : ℕ) → j < settings.replicas → m ≡ machine_of settings v j → Is (seen.places v pair j) → SeesOn settings v pair Is seen m
   sees_on Is j m below machine is = (j, ap (λ n. replica_on settings v n) machine ∙ replica_found settings v j volume below built.no_more_replicas, is)
 
-  told_each : (over : List PassedReplica) → AllByRecursion (λ p. p.replica < settings.replicas) over → AllByRecursion (λ p. MayStand (seen.places v pair p.replica)) over
-      → AllByRecursion (λ (passed : Passed). SeesOn settings v pair MayStand seen passed.machine) (map (passed_at settings v) over)
+  told_each : (over : List PassedReplica) → AllByRecursion (λ p. p.replica < settings.replicas) over → MayHave (seen.places v pair) over
+      → AllByRecursion (λ (passed : Passed). SeesOn settings v pair (StandsFor passed.cause) seen passed.machine) (map (passed_at settings v) over)
   told_each [] below all = tt
-  told_each (p ∷ over) below all = (sees_on MayStand p.replica (machine_of settings v p.replica) below.0 refl all.0, told_each over below.1 all.1)
+  told_each (p ∷ over) below all = (sees_on (StandsFor p.cause) p.replica (machine_of settings v p.replica) below.0 refl all.0, told_each over below.1 all.1)
 
   -- each that was passed over, by its machine
-  pub told_over : (start : ℕ) (over : List PassedReplica) → ComeFirst start settings.replicas over → AllByRecursion (λ p. MayStand (seen.places v pair p.replica)) over
-      → AllByRecursion (λ (passed : Passed). SeesOn settings v pair MayStand seen passed.machine) (map (passed_at settings v) over)
+  pub told_over : (start : ℕ) (over : List PassedReplica) → ComeFirst start settings.replicas over → MayHave (seen.places v pair) over
+      → AllByRecursion (λ (passed : Passed). SeesOn settings v pair (StandsFor passed.cause) seen passed.machine) (map (passed_at settings v) over)
   told_over start over order all =
       told_each over (all_tried (λ j. j < settings.replicas) (λ i. (start + i) % settings.replicas) (length over) 0 (λ i low high. let some = built.some_replicas in mod-lt (start + i) (omega (arith, some))) over order) all

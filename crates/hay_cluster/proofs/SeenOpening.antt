@@ -1,5 +1,5 @@
 -- What is seen of a store in memory: laws of openings and restarts.
-use Rattle.std.proofs.Common.{◌≡◌, ℕ, suc, ◌+◌, List, [], ◌∷◌, ◌++◌, map, Option, refl, ap, sym, subst, ◌∙◌, arith}
+use Rattle.std.proofs.Common.{◌≡◌, ℕ, zero, suc, ◌+◌, List, [], ◌∷◌, ◌++◌, map, Option, refl, ap, sym, subst, ◌∙◌, arith}
 use Rattle.std.proofs.lemmas.List.{length-map}
 use Rattle.std.specs.List.{AllByRecursion, AllZip}
 use Rattle.hay_needle.specs.declared.settings.Settings.{Settings}
@@ -15,15 +15,15 @@ use Rattle.hay_directory.specs.Seen as directory
 use Rattle.hay_logical.specs.declared.unsure.Unsure.{Unsure}
 use Rattle.hay_logical.specs.Fits.{At}
 use Rattle.hay_logical.specs.Notes.{NotesTell}
-use Rattle.hay_logical.specs.Seen.{replica_seen, volume_seen}
+use Rattle.hay_logical.specs.Seen.{VolumeSeen, replica_seen, volume_seen}
 use Rattle.hay_logical.specs.Volumes.{Volume}
 use Rattle.hay_logical.specs.Sights.{Sights, sights_of}
 use Rattle.hay_cluster.specs.Opening.{Gathers, OpensParts, OpensVolume, StopsVolume}
-use Rattle.hay_cluster.specs.Seen.{OpensSeen, OpensVolumeSeen, TellsSeen, TellsVolumes, places_of, store_seen}
+use Rattle.hay_cluster.specs.Seen.{OpensSeen, OpensVolumeSeen, TellsSeen, TellsVolumes, VolumeLies, places_of, store_seen}
 use Rattle.hay_cluster.specs.Store.{IsShaped, IsVolumeOf, Open}
 use Rattle.hay_cluster.proofs.OpeningStore.{StoppedParts}
 use Rattle.hay_cluster.proofs.Showing.{all_append}
-use Rattle.hay_cluster.proofs.Sighting.{photos_at}
+use Rattle.hay_cluster.proofs.Sighting.{at_mapped, photos_at}
 
 -- OPENINGS
 
@@ -36,6 +36,17 @@ module _ {D P : Type 0} (DiskTells : Type 0) (files : D → Files) (Tells : Type
   opened_each settings v (y ∷ ys) (z ∷ zs) notes order opens =
       ((opens.first.seen, length-map z.replicas replica_seen ∙ (order.0).all ∙ ap (λ (s : Settings). s.replicas) (order.0).settings_are), opened_each settings (v + 1) ys zs opens.behind order.1 opens.rest)
 
+  lie_each : (ys zs : List (Volume D P)) (notes : List Note) → Gathers (OpensVolume DiskTells files Tells faults fuses) ys zs notes
+      → (v : ℕ) (z : Volume D P) → At zs v z → VolumeLies (sights_of z.rows) (volume_seen z)
+  lie_each [] [] notes opens v z at = absurd cc
+  lie_each [] (x ∷ zs) notes opens v z at = absurd opens
+  lie_each (y ∷ ys) [] notes opens v z at = absurd opens
+  lie_each (y ∷ ys) (x ∷ zs) notes opens zero z at =
+      let same : x ≡ z = cc in
+      subst (λ (w : Volume D P). VolumeLies (sights_of w.rows) (volume_seen w)) same
+      (record { from = λ j r there. let low = (((opens.first).seen).fresh j r there).from in omega (arith, low); within = (opens.first).lie })
+  lie_each (y ∷ ys) (x ∷ zs) notes opens (suc v) z at = lie_each ys zs opens.behind opens.rest v z at
+
 module _ {D P A : Type 0} (DiskTells : Type 0) (files : D → Files) (Tells : Type 0) (faults fuses : D → ℕ) where
   -- what is seen behind an opening
   pub opens_seen : (settings : Settings) (old new : Open D P A) (notes : List Note) → old.settings ≡ settings → new.settings ≡ settings → IsShaped old → IsShaped new
@@ -46,6 +57,12 @@ module _ {D P A : Type 0} (DiskTells : Type 0) (files : D → Files) (Tells : Ty
         many = length-map new.volumes volume_seen ∙ shape'.many ∙ ap (λ (s : Settings). s.volumes) same;
         volumes = subst (λ (s : Settings). AllByRecursion (OpensVolumeSeen s) (map volume_seen new.volumes)) same
             (opened_each DiskTells files Tells faults fuses new.settings 0 old.volumes new.volumes opens.of_volumes shape'.volumes opens.volumes);
+        lie = λ v volume at.
+            let there = at_mapped volume_seen new.volumes v volume at in
+            let places : Sights = sights_of (there.0).rows in
+            let lies : VolumeLies places (volume_seen there.0) = lie_each DiskTells files Tells faults fuses old.volumes new.volumes opens.of_volumes opens.volumes v there.0 there.1 in
+            subst (λ (w : VolumeSeen). VolumeLies (places_of new.volumes v) w) (sym there.2)
+            (subst (λ (found : Sights). VolumeLies found (volume_seen there.0)) (sym (photos_at new new refl v there.0 there.1)) lies);
         rows = seen.0;
         within = subst (λ (s : Settings). RowsWithin s.volumes seen.0) (shape'.directory ∙ same) seen.1;
         directory = subst (λ (s : Settings). directory.OpenSeen s.machines seen.0 (directory_seen new.directory)) (shape.directory ∙ was) seen.2;

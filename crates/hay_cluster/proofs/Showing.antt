@@ -58,13 +58,12 @@ use Rattle.hay_reader.specs.declared.trial.Shown.TheVariants as shown
 use Rattle.hay_reader.proofs.Outcomes.{passed_for_arm, stops_unseen}
 use Rattle.hay_reader.proofs.Passing.{all_weaken, first_more, no_shorter}
 use Rattle.hay_cluster.specs.Causes.{Counts, RoseIn}
-use Rattle.hay_cluster.specs.Passing.{IsSureArm}
+use Rattle.hay_cluster.specs.Passing.{IsSureArm, StandsFor}
 use Rattle.hay_cluster.specs.Reads.{FoundPasses, FoundSays, IsFoundAs, IsPassedFor, IsSeenAt, IsSeenByAt, IsSightCause, IsSightFault, IsWhole, MayHave, NeverIn, PassesFrom, PassesTo, ReadPasses, ReadSays, StopsUnseen, counts_of, outcomes_of, passed_at}
 use Rattle.hay_cluster.specs.declared.reading.Found.{Found}
 use Rattle.hay_cluster.specs.declared.reading.Found.TheVariants as found
 use Rattle.hay_cluster.specs.Parts.{Comes}
 use Rattle.hay_cluster.specs.State.{Stands}
-use Rattle.hay_cluster.specs.Sights.{MayStand}
 use Rattle.hay_logical.specs.Sights.{Sight, sight}
 use Rattle.hay_cluster.specs.Store.{IsBuilt, IsShaped, Open, disks_of}
 use Rattle.hay_cluster.specs.Suiting.{ShowsOf}
@@ -429,8 +428,10 @@ mean_at R (x ∷ xs) (y ∷ ys) zero none all = (y, all.0)
 mean_at R (x ∷ xs) (y ∷ ys) (suc j) none all = mean_at R xs ys j none all.1
 
 -- a replica that is passed over may have the photo
-gives_cause : {P : Type 0} (Tells : Type 0) (sure : Bool) (cookie : Cookie) (put : List ℕ) (there : Place P) (cause : Cause) → PlaceGives Tells sure cookie put there (Err cause) → MayStand (sight there)
-gives_cause Tells sure cookie put (place.Live needle) cause gives = tt
+gives_cause : {P : Type 0} (Tells : Type 0) (sure : Bool) (cookie : Cookie) (put : List ℕ) (there : Place P) (cause : Cause) → PlaceGives Tells sure cookie put there (Err cause) → StandsFor cause (sight there)
+gives_cause Tells sure cookie put (place.Live needle) (Arm f) gives = tt
+gives_cause Tells sure cookie put (place.Live needle) (Disk f) gives = tt
+gives_cause Tells sure cookie put (place.Live needle) (Damage at) gives = gives.0
 gives_cause Tells sure cookie put place.None cause gives = absurd cc
 gives_cause Tells sure cookie put place.Gone cause gives = absurd cc
 gives_cause Tells sure cookie put (place.Unseen at size) cause gives = absurd cc
@@ -458,9 +459,9 @@ module _ {P : Type 0} (W : Cause → Type 0) (Tells : Type 0) (sure : Bool) (set
       let fresh : List PassedReplica = passed_now passed causes in
       let parts : causes ≡ passed ++ fresh = sym (take-append-drop (length passed) causes) ∙ ap (λ (xs : List PassedReplica). xs ++ fresh) (h.passes).begins in
       subst (λ (xs : List PassedReplica). MayHave seen xs) (sym parts)
-      (all_append (λ over. MayStand (seen over.replica)) passed fresh stood
-      (all_weaken (λ over. PlaceGives Tells sure cookie [] (place_in row over.replica) (Err over.cause)) (λ over. MayStand (seen over.replica))
-      (λ over gives. subst MayStand (same over.replica) (gives_cause Tells sure cookie [] (place_in row over.replica) over.cause gives)) fresh h.places))
+      (all_append (λ over. StandsFor over.cause (seen over.replica)) passed fresh stood
+      (all_weaken (λ over. PlaceGives Tells sure cookie [] (place_in row over.replica) (Err over.cause)) (λ over. StandsFor over.cause (seen over.replica))
+      (λ over gives. subst (StandsFor over.cause) (same over.replica) (gives_cause Tells sure cookie [] (place_in row over.replica) over.cause gives)) fresh h.places))
 
   row_to : (causes : List PassedReplica) (put : List ℕ) (j : ℕ) (what : Shown) → ShowsPlace Tells TheArm start row cookie passed causes put j what
       → PassesTo W settings lane v start before after seen passed causes j

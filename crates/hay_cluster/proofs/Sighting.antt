@@ -23,14 +23,15 @@ use Rattle.hay_logical.specs.Steps.{KeepsRuns}
 use Rattle.hay_physical.specs.Copies.{Copy}
 use Rattle.hay_logical.specs.Volumes.{Volume}
 use Rattle.hay_logical.proofs.Lists.{at_set_other}
-use Rattle.hay_logical.specs.Sights.{DeleteRefusedSights, FindsPhoto, KeepsSights, Looks, LooksAtPair, LooksInVain, Sight, Sights, StoresSights, sights_of}
+use Rattle.hay_logical.specs.Sights.{AwaitsLook, BecomesSeen, DeleteRefusedSights, FindsPhoto, KeepsSights, Looks, LooksAtPair, LooksInVain, Sight, Sights, StoresSights, sights_of}
+use Rattle.hay_logical.specs.Sights.Sight.{Gone, Live, Never, Unseen}
 use Rattle.hay_cluster.specs.declared.maintenance.Maintenance.{Maintenance}
 use Rattle.hay_cluster.specs.declared.maintenance.Maintenance.TheVariants.{Flush, Begin, Step, Finish, Compact}
 use Rattle.hay_cluster.specs.Causes.{EndsByFaults}
 use Rattle.hay_cluster.specs.Changes.{IsDeleteReply, IsReadOnly}
 use Rattle.hay_cluster.specs.Maintenance.{IsRefusedAs, done_as}
 use Rattle.hay_cluster.specs.Puts.{IsPutReply, IsRefusal, settle_reply}
-use Rattle.hay_cluster.specs.Seen.{AnswersDrain, StoreSeen, home_seen, no_sights, places_of, store_seen}
+use Rattle.hay_cluster.specs.Seen.{AnswersDrain, StoreSeen, VolumeAt, home_seen, no_sights, places_of, store_seen}
 use Rattle.hay_cluster.specs.Sights.{ChangesPhotos, DeleteSights, DoneSights, KeepsPhotos, LooksAtHome, PutSights, WorkSights, told_by}
 use Rattle.hay_cluster.specs.Sights.{Told}
 use Rattle.hay_cluster.specs.Sights.Told.{Absent, Damaged, Deleted, Failed, Missing, Nothing, Shown, Stored, Swapped, Unreadable, Wanting}
@@ -53,10 +54,17 @@ kept_looks pair old new kept = record { each = λ j. inl (kept pair j); others =
 
 looks_on : (a b c : Sight) → Looks a b → Looks b c → Looks a c
 looks_on a b c (inl same) (inl again) = inl (again ∙ same)
-looks_on a b c (inl same) (inr (unseen, shown)) = inr (sym same ∙ unseen, shown)
-looks_on a b c (inr (unseen, inl live)) (inl again) = inr (unseen, inl (again ∙ live))
-looks_on a b c (inr (unseen, inr gone)) (inl again) = inr (unseen, inr (again ∙ gone))
-looks_on a b c (inr (unseen, live)) (inr (again, shown)) = inr (unseen, shown)
+looks_on a b c (inl same) (inr shown) = inr (subst (λ x. BecomesSeen x c) same shown)
+looks_on a b c (inr shown) (inl again) = inr (subst (λ x. BecomesSeen a x) (sym again) shown)
+looks_on a b c (inr shown) (inr again) = absurd (seen_once a b c shown again)
+  where
+    -- what was looked at awaits no look
+    seen_once : (a b c : Sight) → BecomesSeen a b → BecomesSeen b c → ⊥
+    seen_once Never b c shown again = shown
+    seen_once (Live at) b c shown again = shown
+    seen_once Gone b c shown again = shown
+    seen_once (Unseen at size) b c (inl live) again = subst (λ x. BecomesSeen x c) live again
+    seen_once (Unseen at size) b c (inr gone) again = subst (λ x. BecomesSeen x c) gone again
 
 pub looks_at_on : (pair : Pair) (old mid new : Sights) → LooksAtPair pair old mid → LooksAtPair pair mid new → LooksAtPair pair old new
 looks_at_on pair old mid new first second = record {
@@ -146,7 +154,7 @@ module _ {D P A : Type 0} (old store : Open D P A) (is : store ≡ old) where
 
 -- COMPACTIONS THAT A DELETE ENDS
 
-at_mapped : {A B : Type 0} (f : A → B) (xs : List A) (i : ℕ) (y : B) → slice_get (map f xs) i ≡ Some y → (x : A) × (slice_get xs i ≡ Some x) × (y ≡ f x)
+pub at_mapped : {A B : Type 0} (f : A → B) (xs : List A) (i : ℕ) (y : B) → slice_get (map f xs) i ≡ Some y → (x : A) × (slice_get xs i ≡ Some x) × (y ≡ f x)
 at_mapped f [] i y at = absurd cc
 at_mapped f (x ∷ xs) zero y at = let same : f x ≡ y = cc in (x, refl, sym same)
 at_mapped f (x ∷ xs) (suc i) y at = at_mapped f xs i y at
@@ -202,18 +210,19 @@ module _ (settings : Settings) (pair : Pair) (old new : StoreSeen) (kept : Keeps
   unstored_sights v (refusal.Damaged m place) said told breaks = absurd breaks
 
 -- behind a row that was added
-pub put_from : (pair : Pair) (old mid new : StoreSeen) (settings : Settings) (told : Told) → mid.places ≡ old.places → PutSights settings pair told mid new → PutSights settings pair told old new
-put_from pair old mid new settings (Stored v) same c = photos_from v old mid new (StoresSights pair settings.replicas) same c
-put_from pair old mid new settings (Failed v m) same kept = kept_from old mid new same kept
-put_from pair old mid new settings Wanting same kept = kept_from old mid new same kept
-put_from pair old mid new settings Nothing same kept = kept_from old mid new same kept
-put_from pair old mid new settings (Deleted v) same none = none
-put_from pair old mid new settings (Absent v) same none = none
-put_from pair old mid new settings (Damaged v m) same none = none
-put_from pair old mid new settings (Shown v m) same none = none
-put_from pair old mid new settings (Missing v m) same none = none
-put_from pair old mid new settings (Unreadable v causes) same none = none
-put_from pair old mid new settings (Swapped v m) same none = none
+pub put_from : (pair : Pair) (old mid new : StoreSeen) (settings : Settings) (told : Told) → mid.volumes ≡ old.volumes → mid.places ≡ old.places → PutSights settings pair told mid new → PutSights settings pair told old new
+put_from pair old mid new settings (Stored v) volumes same stored =
+    (stored.0, subst (λ (all : List VolumeSeen). At all v stored.0) volumes stored.1, photos_from v old mid new (StoresSights pair (stored.0).replicas) same stored.2)
+put_from pair old mid new settings (Failed v m) volumes same kept = kept_from old mid new same kept
+put_from pair old mid new settings Wanting volumes same kept = kept_from old mid new same kept
+put_from pair old mid new settings Nothing volumes same kept = kept_from old mid new same kept
+put_from pair old mid new settings (Deleted v) volumes same none = none
+put_from pair old mid new settings (Absent v) volumes same none = none
+put_from pair old mid new settings (Damaged v m at) volumes same none = none
+put_from pair old mid new settings (Shown v m) volumes same none = none
+put_from pair old mid new settings (Missing v m) volumes same none = none
+put_from pair old mid new settings (Unreadable v causes) volumes same none = none
+put_from pair old mid new settings (Swapped v m) volumes same none = none
 
 -- REPLIES OF DELETES
 
@@ -227,7 +236,7 @@ module _ (settings : Settings) (pair : Pair) (v : ℕ) (old new : StoreSeen) whe
     failed_sights m count c = by c.changes
       where
         by : ((volume.frozen ≡ Some m) × FindsPhoto pair settings.replicas (old.places v) (new.places v))
-            ⊎ ((volume.frozen ≡ None) × LooksInVain settings v pair m (old.places v) (new.places v)) → DeleteSights settings pair (Failed v m) old new
+            ⊎ ((volume.frozen ≡ None) × LooksInVain settings v pair m AwaitsLook (old.places v) (new.places v)) → DeleteSights settings pair (Failed v m) old new
         by (inl (frozen, finds)) = inl ((volume, at, frozen), record { changes = finds; others = c.others })
         by (inr (thawed, looks)) = inr ((volume, at, thawed), record { changes = looks; others = c.others })
 
@@ -246,11 +255,11 @@ module _ (settings : Settings) (pair : Pair) (v : ℕ) (old new : StoreSeen) whe
 -- REPLIES OF WORK
 
 module _ (settings : Settings) (v m : ℕ) (old new : StoreSeen) where
-  pub worked_sights : (work : Maintenance) (at number : ℕ) (said : Reply) → said ≡ done_as v m work number → replica_on settings v m ≡ Some at → ChangesPhotos v (DoneSights work at) old new
+  pub worked_sights : (work : Maintenance) (at number : ℕ) (said : Reply) → said ≡ done_as v m work number → replica_on settings v m ≡ Some at → VolumeAt v (λ volume. ChangesPhotos v (DoneSights work at volume) old new) new
       → WorkSights settings (told_by said) old new
-  worked_sights Flush at number said is there c = subst (λ (r : Reply). WorkSights settings (told_by r) old new) (sym is) (photos_still v old new c)
-  worked_sights Begin at number said is there c = subst (λ (r : Reply). WorkSights settings (told_by r) old new) (sym is) (photos_still v old new c)
-  worked_sights (Step cells) at number said is there c = subst (λ (r : Reply). WorkSights settings (told_by r) old new) (sym is) (photos_still v old new c)
+  worked_sights Flush at number said is there c = subst (λ (r : Reply). WorkSights settings (told_by r) old new) (sym is) (photos_still v old new c.2)
+  worked_sights Begin at number said is there c = subst (λ (r : Reply). WorkSights settings (told_by r) old new) (sym is) (photos_still v old new c.2)
+  worked_sights (Step cells) at number said is there c = subst (λ (r : Reply). WorkSights settings (told_by r) old new) (sym is) (photos_still v old new c.2)
   worked_sights Finish at number said is there c = subst (λ (r : Reply). WorkSights settings (told_by r) old new) (sym is) (at, there, c)
   worked_sights Compact at number said is there c = subst (λ (r : Reply). WorkSights settings (told_by r) old new) (sym is) (at, there, c)
 

@@ -4,6 +4,7 @@ pub mod Faults
 pub mod Lacks
 pub mod Leaving
 pub mod Maintenance
+pub mod Needles
 pub mod Opening
 pub mod Outside
 pub mod Parts

@@ -25,7 +25,7 @@ use Rattle.hay_logical.specs.Answers.{IsReopened}
 use Rattle.hay_logical.specs.Fits.{At}
 use Rattle.hay_logical.specs.Notes.{NotesTell}
 use Rattle.hay_logical.specs.Seen.{OpenSeen, volume_seen}
-use Rattle.hay_logical.specs.Sights.{sights_of}
+use Rattle.hay_logical.specs.Sights.{LiesWithinEach, sights_of}
 use Rattle.hay_logical.specs.Stands.{IsFirst, IsIdleVolume, Stopped}
 use Rattle.hay_logical.specs.Stands as logical
 use Rattle.hay_logical.specs.Steps.{IsRefusedAt, KeepsDisk}
@@ -84,6 +84,7 @@ pub record OpensVolume {D P : Type 0} (DiskTells : Type 0) (files : D → Files)
   pub told : NotesTell old.settings old.number old.unsure (sights_of new.rows) (volume_seen new).replicas notes
   pub fits : AllByRecursion FitsNote notes
   pub seen : OpenSeen (volume_seen new)
+  pub lie : LiesWithinEach (sights_of new.rows) (volume_seen new).replicas
   pub formatted : DiskTells → (j : ℕ) (r : Copy D) → At new.replicas j r → contents_of files r.disk 0 ≡ [] → ⊥
 
 -- Volume v was not opened, by one of its disks.

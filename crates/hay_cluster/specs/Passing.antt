@@ -10,6 +10,8 @@ use Rattle.hay_reply.specs.declared.Cause.{Cause}
 use Rattle.hay_reply.specs.declared.Cause.TheVariants.{Arm, Disk, Damage}
 use Rattle.hay_reply.specs.declared.Passed.{Passed}
 use Rattle.hay_reply.specs.declared.Reply.{Reply}
+use Rattle.hay_logical.specs.Sights.{Sight}
+use Rattle.hay_logical.specs.Sights.Sight.{Gone, Live, Never, Unseen}
 use Rattle.hay_legal.specs.Known.{CameUp, EachPair, machine_of, replica_on}
 use Rattle.hay_legal.specs.Plain.{ArmRises, order_from}
 use Rattle.hay_cluster.specs.Causes.{Counts, RoseAt}
@@ -28,13 +30,22 @@ CauseCameUp settings Sure lane v before after m (Arm count) = (Sure → ⊥) × 
 CauseCameUp settings Sure lane v before after m (Disk count) = RoseAt settings v m before.disks after.disks count
 CauseCameUp settings Sure lane v before after m (Damage at) = Unit {0}
 
+-- A replica that is passed over may have the photo, by what is seen of it. Damage is told at its place.
+abbrev pub StandsFor : Cause → Sight → Type 0
+StandsFor (Arm count) seen = MayStand seen
+StandsFor (Disk count) seen = MayStand seen
+StandsFor (Damage place) Never = ⊥
+StandsFor (Damage place) (Live at) = place ≡ at
+StandsFor (Damage place) Gone = ⊥
+StandsFor (Damage place) (Unseen at size) = place ≡ at
+
 -- These replicas of volume v were passed over, in this order and each for its cause. Of two failures of the arm the later one has the
--- greater count. Each may have the photo, for all that is seen behind the read.
+-- greater count. Each may have the photo, for all that is seen behind the read, and damage is told where it is seen to stand.
 pub record PassesOver (settings : Settings) (Sure : Type 0) (lane v : ℕ) (pair : Pair) (before after : Counts) (seen : StoreSeen) (replicas : List ℕ) (causes : List Passed) : Type 0 where
   pub order : map (λ passed. passed.machine) causes ≡ map (machine_of settings v) replicas
   pub each : AllByRecursion (λ passed. CauseCameUp settings Sure lane v before after passed.machine passed.cause) causes
   pub rises : EachPair (λ a b. ArmRises a.cause b.cause) causes
-  pub stood : AllByRecursion (λ passed. SeesOn settings v pair MayStand seen passed.machine) causes
+  pub stood : AllByRecursion (λ passed. SeesOn settings v pair (StandsFor passed.cause) seen passed.machine) causes
 
 -- So was each that is tried before the one on this machine, by who starts at replica `start`.
 pub record TriesTo (settings : Settings) (Sure : Type 0) (lane start v m : ℕ) (pair : Pair) (before after : Counts) (seen : StoreSeen) : Type 0 where
@@ -56,7 +67,7 @@ TriesBefore settings Sure lane start pair before after seen (Stored v) = Unit {0
 TriesBefore settings Sure lane start pair before after seen (Deleted v) = Unit {0}
 TriesBefore settings Sure lane start pair before after seen (Absent v) = Unit {0}
 TriesBefore settings Sure lane start pair before after seen (Failed v m) = Unit {0}
-TriesBefore settings Sure lane start pair before after seen (Damaged v m) = Unit {0}
+TriesBefore settings Sure lane start pair before after seen (Damaged v m at) = Unit {0}
 TriesBefore settings Sure lane start pair before after seen (Swapped v m) = Unit {0}
 TriesBefore settings Sure lane start pair before after seen Wanting = Unit {0}
 TriesBefore settings Sure lane start pair before after seen Nothing = Unit {0}

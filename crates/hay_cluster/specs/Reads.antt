@@ -33,10 +33,9 @@ use Rattle.hay_reader.specs.declared.seat.ReadReply.TheVariants as read
 use Rattle.hay_cluster.specs.declared.reading.Found.{Found}
 use Rattle.hay_cluster.specs.declared.reading.Found.TheVariants as found
 use Rattle.hay_cluster.specs.Causes.{Counts, RoseIn}
-use Rattle.hay_cluster.specs.Passing.{IsSureArm}
-use Rattle.hay_logical.specs.Sights.{Sight}
-use Rattle.hay_logical.specs.Sights.Sight.{Live, Unseen}
-use Rattle.hay_cluster.specs.Sights.{IsAbsent, MayStand}
+use Rattle.hay_cluster.specs.Passing.{IsSureArm, StandsFor}
+use Rattle.hay_logical.specs.Sights.{AwaitsLook, AwaitsLookAt, IsLiveSight, Sight}
+use Rattle.hay_cluster.specs.Sights.{IsAbsent}
 use Rattle.hay_cluster.specs.State.{Stands}
 use Rattle.hay_cluster.specs.Store.{Open, disks_of}
 
@@ -82,7 +81,7 @@ pub record PassesFrom (Never : Cause → Type 0) (settings : Settings) (lane v s
 
 -- each replica that was passed over may have the photo of a pair that is seen so
 abbrev pub MayHave : (ℕ → Sight) → List PassedReplica → Type 0
-MayHave seen causes = AllByRecursion (λ over. MayStand (seen over.replica)) causes
+MayHave seen causes = AllByRecursion (λ over. StandsFor over.cause (seen over.replica)) causes
 
 -- Those that come before this replica were passed over, and no others.
 pub record PassesTo (Never : Cause → Type 0) (settings : Settings) (lane v start : ℕ) (before after : Counts) (seen : ℕ → Sight) (passed causes : List PassedReplica) (j : ℕ) : Type 0 where
@@ -160,6 +159,18 @@ IsSightFault slot before after (fault.Busy m generation) = ⊥
 IsSightFault slot before after (fault.Worn m) = ⊥
 IsSightFault slot before after fault.Idle = ⊥
 
+-- it was not looked at yet, and damage is told there
+abbrev pub AwaitsFor : LogicalFault → Sight → Type 0
+AwaitsFor (fault.Failed m count) seen = AwaitsLook seen
+AwaitsFor (fault.Damaged m at) seen = AwaitsLookAt at seen
+AwaitsFor fault.NoMemory seen = AwaitsLook seen
+AwaitsFor (fault.ReadOnly m) seen = ⊥
+AwaitsFor (fault.Full m end need capacity) seen = ⊥
+AwaitsFor (fault.Gone front) seen = ⊥
+AwaitsFor (fault.Busy m generation) seen = ⊥
+AwaitsFor (fault.Worn m) seen = ⊥
+AwaitsFor fault.Idle seen = ⊥
+
 -- the cause that is told of it
 abbrev pub IsSightCause : LogicalFault → Cause → Type 0
 IsSightCause (fault.Failed m count) cause = cause ≡ Disk count
@@ -174,16 +185,16 @@ IsSightCause fault.Idle cause = ⊥
 
 -- what a read found of a pair that is seen so on each replica
 abbrev pub ReadSees : (ℕ → Sight) → ReadReply → Type 0
-ReadSees seen (read.Photo j) = seen j ≡ Live
+ReadSees seen (read.Photo j) = IsLiveSight (seen j)
 ReadSees seen (read.Gone j) = IsAbsent (seen j)
-ReadSees seen (read.WrongCookie j) = seen j ≡ Live
-ReadSees seen (read.Unseen j causes) = seen j ≡ Unseen
+ReadSees seen (read.WrongCookie j) = IsLiveSight (seen j)
+ReadSees seen (read.Unseen j causes) = AwaitsLook (seen j)
 ReadSees seen (read.Unreadable causes) = Unit {0}
 
 abbrev pub FoundSees : (ℕ → Sight) → Found → Type 0
-FoundSees seen (found.Photo j) = seen j ≡ Live
+FoundSees seen (found.Photo j) = IsLiveSight (seen j)
 FoundSees seen (found.Gone j) = IsAbsent (seen j)
-FoundSees seen (found.WrongCookie j) = seen j ≡ Live
+FoundSees seen (found.WrongCookie j) = IsLiveSight (seen j)
 FoundSees seen (found.Unreadable causes) = Unit {0}
 FoundSees seen found.NoMemory = Unit {0}
 

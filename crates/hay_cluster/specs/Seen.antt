@@ -1,5 +1,5 @@
 -- What is seen of a store in memory, whatever its disks tell: how each command is answered by it, and how it changes that.
-use Rattle.std.specs.Prelude.{◌≡◌, ◌⊎◌, ◌<◌, ◌+◌, ℕ, Bool, true, false, List, ◌∷◌, ◌++◌, [], length, map, slice_get, slice_index_or, slice_set, Option, None, Some}
+use Rattle.std.specs.Prelude.{◌≡◌, ◌⊎◌, ◌<◌, ◌≤◌, ◌+◌, ℕ, Bool, true, false, List, ◌∷◌, ◌++◌, [], length, map, slice_get, slice_index_or, slice_set, Option, None, Some}
 use Rattle.std.specs.List.{AllByRecursion, AllZip}
 use Rattle.std.specs.Option.{option_map_or}
 use Rattle.hay_needle.specs.declared.needle.Cookie.{Cookie}
@@ -25,8 +25,8 @@ use Rattle.hay_logical.specs.declared.fault.LogicalFault.{LogicalFault}
 use Rattle.hay_logical.specs.declared.unsure.Change.TheVariants.{Delete}
 use Rattle.hay_logical.specs.Fits.{At}
 use Rattle.hay_logical.specs.Notes.{NotesTell}
-use Rattle.hay_logical.specs.Seen.{BeginRefusedSeen, BeginSeen, BreaksPutSeen, CompactRefusedSeen, CompactSeen, FinishRefusedSeen, FinishSeen, FlushRefusedSeen, FlushSeen, FreezesSeen, FullSeen, HideSeen, OpenSeen, RoomSeen, StepRefusedSeen, StepSeen, PutSeen, VolumeSeen, volume_seen}
-use Rattle.hay_logical.specs.Sights.{Sights, sights_of}
+use Rattle.hay_logical.specs.Seen.{BeginRefusedSeen, BeginSeen, BreaksPutSeen, CompactRefusedSeen, CompactSeen, FinishRefusedSeen, FinishSeen, FlushRefusedSeen, FlushSeen, FreezesSeen, FullSeen, HideSeen, OpenSeen, RoomSeen, StepRefusedSeen, StepSeen, PutSeen, ReplicaSeen, VolumeSeen, volume_seen}
+use Rattle.hay_logical.specs.Sights.{LiesWithinEach, Sights, sights_of}
 use Rattle.hay_logical.specs.Sights.Sight.{Never}
 use Rattle.hay_logical.specs.Volumes.{Volume}
 use Rattle.hay_cluster.specs.declared.maintenance.Maintenance.{Maintenance}
@@ -340,10 +340,20 @@ Answers settings tag (asks.Restart pick) said old new = ⊥
 abbrev pub OpensVolumeSeen : Settings → VolumeSeen → Type 0
 OpensVolumeSeen settings volume = OpenSeen volume × (length volume.replicas ≡ settings.replicas)
 
+-- The cells of each replica end behind the superblock, and each place of a photo that is seen lies within them.
+pub record VolumeLies (sights : Sights) (volume : VolumeSeen) : Type 0 where
+  pub from : (j : ℕ) (r : ReplicaSeen) → At volume.replicas j r → 64 ≤ r.end
+  pub within : LiesWithinEach sights volume.replicas
+
+-- so it is of each volume
+abbrev pub PlacesLie : StoreSeen → Type 0
+PlacesLie seen = (v : ℕ) (volume : VolumeSeen) → At seen.volumes v volume → VolumeLies (seen.places v) volume
+
 -- Nothing is pending or closed, no compaction stands, and no volume was changed yet. Each row is of a volume that there is.
 pub record OpensSeen (settings : Settings) (seen : StoreSeen) : Type 0 where
   pub many : length seen.volumes ≡ settings.volumes
   pub volumes : AllByRecursion (OpensVolumeSeen settings) seen.volumes
+  pub lie : PlacesLie seen
   pub rows : List HomeRow
   pub within : RowsWithin settings.volumes rows
   pub directory : directory.OpenSeen settings.machines rows seen.directory

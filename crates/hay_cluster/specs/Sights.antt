@@ -8,7 +8,8 @@ use Rattle.hay_reply.specs.declared.Passed.{Passed}
 use Rattle.hay_reply.specs.declared.Reply.{Reply}
 use Rattle.hay_reply.specs.declared.Reply.TheVariants as reply
 use Rattle.hay_legal.specs.Known.{replica_on}
-use Rattle.hay_logical.specs.Sights.{DeletesSights, FindsNone, FindsPhoto, KeepsSights, LooksAtPair, LooksInVain, Sight, Sights, StoresSights, SwapsSights}
+use Rattle.hay_logical.specs.Seen.{VolumeSeen}
+use Rattle.hay_logical.specs.Sights.{AwaitsLook, AwaitsLookAt, DeletesSights, FindsNone, FindsPhoto, IsLiveSight, KeepsSights, LooksAtPair, LooksInVain, Sight, Sights, StoresSights, SwapsSights}
 use Rattle.hay_logical.specs.Sights.Sight.{Gone, Live, Never, Unseen}
 use Rattle.hay_cluster.specs.declared.maintenance.Maintenance.{Maintenance}
 use Rattle.hay_cluster.specs.declared.maintenance.Maintenance.TheVariants as work
@@ -31,16 +32,16 @@ LooksAtHome (Some v) pair old new = ChangesPhotos v (LooksAtPair pair) old new
 -- no photo is there
 abbrev pub IsAbsent : Sight → Type 0
 IsAbsent Never = Unit {0}
-IsAbsent Live = ⊥
+IsAbsent (Live at) = ⊥
 IsAbsent Gone = Unit {0}
-IsAbsent Unseen = ⊥
+IsAbsent (Unseen at size) = ⊥
 
 -- one is there, for all that was seen
 abbrev pub MayStand : Sight → Type 0
 MayStand Never = ⊥
-MayStand Live = Unit {0}
+MayStand (Live at) = Unit {0}
 MayStand Gone = ⊥
-MayStand Unseen = Unit {0}
+MayStand (Unseen at size) = Unit {0}
 
 -- a pair is seen so on the volume's replica on this machine
 abbrev pub SeesOn : Settings → ℕ → Pair → (Sight → Type 0) → StoreSeen → ℕ → Type 0
@@ -48,13 +49,13 @@ SeesOn settings v pair Is seen m = (j : ℕ) × (replica_on settings v m ≡ Som
 
 -- WHAT A REPLY TELLS OF A PHOTO
 
--- in which volume, and on which machine's replica
+-- in which volume, and on which machine's replica, and where damage is
 pub data Told : Type 0 where
   Stored : ℕ → Told
   Deleted : ℕ → Told
   Absent : ℕ → Told
   Failed : ℕ → ℕ → Told
-  Damaged : ℕ → ℕ → Told
+  Damaged : ℕ → ℕ → ℕ → Told
   Shown : ℕ → ℕ → Told
   Missing : ℕ → ℕ → Told
   Unreadable : ℕ → List Passed → Told
@@ -67,7 +68,7 @@ told_by (reply.Stored v p d c) = Stored v
 told_by (reply.Deleted v p d) = Deleted v
 told_by (reply.Absent v f d) = Absent v
 told_by (reply.Failed v m n) = Failed v m
-told_by (reply.Damaged v m at) = Damaged v m
+told_by (reply.Damaged v m at) = Damaged v m at
 told_by (reply.Photo v m f d photo) = Shown v m
 told_by (reply.WrongCookie v m f d) = Shown v m
 told_by (reply.Gone v m f d) = Missing v m
@@ -96,15 +97,15 @@ told_by (reply.Restarted d) = Nothing
 told_by reply.BadLine = Nothing
 told_by reply.Unbuilt = Nothing
 
--- A put that stored its photo has it on each replica. Another changes nothing that is seen.
+-- A put that stored its photo has it on each replica, where its cells ended before. Another changes nothing that is seen.
 abbrev pub PutSights : Settings → Pair → Told → StoreSeen → StoreSeen → Type 0
-PutSights settings pair (Stored v) old new = ChangesPhotos v (StoresSights pair settings.replicas) old new
+PutSights settings pair (Stored v) old new = VolumeAt v (λ volume. ChangesPhotos v (StoresSights pair volume.replicas) old new) old
 PutSights settings pair (Failed v m) old new = KeepsPhotos old new
 PutSights settings pair Wanting old new = KeepsPhotos old new
 PutSights settings pair Nothing old new = KeepsPhotos old new
 PutSights settings pair (Deleted v) old new = ⊥
 PutSights settings pair (Absent v) old new = ⊥
-PutSights settings pair (Damaged v m) old new = ⊥
+PutSights settings pair (Damaged v m at) old new = ⊥
 PutSights settings pair (Shown v m) old new = ⊥
 PutSights settings pair (Missing v m) old new = ⊥
 PutSights settings pair (Unreadable v causes) old new = ⊥
@@ -116,8 +117,8 @@ DeleteSights settings pair (Deleted v) old new = ChangesPhotos v (DeletesSights 
 DeleteSights settings pair (Absent v) old new = ChangesPhotos v (FindsNone pair settings.replicas) old new
 DeleteSights settings pair (Failed v m) old new =
     (VolumeAt v (λ volume. volume.frozen ≡ Some m) new × ChangesPhotos v (FindsPhoto pair settings.replicas) old new)
-    ⊎ (VolumeAt v (λ volume. volume.frozen ≡ None) new × ChangesPhotos v (LooksInVain settings v pair m) old new)
-DeleteSights settings pair (Damaged v m) old new = ChangesPhotos v (LooksInVain settings v pair m) old new
+    ⊎ (VolumeAt v (λ volume. volume.frozen ≡ None) new × ChangesPhotos v (LooksInVain settings v pair m AwaitsLook) old new)
+DeleteSights settings pair (Damaged v m at) old new = ChangesPhotos v (LooksInVain settings v pair m (AwaitsLookAt at)) old new
 DeleteSights settings pair Wanting old new = LooksAtHome (home_seen old pair) pair old new
 DeleteSights settings pair Nothing old new = KeepsPhotos old new
 DeleteSights settings pair (Stored v) old new = ⊥
@@ -128,7 +129,7 @@ DeleteSights settings pair (Swapped v m) old new = ⊥
 
 -- A read looks at replicas of its pair, and shows what it then sees of one of them.
 abbrev pub ReadSights : Settings → Pair → Told → StoreSeen → StoreSeen → Type 0
-ReadSights settings pair (Shown v m) old new = ChangesPhotos v (LooksAtPair pair) old new × SeesOn settings v pair (λ seen. seen ≡ Live) new m
+ReadSights settings pair (Shown v m) old new = ChangesPhotos v (LooksAtPair pair) old new × SeesOn settings v pair IsLiveSight new m
 ReadSights settings pair (Missing v m) old new = ChangesPhotos v (LooksAtPair pair) old new × SeesOn settings v pair IsAbsent new m
 ReadSights settings pair (Unreadable v causes) old new = ChangesPhotos v (LooksAtPair pair) old new
 ReadSights settings pair Wanting old new = LooksAtHome (home_seen old pair) pair old new
@@ -137,22 +138,22 @@ ReadSights settings pair (Stored v) old new = ⊥
 ReadSights settings pair (Deleted v) old new = ⊥
 ReadSights settings pair (Absent v) old new = ⊥
 ReadSights settings pair (Failed v m) old new = ⊥
-ReadSights settings pair (Damaged v m) old new = ⊥
+ReadSights settings pair (Damaged v m at) old new = ⊥
 ReadSights settings pair (Swapped v m) old new = ⊥
 
--- what work on a replica changes that was done
-abbrev pub DoneSights : Maintenance → ℕ → Sights → Sights → Type 0
-DoneSights work.Flush at old new = KeepsSights old new
-DoneSights work.Begin at old new = KeepsSights old new
-DoneSights (work.Step cells) at old new = KeepsSights old new
-DoneSights work.Finish at old new = SwapsSights at old new
-DoneSights work.Compact at old new = SwapsSights at old new
+-- what work on a replica changes that was done, by what is seen of the volume behind it
+abbrev pub DoneSights : Maintenance → ℕ → VolumeSeen → Sights → Sights → Type 0
+DoneSights work.Flush at volume old new = KeepsSights old new
+DoneSights work.Begin at volume old new = KeepsSights old new
+DoneSights (work.Step cells) at volume old new = KeepsSights old new
+DoneSights work.Finish at volume old new = SwapsSights at volume.replicas old new
+DoneSights work.Compact at volume old new = SwapsSights at volume.replicas old new
 
 -- Of work on replicas the end of a compaction alone changes what is seen.
 abbrev pub WorkSights : Settings → Told → StoreSeen → StoreSeen → Type 0
-WorkSights settings (Swapped v m) old new = (at : ℕ) × (replica_on settings v m ≡ Some at) × ChangesPhotos v (SwapsSights at) old new
+WorkSights settings (Swapped v m) old new = (at : ℕ) × (replica_on settings v m ≡ Some at) × VolumeAt v (λ volume. ChangesPhotos v (SwapsSights at volume.replicas) old new) new
 WorkSights settings (Failed v m) old new = KeepsPhotos old new
-WorkSights settings (Damaged v m) old new = KeepsPhotos old new
+WorkSights settings (Damaged v m at) old new = KeepsPhotos old new
 WorkSights settings Wanting old new = KeepsPhotos old new
 WorkSights settings Nothing old new = KeepsPhotos old new
 WorkSights settings (Stored v) old new = ⊥

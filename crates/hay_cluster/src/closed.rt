@@ -1,5 +1,5 @@
 //! Where pairs and replicas are, and which volumes take a photo.
-ghost use Rattle.std.specs.Prelude.{◌≡◌, ◌<◌, ℕ, None, Some, map, find, slice_index_or, false, IfNone, IfSome, is_some};
+ghost use Rattle.std.specs.Prelude.{◌≡◌, ◌<◌, None, Some, map, find, slice_index_or, false, IfNone, IfSome};
 ghost use Rattle.hay_legal.specs.declared.known.Known.{Known};
 ghost use Rattle.hay_legal.specs.Known as known;
 ghost use Rattle.hay_reply.specs.Fits.{FitsRefused};

@@ -1,5 +1,5 @@
 //! How a store is opened, restarted and closed.
-ghost use Rattle.std.specs.Prelude.{◌≡◌, ◌⊎◌, ◌++◌, ◌∷◌, [], ◌≤◌, ◌<◌, ◌+◌, ◌*◌, ℕ, List, None, length, map, reverse, slice_get, slice_index, Err, IfOk, OnOk, OnErr, IfErr};
+ghost use Rattle.std.specs.Prelude.{◌≡◌, ◌⊎◌, ◌++◌, [], ◌≤◌, ◌<◌, ◌+◌, ◌*◌, ℕ, List, None, length, map, reverse, slice_get, slice_index, Err, IfOk, OnOk, OnErr, IfErr};
 ghost use Rattle.std.specs.List.{AllByRecursion, AllZip};
 ghost use Rattle.std.specs.Vec.{vec_capacity};
 ghost use Rattle.hay_disk.specs.Counts.{Rose};
@@ -14,14 +14,14 @@ ghost use Rattle.hay_directory.specs.Rows.{OpensRows};
 ghost use Rattle.hay_directory.specs.State as directory;
 ghost use Rattle.hay_logical.specs.Fits.{IsReplica};
 ghost use Rattle.hay_logical.specs.Stands.{IsIdleVolume};
-ghost use Rattle.hay_logical.specs.Volumes.{IsClosed, IsOfSettings};
+ghost use Rattle.hay_logical.specs.Volumes.{IsClosed};
 ghost use Rattle.hay_cluster.specs.Causes.{HasFaultCause};
 ghost use Rattle.hay_cluster.specs.Draws.{DrawsVolume, EachDrewLittle, FlushedDrewLittle, StopsDrawing, drawn_in, looked_in, no_look, none_drawn};
 ghost use Rattle.hay_cluster.specs.Outside.{AreSoundBelow, CountsOn, FormatsVoid, IsDamagedDisk, IsKept, IsUndamaged, IsUndamagedBelow, IsVoid, KeepsContents, outside_of, read_of};
 ghost use Rattle.hay_cluster.specs.Opening.{FillsVolume, Gathers, IsResting, IsEmptyVolume, LeavesDirectory, LeavesVolume, OpensDirectory, OpensParts, OpensVolume, RefusesDirectory, RefusesParts, RefusesVolume, RefusesVolumes, StopsDirectory, StopsVolume};
 ghost use Rattle.hay_cluster.specs.Seen.{OpensSeen, TellsSeen, store_seen};
 ghost use Rattle.hay_cluster.specs.State.{LeftAt, Stands};
-ghost use Rattle.hay_cluster.specs.Store.{IsBuilt, IsShaped, IsUp, IsVolumeOf, contents_in, disks_of, volume_disks};
+ghost use Rattle.hay_cluster.specs.Store.{IsBuilt, IsShaped, IsUp, IsVolumeOf, contents_in, disks_of};
 
 use crate::cluster::Cluster;
 use crate::fault::{ClusterFault, no_directory, not_mounted, not_opened};

@@ -1,10 +1,10 @@
 //! Calls of one part of a store: of a volume, of the Directory.
 //!
 //! A volume is reached by the slice of all, which tells how much room one takes at most.
-ghost use Rattle.std.specs.Prelude.{◌≡◌, ◌≢◌, ◌⊎◌, ◌≤◌, ◌<◌, ℕ, true, false, None, length, map, Err, IfOk, IfErr, OnErr, OnOk, IsErrOf};
+ghost use Rattle.std.specs.Prelude.{◌≡◌, ◌≤◌, ◌<◌, ℕ, true, false, None, length, map, Err, IfOk, IfErr, OnErr, OnOk, IsErrOf};
 ghost use Rattle.hay_disk.specs.Counts.{IsNext};
 ghost use Rattle.hay_legal.specs.declared.known.Known.{Known};
-ghost use Rattle.hay_legal.specs.Known.{NoneFalls, fuse_count, machine_of, slot_of, volume_at, with_home};
+ghost use Rattle.hay_legal.specs.Known.{NoneFalls, fuse_count, slot_of, volume_at, with_home};
 ghost use Rattle.hay_legal.specs.Plain.{row_pending, with_drain, with_fuses};
 ghost use Rattle.hay_logical.specs.Answers.{BreaksPutOff, DeleteRefused, IsDeleted, IsPut, PutRefused};
 ghost use Rattle.hay_logical.specs.Seen.{DeleteRefusedSeen, HideSeen, PutRefusedSeen, PutSeen};
@@ -13,6 +13,7 @@ ghost use Rattle.hay_directory.specs.State as directory;
 ghost use Rattle.hay_cluster.specs.Causes.{EndsByFaults, IsDeleteCause, IsPutCause, IsReplicaCause, RoseIn, SetsFuse};
 ghost use Rattle.hay_cluster.specs.Leaving.{AddsRow, AnySlot, DeleteKeeps, IsApart, IsBeside, IsReplicaSlot, KeepsIn, LeavesIn, PutKeeps, WorkKeeps};
 ghost use Rattle.hay_cluster.specs.Maintenance.{IsDone, IsRefused};
+ghost use Rattle.hay_cluster.specs.Needles.{IsDamagedCellAt, IsDamagedLookOn};
 ghost use Rattle.hay_cluster.specs.Parts.{Comes, InVolume};
 ghost use Rattle.hay_cluster.specs.Puts.{TakesPhoto};
 ghost use Rattle.hay_cluster.specs.Seen.{Keeps, MovesDirectory, MovesVolume, WorkRefusedSeen, VolumeAt, WorkSeen, store_seen};
@@ -58,7 +59,7 @@ impl<D: Disk, A: Arm<D::Piece>> Cluster<D, A> {
         ensures seen { IfOk result (λ position. MovesVolume volume (PutSeen (length bytes.now) position) (store_seen self.old) (store_seen self.new)) }
         ensures refused_seen { IfErr result (λ fault. MovesVolume volume
             (λ before after. PutRefusedSeen self.old.settings volume tag (length bytes.now) before after fault) (store_seen self.old) (store_seen self.new)) }
-        ensures sights { OnOk result (ChangesPhotos volume (StoresSights pair self.old.settings.replicas) (store_seen self.old) (store_seen self.new)) }
+        ensures sights { OnOk result (VolumeAt volume (λ seen. ChangesPhotos volume (StoresSights pair seen.replicas) (store_seen self.old) (store_seen self.new)) (store_seen self.old)) }
         ensures refused_sights { OnErr result (KeepsPhotos (store_seen self.old) (store_seen self.new)) }
         ensures settings { self.new.settings ≡ self.old.settings }
         ensures up { IsUp self.new }
@@ -90,6 +91,8 @@ impl<D: Disk, A: Arm<D::Piece>> Cluster<D, A> {
         ensures seen { IfOk result (λ position. MovesVolume volume (HideSeen position) (store_seen self.old) (store_seen self.new)) }
         ensures refused_seen { IfErr result (λ fault. MovesVolume volume (λ before after. DeleteRefusedSeen tag pair before after fault) (store_seen self.old) (store_seen self.new)) }
         ensures sights { OnOk result (ChangesPhotos volume (DeletesSights pair self.old.settings.replicas) (store_seen self.old) (store_seen self.new)) }
+        ensures damaged { D.Tells → (m place : ℕ) → result ≡ Err (LogicalFault.Damaged m place) →
+            IsDamagedLookOn self.old.settings (contents_in D.files self.old) (store_seen self.old) volume pair m place }
         ensures refused_sights { IfErr result (λ fault. VolumeAt volume
             (λ seen. ChangesPhotos volume (λ before after. DeleteRefusedSights self.old.settings volume pair seen.frozen before after fault) (store_seen self.old) (store_seen self.new)) (store_seen self.new)) }
         ensures ended { OnOk result (EndsByFaults self.old.settings volume (store_seen self.old) (store_seen self.new) (map D.fault_count (disks_of self.old)) (map D.fault_count (disks_of self.new))) }
@@ -122,7 +125,9 @@ impl<D: Disk, A: Arm<D::Piece>> Cluster<D, A> {
         ensures seen { IfOk result (λ number. MovesVolume volume (WorkSeen work replica number) (store_seen self.old) (store_seen self.new)) }
         ensures refused_seen { IfErr result (λ fault. MovesVolume volume (WorkRefusedSeen self.old.settings work volume replica fault) (store_seen self.old) (store_seen self.new)) }
         ensures kept { D.Tells → IfErr result (WorkKeeps self.old.settings (contents_in D.files self.old) (contents_in D.files self.new)) }
-        ensures sights { OnOk result (ChangesPhotos volume (DoneSights work replica) (store_seen self.old) (store_seen self.new)) }
+        ensures damaged { D.Tells → (m place : ℕ) → result ≡ Err (LogicalFault.Damaged m place) →
+            IsDamagedCellAt self.old.settings (contents_in D.files self.old) (store_seen self.old) volume replica place }
+        ensures sights { OnOk result (VolumeAt volume (λ seen. ChangesPhotos volume (DoneSights work replica seen) (store_seen self.old) (store_seen self.new)) (store_seen self.new)) }
         ensures refused_sights { OnErr result (KeepsPhotos (store_seen self.old) (store_seen self.new)) }
         ensures settings { self.new.settings ≡ self.old.settings }
         ensures up { IsUp self.new }

@@ -1,5 +1,5 @@
 //! Reads, and gets by URL.
-ghost use Rattle.std.specs.Prelude.{◌≡◌, ◌⊎◌, ◌≤◌, ◌<◌, ◌+◌, ◌%◌, ◌^◌, ℕ, List, [], Some, Err, length, map, slice_index, IfOk, IfErr, IfSome, IfNone, OnErr, OnOk};
+ghost use Rattle.std.specs.Prelude.{◌≡◌, ◌⊎◌, ◌≤◌, ◌<◌, ◌+◌, ◌%◌, ◌^◌, ℕ, List, [], Some, Err, length, map, slice_index, IfOk, IfErr, IfSome, IfNone, OnOk};
 ghost use Rattle.std.specs.List.{AllByRecursion};
 ghost use Rattle.hay_script.specs.declared.Command.TheVariants as asks;
 ghost use Rattle.hay_legal.specs.declared.known.Known.{Known};
@@ -13,13 +13,12 @@ ghost use Rattle.hay_legal.specs.Known as known;
 ghost use Rattle.hay_legal.specs.Plain.{start_of};
 ghost use Rattle.hay_cluster.specs.Causes.{IsCaused, StaySure};
 ghost use Rattle.hay_cluster.specs.Passing.{IsSureArm, TriesBefore};
-ghost use Rattle.hay_cluster.specs.Reads.{CannotSee, FoundPasses, FoundSays, FoundSees, IsFoundAs, IsSeenAt, IsSeenByAt, IsSightCause, IsSightFault, IsWhole, MayHave, NeverIn, PassesFrom, ReadPasses, ReadSays, ReadSees, ShownAs, StopsUnseen, counts_of, outcomes_of, passed_at};
+ghost use Rattle.hay_cluster.specs.Reads.{AwaitsFor, CannotSee, FoundPasses, FoundSays, FoundSees, IsFoundAs, IsSeenAt, IsSeenByAt, IsSightCause, IsSightFault, IsWhole, MayHave, NeverIn, PassesFrom, ReadPasses, ReadSays, ReadSees, ShownAs, StopsUnseen, counts_of, outcomes_of, passed_at};
 ghost use Rattle.hay_cluster.specs.Leaving.{AnySlot, KeepsIn};
 ghost use Rattle.hay_cluster.specs.Parts.{Comes};
 ghost use Rattle.hay_cluster.specs.Seen.{Keeps, Shows, VolumeAt, home_seen, store_seen};
 ghost use Rattle.hay_cluster.specs.Sights.{ChangesPhotos, KeepsPhotos, ReadSights, told_by};
 ghost use Rattle.hay_logical.specs.Sights.{LooksAtPair, SeesPair};
-ghost use Rattle.hay_logical.specs.Sights.Sight.{Unseen};
 ghost use Rattle.hay_cluster.specs.State.{Answered, Stands};
 ghost use Rattle.hay_cluster.specs.Store.{IsBuilt, IsUp, contents_in, disks_of};
 ghost use Rattle.hay_cluster.specs.Suiting.{ShowsOf, Suits, start_at};
@@ -500,7 +499,7 @@ impl<D: Disk, A: Arm<D::Piece>> Cluster<D, A> {
         ensures arms { self.new.arms ≡ self.old.arms }
         ensures unchanged { Keeps (store_seen self.old) (store_seen self.new) }
         ensures sights { OnOk result (ChangesPhotos volume (SeesPair pair replica) (store_seen self.old) (store_seen self.new)) }
-        ensures refused_sights { OnErr result (KeepsPhotos (store_seen self.old) (store_seen self.new) × ((store_seen self.old).places volume pair replica ≡ Unseen)) }
+        ensures refused_sights { IfErr result (λ fault. KeepsPhotos (store_seen self.old) (store_seen self.new) × AwaitsFor fault ((store_seen self.old).places volume pair replica)) }
         ensures settings { self.new.settings ≡ self.old.settings }
         ensures up { IsUp self.new }
     {

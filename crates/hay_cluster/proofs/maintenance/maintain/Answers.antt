@@ -1,5 +1,6 @@
 use Rattle.std.proofs.Common.{◌≡◌, None, Some, refl, sym, ap, subst, ◌∙◌, arith}
 use Rattle.std.specs.Prelude.{Err, IfErr, Ok, OnErr, OnOk, Result}
+use Rattle.std.proofs.lemmas.Result.{IfErr-at_err}
 use Rattle.hay_physical.specs.Copies.{Copy}
 use Rattle.hay_logical.specs.Volumes.{Volume}
 use Rattle.hay_cluster.specs.declared.maintenance.Maintenance.{Maintenance}
@@ -117,7 +118,7 @@ returns-in-Compact-clause-refused_seen g c =
 
 pub returns-in-Flush-clause-sights : goal.returns-in-Flush-clause-sights
 returns-in-Flush-clause-sights g c =
-    subst (λ (work : Maintenance). OnOk c.flush.result (DoneSights work c.args.replica (sights_of (c.args.volume.now).rows) (sights_of (c.flush.new.self).rows))) (sym c.in-Flush.is)
+    subst (λ (work : Maintenance). OnOk c.flush.result (DoneSights work c.args.replica (volume_seen c.flush.new.self) (sights_of (c.args.volume.now).rows) (sights_of (c.flush.new.self).rows))) (sym c.in-Flush.is)
     (on_ok c.flush.result _ (λ pair j. ap (λ (w : Volume g.row.D.Denot g.row.D-Piece.Denot). sights_of w.rows pair j) c.flush.ensures.still))
 
 pub returns-in-Flush-clause-refused_sights : goal.returns-in-Flush-clause-refused_sights
@@ -126,7 +127,7 @@ returns-in-Flush-clause-refused_sights g c =
 
 pub returns-in-Begin-clause-sights : goal.returns-in-Begin-clause-sights
 returns-in-Begin-clause-sights g c =
-    subst (λ (work : Maintenance). OnOk c.begin.result (DoneSights work c.args.replica (sights_of (c.args.volume.now).rows) (sights_of (c.begin.new.self).rows))) (sym c.in-Begin.is)
+    subst (λ (work : Maintenance). OnOk c.begin.result (DoneSights work c.args.replica (volume_seen c.begin.new.self) (sights_of (c.args.volume.now).rows) (sights_of (c.begin.new.self).rows))) (sym c.in-Begin.is)
     (on_ok c.begin.result _ (λ pair j. ap (λ (w : Volume g.row.D.Denot g.row.D-Piece.Denot). sights_of w.rows pair j) c.begin.ensures.still))
 
 pub returns-in-Begin-clause-refused_sights : goal.returns-in-Begin-clause-refused_sights
@@ -135,7 +136,7 @@ returns-in-Begin-clause-refused_sights g c =
 
 pub returns-in-Step-clause-sights : goal.returns-in-Step-clause-sights
 returns-in-Step-clause-sights g c =
-    subst (λ (work : Maintenance). OnOk c.step.result (DoneSights work c.args.replica (sights_of (c.args.volume.now).rows) (sights_of (c.step.new.self).rows))) (sym c.in-Step.is)
+    subst (λ (work : Maintenance). OnOk c.step.result (DoneSights work c.args.replica (volume_seen c.step.new.self) (sights_of (c.args.volume.now).rows) (sights_of (c.step.new.self).rows))) (sym c.in-Step.is)
     (on_ok c.step.result _ (λ pair j. ap (λ (w : Volume g.row.D.Denot g.row.D-Piece.Denot). sights_of w.rows pair j) c.step.ensures.still))
 
 pub returns-in-Step-clause-refused_sights : goal.returns-in-Step-clause-refused_sights
@@ -148,8 +149,26 @@ returns-in-Some-clause-refused_sights g c =
 
 pub returns-in-Finish-clause-sights : goal.returns-in-Finish-clause-sights
 returns-in-Finish-clause-sights g c =
-    subst (λ (work : Maintenance). OnOk c.finish.result (DoneSights work c.args.replica (sights_of (c.args.volume.now).rows) (sights_of (c.finish.new.self).rows))) (sym c.in-Finish.is) c.finish.ensures.sights
+    subst (λ (work : Maintenance). OnOk c.finish.result (DoneSights work c.args.replica (volume_seen c.finish.new.self) (sights_of (c.args.volume.now).rows) (sights_of (c.finish.new.self).rows))) (sym c.in-Finish.is) c.finish.ensures.sights
 
 pub returns-in-Compact-clause-sights : goal.returns-in-Compact-clause-sights
 returns-in-Compact-clause-sights g c =
-    subst (λ (work : Maintenance). OnOk c.compact.result (DoneSights work c.args.replica (sights_of (c.args.volume.now).rows) (sights_of (c.compact.new.self).rows))) (sym c.in-Compact.is) c.compact.ensures.sights
+    subst (λ (work : Maintenance). OnOk c.compact.result (DoneSights work c.args.replica (volume_seen c.compact.new.self) (sights_of (c.args.volume.now).rows) (sights_of (c.compact.new.self).rows))) (sym c.in-Compact.is) c.compact.ensures.sights
+
+pub returns-in-Some-clause-damaged : goal.returns-in-Some-clause-damaged
+returns-in-Some-clause-damaged g c = λ tells m place is. absurd cc
+
+pub returns-in-Flush-clause-damaged : goal.returns-in-Flush-clause-damaged
+returns-in-Flush-clause-damaged g c = λ tells m place is. absurd (IfErr-at_err _ is c.flush.ensures.causes)
+
+pub returns-in-Begin-clause-damaged : goal.returns-in-Begin-clause-damaged
+returns-in-Begin-clause-damaged g c = λ tells m place is. absurd (IfErr-at_err _ is c.begin.ensures.causes)
+
+pub returns-in-Step-clause-damaged : goal.returns-in-Step-clause-damaged
+returns-in-Step-clause-damaged g c = c.step.ensures.damaged
+
+pub returns-in-Finish-clause-damaged : goal.returns-in-Finish-clause-damaged
+returns-in-Finish-clause-damaged g c = c.finish.ensures.damaged
+
+pub returns-in-Compact-clause-damaged : goal.returns-in-Compact-clause-damaged
+returns-in-Compact-clause-damaged g c = c.compact.ensures.damaged

@@ -54,6 +54,7 @@ returns-in_ok-append-in-Ok-clause-opened g c =
         told = e.told;
         fits = e.fits;
         seen = e.seen;
+        lie = e.within;
         formatted = e.formatted;
       },
     )

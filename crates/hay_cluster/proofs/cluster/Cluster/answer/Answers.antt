@@ -4,6 +4,7 @@ use Rattle.hay_cluster.specs.Suiting.{Suits}
 use Rattle.hay_cluster.proofs.Answering.{same_falls}
 use Rattle.hay_cluster.proofs.Sure.{same_sure}
 use Rattle.hay_cluster.specs.Leaving.{LeavesContents}
+use Rattle.hay_cluster.specs.Needles.{TellsDamage}
 use Rattle.hay_cluster.specs.Passing.{IsSureArm, PassesBefore}
 use Rattle.hay_cluster.specs.Reads.{counts_of}
 use Rattle.hay_cluster.specs.Store.{contents_in}
@@ -431,3 +432,59 @@ pub returns-in-Finish-clause-passes : goal.returns-in-Finish-clause-passes
 returns-in-Finish-clause-passes g c =
     subst (λ (asked : Command). PassesBefore (c.args.self.now).settings (IsSureArm g.A.Arm.is_sure (c.args.self.now).arms c.args.tag.lane) c.args.tag asked
     (counts_of g.D.Disk.fault_count g.A.Arm.fault_count c.args.self.now) (counts_of g.D.Disk.fault_count g.A.Arm.fault_count c.maintain-in-Finish.new.self) (store_seen c.maintain-in-Finish.new.self) c.maintain-in-Finish.result) (sym c.in-Finish.is) tt
+
+pub returns-in-Put-clause-damaged : goal.returns-in-Put-clause-damaged
+returns-in-Put-clause-damaged g c = λ tells.
+    subst (λ (asked : Command). TellsDamage (c.args.self.now).settings (contents_in g.D.Disk.files c.args.self.now) (store_seen c.args.self.now) asked c.put.result) (sym c.in-Put.is) tt
+
+pub returns-in-Read-clause-damaged : goal.returns-in-Read-clause-damaged
+returns-in-Read-clause-damaged g c = λ tells.
+    subst (λ (asked : Command). TellsDamage (c.args.self.now).settings (contents_in g.D.Disk.files c.args.self.now) (store_seen c.args.self.now) asked c.read.result) (sym c.in-Read.is) tt
+
+pub returns-in-Get-clause-damaged : goal.returns-in-Get-clause-damaged
+returns-in-Get-clause-damaged g c = λ tells.
+    subst (λ (asked : Command). TellsDamage (c.args.self.now).settings (contents_in g.D.Disk.files c.args.self.now) (store_seen c.args.self.now) asked c.get.result) (sym c.in-Get.is) tt
+
+pub returns-in-Del-clause-damaged : goal.returns-in-Del-clause-damaged
+returns-in-Del-clause-damaged g c = λ tells.
+    subst (λ (asked : Command). TellsDamage (c.args.self.now).settings (contents_in g.D.Disk.files c.args.self.now) (store_seen c.args.self.now) asked c.delete.result) (sym c.in-Del.is) (c.delete.ensures.damaged tells)
+
+pub returns-in-Url-clause-damaged : goal.returns-in-Url-clause-damaged
+returns-in-Url-clause-damaged g c = λ tells.
+    subst (λ (asked : Command). TellsDamage (c.args.self.now).settings (contents_in g.D.Disk.files c.args.self.now) (store_seen c.args.self.now) asked c.url.result) (sym c.in-Url.is) tt
+
+pub returns-in-Flush-clause-damaged : goal.returns-in-Flush-clause-damaged
+returns-in-Flush-clause-damaged g c = λ tells.
+    subst (λ (asked : Command). TellsDamage (c.args.self.now).settings (contents_in g.D.Disk.files c.args.self.now) (store_seen c.args.self.now) asked c.maintain.result) (sym c.in-Flush.is) tt
+
+pub returns-in-Drain-clause-damaged : goal.returns-in-Drain-clause-damaged
+returns-in-Drain-clause-damaged g c = λ tells.
+    subst (λ (asked : Command). TellsDamage (c.args.self.now).settings (contents_in g.D.Disk.files c.args.self.now) (store_seen c.args.self.now) asked c.drain.result) (sym c.in-Drain.is) tt
+
+pub returns-in-Undrain-clause-damaged : goal.returns-in-Undrain-clause-damaged
+returns-in-Undrain-clause-damaged g c = λ tells.
+    subst (λ (asked : Command). TellsDamage (c.args.self.now).settings (contents_in g.D.Disk.files c.args.self.now) (store_seen c.args.self.now) asked c.undrain.result) (sym c.in-Undrain.is) tt
+
+pub returns-in-Fuse-clause-damaged : goal.returns-in-Fuse-clause-damaged
+returns-in-Fuse-clause-damaged g c = λ tells.
+    subst (λ (asked : Command). TellsDamage (c.args.self.now).settings (contents_in g.D.Disk.files c.args.self.now) (store_seen c.args.self.now) asked c.fuse.result) (sym c.in-Fuse.is) tt
+
+pub returns-in-FuseDir-clause-damaged : goal.returns-in-FuseDir-clause-damaged
+returns-in-FuseDir-clause-damaged g c = λ tells.
+    subst (λ (asked : Command). TellsDamage (c.args.self.now).settings (contents_in g.D.Disk.files c.args.self.now) (store_seen c.args.self.now) asked c.fuse_dir.result) (sym c.in-FuseDir.is) tt
+
+pub returns-in-Compact-clause-damaged : goal.returns-in-Compact-clause-damaged
+returns-in-Compact-clause-damaged g c = λ tells.
+    subst (λ (asked : Command). TellsDamage (c.args.self.now).settings (contents_in g.D.Disk.files c.args.self.now) (store_seen c.args.self.now) asked c.maintain-in-Compact.result) (sym c.in-Compact.is) (c.maintain-in-Compact.ensures.damaged tells)
+
+pub returns-in-Begin-clause-damaged : goal.returns-in-Begin-clause-damaged
+returns-in-Begin-clause-damaged g c = λ tells.
+    subst (λ (asked : Command). TellsDamage (c.args.self.now).settings (contents_in g.D.Disk.files c.args.self.now) (store_seen c.args.self.now) asked c.maintain-in-Begin.result) (sym c.in-Begin.is) tt
+
+pub returns-in-Step-clause-damaged : goal.returns-in-Step-clause-damaged
+returns-in-Step-clause-damaged g c = λ tells.
+    subst (λ (asked : Command). TellsDamage (c.args.self.now).settings (contents_in g.D.Disk.files c.args.self.now) (store_seen c.args.self.now) asked c.maintain-in-Step.result) (sym c.in-Step.is) (c.maintain-in-Step.ensures.damaged tells)
+
+pub returns-in-Finish-clause-damaged : goal.returns-in-Finish-clause-damaged
+returns-in-Finish-clause-damaged g c = λ tells.
+    subst (λ (asked : Command). TellsDamage (c.args.self.now).settings (contents_in g.D.Disk.files c.args.self.now) (store_seen c.args.self.now) asked c.maintain-in-Finish.result) (sym c.in-Finish.is) (c.maintain-in-Finish.ensures.damaged tells)

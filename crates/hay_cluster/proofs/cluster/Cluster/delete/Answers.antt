@@ -1,5 +1,8 @@
-use Rattle.std.proofs.Common.{◌≡◌, None, Some, sym, ◌∙◌, inl, inr, refl, map, subst}
+use Rattle.std.proofs.Common.{◌≡◌, None, Some, ap, sym, ◌∙◌, inl, inr, refl, map, subst}
+use Rattle.std.specs.Prelude.{Err}
 use Rattle.std.proofs.lemmas.Result.{IfErr-at_err, IfOk-at_ok}
+use Rattle.hay_cluster.specs.Needles.{IsDamagedLookOn}
+use Rattle.hay_cluster.proofs.Needling.{closed_undamaged, delete_damage}
 use Rattle.hay_legal.specs.Known.{closed, home_of, volume_at}
 use Rattle.hay_legal.specs.Plain.{with_del}
 use Rattle.hay_cluster.proofs.Changing.{deleted, not_deleted}
@@ -111,3 +114,18 @@ pub returns-in-Ok-clause-ended : goal.returns-in-Ok-clause-ended
 returns-in-Ok-clause-ended g c = λ v p d is.
     let same : c.in-Some.volume ≡ v = cc in
     subst (λ n. EndsByFaults (c.args.self.now).settings n (store_seen c.args.self.now) (store_seen c.delete_in.new.self) (map g.D.Disk.fault_count (disks_of c.args.self.now)) (map g.D.Disk.fault_count (disks_of c.delete_in.new.self))) same c.in-Ok.ensures.ended
+
+pub returns-in_default-clause-damaged : goal.returns-in_default-clause-damaged
+returns-in_default-clause-damaged g c = λ tells v m place is. absurd cc
+
+pub returns-in-Some-closed_by-clause-damaged : goal.returns-in-Some-closed_by-clause-damaged
+returns-in-Some-closed_by-clause-damaged g c = λ tells v m place is. absurd (closed_undamaged c.in-Some.volume c.read_only.result v m place is c.in-Some-closed_by.machine c.read_only.ensures.is)
+
+pub returns-in-Ok-clause-damaged : goal.returns-in-Ok-clause-damaged
+returns-in-Ok-clause-damaged g c = λ tells v m place is. absurd cc
+
+pub returns-clause-damaged : goal.returns-clause-damaged
+returns-clause-damaged g c = λ tells v m place is.
+    let told = delete_damage c.in-Some.volume c.delete_refusal.result v m place is c.rows-in-Err.result c.in-Err.fault c.delete_refusal.ensures.is in
+    subst (λ u. IsDamagedLookOn (c.args.self.now).settings (contents_in g.D.Disk.files c.args.self.now) (store_seen c.args.self.now) u c.args.pair m place) told.1
+    (c.delete_in.ensures.damaged tells m place (c.in-Err.is ∙ ap Err told.0))

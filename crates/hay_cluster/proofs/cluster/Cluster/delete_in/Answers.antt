@@ -21,6 +21,7 @@ use Rattle.hay_cluster.proofs.Moves.{Called, called_fuses, called_later, called_
 use Rattle.hay_cluster.specs.Leaving.{AnySlot, DeleteKeeps, IsBeside, KeepsIn, LeavesIn, ComesToPend, KeepsBehind}
 use Rattle.hay_cluster.proofs.Leaving.{called_keeps, called_leaves, delete_keeps, called_behind, comes_to_pend}
 use Rattle.hay_logical.specs.Seen.{FreezesSeen, DeleteRefusedSeen, HideSeen, VolumeSeen, volume_seen}
+use Rattle.hay_cluster.proofs.Needling.{damaged_look}
 use Rattle.hay_cluster.proofs.Seeing.{volume_moves}
 use Rattle.hay_cluster.specs.Seen.{store_seen}
 use Rattle.hay_cluster.proofs.Sighting.{runs_end, volume_photos}
@@ -225,3 +226,12 @@ returns-clause-ended g c =
     ∙ ap (λ (vs : List (Volume g.row.D.Denot g.row.D-Piece.Denot)). slice_set vs c.args.volume c.delete.new.self) c.as_mut_slice.ensures.value in
     let called : Called g.D.Disk.fault_count g.D.Disk.fuse_count store c.args.volume volume c.delete.new.self = record { at = at; same = c.delete.ensures.same; counts = c.delete.ensures.counts } in
     rw items (on_ok_weaker c.delete.result (runs_end g.D.Disk.fault_count g.D.Disk.fuse_count c.args.self.now store c.args.volume volume c.delete.new.self c.self.view_is c.self.invariant called) c.delete.ensures.ended)
+
+pub returns-clause-damaged : goal.returns-clause-damaged
+returns-clause-damaged g c = λ tells m place is.
+    let store : Open g.row.D.Denot g.row.D-Piece.Denot g.row.A.Denot = record { settings = c.self.inside.settings; directory = c.self.inside.directory; volumes = c.self.inside.volumes.items; arms = c.self.inside.seats.items } in
+    let within : c.args.volume < length c.self.inside.volumes.items = let same = ap (λ (st : Open g.row.D.Denot g.row.D-Piece.Denot g.row.A.Denot). (st.settings).volumes) c.self.view_is in omega (arith, c.requires.volume, c.self.invariant.many, same) in
+    let volume : Volume g.row.D.Denot g.row.D-Piece.Denot = slice_index_or c.as_mut_slice.result.now c.args.volume c.index-as_mut_slice-volume.result in
+    let at : At store.volumes c.args.volume volume = subst (λ (vs : List (Volume g.row.D.Denot g.row.D-Piece.Denot)). At vs c.args.volume volume) c.as_mut_slice.ensures.value
+    (at_read c.as_mut_slice.result.now c.args.volume c.index-as_mut_slice-volume.result (let long = ap length c.as_mut_slice.ensures.value in omega (arith, within, long))) in
+    damaged_look g.D.Disk.files c.args.self.now store c.self.view_is c.self.invariant c.args.volume volume at c.args.pair m place c.requires.volume (c.delete.ensures.damaged tells m place is)

@@ -1,5 +1,10 @@
 use Rattle.std.proofs.Common.{◌≡◌, ◌<◌, None, Some, refl, sym, ap, subst, ◌∙◌, inl, inr}
+use Rattle.std.specs.Prelude.{Err}
+use Rattle.std.proofs.lemmas.Option.{same_Some}
 use Rattle.std.proofs.lemmas.Result.{IfErr-at_err, IfOk-at_ok}
+use Rattle.hay_logical.specs.declared.fault.LogicalFault.TheVariants as refusal
+use Rattle.hay_cluster.specs.Needles.{IsDamagedCellAt}
+use Rattle.hay_cluster.proofs.Needling.{done_undamaged, work_damage}
 use Rattle.hay_needle.specs.declared.settings.Settings.{Settings}
 use Rattle.hay_reply.specs.declared.Reply.{Reply}
 use Rattle.hay_legal.specs.Known.{replica_on}
@@ -129,3 +134,19 @@ returns-in-Ok-clause-sights g c =
 pub returns-in-Err-clause-sights : goal.returns-in-Err-clause-sights
 returns-in-Err-clause-sights g c =
     unworked_sights (c.args.self.now).settings c.args.volume c.args.machine (store_seen c.args.self.now) (store_seen c.maintain_in.new.self) c.in-Err.fault c.refused.result c.refused.ensures.is c.in-Err.ensures.refused_sights
+
+pub returns-in_default-clause-damaged : goal.returns-in_default-clause-damaged
+returns-in_default-clause-damaged g c = λ tells by place is. absurd cc
+
+pub returns-in-Ok-clause-damaged : goal.returns-in-Ok-clause-damaged
+returns-in-Ok-clause-damaged g c = λ tells by place is.
+    absurd (done_undamaged c.args.volume c.done.result c.args.volume by place is c.args.machine c.in-Ok.number c.args.work c.done.ensures.is)
+
+pub returns-in-Err-clause-damaged : goal.returns-in-Err-clause-damaged
+returns-in-Err-clause-damaged g c = λ tells by place is j on.
+    let same = ap (λ (st : Open g.row.D.Denot g.row.D-Piece.Denot g.row.A.Denot). st.settings) c.self.view_is in
+    let there : replica_on (c.args.self.now).settings c.args.volume c.args.machine ≡ Some c.in-Some.replica =
+    ap (λ (s : Settings). replica_on s c.args.volume c.args.machine) (sym same) ∙ sym c.replica_on.ensures.is ∙ c.in-Some.is in
+    let fault : c.in-Err.fault ≡ refusal.Damaged by place = work_damage c.args.volume c.refused.result c.args.volume by place is c.args.machine c.in-Err.fault c.refused.ensures.is in
+    subst (λ i. IsDamagedCellAt (c.args.self.now).settings (contents_in g.D.Disk.files c.args.self.now) (store_seen c.args.self.now) c.args.volume i place) (same_Some c.in-Some.replica j (sym there ∙ on))
+    (c.maintain_in.ensures.damaged tells by place (c.in-Err.is ∙ ap Err fault))

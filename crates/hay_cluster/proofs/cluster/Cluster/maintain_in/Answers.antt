@@ -9,7 +9,8 @@ use Rattle.hay_logical.specs.Volumes.{Volume}
 use Rattle.hay_logical.proofs.Lists.{at_read}
 use Rattle.hay_cluster.specs.Store.{Open, disks_of, contents_in}
 use Rattle.hay_cluster.proofs.Calls.{called_open, called_up, replica_cause}
-use Rattle.hay_cluster.proofs.Lists.{length-set}
+use Rattle.hay_cluster.proofs.Lists.{length-set, map-at, slice_get-set}
+use Rattle.hay_cluster.proofs.Needling.{damaged_cell}
 use Rattle.hay_cluster.proofs.Moves.{Called, called_fuses, called_later, called_shape, in_volume, volume_of}
 use Rattle.hay_cluster.specs.Leaving.{IsApart, LeavesIn, WorkKeeps}
 use Rattle.hay_cluster.proofs.Leaving.{called_others, called_same, work_keeps}
@@ -178,7 +179,11 @@ returns-clause-sights g c =
     let items = with_items_is c.self.inside.volumes (slice_set c.as_mut_slice.result.now c.args.volume c.maintain.new.volume) (length-set c.as_mut_slice.result.now c.args.volume c.maintain.new.volume ∙ c.as_mut_slice.ensures.len)
     ∙ ap (λ (vs : List (Volume g.row.D.Denot g.row.D-Piece.Denot)). slice_set vs c.args.volume c.maintain.new.volume) c.as_mut_slice.ensures.value in
     rw items
-    (on_ok_weaker c.maintain.result (volume_photos c.args.self.now store c.self.view_is c.args.volume volume c.maintain.new.volume at (DoneSights c.args.work c.args.replica)) c.maintain.ensures.sights)
+    (on_ok_weaker c.maintain.result (λ done. (
+      volume_seen c.maintain.new.volume,
+      map-at volume_seen (slice_set store.volumes c.args.volume c.maintain.new.volume) c.args.volume c.maintain.new.volume (slice_get-set store.volumes c.args.volume volume c.maintain.new.volume at),
+      volume_photos c.args.self.now store c.self.view_is c.args.volume volume c.maintain.new.volume at (DoneSights c.args.work c.args.replica (volume_seen c.maintain.new.volume)) done,
+    )) c.maintain.ensures.sights)
 
 pub returns-clause-refused_sights : goal.returns-clause-refused_sights
 returns-clause-refused_sights g c =
@@ -191,3 +196,12 @@ returns-clause-refused_sights g c =
     ∙ ap (λ (vs : List (Volume g.row.D.Denot g.row.D-Piece.Denot)). slice_set vs c.args.volume c.maintain.new.volume) c.as_mut_slice.ensures.value in
     rw items
     (on_err_weaker c.maintain.result (volume_kept_photos c.args.self.now store c.self.view_is c.args.volume volume c.maintain.new.volume at) c.maintain.ensures.refused_sights)
+
+pub returns-clause-damaged : goal.returns-clause-damaged
+returns-clause-damaged g c = λ tells m place is.
+    let store : Open g.row.D.Denot g.row.D-Piece.Denot g.row.A.Denot = record { settings = c.self.inside.settings; directory = c.self.inside.directory; volumes = c.self.inside.volumes.items; arms = c.self.inside.seats.items } in
+    let within : c.args.volume < length c.self.inside.volumes.items = let same = ap (λ (st : Open g.row.D.Denot g.row.D-Piece.Denot g.row.A.Denot). (st.settings).volumes) c.self.view_is in omega (arith, c.requires.volume, c.self.invariant.many, same) in
+    let volume : Volume g.row.D.Denot g.row.D-Piece.Denot = slice_index_or c.as_mut_slice.result.now c.args.volume c.index-as_mut_slice-volume.result in
+    let at : At store.volumes c.args.volume volume = subst (λ (vs : List (Volume g.row.D.Denot g.row.D-Piece.Denot)). At vs c.args.volume volume) c.as_mut_slice.ensures.value
+    (at_read c.as_mut_slice.result.now c.args.volume c.index-as_mut_slice-volume.result (let long = ap length c.as_mut_slice.ensures.value in omega (arith, within, long))) in
+    damaged_cell g.D.Disk.files c.args.self.now store c.self.view_is c.self.invariant c.args.volume volume at c.args.replica place c.requires.replica (c.maintain.ensures.damaged tells m place is)

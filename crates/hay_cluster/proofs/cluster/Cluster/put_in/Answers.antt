@@ -21,10 +21,10 @@ use Rattle.hay_logical.specs.declared.unsure.Unsure.{Unsure}
 use Rattle.hay_logical.specs.Steps.{KeepsFiles}
 use Rattle.hay_logical.specs.Seen.{FreezesSeen, PutRefusedSeen, PutSeen, volume_seen, VolumeSeen}
 use Rattle.hay_cluster.proofs.Moves.{volume_of}
-use Rattle.hay_cluster.proofs.Seeing.{volume_moves}
+use Rattle.hay_cluster.proofs.Seeing.{seen_at, volume_moves}
 use Rattle.hay_cluster.specs.Seen.{store_seen}
 use Rattle.hay_cluster.proofs.Sighting.{volume_kept_photos, volume_photos}
-use Rattle.hay_logical.specs.Sights.{StoresSights, sights_of}
+use Rattle.hay_logical.specs.Sights.{StoresSights}
 use Rattle.hay_cluster.proofs.cluster.Cluster.put_in.Goals as goal
 
 refused_keeps : {T : Type 0} (settings : Settings) (v : ℕ) (pending pending' : List VolumeSeen) (old new : ℕ → Contents) (tag : CoreTag) (before after : VolumeSeen) (called : Settings) (number size : ℕ) (Kept : Type 0)
@@ -201,11 +201,12 @@ returns-clause-sights g c =
     (at_read c.as_mut_slice.result.now c.args.volume c.index-as_mut_slice-volume.result (let long = ap length c.as_mut_slice.ensures.value in omega (arith, within, long))) in
     let items = with_items_is c.self.inside.volumes (slice_set c.as_mut_slice.result.now c.args.volume c.put.new.self) (length-set c.as_mut_slice.result.now c.args.volume c.put.new.self ∙ c.as_mut_slice.ensures.len)
     ∙ ap (λ (vs : List (Volume g.row.D.Denot g.row.D-Piece.Denot)). slice_set vs c.args.volume c.put.new.self) c.as_mut_slice.ensures.value in
-    let was = volume_of store c.args.volume volume c.self.invariant at in
-    let same = was.settings_are ∙ ap (λ (st : Open g.row.D.Denot g.row.D-Piece.Denot g.row.A.Denot). st.settings) c.self.view_is in
     rw items
-    (on_ok_weaker c.put.result (λ stores. volume_photos c.args.self.now store c.self.view_is c.args.volume volume c.put.new.self at (StoresSights c.args.pair (c.args.self.now).settings.replicas)
-    (subst (λ (s : Settings). StoresSights c.args.pair s.replicas (sights_of volume.rows) (sights_of (c.put.new.self).rows)) same stores)) c.put.ensures.sights)
+    (on_ok_weaker c.put.result (λ stores. (
+      volume_seen volume,
+      seen_at c.args.self.now store c.self.view_is c.args.volume volume at,
+      volume_photos c.args.self.now store c.self.view_is c.args.volume volume c.put.new.self at (StoresSights c.args.pair (volume_seen volume).replicas) stores,
+    )) c.put.ensures.sights)
 
 pub returns-clause-refused_sights : goal.returns-clause-refused_sights
 returns-clause-refused_sights g c =

@@ -109,7 +109,8 @@ returns-in-Err-clause-seen g c =
 pub returns-in-Ok-clause-sights : goal.returns-in-Ok-clause-sights
 returns-in-Ok-clause-sights g c =
     let places = ap (λ (vs : List (Volume g.row.D.Denot g.row.D-Piece.Denot)). places_of vs) c.settle.ensures.volumes in
-    put_from c.args.pair (store_seen c.args.self.now) (store_seen c.settle.new.self) (store_seen c.put_at.new.self) (c.args.self.now).settings (told_by c.put_at.result) places
+    put_from c.args.pair (store_seen c.args.self.now) (store_seen c.settle.new.self) (store_seen c.put_at.new.self) (c.args.self.now).settings (told_by c.put_at.result)
+    (ap (λ (vs : List (Volume g.row.D.Denot g.row.D-Piece.Denot)). map volume_seen vs) c.settle.ensures.volumes) places
     (subst (λ (s : Settings). PutSights s c.args.pair (told_by c.put_at.result) (store_seen c.settle.new.self) (store_seen c.put_at.new.self)) c.settle.ensures.settings c.put_at.ensures.sights)
 
 pub returns-in-Err-clause-sights : goal.returns-in-Err-clause-sights

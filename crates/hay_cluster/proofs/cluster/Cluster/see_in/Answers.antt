@@ -1,4 +1,4 @@
-use Rattle.std.proofs.Common.{◌≡◌, ◌<◌, List, ap, sym, length, subst, ◌∙◌, arith}
+use Rattle.std.proofs.Common.{◌≡◌, ◌<◌, ℕ, List, ap, sym, length, subst, ◌∙◌, arith}
 use Rattle.std.specs.Prelude.{Err, slice_index_or, slice_set}
 use Rattle.std.proofs.lemmas.List.{with_items_is}
 use borrow.Author.Rules.{scaled_Fits}
@@ -7,10 +7,12 @@ use Rattle.hay_map.specs.Places.{place_in}
 use Rattle.hay_map.specs.Rows.{row_at}
 use Rattle.hay_compact.specs.Finishing.{IsSeen}
 use Rattle.hay_logical.specs.declared.fault.LogicalFault.{LogicalFault}
+use Rattle.hay_logical.specs.declared.fault.LogicalFault.TheVariants as refusal
 use Rattle.hay_logical.specs.Fits.{At}
 use Rattle.hay_logical.specs.Steps.{IsSeenBy}
 use Rattle.hay_logical.specs.Volumes.{Volume}
 use Rattle.hay_logical.proofs.Lists.{at_read}
+use Rattle.hay_needle.specs.declared.needle.Pair.{Pair}
 use Rattle.hay_needle.specs.declared.settings.Settings.{Settings}
 use Rattle.hay_legal.specs.Known.{volume_at}
 use Rattle.hay_cluster.specs.State.{Stands}
@@ -20,12 +22,35 @@ use Rattle.hay_cluster.proofs.Lists.{length-set}
 use Rattle.hay_cluster.proofs.Moves.{Called, called_fuses, called_later, called_shape, volume_of, volume_stood}
 use Rattle.hay_cluster.proofs.Showing.{seen_by_in, seen_in, seen_there, sight_comes, sight_fault, sight_others}
 use Rattle.hay_cluster.specs.Leaving.{AnySlot, KeepsIn}
+use Rattle.hay_cluster.specs.Reads.{AwaitsFor}
 use Rattle.hay_cluster.proofs.Leaving.{called_keeps}
 use Rattle.hay_cluster.proofs.Seeing.{moves_none, volume_moves}
 use Rattle.hay_cluster.proofs.Sighting.{photos_at, volume_kept_photos, volume_photos}
-use Rattle.hay_logical.specs.Sights.{SeesPair, Sights}
+use Rattle.hay_logical.specs.Sights.{KeepsSights, SeeRefusedSights, SeesPair, Sights, sights_of}
 use Rattle.hay_cluster.proofs.cluster.Cluster.see_in.Goals as goal
 use Rattle.hay_cluster.proofs.cluster.Cluster.see_in.Goals.{in-Ok, in-Err}
+
+refused_keeps : (pair : Pair) (replica : ℕ) (old new : Sights) (fault : LogicalFault) → SeeRefusedSights pair replica old new fault → KeepsSights old new
+refused_keeps pair replica old new (refusal.Failed m count) h = h.0
+refused_keeps pair replica old new (refusal.Damaged m place) h = h.0
+refused_keeps pair replica old new refusal.NoMemory h = h.0
+refused_keeps pair replica old new (refusal.ReadOnly m) h = absurd h
+refused_keeps pair replica old new (refusal.Full m end need capacity) h = absurd h
+refused_keeps pair replica old new (refusal.Gone front) h = absurd h
+refused_keeps pair replica old new (refusal.Busy m goal) h = absurd h
+refused_keeps pair replica old new (refusal.Worn m) h = absurd h
+refused_keeps pair replica old new refusal.Idle h = absurd h
+
+refused_awaits : (pair : Pair) (replica : ℕ) (old new : Sights) (fault : LogicalFault) → SeeRefusedSights pair replica old new fault → AwaitsFor fault (old pair replica)
+refused_awaits pair replica old new (refusal.Failed m count) h = h.1
+refused_awaits pair replica old new (refusal.Damaged m place) h = h.1
+refused_awaits pair replica old new refusal.NoMemory h = h.1
+refused_awaits pair replica old new (refusal.ReadOnly m) h = absurd h
+refused_awaits pair replica old new (refusal.Full m end need capacity) h = absurd h
+refused_awaits pair replica old new (refusal.Gone front) h = absurd h
+refused_awaits pair replica old new (refusal.Busy m goal) h = absurd h
+refused_awaits pair replica old new (refusal.Worn m) h = absurd h
+refused_awaits pair replica old new refusal.Idle h = absurd h
 
 pub offset_bounds-as_mut_slice-volume : goal.offset_bounds-as_mut_slice-volume
 offset_bounds-as_mut_slice-volume g c =
@@ -235,7 +260,8 @@ returns-clause-refused_sights g c =
       | in-Ok w ↦ rw w.result-is tt
       | in-Err w ↦ rw w.result-is
           (rw items (
-            volume_kept_photos c.args.self.now store c.self.view_is c.args.volume volume c.see.new.self at w.in-Err.ensures.refused_sights.0,
-            ap (λ (seen : Sights). seen c.args.pair c.args.replica) (photos_at c.args.self.now store c.self.view_is c.args.volume volume at) ∙ w.in-Err.ensures.refused_sights.1,
+            volume_kept_photos c.args.self.now store c.self.view_is c.args.volume volume c.see.new.self at (refused_keeps c.args.pair c.args.replica (sights_of volume.rows) (sights_of (c.see.new.self).rows) w.in-Err.fault w.in-Err.ensures.refused_sights),
+            subst (λ (seen : Sights). AwaitsFor w.in-Err.fault (seen c.args.pair c.args.replica)) (sym (photos_at c.args.self.now store c.self.view_is c.args.volume volume at))
+                (refused_awaits c.args.pair c.args.replica (sights_of volume.rows) (sights_of (c.see.new.self).rows) w.in-Err.fault w.in-Err.ensures.refused_sights),
           ))
     ]

@@ -1,11 +1,11 @@
-use Rattle.std.proofs.Common.{Err, refl, ap, ◌∙◌}
+use Rattle.std.proofs.Common.{Err, refl, sym, subst, ap, ◌∙◌}
 use Rattle.hay_legal.specs.Known.{slot_of}
 use Rattle.hay_logical.specs.declared.fault.LogicalFault.{LogicalFault}
 use Rattle.hay_reader.specs.declared.causes.PassedReplica.{PassedReplica}
-use Rattle.hay_cluster.specs.Reads.{NeverIn, counts_of}
+use Rattle.hay_cluster.specs.Reads.{AwaitsFor, NeverIn, counts_of}
 use Rattle.hay_cluster.proofs.Showing.{passes_none, passes_one, sight_passed}
 use Rattle.hay_cluster.proofs.Sighting.{kept_looks, photos_as, photos_kept}
-use Rattle.hay_cluster.proofs.ReadSights.{may_stand_as, may_stand_more, may_stand_still}
+use Rattle.hay_cluster.proofs.ReadSights.{awaits_for, may_stand_as, may_stand_more, may_stand_still}
 use Rattle.hay_logical.specs.Sights.{LooksAtPair, SeesPair}
 use Rattle.hay_cluster.specs.Seen.{store_seen}
 use Rattle.hay_cluster.proofs.cluster.Cluster.see_or_pass.Goals as goal
@@ -51,5 +51,6 @@ returns-in_ok-cause-in-Err-clause-may_stand g c =
     let over : PassedReplica = record { replica = c.args.replica; cause = c.in_ok-cause-in-Err.cause } in
     let kept = c.in-Err.ensures.refused_sights in
     rw c.push.ensures
-    (may_stand_more (((store_seen c.see_in.new.self).places c.args.volume) c.args.pair) c.args.causes over (kept.0 c.args.volume c.args.pair c.args.replica ∙ kept.1)
+    (may_stand_more (((store_seen c.see_in.new.self).places c.args.volume) c.args.pair) c.args.causes over
+    (awaits_for c.in-Err.fault c.in_ok-cause-in-Err.cause _ c.in_ok-cause-in-Err.ensures (subst (AwaitsFor c.in-Err.fault) (sym (kept.0 c.args.volume c.args.pair c.args.replica)) kept.1))
     (may_stand_as (((store_seen c.args.self.now).places c.args.volume) c.args.pair) (((store_seen c.see_in.new.self).places c.args.volume) c.args.pair) c.args.causes (kept.0 c.args.volume c.args.pair) c.requires.may_stand))

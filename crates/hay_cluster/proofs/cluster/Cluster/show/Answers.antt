@@ -20,7 +20,7 @@ use Rattle.hay_cluster.proofs.Passing.{passed_all, passed_to}
 use Rattle.hay_cluster.specs.Seen.{home_seen, store_seen}
 use Rattle.hay_cluster.proofs.Seeing.{keeps_all}
 use Rattle.hay_cluster.specs.Sights.{IsAbsent}
-use Rattle.hay_logical.specs.Sights.Sight.{Live}
+use Rattle.hay_logical.specs.Sights.{IsLiveSight}
 use Rattle.hay_cluster.proofs.cluster.Cluster.show.Goals as goal
 
 pub returns-in_default-clause-shown : goal.returns-in_default-clause-shown
@@ -186,7 +186,7 @@ returns-in-Photo-clause-sights g c =
     let below = to_below (NeverIn g.D.Disk.Tells g.D.Disk.files g.D.Piece.Piece.Tells g.D.Disk.fault_count g.D.Disk.fuse_count g.A.Arm.fault_count g.A.Arm.is_sure c.args.self.now c.args.tag.lane) (c.args.self.now).settings c.args.tag.lane c.args.volume c.args.start (counts_of g.D.Disk.fault_count g.A.Arm.fault_count c.args.self.now) (counts_of g.D.Disk.fault_count g.A.Arm.fault_count c.fetch-front.new.self) ((store_seen c.fetch-front.new.self).places c.args.volume c.args.pair) [] passes.0 c.in-Photo.replica passes.1 in
     let seen = subst (λ (f : Found). FoundSees ((store_seen c.fetch-front.new.self).places c.args.volume c.args.pair) f) c.in-Photo.is c.fetch-front.ensures.sees in (
       c.fetch-front.ensures.looks,
-      sees_on (c.args.self.now).settings c.args.volume c.args.pair (store_seen c.fetch-front.new.self) (subst (λ (s : Settings). IsBuilt s) same c.self.invariant.built) c.requires.volume (λ seen. seen ≡ Live) c.in-Photo.replica c.machine_of.result below
+      sees_on (c.args.self.now).settings c.args.volume c.args.pair (store_seen c.fetch-front.new.self) (subst (λ (s : Settings). IsBuilt s) same c.self.invariant.built) c.requires.volume IsLiveSight c.in-Photo.replica c.machine_of.result below
           (c.machine_of.ensures.is ∙ ap (λ (s : Settings). machine_of s c.args.volume c.in-Photo.replica) same) seen,
     )
 
@@ -208,7 +208,7 @@ returns-in-WrongCookie-clause-sights g c =
     let below = to_below (NeverIn g.D.Disk.Tells g.D.Disk.files g.D.Piece.Piece.Tells g.D.Disk.fault_count g.D.Disk.fuse_count g.A.Arm.fault_count g.A.Arm.is_sure c.args.self.now c.args.tag.lane) (c.args.self.now).settings c.args.tag.lane c.args.volume c.args.start (counts_of g.D.Disk.fault_count g.A.Arm.fault_count c.args.self.now) (counts_of g.D.Disk.fault_count g.A.Arm.fault_count c.fetch-front.new.self) ((store_seen c.fetch-front.new.self).places c.args.volume c.args.pair) [] passes.0 c.in-WrongCookie.replica passes.1 in
     let seen = subst (λ (f : Found). FoundSees ((store_seen c.fetch-front.new.self).places c.args.volume c.args.pair) f) c.in-WrongCookie.is c.fetch-front.ensures.sees in (
       c.fetch-front.ensures.looks,
-      sees_on (c.args.self.now).settings c.args.volume c.args.pair (store_seen c.fetch-front.new.self) (subst (λ (s : Settings). IsBuilt s) same c.self.invariant.built) c.requires.volume (λ seen. seen ≡ Live) c.in-WrongCookie.replica c.machine_of-in-WrongCookie.result below
+      sees_on (c.args.self.now).settings c.args.volume c.args.pair (store_seen c.fetch-front.new.self) (subst (λ (s : Settings). IsBuilt s) same c.self.invariant.built) c.requires.volume IsLiveSight c.in-WrongCookie.replica c.machine_of-in-WrongCookie.result below
           (c.machine_of-in-WrongCookie.ensures.is ∙ ap (λ (s : Settings). machine_of s c.args.volume c.in-WrongCookie.replica) same) seen,
     )
 
