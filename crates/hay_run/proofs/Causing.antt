@@ -20,6 +20,7 @@ use Rattle.hay_legal.specs.Items.Asked.{Alone, Block}
 use Rattle.hay_cluster.specs.declared.fault.ClusterFault.{ClusterFault}
 use Rattle.hay_cluster.specs.declared.fault.ClusterFault.TheVariants as refusal
 use Rattle.hay_cluster.specs.Leaving.{LeavesContents}
+use Rattle.hay_cluster.specs.Needles.{TellsDamage}
 use Rattle.hay_cluster.specs.Outside.{AreSoundBelow, IsDamagedDisk, IsUndamaged}
 use Rattle.hay_cluster.specs.Causes.{EndsRuns, HasFaultCause, IsCaused, LeavesFuses}
 use Rattle.hay_cluster.specs.Passing.{PassesBefore}
@@ -87,9 +88,10 @@ module _ (Tells : Type 0) where
       → Answers settings (plain_tag number) command reply before.seen after.seen
       → LeavesSights settings command reply before.seen after.seen → EndsRuns settings reply before.seen after.seen before.counts.disks after.counts.disks
       → (Tells → LeavesContents settings command reply (before.seen).volumes (after.seen).volumes before.contents after.contents)
+      → (Tells → TellsDamage settings before.contents before.seen command reply)
       → Writes written (numbered_line number reply) written'
       → Caused Tells Writes settings before after (Alone number (item.Command command) ∷ []) written written'
-  caused_reply Writes settings before after number command reply written written' other none fuses fits suits cause passes seen sights ended contents wrote =
+  caused_reply Writes settings before after number command reply written written' other none fuses fits suits cause passes seen sights ended contents damaged wrote =
       caused_one Writes settings before after (Alone number (item.Command command)) (numbered_line number reply) written written' none (
         fuses,
         inr (record {
@@ -103,6 +105,7 @@ module _ (Tells : Type 0) where
           sights = sights;
           ended = ended;
           contents = contents;
+          damaged = damaged;
           is = refl;
         }),
       ) wrote

@@ -6,6 +6,7 @@ pub mod Commanding
 pub mod Counting
 pub mod Giving
 pub mod Loading
+pub mod Lying
 pub mod Ran
 pub mod Reading
 pub mod Refusing

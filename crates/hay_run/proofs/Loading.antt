@@ -1,11 +1,11 @@
 -- A load among the modes of a run.
-use Rattle.std.proofs.Common.{◌≡◌, ◌⊎◌, inl, inr, ℕ, false, List, [], Option, refl, ap, ◌∙◌, arith}
+use Rattle.std.proofs.Common.{◌≡◌, inl, inr, ℕ, false, List, Option, refl, ap, ◌∙◌, arith}
 use Rattle.hay_disk.specs.Shelf.{HeldArm, HeldDisk}
 use Rattle.hay_needle.specs.declared.settings.Settings.{Settings}
 use Rattle.hay_legal.specs.Statuses.{Ending, status_of}
 use Rattle.hay_legal.specs.Statuses.Ending.{ReadAll, OutputFault, InputFault, NoMemory, NotOpened, TooLong}
 use Rattle.hay_loading.specs.declared.stops.Stop.TheVariants as stop
-use Rattle.hay_loading.specs.Endings.{CountsOn, IsStatus}
+use Rattle.hay_loading.specs.Endings.{IsStatus}
 use Rattle.hay_loading.proofs.Refusing.{ends_unbegun}
 use Rattle.hay_loading.proofs.Sinks.{wrote_nothing}
 use Rattle.hay_loading.proofs.Statuses.{to_stop}

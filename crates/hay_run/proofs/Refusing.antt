@@ -29,7 +29,7 @@ use Rattle.hay_run.specs.declared.stops.Stop.{Stop}
 use Rattle.hay_run.specs.declared.stops.Stop.TheVariants as stop
 use Rattle.hay_run.specs.Stops.{ending_of, note_of}
 use Rattle.hay_run.specs.Runs.{HasOpened, IsFirstRefusal, IsLaterRefusal, IsTaken, IsNotOpened, IsNotOpenedBehind, IsUnread, RanTo, RefusedLater, WasRead}
-use Rattle.hay_run.specs.Turns.{Standing, Serves, ServedUntil, counts_of, RefusedFor, Halts}
+use Rattle.hay_run.specs.Turns.{Standing, counts_of, RefusedFor, Halts}
 use Rattle.hay_run.proofs.Counting.{rose_more}
 use Rattle.hay_run.proofs.Restarting.{rose_came_up}
 use Rattle.hay_run.proofs.Turning.{rises_same}

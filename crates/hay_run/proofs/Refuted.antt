@@ -3,20 +3,22 @@ use Rattle.std.proofs.Common.{◌≡◌, ◌≢◌, ◌⊎◌, ℕ, zero, suc, �
 use Rattle.std.proofs.Math.Nat.{mod-eq_of_lt, mod-lt}
 use Rattle.std.proofs.lemmas.Bool.{cases_eq}
 use Rattle.std.proofs.lemmas.List.{append_cancel_left, append_cancel_right}
-use Rattle.std.specs.Prelude.{Bool, true, false, codes, decimal, map, replicate, slice_index, slice_index_or, slice_set}
+use Rattle.std.specs.Prelude.{Bool, true, false, codes, decimal, drop, map, replicate, slice_index, slice_index_or, slice_set}
 use Rattle.std.specs.List.{AllByRecursion, AllZip, range_with_len}
 use Rattle.hay_disk.specs.Counts.{IsNext, Rose}
 use Rattle.hay_needle.specs.declared.needle.Cookie.{Cookie}
+use Rattle.hay_needle.specs.declared.needle.Needle.{Needle}
 use Rattle.hay_needle.specs.declared.needle.Pair.{Pair}
 use Rattle.hay_needle.specs.declared.settings.Settings.{Settings}
 use Rattle.hay_needle.specs.declared.total.TheConstants.{MAX_PHOTO}
 use Rattle.hay_needle.specs.declared.needle.Version.TheVariants.{Two}
+use Rattle.hay_needle.specs.Needle.{BeginsWithNeedle}
 use Rattle.hay_needle.specs.Sizes.{max_photo, needle_total}
 use Rattle.hay_url.specs.declared.Url.{Url as UrlParts}
 use Rattle.hay_script.specs.declared.Command.{Command}
 use Rattle.hay_script.specs.declared.Command.TheVariants as asks
 use Rattle.hay_reply.specs.declared.Cause.{Cause}
-use Rattle.hay_reply.specs.declared.Cause.TheVariants.{Arm}
+use Rattle.hay_reply.specs.declared.Cause.TheVariants.{Arm, Damage, Disk}
 use Rattle.hay_reply.specs.declared.Note.TheVariants.{OpenDamaged}
 use Rattle.hay_reply.specs.declared.Passed.{Passed}
 use Rattle.hay_reply.specs.declared.ClosedBy.{ClosedBy}
@@ -28,27 +30,32 @@ use Rattle.hay_reply.specs.Fits.{FitsReply}
 use Rattle.hay_reply.specs.Replies.{numbered_line, reply_text}
 use Rattle.hay_reply.specs.Reading.{reply_of, words_of}
 use Rattle.hay_reply.proofs.Back.{back_reply}
-use Rattle.hay_legal.specs.Known.{disk_count, machine_of, replica_on, slot_of, tries_by}
+use Rattle.hay_legal.specs.Known.{CameUp, disk_count, machine_of, replica_on, slot_of, tries_by}
 use Rattle.hay_legal.specs.Plain.{as_closed, order_from}
 use Rattle.hay_legal.specs.Stands.{Contents, Outside}
 use Rattle.hay_logical.specs.declared.fault.LogicalFault.{LogicalFault}
 use Rattle.hay_logical.specs.declared.fault.LogicalFault.TheVariants as refusal
 use Rattle.hay_logical.specs.declared.unsure.Unsure.{Unsure}
+use Rattle.hay_open.specs.Stored.{volume_file}
+use Rattle.hay_volume.specs.Needles.{LacksNeedleWithin}
 use Rattle.hay_logical.specs.Fits.{At}
-use Rattle.hay_logical.specs.Seen.{BeginRefusedSeen, PutSeen, ReplicaSeen, RoomSeen, SeesAt, SeesRoom, StepRefusedSeen, StepsTo, VolumeSeen}
-use Rattle.hay_logical.specs.Sights.{Looks, SeesAll, Sight, Sights, SwapsSights, gone_sight}
+use Rattle.hay_logical.specs.Needles.{LacksSeen}
+use Rattle.hay_logical.specs.Seen.{BeginRefusedSeen, IsFresh, PutSeen, ReplicaSeen, RoomSeen, SeesAt, SeesRoom, StepRefusedSeen, StepsTo, VolumeSeen}
+use Rattle.hay_logical.specs.Sights.{AwaitsLook, AwaitsLookAt, IsLiveSight, LiesWithin, Looks, LooksAtPair, SeesAll, Sight, Sights, StoresSights, SwapsSights, gone_sight}
 use Rattle.hay_logical.specs.Sights.Sight.{Gone as WasGone, Live, Never, Unseen}
 use Rattle.hay_cluster.specs.Causes.{Counts, EndsRuns, LeavesFuses}
 use Rattle.hay_cluster.specs.Leaving.{IsApartOn, LeavesByPut, MayAddRow, MayPut}
 use Rattle.hay_cluster.specs.Maintenance.{IsRefusedAs}
-use Rattle.hay_cluster.specs.Passing.{CauseCameUp, PassesBefore, PassesOver, TriesTo}
-use Rattle.hay_cluster.specs.Seen.{Answers, AnswersPut, Closes, GetsHome, IsFrozenBy, IsThawed, MovesVolume, OpensSeen, OpensVolumeSeen, RefusesPhoto, StoreSeen, TakesPhotoAt, VolumeAt, home_seen, is_drained}
-use Rattle.hay_cluster.specs.Sights.{ChangesPhotos, IsAbsent, LeavesSights, MayStand, SeesOn}
+use Rattle.hay_cluster.specs.Needles.{IsDamagedCellAt, IsDamagedLookOn, TellsDamage}
+use Rattle.hay_cluster.specs.Passing.{CauseCameUp, PassesBefore, PassesOver, StandsFor, TriesTo}
+use Rattle.hay_cluster.specs.Seen.{Answers, AnswersPut, Closes, GetsHome, IsFrozenBy, IsThawed, MovesVolume, OpensSeen, OpensVolumeSeen, PlacesLie, RefusesPhoto, StoreSeen, TakesPhotoAt, VolumeAt, home_seen, is_drained}
+use Rattle.hay_cluster.specs.Sights.{ChangesPhotos, IsAbsent, LeavesSights, SeesOn}
 use Rattle.hay_cluster.specs.Store.{IsBuilt}
 use Rattle.hay_cluster.specs.Suiting.{Suits, start_at}
-use Rattle.hay_cluster.proofs.Machines.{replica_found}
+use Rattle.hay_cluster.proofs.Machines.{replica_found, same_machine}
 use Rattle.hay_run.specs.Causing.{BeginsAt, HasSureArm, IsNoteCaused, IsReplyText, IsRestartText, Tally, plain_tag}
 use Rattle.hay_run.specs.Runs.{IsFirstRefusal}
+use Rattle.hay_run.proofs.Counting.{arm_there}
 
 -- a flush that changed what reads give of a disk but the replica's
 pub flush_elsewhere : (Tells : Type 0) (settings : Settings) (before after : Tally) (v m number slot file : ℕ) (text : List ℕ) → Tells → slot < disk_count settings → IsApartOn settings v m slot
@@ -490,31 +497,55 @@ begin_failed_beside_one Tells settings before after v m m' n goal number r sees 
 -- PHOTOS
 
 -- a look changes nothing where a photo is known to stand
-still_live : (old new : Sight) → old ≡ Live → Looks old new → new ≡ Live
-still_live old new live (inl same) = same ∙ live
-still_live old new live (inr (unseen, found)) = cc
+still_live : (old new : Sight) → IsLiveSight old → Looks old new → IsLiveSight new
+still_live Never new live looks = absurd live
+still_live (Live at) new live (inl same) = subst IsLiveSight (sym same) tt
+still_live (Live at) new live (inr found) = absurd found
+still_live WasGone new live looks = absurd live
+still_live (Unseen at size) new live looks = absurd live
 
 -- nor where none does
-still_none : (old new : Sight) → IsAbsent old → Looks old new → new ≡ Live → ⊥
-still_none old new none (inl same) live = subst IsAbsent (sym same ∙ live) none
-still_none old new none (inr (unseen, found)) live = subst IsAbsent unseen none
+still_absent : (old new : Sight) → IsAbsent old → Looks old new → IsAbsent new
+still_absent Never new none (inl same) = subst IsAbsent (sym same) tt
+still_absent Never new none (inr found) = absurd found
+still_absent (Live at) new none looks = absurd none
+still_absent WasGone new none (inl same) = subst IsAbsent (sym same) tt
+still_absent WasGone new none (inr found) = absurd found
+still_absent (Unseen at size) new none looks = absurd none
+
+not_both : (s : Sight) → IsAbsent s → IsLiveSight s → ⊥
+not_both Never none live = live
+not_both (Live at) none live = none
+not_both WasGone none live = live
+not_both (Unseen at size) none live = live
+
+still_none : (old new : Sight) → IsAbsent old → Looks old new → IsLiveSight new → ⊥
+still_none old new none looks live = not_both new (still_absent old new none looks) live
+
+-- nor is one that was looked at unseen then
+still_seen : (old new : Sight) → (AwaitsLook old → ⊥) → Looks old new → AwaitsLook new → ⊥
+still_seen old new known (inl same) awaits = known (subst AwaitsLook same awaits)
+still_seen Never new known (inr found) awaits = found
+still_seen (Live at) new known (inr found) awaits = found
+still_seen WasGone new known (inr found) awaits = found
+still_seen (Unseen at size) new known (inr found) awaits = known tt
 
 -- a photo that is known to stand on a replica, and was told as gone by it
 pub gone_where_it_stands : (Tells : Type 0) (settings : Settings) (before after : Tally) (pair : Pair) (cookie : Cookie) (v m f d j number : ℕ) → replica_on settings v m ≡ Some j
-    → (before.seen).places v pair j ≡ Live → Says Tells settings before after (asks.Read pair cookie) number (Gone v m f d) → ⊥
+    → IsLiveSight ((before.seen).places v pair j) → Says Tells settings before after (asks.Read pair cookie) number (Gone v m f d) → ⊥
 gone_where_it_stands Tells settings before after pair cookie v m f d j number on live says = read (sights_so Tells settings before after (asks.Read pair cookie) number (Gone v m f d) says)
   where
     read : LeavesSights settings (asks.Read pair cookie) (Gone v m f d) before.seen after.seen → ⊥
     read (looked, (i, there, none)) =
         let same : Some j ≡ Some i = sym on ∙ there in
         let here : j ≡ i = cc in
-        let now : (after.seen).places v pair i ≡ Live = subst (λ k. (after.seen).places v pair k ≡ Live) here
+        let now : IsLiveSight ((after.seen).places v pair i) = subst (λ k. IsLiveSight ((after.seen).places v pair k)) here
         (still_live ((before.seen).places v pair j) ((after.seen).places v pair j) live ((looked.changes).each j)) in
-        subst IsAbsent now none
+        not_both ((after.seen).places v pair i) none now
 
 -- a deletion that found nothing where a photo is known to stand
 pub absent_where_it_stands : (Tells : Type 0) (settings : Settings) (before after : Tally) (pair : Pair) (v f d j number : ℕ) → j < settings.replicas
-    → (before.seen).places v pair j ≡ Live → Says Tells settings before after (asks.Del pair) number (Absent v f d) → ⊥
+    → IsLiveSight ((before.seen).places v pair j) → Says Tells settings before after (asks.Del pair) number (Absent v f d) → ⊥
 absent_where_it_stands Tells settings before after pair v f d j number within live says = found (sights_so Tells settings before after (asks.Del pair) number (Absent v f d) says)
   where
     found : LeavesSights settings (asks.Del pair) (Absent v f d) before.seen after.seen → ⊥
@@ -533,21 +564,11 @@ deleted_where_none_stands Tells settings before after pair v p d number none say
         let live = (deletes.finds).live in
         still_none ((before.seen).places v pair live.0) (deletes.found pair live.0) (none live.0 live.1) (((deletes.finds).looks).each live.0) live.2
 
--- nor where none does, whatever it finds
-still_absent : (old new : Sight) → IsAbsent old → Looks old new → IsAbsent new
-still_absent old new none (inl same) = subst IsAbsent (sym same) none
-still_absent old new none (inr (unseen, found)) = absurd (subst IsAbsent unseen none)
-
 -- a deletion that failed behind its looks, and left the volume open
 pub failed_delete_leaves_it_open : (Tells : Type 0) (settings : Settings) (before after : Tally) (pair : Pair) (v m n number : ℕ) (volume : VolumeSeen) → SeesAll pair settings.replicas ((before.seen).places v)
     → At (after.seen).volumes v volume → volume.frozen ≡ None → Says Tells settings before after (asks.Del pair) number (Failed v m n) → ⊥
 failed_delete_leaves_it_open Tells settings before after pair v m n number volume seen there thawed says = failed (sights_so Tells settings before after (asks.Del pair) number (Failed v m n) says)
   where
-    looked : (old new : Sight) → (old ≡ Unseen → ⊥) → Looks old new → new ≡ Unseen → ⊥
-    looked old new known (inl same) unseen = known (sym same ∙ unseen)
-    looked old new known (inr (was, inl live)) unseen = cc
-    looked old new known (inr (was, inr gone)) unseen = cc
-
     failed : LeavesSights settings (asks.Del pair) (Failed v m n) before.seen after.seen → ⊥
     failed (inl ((other, at, frozen), changes)) =
         let same : Some volume ≡ Some other = sym there ∙ at in
@@ -556,7 +577,7 @@ failed_delete_leaves_it_open Tells settings before after pair v m n number volum
     failed (inr (open_still, changes)) =
         let vain = changes.changes in
         let on = vain.unseen in
-        looked ((before.seen).places v pair on.0) ((after.seen).places v pair on.0) (seen on.0 on.1) ((vain.looks).each on.0) on.3
+        still_seen ((before.seen).places v pair on.0) ((after.seen).places v pair on.0) (seen on.0 on.1) ((vain.looks).each on.0) on.3
 
 -- a deletion that ended a compaction though no call of the replica's disk failed
 pub deleted_and_ended_a_compaction : (Tells : Type 0) (settings : Settings) (before after : Tally) (pair : Pair) (v p d j goal number : ℕ)
@@ -572,9 +593,14 @@ deleted_and_ended_a_compaction Tells settings before after pair v p d j goal num
 abbrev pub IsSwap : Command → ℕ → ℕ → Type 0
 IsSwap command v m = (command ≡ asks.Compact v m) ⊎ (command ≡ asks.Finish v m)
 
+-- so the replica's photos are seen otherwise
+abbrev pub SwapsOn : Settings → ℕ → ℕ → StoreSeen → StoreSeen → Type 0
+SwapsOn settings v m old new =
+    (at : ℕ) × (replica_on settings v m ≡ Some at) × VolumeAt v (λ volume. ChangesPhotos v (SwapsSights at volume.replicas) old new) new
+
 swaps_so : (Tells : Type 0) (settings : Settings) (before after : Tally) (work : Command) (v m g number : ℕ) → IsSwap work v m
     → Says Tells settings before after work number (Compacted v m g)
-    → (at : ℕ) × (replica_on settings v m ≡ Some at) × ChangesPhotos v (SwapsSights at) before.seen after.seen
+    → SwapsOn settings v m before.seen after.seen
 swaps_so Tells settings before after work v m g number (inl is) says =
     let P : Command → Type 0 = λ c. Says Tells settings before after c number (Compacted v m g) in
     sights_so Tells settings before after (asks.Compact v m) number (Compacted v m g) (subst P is says)
@@ -583,8 +609,8 @@ swaps_so Tells settings before after work v m g number (inr is) says =
     sights_so Tells settings before after (asks.Finish v m) number (Compacted v m g) (subst P is says)
 
 -- no photo comes to stand in new files where none stood
-swap_keeps_absent : (at : ℕ) (pair : Pair) (j : ℕ) (old new : Sights) → SwapsSights at old new → IsAbsent (old pair j) → IsAbsent (new pair j)
-swap_keeps_absent at pair j old new swaps none =
+swap_keeps_absent : (at : ℕ) (replicas : List ReplicaSeen) (pair : Pair) (j : ℕ) (old new : Sights) → SwapsSights at replicas old new → IsAbsent (old pair j) → IsAbsent (new pair j)
+swap_keeps_absent at replicas pair j old new swaps none =
     elim (cases_eq j at) [
       | inl same ↦ subst (λ k. IsAbsent (new pair k)) (sym same) (here (old pair at) refl (subst (λ k. IsAbsent (old pair k)) same none))
       | inr other ↦ subst IsAbsent (sym (swaps.others pair j other)) none
@@ -592,23 +618,23 @@ swap_keeps_absent at pair j old new swaps none =
   where
     here : (s : Sight) → old pair at ≡ s → IsAbsent s → IsAbsent (new pair at)
     here Never is absent = subst IsAbsent (sym (swaps.never pair is)) tt
-    here Live is absent = absurd absent
+    here (Live place) is absent = absurd absent
     here WasGone is absent = subst IsAbsent (sym (swaps.gone pair is)) tt
-    here Unseen is absent = absurd absent
+    here (Unseen place size) is absent = absurd absent
 
 -- nor is one left that was not looked at
-swap_keeps_seen : (at replicas : ℕ) (pair : Pair) (old new : Sights) → SwapsSights at old new → SeesAll pair replicas old → SeesAll pair replicas new
-swap_keeps_seen at replicas pair old new swaps seen j within unseen =
+swap_keeps_seen : (at number : ℕ) (replicas : List ReplicaSeen) (pair : Pair) (old new : Sights) → SwapsSights at replicas old new → SeesAll pair number old → SeesAll pair number new
+swap_keeps_seen at number replicas pair old new swaps seen j within awaits =
     elim (cases_eq j at) [
-      | inl same ↦ swaps.seen pair (subst (λ k. new pair k ≡ Unseen) same unseen)
-      | inr other ↦ seen j within (sym (swaps.others pair j other) ∙ unseen)
+      | inl same ↦ swaps.seen pair (subst (λ k. AwaitsLook (new pair k)) same awaits)
+      | inr other ↦ seen j within (subst AwaitsLook (swaps.others pair j other) awaits)
     ]
 
 gone_is_absent : (s : Sight) → IsAbsent (gone_sight s)
 gone_is_absent Never = tt
-gone_is_absent Live = tt
+gone_is_absent (Live at) = tt
 gone_is_absent WasGone = tt
-gone_is_absent Unseen = tt
+gone_is_absent (Unseen at size) = tt
 
 -- a photo of a pair that was deleted before a compaction
 pub photo_of_a_deleted_pair_behind_a_compaction : (Tells : Type 0) (settings : Settings) (a b c d : Tally) (work : Command) (pair : Pair) (cookie : Cookie)
@@ -619,33 +645,41 @@ photo_of_a_deleted_pair_behind_a_compaction Tells settings a b c d work pair coo
     shown (sights_so Tells settings a b (asks.Del pair) first (Deleted v p rows) deletes) (swaps_so Tells settings b c work v m g second swap compacts)
     (sights_so Tells settings c d (asks.Read pair cookie) third (Photo v m' f rows' photo) shows)
   where
-    shown : LeavesSights settings (asks.Del pair) (Deleted v p rows) a.seen b.seen → (at : ℕ) × (replica_on settings v m ≡ Some at) × ChangesPhotos v (SwapsSights at) b.seen c.seen
+    shown : LeavesSights settings (asks.Del pair) (Deleted v p rows) a.seen b.seen → SwapsOn settings v m b.seen c.seen
         → LeavesSights settings (asks.Read pair cookie) (Photo v m' f rows' photo) c.seen d.seen → ⊥
-    shown deleted (at, on, swaps) (looked, (j, there, live)) =
+    shown deleted (at, on, (volume, is, swaps)) (looked, (j, there, live)) =
         let erases = (deleted.changes).erases in
         let first_none : IsAbsent ((b.seen).places v pair j) = subst IsAbsent (sym (erases.gone j)) (gone_is_absent ((deleted.changes).found pair j)) in
-        let second_none = swap_keeps_absent at pair j ((b.seen).places v) ((c.seen).places v) swaps.changes first_none in
+        let second_none = swap_keeps_absent at volume.replicas pair j ((b.seen).places v) ((c.seen).places v) swaps.changes first_none in
         let third_none = still_absent ((c.seen).places v pair j) ((d.seen).places v pair j) second_none ((looked.changes).each j) in
-        subst IsAbsent live third_none
+        not_both ((d.seen).places v pair j) third_none live
+
+-- what was stored was looked at on each replica
+stored_is_seen : (settings : Settings) (pair : Pair) (v : ℕ) (old new : StoreSeen) → VolumeAt v (λ volume. length volume.replicas ≡ settings.replicas) old
+    → VolumeAt v (λ volume. ChangesPhotos v (StoresSights pair volume.replicas) old new) old → SeesAll pair settings.replicas (new.places v)
+stored_is_seen settings pair v old new (volume, there, many) (other, at, changes) j within awaits =
+    let same : Some volume ≡ Some other = sym there ∙ at in
+    let here : volume ≡ other = cc in
+    let count : length other.replicas ≡ settings.replicas = subst (λ (o : VolumeSeen). length o.replicas ≡ settings.replicas) here many in
+    let r = arm_there other.replicas j (omega (arith, within, count)) in
+    let live = (changes.changes).live j r.0 r.1 in subst AwaitsLook live awaits
 
 -- a deletion that failed behind a compaction, of a photo stored before it, and left the volume open to a put
 pub failed_delete_leaves_it_open_behind_a_compaction : (Tells : Type 0) (settings : Settings) (a b c d e : Tally) (work : Command) (pair other : Pair) (photo photo' : List ℕ)
-    (cookie cookie' : Cookie) (v m g p rows m' n p' rows' first second third fourth : ℕ) → IsSwap work v m
+    (cookie cookie' : Cookie) (v m g p rows m' n p' rows' first second third fourth : ℕ) → VolumeAt v (λ volume. length volume.replicas ≡ settings.replicas) a.seen → IsSwap work v m
     → Says Tells settings a b (asks.Put pair photo) first (Stored v p rows cookie) → Says Tells settings b c work second (Compacted v m g)
     → Says Tells settings c d (asks.Del pair) third (Failed v m' n) → Says Tells settings d e (asks.Put other photo') fourth (Stored v p' rows' cookie') → ⊥
 failed_delete_leaves_it_open_behind_a_compaction Tells settings a b c d e work pair other photo photo' cookie cookie' v m g p rows m' n p' rows' first second third fourth
-    swap stores compacts fails stores' =
-    let stored : LeavesSights settings (asks.Put pair photo) (Stored v p rows cookie) a.seen b.seen =
-    sights_so Tells settings a b (asks.Put pair photo) first (Stored v p rows cookie) stores in
+    many swap stores compacts fails stores' =
+    let stored = sights_so Tells settings a b (asks.Put pair photo) first (Stored v p rows cookie) stores in
+    let seen = stored_is_seen settings pair v a.seen b.seen many stored in
     let swaps = swaps_so Tells settings b c work v m g second swap compacts in
-    let seen : SeesAll pair settings.replicas ((b.seen).places v) =
-    (λ j within unseen. let live : (b.seen).places v pair j ≡ Live = (stored.changes).live j within in cc) in
     let answers : AnswersPut settings (plain_tag fourth) other (length photo') (Stored v p' rows' cookie') d.seen e.seen =
     answers_so Tells settings d e (asks.Put other photo') fourth (Stored v p' rows' cookie') stores' in
     let took = takes settings other (length photo') v d.seen answers.0.0 answers.0.1 in
     let thawed = took.0.0 in
     failed_delete_leaves_it_open Tells settings c d pair v m' n third thawed.0
-    (swap_keeps_seen swaps.0 settings.replicas pair ((b.seen).places v) ((c.seen).places v) (swaps.2).changes seen) thawed.1 thawed.2.0 fails
+    (swap_keeps_seen swaps.0 settings.replicas (swaps.2.0).replicas pair ((b.seen).places v) ((c.seen).places v) (swaps.2.2).changes seen) thawed.1 thawed.2.0 fails
 
 -- REPLICAS THAT ARE PASSED OVER
 
@@ -664,7 +698,7 @@ first_cause A B m ms (cause ∷ causes) order each stood = (cause, cc, each.0, s
 pub record PassesFirst (settings : Settings) (Sure : Type 0) (lane start v : ℕ) (pair : Pair) (before after : Counts) (seen : StoreSeen) : Type 0 where
   pub cause : Cause
   pub came : CauseCameUp settings Sure lane v before after (machine_of settings v start) cause
-  pub stood : MayStand (seen.places v pair start)
+  pub stood : StandsFor cause (seen.places v pair start)
 
 passes_first : (settings : Settings) (Sure : Type 0) (lane start v m j : ℕ) (pair : Pair) (before after : Counts) (seen : StoreSeen) → IsBuilt settings → v < settings.volumes
     → start < settings.replicas → replica_on settings v m ≡ Some j → j ≢ start → TriesTo settings Sure lane start v m pair before after seen
@@ -686,7 +720,7 @@ passes_first settings Sure lane start v m j pair before after seen built volume 
         let passes = tries.passes in
         let order : map (λ passed. passed.machine) tries.causes ≡ machine_of settings v ((start + 0) % settings.replicas) ∷ map (machine_of settings v) others =
         passes.order ∙ ap (λ (js : List ℕ). map (machine_of settings v) js) is in
-        let one = first_cause (λ passed. CauseCameUp settings Sure lane v before after passed.machine passed.cause) (λ passed. SeesOn settings v pair MayStand seen passed.machine)
+        let one = first_cause (λ passed. CauseCameUp settings Sure lane v before after passed.machine passed.cause) (λ passed. SeesOn settings v pair (StandsFor passed.cause) seen passed.machine)
         (machine_of settings v ((start + 0) % settings.replicas)) (map (machine_of settings v) others) tries.causes order passes.each passes.stood in
         let machine : (one.0).machine ≡ machine_of settings v start = one.1 ∙ ap (machine_of settings v) first in
         let sees = one.3 in
@@ -695,14 +729,22 @@ passes_first settings Sure lane start v m j pair before after seen built volume 
         record {
           cause = (one.0).cause;
           came = subst (λ k. CauseCameUp settings Sure lane v before after k (one.0).cause) machine one.2;
-          stood = subst (λ k. MayStand (seen.places v pair k)) here sees.2;
+          stood = subst (λ k. StandsFor (one.0).cause (seen.places v pair k)) here sees.2;
         }
 
-none_stands : (s : Sight) → IsAbsent s → MayStand s → ⊥
-none_stands Never absent may = may
-none_stands Live absent may = absent
-none_stands WasGone absent may = may
-none_stands Unseen absent may = absent
+none_stands : (cause : Cause) (s : Sight) → IsAbsent s → StandsFor cause s → ⊥
+none_stands (Arm count) Never absent may = may
+none_stands (Arm count) (Live at) absent may = absent
+none_stands (Arm count) WasGone absent may = may
+none_stands (Arm count) (Unseen at size) absent may = absent
+none_stands (Disk count) Never absent may = may
+none_stands (Disk count) (Live at) absent may = absent
+none_stands (Disk count) WasGone absent may = may
+none_stands (Disk count) (Unseen at size) absent may = absent
+none_stands (Damage place) Never absent may = may
+none_stands (Damage place) (Live at) absent may = absent
+none_stands (Damage place) WasGone absent may = may
+none_stands (Damage place) (Unseen at size) absent may = absent
 
 -- a photo that another replica showed than the first in the order of the line, of which it was seen that it has none
 pub photo_behind_a_replica_without_one : (Tells : Type 0) (settings : Settings) (before after : Tally) (pair : Pair) (cookie : Cookie) (v m f d j number : ℕ) (photo : List ℕ)
@@ -721,7 +763,7 @@ photo_behind_a_replica_without_one Tells settings before after pair cookie v m f
         let some = built.some_replicas in
         let passed = passes_first settings (HasSureArm before 0) 0 start v m j pair before.counts after.counts after.seen built volume
         (mod-lt number (omega (arith, some))) on other tries in
-        none_stands ((after.seen).places v pair start) (still_absent ((before.seen).places v pair start) ((after.seen).places v pair start) none ((looked.changes).each start)) passed.stood
+        none_stands passed.cause ((after.seen).places v pair start) (still_absent ((before.seen).places v pair start) ((after.seen).places v pair start) none ((looked.changes).each start)) passed.stood
 
 -- so of a get that another machine than the URL's answered
 pub photo_of_a_url_behind_a_replica_without_one : (Tells : Type 0) (settings : Settings) (before after : Tally) (url : UrlParts) (m f d i j number : ℕ) (photo : List ℕ)
@@ -737,7 +779,7 @@ photo_of_a_url_behind_a_replica_without_one Tells settings before after url m f 
         let passed = passes_first settings (HasSureArm before 0) 0 i url.volume m j url.pair before.counts after.counts after.seen built volume within on other tries in
         let was = (before.seen).places url.volume url.pair i in
         let is = (after.seen).places url.volume url.pair i in
-        none_stands is (still_absent was is none ((looked.changes).each i)) passed.stood
+        none_stands passed.cause is (still_absent was is none ((looked.changes).each i)) passed.stood
 
 -- a failure of an arm that was sure
 pub unreadable_for_a_sure_arm : (Tells : Type 0) (settings : Settings) (before after : Tally) (pair : Pair) (cookie : Cookie) (v f d m n number : ℕ) (causes : List Passed)
@@ -746,6 +788,31 @@ unreadable_for_a_sure_arm Tells settings before after pair cookie v f d m n numb
     let passes : PassesOver settings (HasSureArm before 0) 0 v pair before.counts after.counts after.seen (order_from settings (start_at settings number)) (record { machine = m; cause = Arm n } ∷ causes) =
     passes_so Tells settings before after (asks.Read pair cookie) number (Unreadable v f d (record { machine = m; cause = Arm n } ∷ causes)) says in
     passes.each.0.0 sure
+
+-- nor one whose count did not rise
+pub unreadable_for_an_arm_that_did_not_fail : (Tells : Type 0) (settings : Settings) (before after : Tally) (pair : Pair) (cookie : Cookie) (v f d m n number : ℕ) (causes : List Passed)
+    → slice_index after.counts.arms 0 ≡ slice_index before.counts.arms 0 → slice_index before.counts.arms 0 < 2 ^ 64 - 1
+    → Says Tells settings before after (asks.Read pair cookie) number (Unreadable v f d (record { machine = m; cause = Arm n } ∷ causes)) → ⊥
+unreadable_for_an_arm_that_did_not_fail Tells settings before after pair cookie v f d m n number causes same low says =
+    let passes : PassesOver settings (HasSureArm before 0) 0 v pair before.counts after.counts after.seen (order_from settings (start_at settings number)) (record { machine = m; cause = Arm n } ∷ causes) =
+    passes_so Tells settings before after (asks.Read pair cookie) number (Unreadable v f d (record { machine = m; cause = Arm n } ∷ causes)) says in
+    came (slice_index before.counts.arms 0) (slice_index after.counts.arms 0) same low passes.each.0.1
+  where
+    came : (a b : ℕ) → b ≡ a → a < 2 ^ 64 - 1 → CameUp a n b → ⊥
+    came a b is less (inl more, most) = omega (arith, is, more, most)
+    came a b is less (inr end, most) = omega (arith, is, less, end, most)
+
+-- nor a disk's
+pub unreadable_for_a_disk_that_did_not_fail : (Tells : Type 0) (settings : Settings) (before after : Tally) (pair : Pair) (cookie : Cookie) (v f d m j n number : ℕ) (causes : List Passed)
+    → replica_on settings v m ≡ Some j → (Rose (slice_index before.counts.disks (slot_of settings v j)) (slice_index after.counts.disks (slot_of settings v j)) → ⊥)
+    → Says Tells settings before after (asks.Read pair cookie) number (Unreadable v f d (record { machine = m; cause = Disk n } ∷ causes)) → ⊥
+unreadable_for_a_disk_that_did_not_fail Tells settings before after pair cookie v f d m j n number causes on still says =
+    let passes : PassesOver settings (HasSureArm before 0) 0 v pair before.counts after.counts after.seen (order_from settings (start_at settings number)) (record { machine = m; cause = Disk n } ∷ causes) =
+    passes_so Tells settings before after (asks.Read pair cookie) number (Unreadable v f d (record { machine = m; cause = Disk n } ∷ causes)) says in
+    let rose = passes.each.0 in
+    let same : Some rose.replica ≡ Some j = sym rose.there ∙ on in
+    let here : rose.replica ≡ j = cc in
+    still (subst (λ k. Rose (slice_index before.counts.disks (slot_of settings v k)) (slice_index after.counts.disks (slot_of settings v k))) here rose.rose)
 
 -- a photo longer than the largest
 pub photo_longer_than_the_largest : (Tells : Type 0) (settings : Settings) (before after : Tally) (pair : Pair) (cookie : Cookie) (v m f d number : ℕ) (photo : List ℕ)
@@ -760,3 +827,168 @@ photo_longer_than_the_largest Tells settings before after pair cookie v m f d nu
     read (inr (inl (w, below, inr (inr (inl (m', p, d', on, is)))))) = cc
     read (inr (inl (w, below, inr (inr (inr (p, d', causes, is)))))) = cc
     read (inr (inr is)) = cc
+
+-- PLACES AND DAMAGE
+
+-- this file has a needle of a photo of so many bytes there
+pub record HasNeedleAt (file : List ℕ) (place size : ℕ) : Type 0 where
+  pub needle : Needle
+  pub begins : BeginsWithNeedle (drop place file) needle
+  pub long : length (needle.photo).bytes ≡ size
+
+-- and what is told of damage
+damage_so : (Tells : Type 0) (settings : Settings) (before after : Tally) (command : Command) (number : ℕ) (said : Reply) → Tells → Says Tells settings before after command number said
+    → TellsDamage settings before.contents before.seen command said
+damage_so Tells settings before after command number said tells (large, told) =
+    subst (λ (r : Reply). TellsDamage settings before.contents before.seen command r) (sym (same_reply number said told.said large told.fits told.is)) (told.damaged tells)
+
+-- a deletion that met damage where the needle stands that is recorded
+pub damaged_where_the_needle_stands : (Tells : Type 0) (settings : Settings) (before after : Tally) (pair : Pair) (v m j place size number : ℕ) (r : ReplicaSeen) → Tells
+    → replica_on settings v m ≡ Some j → VolumeAt v (λ volume. At volume.replicas j r) before.seen → (before.seen).places v pair j ≡ Unseen place size
+    → HasNeedleAt (before.contents (slot_of settings v j) (volume_file r.generation)) place size
+    → Says Tells settings before after (asks.Del pair) number (Damaged v m place) → ⊥
+damaged_where_the_needle_stands Tells settings before after pair v m j place size number r tells on (volume, there, is) unseen stands says =
+    met (damage_so Tells settings before after (asks.Del pair) number (Damaged v m place) tells says v m place refl)
+  where
+    file : ReplicaSeen → List ℕ
+    file o = before.contents (slot_of settings v j) (volume_file o.generation)
+
+    met : IsDamagedLookOn settings before.contents before.seen v pair m place → ⊥
+    met (i, on', (volume', there', (r', is', lacks))) =
+        let same : Some j ≡ Some i = sym on ∙ on' in
+        let here : i ≡ j = cc in
+        let one : Some volume' ≡ Some volume = sym there' ∙ there in
+        let same_volume : volume' ≡ volume = cc in
+        let on_volume : At volume.replicas i r' = subst (λ (o : VolumeSeen). At o.replicas i r') same_volume is' in
+        let two : Some r' ≡ Some r = sym (subst (λ k. At volume.replicas k r') here on_volume) ∙ is in
+        let same_replica : r' ≡ r = cc in
+        let at_slot : LacksSeen (before.contents (slot_of settings v j) (volume_file r'.generation)) place ((before.seen).places v pair j) =
+        subst (λ k. LacksSeen (before.contents (slot_of settings v k) (volume_file r'.generation)) place ((before.seen).places v pair k)) here lacks in
+        let at_file : LacksSeen (file r) place ((before.seen).places v pair j) = subst (λ (o : ReplicaSeen). LacksSeen (file o) place ((before.seen).places v pair j)) same_replica at_slot in
+        let none : LacksSeen (file r) place (Unseen place size) = subst (λ (s : Sight). LacksSeen (file r) place s) unseen at_file in
+        none.1 stands.needle stands.begins stands.long
+
+-- a step that met damage where a needle stands that ends before the cells do
+pub step_damaged_where_a_needle_stands : (Tells : Type 0) (settings : Settings) (before after : Tally) (v m cells j place size number : ℕ) (r : ReplicaSeen) → Tells
+    → replica_on settings v m ≡ Some j → VolumeAt v (λ volume. At volume.replicas j r) before.seen → place + needle_total size ≤ r.end
+    → HasNeedleAt (before.contents (slot_of settings v j) (volume_file r.generation)) place size
+    → Says Tells settings before after (asks.Step v m cells) number (Damaged v m place) → ⊥
+step_damaged_where_a_needle_stands Tells settings before after v m cells j place size number r tells on (volume, there, is) within stands says =
+    met (damage_so Tells settings before after (asks.Step v m cells) number (Damaged v m place) tells says m place refl j on)
+  where
+    met : IsDamagedCellAt settings before.contents before.seen v j place → ⊥
+    met (volume', there', (r', is', lacks)) =
+        let one : Some volume' ≡ Some volume = sym there' ∙ there in
+        let same_volume : volume' ≡ volume = cc in
+        let two : Some r' ≡ Some r = sym (subst (λ (o : VolumeSeen). At o.replicas j r') same_volume is') ∙ is in
+        let same_replica : r' ≡ r = cc in
+        let none : LacksNeedleWithin r.end place (before.contents (slot_of settings v j) (volume_file r.generation)) =
+        subst (λ (o : ReplicaSeen). LacksNeedleWithin o.end place (before.contents (slot_of settings v j) (volume_file o.generation))) same_replica lacks in
+        let ends : place + needle_total (length ((stands.needle).photo).bytes) ≤ r.end = subst (λ k. place + needle_total k ≤ r.end) (sym stands.long) within in
+        none stands.needle stands.begins ends
+
+-- what awaits a look is seen at one place
+awaits_same : (old new : Sight) (place place' : ℕ) → AwaitsLookAt place old → Looks old new → AwaitsLookAt place' new → place' ≡ place
+awaits_same old new place place' was (inl same) is = at_one old was (subst (AwaitsLookAt place') same is)
+  where
+    at_one : (s : Sight) → AwaitsLookAt place s → AwaitsLookAt place' s → place' ≡ place
+    at_one Never was is = absurd was
+    at_one (Live at) was is = absurd was
+    at_one WasGone was is = absurd was
+    at_one (Unseen at size) was is = is ∙ sym was
+awaits_same Never new place place' was (inr found) is = absurd was
+awaits_same (Live at) new place place' was (inr found) is = absurd was
+awaits_same WasGone new place place' was (inr found) is = absurd was
+awaits_same (Unseen at size) new place place' was (inr (inl live)) is = absurd (subst (AwaitsLookAt place') live is)
+awaits_same (Unseen at size) new place place' was (inr (inr gone)) is = absurd (subst (AwaitsLookAt place') gone is)
+
+-- two deletions of a pair that met damage at two places of one replica
+pub damaged_at_two_places : (Tells : Type 0) (settings : Settings) (a b c : Tally) (pair : Pair) (v m place place' first second : ℕ) → IsBuilt settings → place' ≢ place
+    → Says Tells settings a b (asks.Del pair) first (Damaged v m place) → Says Tells settings b c (asks.Del pair) second (Damaged v m place') → ⊥
+damaged_at_two_places Tells settings a b c pair v m place place' first second built other says says' =
+    met (sights_so Tells settings a b (asks.Del pair) first (Damaged v m place) says) (sights_so Tells settings b c (asks.Del pair) second (Damaged v m place') says')
+  where
+    met : LeavesSights settings (asks.Del pair) (Damaged v m place) a.seen b.seen → LeavesSights settings (asks.Del pair) (Damaged v m place') b.seen c.seen → ⊥
+    met was is =
+        let on = (was.changes).unseen in
+        let on' = (is.changes).unseen in
+        let few = built.no_more_replicas in
+        let same : on'.0 ≡ on.0 = same_machine settings.machines v on'.0 on.0 (omega (arith, on'.1, few)) (omega (arith, on.1, few)) (sym on'.2 ∙ on.2) in
+        let here : AwaitsLookAt place' ((c.seen).places v pair on.0) = subst (λ j. AwaitsLookAt place' ((c.seen).places v pair j)) same on'.3 in
+        other (awaits_same ((b.seen).places v pair on.0) ((c.seen).places v pair on.0) place place' on.3 (((is.changes).looks).each on.0) here)
+
+-- a look leaves a photo where it is recorded
+still_there : (old new : Sight) (at place : ℕ) → StandsFor (Damage at) old → Looks old new → StandsFor (Damage place) new → place ≡ at
+still_there old new at place was (inl same) is = at_one old was (subst (StandsFor (Damage place)) same is)
+  where
+    at_one : (s : Sight) → StandsFor (Damage at) s → StandsFor (Damage place) s → place ≡ at
+    at_one Never was is = absurd was
+    at_one (Live there) was is = is ∙ sym was
+    at_one WasGone was is = absurd was
+    at_one (Unseen there size) was is = is ∙ sym was
+still_there Never new at place was (inr found) is = absurd was
+still_there (Live there) new at place was (inr found) is = absurd found
+still_there WasGone new at place was (inr found) is = absurd was
+still_there (Unseen there size) new at place was (inr (inl live)) is = let same : place ≡ there = subst (StandsFor (Damage place)) live is in same ∙ sym was
+still_there (Unseen there size) new at place was (inr (inr gone)) is = absurd (subst (StandsFor (Damage place)) gone is)
+
+-- a read that names damage at another place than the one where the photo of the pair is recorded
+pub unreadable_at_another_place : (Tells : Type 0) (settings : Settings) (before after : Tally) (pair : Pair) (cookie : Cookie) (v f d m j at place number : ℕ) (causes : List Passed)
+    → replica_on settings v m ≡ Some j → StandsFor (Damage at) ((before.seen).places v pair j) → place ≢ at
+    → Says Tells settings before after (asks.Read pair cookie) number (Unreadable v f d (record { machine = m; cause = Damage place } ∷ causes)) → ⊥
+unreadable_at_another_place Tells settings before after pair cookie v f d m j at place number causes on stood other says =
+    read (passes_so Tells settings before after (asks.Read pair cookie) number said says) (sights_so Tells settings before after (asks.Read pair cookie) number said says)
+  where
+    said : Reply
+    said = Unreadable v f d (record { machine = m; cause = Damage place } ∷ causes)
+
+    read : PassesOver settings (HasSureArm before 0) 0 v pair before.counts after.counts after.seen (order_from settings (start_at settings number)) (record { machine = m; cause = Damage place } ∷ causes)
+        → ChangesPhotos v (LooksAtPair pair) before.seen after.seen → ⊥
+    read passes looked =
+        let sees = passes.stood.0 in
+        let same : Some sees.0 ≡ Some j = sym sees.1 ∙ on in
+        let here : sees.0 ≡ j = cc in
+        let stands : StandsFor (Damage place) ((after.seen).places v pair j) = subst (λ k. StandsFor (Damage place) ((after.seen).places v pair k)) here sees.2 in
+        other (still_there ((before.seen).places v pair j) ((after.seen).places v pair j) at place stood ((looked.changes).each j) stands)
+
+-- a flush that tells more cells, right behind an opening, than have room before the end of the replica's cells
+pub flushed_more_than_stand : (Tells : Type 0) (settings : Settings) (before after : Tally) (v m n number : ℕ) (r : ReplicaSeen) → OpensSeen settings before.seen → SeesReplica settings before.seen v m r
+    → r.end < 64 + n * needle_total 0 → Says Tells settings before after (asks.Flush v m) number (Flushed v m n) → ⊥
+flushed_more_than_stand Tells settings before after v m n number r opens sees full says =
+    flushed_another_number Tells settings before after v m n number r sees
+    (λ same. let from : 64 + n * needle_total 0 ≤ r.end = subst (λ k. 64 + k * needle_total 0 ≤ r.end) (sym same) (fresh.from) in omega (arith, full, from)) says
+  where
+    fresh : IsFresh r
+    fresh =
+        let opened = at_all (OpensVolumeSeen settings) (before.seen).volumes v sees.volume opens.volumes sees.there in
+        (opened.0).fresh sees.at r sees.is
+
+-- a photo that is shown by a replica that has no cell
+pub photo_of_an_empty_replica : (Tells : Type 0) (settings : Settings) (before after : Tally) (pair : Pair) (cookie : Cookie) (v m f d number : ℕ) (photo : List ℕ) (r : ReplicaSeen)
+    → PlacesLie before.seen → SeesReplica settings before.seen v m r → r.end ≡ 64
+    → Says Tells settings before after (asks.Read pair cookie) number (Photo v m f d photo) → ⊥
+photo_of_an_empty_replica Tells settings before after pair cookie v m f d number photo r lie sees empty says =
+    read (sights_so Tells settings before after (asks.Read pair cookie) number (Photo v m f d photo) says)
+  where
+    lies : (pair : Pair) → LiesWithin r.end ((before.seen).places v pair sees.at)
+    lies other = (lie v sees.volume sees.there).within sees.at r sees.is other
+
+    none : (old new : Sight) → LiesWithin r.end old → Looks old new → IsLiveSight new → ⊥
+    none old new within (inl same) live = here old within (subst IsLiveSight same live)
+      where
+        here : (s : Sight) → LiesWithin r.end s → IsLiveSight s → ⊥
+        here Never within live = live
+        here (Live at) within live = let from = within.0 in let end = within.1 in omega (arith, from, end, empty)
+        here WasGone within live = live
+        here (Unseen at size) within live = live
+    none Never new within (inr found) live = found
+    none (Live at) new within (inr found) live = found
+    none WasGone new within (inr found) live = found
+    none (Unseen at size) new within (inr found) live = let from = within.0 in let end = within.1 in omega (arith, from, end, empty)
+
+    read : LeavesSights settings (asks.Read pair cookie) (Photo v m f d photo) before.seen after.seen → ⊥
+    read (looked, (j, on, live)) =
+        let same : Some j ≡ Some sees.at = sym on ∙ sees.on in
+        let here : j ≡ sees.at = cc in
+        let now : IsLiveSight ((after.seen).places v pair sees.at) = subst (λ k. IsLiveSight ((after.seen).places v pair k)) here live in
+        none ((before.seen).places v pair sees.at) ((after.seen).places v pair sees.at) (lies pair) ((looked.changes).each sees.at) now

@@ -24,6 +24,7 @@ use Rattle.hay_legal.specs.Statuses.Ending.{ReadAll, OutputFault, InputFault, No
 use Rattle.hay_cluster.specs.Causes.{Counts, EndsRuns, IsCaused, LeavesFuses, RoseIn}
 use Rattle.hay_cluster.specs.Draws.{drawn_in}
 use Rattle.hay_cluster.specs.Leaving.{LeavesContents}
+use Rattle.hay_cluster.specs.Needles.{TellsDamage}
 use Rattle.hay_cluster.specs.Outside.{AreSoundBelow, FormatsVoid, IsDamagedDisk, IsKept, IsUndamaged, KeepsContents}
 use Rattle.hay_cluster.specs.Passing.{PassesBefore}
 use Rattle.hay_cluster.specs.Seen.{Answers, OpensSeen, StoreSeen, TellsSeen, store_seen}
@@ -87,7 +88,7 @@ plain_tag number = record { lane = 0; line = number }
 -- The text of another command: a reply with numbers of their types, which the command of this line may be given, which tells of a
 -- disk's failure only where the count that it prints rose, and what a replica shows only where each one that is tried before it was
 -- passed over for its cause, never for an arm that was sure; by which it is known what was seen of the store in memory before it and how
--- it changed that, and which disks have what they had.
+-- it changed that, and which disks have what they had; and the damage that a delete or a compaction tells stands there.
 pub record IsReplyText (Tells : Type 0) (settings : Settings) (before after : Tally) (command : Command) (number : ℕ) (text : List ℕ) : Type 0 where
   pub plain : (pick : ℕ) → command ≢ asks.Restart pick
   pub said : Reply
@@ -99,6 +100,7 @@ pub record IsReplyText (Tells : Type 0) (settings : Settings) (before after : Ta
   pub sights : LeavesSights settings command said before.seen after.seen
   pub ended : EndsRuns settings said before.seen after.seen before.counts.disks after.counts.disks
   pub contents : Tells → LeavesContents settings command said (before.seen).volumes (after.seen).volumes before.contents after.contents
+  pub damaged : Tells → TellsDamage settings before.contents before.seen command said
   pub is : text ≡ numbered_line number said
 
 -- The text answers the item, while the counts went from these to those. A fuse is set by its command alone.
