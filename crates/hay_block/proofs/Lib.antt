@@ -7,3 +7,11 @@ pub mod Knowing
 pub mod Working
 pub mod Running
 pub mod Giving
+pub mod Staying
+pub mod Framing
+pub mod Stepping
+pub mod Beginning
+pub mod Telling
+pub mod Slots
+pub mod Blocks
+pub mod Whole

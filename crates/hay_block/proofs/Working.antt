@@ -1,7 +1,6 @@
 -- A block that lanes ran is legal.
-use Rattle.std.proofs.Common.{◌≡◌, ◌≢◌, ◌<◌, ◌≤◌, ℕ, suc, List, [], ◌∷◌, map, length, refl, sym, ap, subst, ◌∙◌, arith, Some, slice_get}
+use Rattle.std.proofs.Common.{◌≡◌, ◌≢◌, ◌<◌, ◌≤◌, ℕ, List, map, length, sym, ap, subst, ◌∙◌, arith, Some, slice_get}
 use Rattle.std.specs.Prelude.{Bool}
-use Rattle.std.specs.List.{AllByRecursion as Each}
 use Rattle.std.proofs.lemmas.List.{length-map}
 use Rattle.hay_needle.specs.declared.settings.Settings.{Settings}
 use Rattle.hay_core.specs.declared.entry.Entry.{Entry}
@@ -30,16 +29,8 @@ use Rattle.hay_block.specs.Seats.{HasNewSeats}
 use Rattle.hay_block.specs.Lanes.{LanesAreLegal, LanesRan}
 use Rattle.hay_block.proofs.Chaining.{items_stand, lanes_answered, still_sit}
 use Rattle.hay_block.proofs.Legal.{blocks_are_legal}
+use Rattle.hay_block.proofs.Lists.{each_by, each_mapped}
 use Rattle.hay_block.proofs.Knowing.{known, known_at, new_lane, rows_known, unknown_past}
-
-each_mapped : {A B : Type 0} (f : A → B) (P : B → Type 0) (xs : List A) → Each (λ x. P (f x)) xs → Each P (map f xs)
-each_mapped f P [] each = tt
-each_mapped f P (x ∷ xs) each = (each.0, each_mapped f P xs each.1)
-
--- what holds of each by its place
-each_by : {A : Type 0} (P : A → Type 0) (xs : List A) → ((i : ℕ) (x : A) → slice_get xs i ≡ Some x → P x) → Each P xs
-each_by P [] by = tt
-each_by P (x ∷ xs) by = (by 0 x refl, each_by P xs (λ i y at. by (suc i) y at))
 
 module _ {V D S T A : Type 0} {fits : V → Settings → ℕ → S → Type 0} {fits_rows : D → Settings → ℕ → T → Type 0} {is_at : S → StoreVolume → Type 0} {is_at_rows : T → Start → Type 0}
     {of : S → LockSight VolumeAct Entry} {of_rows : T → LockSight DirAct HomeRow} {arm_faults : A → ℕ}

@@ -5,3 +5,7 @@ pub mod Lines
 pub mod Law
 pub mod Lanes
 pub mod Workers
+pub mod Making
+pub mod Frames
+pub mod Stores
+pub mod Parts

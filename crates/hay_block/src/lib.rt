@@ -1,8 +1,11 @@
 //! A block of lines that lanes answer beside each other, over a lock for each volume and one for the Directory. Locks are made for one
 //! block and end with it, so nothing has happened where it begins, and all that happened is known where it ends.
 //!
-//! `give_seats` and `take_seats` bring the seats of a lock to their lanes and back, and `run_lines` answers all lines of all lanes, each
-//! by a `LaneWorker` and `hay_lane`. `specs/Ends` says what is known where the locks are made and where they end, `Behind` what stands
+//! `run_block` takes the volumes and the Directory of a store with the arms of its lanes, and gives them back: it makes the locks, each of
+//! them such as the traits `VolumeLocks` and `DirectoryLocks` say, answers the lines, and ends the locks. `give_seats` and `take_seats` bring
+//! the seats of a lock to their lanes and back, and `run_lines` answers all lines of all lanes, each by a `LaneWorker` and `hay_lane`.
+//! `specs/Making` says what is told where a lock is made and where it ends, `Frames` how they are made and end one behind the other, and
+//! `Stores` what the store stands for. `specs/Ends` says what is known where the locks are made and where they end, `Behind` what stands
 //! then and which notes tell of it, and `Lines` and `Seats` what the lanes answer and where they sit. By `specs/Law` and `Lanes` the
 //! lines of such a block are legal, whatever the order in which the lanes came to the locks. `hay_meeting` asks for what follows, and
 //! has it from here:
@@ -20,10 +23,18 @@
 //! | no count is above 2^64 - 1 | counts that are read behind the locks' end, since no act bounds them |
 #![tactic(auto)]
 
+mod block;
+mod frame;
+mod locks;
+mod notes;
+mod parts;
 mod run;
 mod seating;
+mod store;
 mod worker;
 
+pub use locks::{DirectoryLocks, VolumeLocks};
 pub use run::run_lines;
 pub use seating::{give_seats, take_seats};
+pub use store::{BlockAnswers, BlockNotes, StoreParts, run_block};
 pub use worker::{Job, LaneWorker};

@@ -28,7 +28,8 @@ fn take_seat<S: Drop, T: Drop, A>(lane: &mut Lane<S, T, A>) -> S
 pub fn give_seats<S: Drop, T: Drop, A>(lanes: &mut [Lane<S, T, A>], seats: Vec<S>)
     requires as_many { length seats.items ≡ length lanes.old }
     requires room { AllByRecursion (λ l. vec_len l.volumes < vec_capacity l.volumes) lanes.old }
-    ensures { HaveMore lanes.old seats.items lanes.new }
+    ensures seats { HaveMore lanes.old seats.items lanes.new }
+    ensures same { length lanes.new ≡ length lanes.old }
 {
     let mut seats = seats.into_iter();
     for i in 0..lanes.len() {
@@ -43,7 +44,9 @@ pub fn give_seats<S: Drop, T: Drop, A>(lanes: &mut [Lane<S, T, A>], seats: Vec<S
 pub fn take_seats<S: Drop, T: Drop, A>(lanes: &mut [Lane<S, T, A>], mut seats: Vec<S>) -> Vec<S>
     requires room { (seats.items ≡ []) × (length lanes.old ≤ vec_capacity seats) }
     requires some { AllByRecursion (λ l. 0 < vec_len l.volumes) lanes.old }
-    ensures { HaveMore lanes.new result.items lanes.old }
+    ensures seats { HaveMore lanes.new result.items lanes.old }
+    ensures as_many { length result.items ≡ length lanes.old }
+    ensures same { length lanes.new ≡ length lanes.old }
 {
     for i in 0..lanes.len() {
         let seat = take_seat(&mut lanes[i]);

@@ -19,8 +19,8 @@ loop-i-preserved g c =
       left = subst (λ n. into_iter_items c.next.new.self ≡ drop n c.args.seats.items) next (sym first.1);
     }
 
-pub returns : goal.returns
-returns g c = record {
+pub returns-clause-seats : goal.returns-clause-seats
+returns-clause-seats g c = record {
   many = c.loop-i.invariant.have.long;
   each = λ i l m seat at_l at_m at_s. c.loop-i.invariant.have.each i l m seat (let within = slice_get_within c.args.lanes.now i l at_l in omega (arith, within, c.loop-i-test.false)) at_l at_m at_s;
 }

@@ -20,8 +20,8 @@ loop-i-preserved g c =
       room = search rules;
     }
 
-pub returns : goal.returns
-returns g c = record {
+pub returns-clause-seats : goal.returns-clause-seats
+returns-clause-seats g c = record {
   many = sym c.loop-i.invariant.have.long;
   each = λ i l m seat at_l at_m at_s. c.loop-i.invariant.have.each i m l seat (let within = slice_get_within c.args.lanes.now i m at_m in omega (arith, within, c.loop-i-test.false)) at_m at_l at_s;
 }

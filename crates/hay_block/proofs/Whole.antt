@@ -1,0 +1,118 @@
+-- What a block leaves, from what was run at all its locks.
+use Rattle.std.proofs.Common.{◌≡◌, ◌<◌, ◌≤◌, ℕ, List, [], ◌∷◌, length, refl, sym, ap, subst, ◌∙◌, arith, Some, slice_get, Vec, Global}
+use Rattle.std.specs.Prelude.{Bool}
+use Rattle.std.specs.List.{AllByRecursion as Each, AllZip}
+use Rattle.std.proofs.lemmas.List.{length-map}
+use Rattle.std.proofs.lemmas.Option.{slice_get_within}
+use Rattle.hay_needle.specs.declared.settings.Settings.{Settings}
+use Rattle.hay_core.specs.declared.entry.Entry.{Entry}
+use Rattle.hay_front.specs.declared.front.Tag.{Tag}
+use Rattle.hay_reply.specs.declared.Reply.{Reply}
+use Rattle.hay_reply.specs.Fits.{FitsReply}
+use Rattle.hay_legal.specs.declared.known.DirKnown.{DirKnown}
+use Rattle.hay_legal.specs.declared.known.HomeRow.{HomeRow}
+use Rattle.hay_legal.specs.declared.known.VolumeKnown.{VolumeKnown}
+use Rattle.hay_lanes.specs.Lanes.{AnswersAll, AnswersLanes}
+use Rattle.hay_meeting.specs.declared.act.DirAct.{DirAct}
+use Rattle.hay_meeting.specs.declared.act.VolumeAct.{VolumeAct}
+use Rattle.hay_meeting.specs.Acts.{Start, row_lock}
+use Rattle.hay_meeting.specs.Locks.{LockSight}
+use Rattle.hay_meeting.proofs.Closing.{there}
+use Rattle.hay_lane.specs.declared.lane.Lane.{Lane}
+use Rattle.hay_lane.specs.Tellings.{StoreVolume}
+use Rattle.hay_block.specs.declared.worker.Job.{Job}
+use Rattle.hay_block.specs.Frames.{RanAll, shared_by}
+use Rattle.hay_block.specs.Lines.{Answers}
+use Rattle.hay_block.specs.Making.{AreSeated, AreUnseen, LeavesDirectory}
+use Rattle.hay_block.specs.Stores.{AreStill, CountsRise}
+use Rattle.hay_block.proofs.Framing.{nothing_made}
+use Rattle.hay_block.proofs.Lists.{each_by, same_item, zip_by}
+
+-- REPLIES, whatever the disks tell
+
+module _ {W J O : Type 0} (gives : W → ℕ → J → W → O → Type 0) where
+  as_long : (lane : ℕ) (w : W) (jobs : List J) (after : W) (outs : List O) → AnswersAll gives lane w jobs after outs → length jobs ≡ length outs
+  as_long lane w [] after outs (same, none) = sym (ap length none)
+  as_long lane w (job ∷ jobs) after outs (x, out, rest, outs_are, answered, more) =
+      let less = as_long lane x jobs after rest more in
+      let long = ap length outs_are in
+      omega (arith, less, long)
+
+  each_out : (P : O → Type 0) → ((w : W) (lane : ℕ) (job : J) (x : W) (out : O) → gives w lane job x out → P out)
+      → (lane : ℕ) (w : W) (jobs : List J) (after : W) (outs : List O) → AnswersAll gives lane w jobs after outs → Each P outs
+  each_out P fits lane w [] after outs (same, none) = subst (Each P) (sym none) tt
+  each_out P fits lane w (job ∷ jobs) after outs (x, out, rest, outs_are, answered, more) =
+      subst (Each P) (sym outs_are) (fits w lane job x out answered, each_out P fits lane x jobs after rest more)
+
+  -- each line has its reply
+  pub replies_long : {workers after : List W} {jobs : List (List J)} {outs : List (List O)} → length jobs ≡ length workers → AnswersLanes gives workers jobs after outs
+      → AllZip (λ js rs. length js ≡ length rs) jobs outs
+  replies_long {workers} {after} {jobs} {outs} given all = zip_by (λ js rs. length js ≡ length rs) jobs outs (sym all.lanes_stay)
+      (λ lane js rs at_js at_rs.
+      let w = there workers lane (let within = slice_get_within jobs lane js at_js in omega (arith, within, given)) in
+      let r = all.each lane w.0 js w.1 at_js in
+      as_long lane w.0 js r.0 r.1 r.4 ∙ ap length (same_item outs lane r.3 at_rs))
+
+  -- and all are such
+  pub replies_are : (P : O → Type 0) → ((w : W) (lane : ℕ) (job : J) (x : W) (out : O) → gives w lane job x out → P out)
+      → {workers after : List W} {jobs : List (List J)} {outs : List (List O)} → length jobs ≡ length workers → AnswersLanes gives workers jobs after outs → Each (Each P) outs
+  replies_are P fits {workers} {after} {jobs} {outs} given all = each_by (Each P) outs (λ lane rs at_rs.
+      let within = slice_get_within outs lane rs at_rs in
+      let same = all.lanes_stay in
+      let js = there jobs lane (omega (arith, within, same)) in
+      let w = there workers lane (omega (arith, within, same, given)) in
+      let r = all.each lane w.0 js.0 w.1 js.1 in
+      subst (Each P) (same_item outs lane r.3 at_rs) (each_out P fits lane w.0 js.0 r.0 r.1 r.4))
+
+-- COUNTS, whatever the disks tell
+
+module _ {V D S T A W : Type 0} {fits : V → Settings → ℕ → S → Type 0} {fits_rows : D → Settings → ℕ → T → Type 0} {is_at : S → StoreVolume → Type 0} {is_at_rows : T → Start → Type 0}
+    {of : S → LockSight VolumeAct Entry} {of_rows : T → LockSight DirAct HomeRow} {arm_faults : A → ℕ} {stands : W → VolumeKnown → Type 0} {faults fuses : W → ℕ → ℕ}
+    {settings : Settings} {lock : D} {drained : Vec Bool Global} {volumes : List W} {seats : List T} {arms : List A} {behind : List W} {tags : List (Vec Tag Global)} {seats_behind : List T} {arms_behind : List A}
+    {jobs : List (List Job)} {replies : List (List Reply)}
+    (all : RanAll fits fits_rows is_at is_at_rows of of_rows arm_faults stands faults fuses settings lock drained volumes seats arms behind tags seats_behind arms_behind jobs replies) where
+  abbrev Gives : Lane S T A → ℕ → Job → Lane S T A → Reply → Type 0
+  Gives before lane job after reply = Answers fits fits_rows is_at is_at_rows of of_rows arm_faults (shared_by settings all.locks lock drained) lane job before after reply
+
+  -- no count of a disk fell
+  pub counts_rise : length volumes ≡ settings.volumes → (v j : ℕ) (a b : W) → slice_get volumes v ≡ Some a → slice_get behind v ≡ Some b → j < settings.replicas → faults a j ≤ faults b j
+  counts_rise many v j a b at_a at_b within =
+      let t = all.took v (let low = slice_get_within volumes v a at_a in omega (arith, low, many)) in
+      subst (λ z. faults z j ≤ faults b j) (same_item volumes v t.was at_a) (subst (λ z. faults t.before j ≤ faults z j) (same_item behind v t.is at_b) ((t.left).rises j within))
+
+  given_lanes : length jobs ≡ length arms → length jobs ≡ length all.lanes
+  given_lanes given = given ∙ (sym (ap length all.arms_are) ∙ length-map all.lanes (λ l. l.arm))
+
+  -- each line has its reply, which there is
+  pub all_replied : length jobs ≡ length arms → AllZip (λ js rs. length js ≡ length rs) jobs replies
+  all_replied given = replies_long Gives (given_lanes given) all.answers
+
+  pub all_fit : length jobs ≡ length arms → Each (Each FitsReply) replies
+  all_fit given = replies_are Gives FitsReply (λ before lane job after reply gives. gives.fits_reply) (given_lanes given) all.answers
+
+-- WHERE NO LINE WAS ANSWERED
+
+-- a Directory at whose lock nothing happened is as it was
+pub directory_same : {T F : Type 0} {of_rows : T → LockSight DirAct HomeRow} {stands : F → DirKnown → List Bool → Type 0} {faults fuses : F → ℕ} {directory after : F} {seats : List T} {tags : List Tag}
+    → LeavesDirectory of_rows stands faults fuses directory seats after tags → AreUnseen of_rows seats → after ≡ directory
+directory_same {T} {F} {of_rows} {stands} {faults} {fuses} {directory} {after} {seats} leaves new = leaves.untouched (nothing_made row_lock of_rows seats leaves.history leaves.ended new)
+
+-- volumes that stand as they stood have the counts that they had
+pub still_counts : {W F : Type 0} {stands : W → VolumeKnown → Type 0} {faults fuses : W → ℕ → ℕ} {row_faults : F → ℕ} {settings : Settings} {old new : List W} {before after : F}
+    → AreStill stands faults fuses settings old new → after ≡ before → CountsRise settings faults row_faults old before new after
+still_counts {W} {F} {stands} {faults} {fuses} {row_faults} still same = record {
+  volumes = λ v j a b at_a at_b within. let e = (still.each v a b at_a at_b).faults_are j within in omega (arith, e);
+  rows = let e = ap row_faults same in omega (arith, e);
+}
+
+-- what was made of a Directory, by its lock and the count of seats
+pub made_rows : {D Q F : Type 0} (is_made : D → Q → F → Settings → ℕ → Type 0) {lock after : D} {room : Q} {directory : F} {settings : Settings} {n : ℕ} (lanes : ℕ)
+    → is_made lock room directory settings n → after ≡ lock → n ≡ lanes → is_made after room directory settings lanes
+made_rows is_made {lock} {after} {room} {directory} {settings} {n} lanes made lock_is many =
+    subst (λ z. is_made z room directory settings lanes) (sym lock_is) (subst (is_made lock room directory settings) many made)
+
+pub seated_rows : {D T : Type 0} (fits : D → Settings → ℕ → T → Type 0) (settings : Settings) {lanes : ℕ} (lock after : D) (seats : List T) → AreSeated fits lock settings lanes seats → after ≡ lock
+    → AreSeated fits after settings (length seats) seats
+seated_rows fits settings lock after seats sits lock_is =
+    let at : AreSeated fits lock settings (length seats) seats = record { many = refl; each = sits.each } in
+    subst (λ z. AreSeated fits z settings (length seats) seats) (sym lock_is) at
