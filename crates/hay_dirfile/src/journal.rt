@@ -51,6 +51,8 @@ impl Journal {
         ensures same { D.Tells → 0 < length (D.files disk.old 0).now → D.files disk.new ≡ D.files disk.old }
         ensures damaged { D.Tells → (file at : ℕ) → result ≡ Err (OpenFault.Damaged file at) →
             (file ≡ 0) × (0 < length (D.files disk.old 0).now) × IsDamagedJournal sup.now (D.files disk.old 0).now at }
+        // Whatever the disk tells, it has this file alone.
+        ensures file { (file at : ℕ) → result ≡ Err (OpenFault.Damaged file at) → file ≡ 0 }
         ensures undamaged { D.Tells → 0 < length (D.files disk.old 0).now → OnOk result ((at : ℕ) → IsDamagedJournal sup.now (D.files disk.old 0).now at → ⊥) }
 
         // What was opened is not damaged now.

@@ -2,10 +2,8 @@
 use Rattle.std.proofs.Common.{◌≡◌, ℕ, ◌<◌, List, length, sym, ap, subst, ◌∙◌, arith}
 use Rattle.std.specs.Prelude.{map}
 use Rattle.hay_disk.specs.Disk.{Files}
-use Rattle.hay_volume.specs.Needles.{LacksNeedleWithin}
 use Rattle.hay_open.specs.Stored.{volume_file}
-use Rattle.hay_physical.specs.Copies.{Copy, end_of, generation_of, volume_bytes}
-use Rattle.hay_logical.specs.Needles.{LacksCell}
+use Rattle.hay_physical.specs.Copies.{Copy, generation_of, volume_bytes}
 use Rattle.hay_logical.specs.Steps.{CallsOne, KeepsBytes, KeepsFiles}
 use Rattle.hay_logical.proofs.Lists.{at_below, at_map, at_same, at_there}
 use Rattle.hay_logical.specs.Fits.{At}
@@ -35,11 +33,6 @@ module _ {D : Type 0} (DiskTells : Type 0) (files : D → Files) where
   files_more a b c count first second tells j r r' e f =
       let x = at_there b j (let h = at_below a j r e in let less : j < length b = omega (arith, h, count) in less) in
       bytes_more (files r.disk) (files (x.0).disk) (files r'.disk) (first tells j r x.0 e x.1) (second tells j x.0 r' x.1 f)
-
--- what a compaction tells of a replica behind calls that left its volume file
-pub lacks_there : {D : Type 0} (files : D → Files) (r x : Copy D) (place : ℕ) → end_of x ≡ end_of r → volume_bytes files x ≡ volume_bytes files r → LacksCell files x place → LacksCell files r place
-lacks_there files r x place end bytes lacks =
-    subst (λ n. LacksNeedleWithin n place (volume_bytes files r)) end (subst (λ (l : List ℕ). LacksNeedleWithin (end_of x) place l) bytes lacks)
 
 -- Looks have left its bytes.
 pub looked_bytes : {D : Type 0} (files : D → Files) (r x : Copy D) → KeepsBytes (files r.disk) (files x.disk) → generation_of x ≡ generation_of r → volume_bytes files x ≡ volume_bytes files r

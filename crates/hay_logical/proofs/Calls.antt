@@ -276,22 +276,23 @@ pub reach_through : {D : Type 0} (files : D → Files) (r x y : Copy D) → Keep
 reach_through files r x y a b = reach_behind files r x y a b
 
 -- a closed replica has no places
-pub reaches_closed : {D P : Type 0} (files : D → Files) (rows : MapRows P) (j : ℕ) (r : Copy D) → r.phase ≡ phase.Closed → ReachesPlaces files rows j r
+pub reaches_closed : {D P Tells : Type 0} (files : D → Files) (rows : MapRows P) (j : ℕ) (r : Copy D) → r.phase ≡ phase.Closed → ReachesPlaces files Tells rows j r
 reaches_closed files rows j r closed = record {
   deletes = λ up pair. let never : ⊥ = subst (HasFrozen false) closed up in absurd never;
   sees = λ is. let never : ⊥ = subst IsOpenPhase closed is in absurd never;
 }
 
 -- the same places
-pub reaches_same : {D P : Type 0} (files : D → Files) (rows rows' : MapRows P) (j : ℕ) (r : Copy D) → ((pair : Pair) → place_in (row_at rows' pair) j ≡ place_in (row_at rows pair) j)
-    → ReachesPlaces files rows j r → ReachesPlaces files rows' j r
-reaches_same files rows rows' j r same reach = record {
+pub reaches_same : {D P Tells : Type 0} (files : D → Files) (rows rows' : MapRows P) (j : ℕ) (r : Copy D) → ((pair : Pair) → place_in (row_at rows' pair) j ≡ place_in (row_at rows pair) j)
+    → ReachesPlaces files Tells rows j r → ReachesPlaces files Tells rows' j r
+reaches_same {Tells = Tells} files rows rows' j r same reach = record {
   deletes = λ up pair. subst (physical.MayDeletePlace files r) (sym (same pair)) (reach.deletes up pair);
   sees = λ is. record {
     may = λ pair. subst (physical.MaySeePlace files r) (sym (same pair)) ((reach.sees is).may pair);
     apart = λ pair other differ.
         subst (λ p. physical.ArePlacesApart p (place_in (row_at rows' other) j)) (sym (same pair))
         (subst (λ p. physical.ArePlacesApart (place_in (row_at rows pair) j) p) (sym (same other)) ((reach.sees is).apart pair other differ));
+    whole = λ pair. subst (physical.HasWholeNeedle Tells) (sym (same pair)) ((reach.sees is).whole pair);
   };
 }
 
@@ -375,9 +376,9 @@ disk_same files r solid = record {
 }
 
 -- each replica that is open was opened, and so its places are in reach
-pub reach_from : {D P : Type 0} (DiskTells : Type 0) (files : D → Files) (rows : MapRows P) (R : ℕ → Copy D → Copy D → Type 0) (n : ℕ) (old new : List (Copy D)) → Went R n old new
-    → ((i : ℕ) (r r' : Copy D) → R i r r' → DiskTells → ReachesPlaces files rows i r')
-    → ((j : ℕ) (r : Copy D) → At old j r → r.phase ≡ phase.Closed) → CanReach DiskTells files new rows
+pub reach_from : {D P Tells : Type 0} (DiskTells : Type 0) (files : D → Files) (rows : MapRows P) (R : ℕ → Copy D → Copy D → Type 0) (n : ℕ) (old new : List (Copy D)) → Went R n old new
+    → ((i : ℕ) (r r' : Copy D) → R i r r' → DiskTells → ReachesPlaces files Tells rows i r')
+    → ((j : ℕ) (r : Copy D) → At old j r → r.phase ≡ phase.Closed) → CanReach DiskTells files Tells new rows
 reach_from DiskTells files rows R n old new w opened closed = λ tells j r' f.
     let there = at_there old j (let h = at_below new j r' f in let c = w.count in let less : j < length old = omega (arith, h, c) in less) in
     elim (cases_lt j n) [
@@ -388,19 +389,20 @@ reach_from DiskTells files rows R n old new w opened closed = λ tells j r' f.
     ]
 
 -- the places of a replica that was opened, as they were loaded
-pub reaches_loaded : {D P : Type 0} (files : D → Files) (rows : MapRows P) (j : ℕ) (r : Copy D) (loads : Pair → Place P) → ((pair : Pair) → place_in (row_at rows pair) j ≡ loads pair)
+pub reaches_loaded : {D P Tells : Type 0} (files : D → Files) (rows : MapRows P) (j : ℕ) (r : Copy D) (loads : Pair → Place P) → ((pair : Pair) → place_in (row_at rows pair) j ≡ loads pair)
     → ((pair : Pair) → physical.MayDeletePlace files r (loads pair)) → ((pair : Pair) → physical.MaySeePlace files r (loads pair))
-    → ((pair other : Pair) → pair_eq pair other ≡ false → physical.ArePlacesApart (loads pair) (loads other)) → ReachesPlaces files rows j r
-reaches_loaded files rows j r loads there deletes sees apart = record {
+    → ((pair other : Pair) → pair_eq pair other ≡ false → physical.ArePlacesApart (loads pair) (loads other)) → ((pair : Pair) → physical.HasWholeNeedle Tells (loads pair)) → ReachesPlaces files Tells rows j r
+reaches_loaded {Tells = Tells} files rows j r loads there deletes sees apart whole = record {
   deletes = λ up pair. subst (physical.MayDeletePlace files r) (sym (there pair)) (deletes pair);
   sees = λ is. record {
     may = λ pair. subst (physical.MaySeePlace files r) (sym (there pair)) (sees pair);
     apart = λ pair other differ.
         subst (λ p. physical.ArePlacesApart p (place_in (row_at rows other) j)) (sym (there pair))
         (subst (λ p. physical.ArePlacesApart (loads pair) p) (sym (there other)) (apart pair other differ));
+    whole = λ pair. subst (physical.HasWholeNeedle Tells) (sym (there pair)) (whole pair);
   };
 }
 
 -- it has no places
-pub reaches_none : {D P : Type 0} (files : D → Files) (rows : MapRows P) (j : ℕ) (r : Copy D) → ((pair : Pair) → place_in (row_at rows pair) j ≡ place.None) → ReachesPlaces files rows j r
-reaches_none files rows j r none = reaches_loaded files rows j r (λ pair. place.None) none (λ pair. tt) (λ pair. tt) (λ pair other differ. tt)
+pub reaches_none : {D P Tells : Type 0} (files : D → Files) (rows : MapRows P) (j : ℕ) (r : Copy D) → ((pair : Pair) → place_in (row_at rows pair) j ≡ place.None) → ReachesPlaces files Tells rows j r
+reaches_none files rows j r none = reaches_loaded files rows j r (λ pair. place.None) none (λ pair. tt) (λ pair. tt) (λ pair other differ. tt) (λ pair. tt)

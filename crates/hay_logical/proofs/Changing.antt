@@ -152,7 +152,7 @@ module _ {D P : Type 0} (settings : Settings) (number : ℕ) (DiskTells : Type 0
       some_any (has_pair k pair) k.replicas some.0 empty_replica known (held_by items rows front frozen unsure k pair row stands is seen some.0 within ∙ some.2)
 
   -- the places of other pairs that were not looked at are apart from those of a pair that was
-  pub apart_of : DiskTells → (items : List (Copy D)) (rows : MapRows P) (pair : Pair) → CanReach DiskTells files items rows → ((j : ℕ) (r : Copy D) → At items j r → IsOpenCopy r)
+  pub apart_of : DiskTells → (items : List (Copy D)) (rows : MapRows P) (pair : Pair) → CanReach DiskTells files Tells items rows → ((j : ℕ) (r : Copy D) → At items j r → IsOpenCopy r)
       → (j : ℕ) (r : Copy D) → At items j r → IsSeen (place_in (row_at rows pair) j) → (q : Pair) (at size : ℕ) → place_in (row_at rows q) j ≡ place.Unseen at size → physical.IsApartPlace at size (place_in (row_at rows pair) j)
   apart_of tells items rows pair can ups j r e own q at size here = elim (cases_Bool (pair_eq q pair)) [
     | inl same ↦
@@ -164,7 +164,7 @@ module _ {D P : Type 0} (settings : Settings) (number : ℕ) (DiskTells : Type 0
   pub delete_refused : DiskTells → (items new : List (Copy D)) (rows : MapRows P) (front : ℕ) (frozen : Option ℕ) (unsure : Option Unsure) (k : VolumeKnown) (tag : CoreTag) (pair : Pair) (row : List (Place P)) (failed : DiskFailed) (m : ℕ)
       → StandsFor files Tells (volume_with settings number items rows front frozen unsure) k → frozen ≡ None → length new ≡ length items → row ≡ row_at rows pair
       → length row ≡ settings.replicas → ((j : ℕ) → j < settings.replicas → IsSeen (place_in (row_at rows pair) j)) → (some : (j : ℕ) × (j < length row) × (is_live (place_in row j) ≡ true)) → m ≡ machine_of settings number failed.at → DeleteLeaves DiskTells files faults row items new failed → AllIdle new
-      → CanReach DiskTells files items rows → ((j : ℕ) (r : Copy D) → At items j r → IsOpenCopy r) → ((j : ℕ) (r r' : Copy D) → At items j r → At new j r' → StaysBeside DiskTells files (place_in row j) r r')
+      → CanReach DiskTells files Tells items rows → ((j : ℕ) (r : Copy D) → At items j r → IsOpenCopy r) → ((j : ℕ) (r r' : Copy D) → At items j r → At new j r' → StaysBeside DiskTells files (place_in row j) r r')
       → DeleteRefused files Tells k tag pair (volume_with settings number new rows front (Some m) (Some (record { tag = tag; change = change.Delete pair }))) (logical.Failed m failed.faults)
   unfolding Stands
   delete_refused tells items new rows front (Some n) unsure k tag pair row failed m stands thawed count is long seen some machine left idle can ups beside = some_none thawed

@@ -56,38 +56,41 @@ module _ {D : Type 0} (faults : D → ℕ) where
   -- a cell was not examined
   pub examine_cause : (r r' : Copy D) (f : ReplicaFault) → IsUp r → (goal_of r ≡ None → ⊥) → (f ≡ fault.Frozen → IsFrozen r) → ((n : ℕ) → f ≡ fault.Ended n → goal_of r ≡ None)
       → ((at : ℕ) → f ≡ fault.Damaged at → IsNextWithin (end_of r) (next_of r) at)
-      → physical_faults.IsPeekFault (faults r.disk) (faults r'.disk) f → EndsRun (faults r'.disk) r r' f → IsStepFault faults r r' f
+      → physical_faults.IsPeekFault (faults r.disk) (faults r'.disk) f → EndsRun (faults r'.disk) r r' f → IsStepFault faults 1 r r' f
   examine_cause r r' (fault.Failed n) up standing thawed none damaged cause ends = (cause.0, cause.1, ends.0)
   examine_cause r r' fault.Frozen up standing thawed none damaged cause ends = absurd (not_both r up (thawed refl))
   examine_cause r r' (fault.Full end need capacity) up standing thawed none damaged cause ends = absurd cause
   examine_cause r r' (fault.Busy generation) up standing thawed none damaged cause ends = absurd cause
   examine_cause r r' (fault.Ended n) up standing thawed none damaged cause ends = absurd (standing (none n refl))
   examine_cause r r' fault.Worn up standing thawed none damaged cause ends = absurd cause
-  examine_cause r r' (fault.Damaged at) up standing thawed none damaged cause ends = let here = damaged at refl in let low : next_of r ≤ at = omega (arith, here.0) in (ends.0, (here.1, low, here.2))
+  examine_cause r r' (fault.Damaged at) up standing thawed none damaged cause ends = let here = damaged at refl in let next = here.0 in (
+    ends.0,
+    record { examined = 0; few = omega arith; behind = omega (arith, next); most = omega (arith, next); from = here.1; within = here.2 },
+  )
   examine_cause r r' fault.NoMemory up standing thawed none damaged cause ends = ends
 
   -- behind what went before
-  pub step_later : (r x y : Copy D) (f : ReplicaFault) → faults r.disk ≤ faults x.disk → goal_of x ≡ goal_of r
-      → ((at : ℕ) → MeetsDamage at (replica_seen x) → MeetsDamage at (replica_seen r)) → IsStepFault faults x y f → IsStepFault faults r y f
-  step_later r x y (fault.Failed n) low goal meets cause = (rose_later (faults r.disk) (faults x.disk) (faults y.disk) low cause.0, cause.1, cause.2)
-  step_later r x y fault.Frozen low goal meets cause = cause
-  step_later r x y (fault.Full end need capacity) low goal meets cause = cause
-  step_later r x y (fault.Busy generation) low goal meets cause = cause
-  step_later r x y (fault.Ended n) low goal meets cause = cause
-  step_later r x y fault.Worn low goal meets cause = cause
-  step_later r x y (fault.Damaged at) low goal meets cause = (cause.0, meets at cause.1)
-  step_later r x y fault.NoMemory low goal meets cause = cause ∙ goal
+  pub step_later : (cells n : ℕ) (r x y : Copy D) (f : ReplicaFault) → faults r.disk ≤ faults x.disk → goal_of x ≡ goal_of r
+      → ((at : ℕ) → MeetsDamage n at (replica_seen x) → MeetsDamage cells at (replica_seen r)) → IsStepFault faults n x y f → IsStepFault faults cells r y f
+  step_later cells n r x y (fault.Failed printed) low goal meets cause = (rose_later (faults r.disk) (faults x.disk) (faults y.disk) low cause.0, cause.1, cause.2)
+  step_later cells n r x y fault.Frozen low goal meets cause = cause
+  step_later cells n r x y (fault.Full end need capacity) low goal meets cause = cause
+  step_later cells n r x y (fault.Busy generation) low goal meets cause = cause
+  step_later cells n r x y (fault.Ended printed) low goal meets cause = cause
+  step_later cells n r x y fault.Worn low goal meets cause = cause
+  step_later cells n r x y (fault.Damaged at) low goal meets cause = (cause.0, meets at cause.1)
+  step_later cells n r x y fault.NoMemory low goal meets cause = cause ∙ goal
 
   -- nothing but want of memory leaves a compaction
-  pub step_ends : (r r' : Copy D) (f : ReplicaFault) → (f ≡ fault.NoMemory → ⊥) → IsStepFault faults r r' f → goal_of r' ≡ None
-  step_ends r r' (fault.Failed n) some cause = cause.2
-  step_ends r r' fault.Frozen some cause = absurd cause
-  step_ends r r' (fault.Full end need capacity) some cause = absurd cause
-  step_ends r r' (fault.Busy generation) some cause = absurd cause
-  step_ends r r' (fault.Ended n) some cause = absurd cause
-  step_ends r r' fault.Worn some cause = absurd cause
-  step_ends r r' (fault.Damaged at) some cause = cause.0
-  step_ends r r' fault.NoMemory some cause = absurd (some refl)
+  pub step_ends : (cells : ℕ) (r r' : Copy D) (f : ReplicaFault) → (f ≡ fault.NoMemory → ⊥) → IsStepFault faults cells r r' f → goal_of r' ≡ None
+  step_ends cells r r' (fault.Failed n) some cause = cause.2
+  step_ends cells r r' fault.Frozen some cause = absurd cause
+  step_ends cells r r' (fault.Full end need capacity) some cause = absurd cause
+  step_ends cells r r' (fault.Busy generation) some cause = absurd cause
+  step_ends cells r r' (fault.Ended n) some cause = absurd cause
+  step_ends cells r r' fault.Worn some cause = absurd cause
+  step_ends cells r r' (fault.Damaged at) some cause = cause.0
+  step_ends cells r r' fault.NoMemory some cause = absurd (some refl)
 
 module _ {D : Type 0} (files : D → Files) where
   -- nothing was examined

@@ -6,6 +6,7 @@ pub mod Calls
 pub mod Changing
 pub mod Compacted
 pub mod Compacting
+pub mod Damages
 pub mod Reaching
 pub mod Dropping
 pub mod Ends

@@ -105,6 +105,7 @@ module _ {D P : Type 0} (DiskTells : Type 0) (files : D → Files) (Tells : Type
     pub sees : physical.MaySee files r at size → physical.MaySeePlace files r' p
     pub from : (there long : ℕ) → physical.IsApart there long at → physical.IsApartPlace there long p
     pub to : (other : Place P) → physical.IsApartPlace at size other → physical.ArePlacesApart p other
+    pub whole : physical.HasWholeNeedle Tells p
 
   -- it was not seen, though its needle was
   pub becomes_same : DiskTells → (at size : ℕ) (pair : Pair) (r r' : Copy D) → Looked DiskTells files at size r r' → Becomes at size pair (place.Unseen at size) r r'
@@ -122,6 +123,7 @@ module _ {D P : Type 0} (DiskTells : Type 0) (files : D → Files) (Tells : Type
     sees = λ may. (looked.sees tells).may at size (inr refl) may;
     from = λ there long apart. apart;
     to = λ other apart. apart;
+    whole = tt;
   }
 
   photo_of : (cell : Cell) (p : Place P) → PlaceOf Tells (Some cell) p → PhotoAt Tells (Some cell) p
@@ -156,8 +158,8 @@ module _ {D P : Type 0} (DiskTells : Type 0) (files : D → Files) (Tells : Type
 
   -- it was seen by its needle
   pub becomes_seen : (at size : ℕ) (pair : Pair) (p : Place P) (r r' : Copy D) (cell : Cell) → physical.IsSightOf cell p → cell.at ≡ at
-      → ((c : Cell) → physical.StandsIn files r c → c.at ≡ at → PlaceOf Tells (Some c) p) → physical.MayDeletePlace files r' p → Becomes at size pair p r r'
-  becomes_seen at size pair p r r' cell sight here known may =
+      → ((c : Cell) → physical.StandsIn files r c → c.at ≡ at → PlaceOf Tells (Some c) p) → physical.MayDeletePlace files r' p → physical.HasWholeNeedle Tells p → Becomes at size pair p r r'
+  becomes_seen at size pair p r r' cell sight here known may whole =
       let seen = sight_seen cell p sight in
       record {
         photo = λ c stands there long. photo_of c p (known c stands (sym there));
@@ -167,6 +169,7 @@ module _ {D P : Type 0} (DiskTells : Type 0) (files : D → Files) (Tells : Type
         sees = λ was. sees_seen r' p seen;
         from = sight_apart cell at p sight here;
         to = λ other apart. apart_seen p other seen;
+        whole = whole;
       }
 
   module _ (at size j : ℕ) (pair : Pair) (p : Place P) (rows rows' : MapRows P) (r r' : Copy D) (looked : Looked DiskTells files at size r r')
@@ -201,10 +204,10 @@ module _ {D P : Type 0} (DiskTells : Type 0) (files : D → Files) (Tells : Type
     apart_kept : (other : Place P) → physical.IsApartPlace at size other → (there long : ℕ) → other ≡ place.Unseen there long → physical.IsUnsealed at size there
     apart_kept other apart there long is = inl (subst (λ x. physical.IsApartPlace at size x) is apart)
 
-    beside : ReachesPlaces files rows j r → IsOpenCopy r → (q : Pair) → pair_eq pair q ≡ false → physical.IsApartPlace at size (place_in (row_at rows q) j)
+    beside : ReachesPlaces files Tells rows j r → IsOpenCopy r → (q : Pair) → pair_eq pair q ≡ false → physical.IsApartPlace at size (place_in (row_at rows q) j)
     beside reach up q apart = subst (λ x. physical.ArePlacesApart x (place_in (row_at rows q) j)) was ((reach.sees up).apart pair q apart)
 
-    pub means_on : DiskTells → IsOpenCopy r → Becomes at size pair p r r' → ReachesPlaces files rows j r → (what : Pair → Outcome)
+    pub means_on : DiskTells → IsOpenCopy r → Becomes at size pair p r r' → ReachesPlaces files Tells rows j r → (what : Pair → Outcome)
         → ((q : Pair) → PlaceStands files Tells r q (place_in (row_at rows q) j) (what q)) → (q : Pair) → PlaceStands files Tells r' q (place_in (row_at rows' q) j) (what q)
     means_on tells up becomes reach what were q = elim (cases_Bool (pair_eq pair q)) [
       | inl same ↦
@@ -239,7 +242,7 @@ module _ {D P : Type 0} (DiskTells : Type 0) (files : D → Files) (Tells : Type
     apart_to becomes place.Gone apart = tt
     apart_to becomes (place.Unseen there long) apart = becomes.from there long apart
 
-    pub reach_on : DiskTells → IsOpenCopy r → Becomes at size pair p r r' → ReachesPlaces files rows j r → ReachesPlaces files rows' j r'
+    pub reach_on : DiskTells → IsOpenCopy r → Becomes at size pair p r r' → ReachesPlaces files Tells rows j r → ReachesPlaces files Tells rows' j r'
     reach_on tells up becomes reach = record {
       deletes = λ going q. elim (cases_Bool (pair_eq pair q)) [
         | inl same ↦
@@ -273,6 +276,10 @@ module _ {D P : Type 0} (DiskTells : Type 0) (files : D → Files) (Tells : Type
                 subst (λ x. physical.ArePlacesApart x (place_in (row_at rows' o) j)) (sym (other_place q apart))
                 (subst (λ x. physical.ArePlacesApart (place_in (row_at rows q) j) x) (sym (other_place o beyond)) ((reach.sees up).apart q o differ))
           ]
+        ];
+        whole = λ q. elim (cases_Bool (pair_eq pair q)) [
+          | inl same ↦ subst (physical.HasWholeNeedle Tells) (sym (own_place q same)) becomes.whole
+          | inr apart ↦ subst (physical.HasWholeNeedle Tells) (sym (other_place q apart)) ((reach.sees up).whole q)
         ];
       };
     }

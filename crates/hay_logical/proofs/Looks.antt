@@ -69,7 +69,7 @@ module _ {D P : Type 0} (DiskTells : Type 0) (files : D → Files) (Tells : Type
           let o = old_at j x f in
           subst (λ (p : Phase). IsOpenPhase p) (sym (ap (λ (z : Copy D). z.phase) (looks.each j o.0 x o.1 f).copy)) (up j o.0 o.1)
 
-      pub still_reached : CanReach DiskTells files old before → CanReach DiskTells files items rows
+      pub still_reached : CanReach DiskTells files Tells old before → CanReach DiskTells files Tells items rows
       still_reached can = λ tells j x f. let o = old_at j x f in (looks.each j o.0 x o.1 f).reach tells (can tells j o.0 o.1)
 
       module _ (new : List (Copy D)) (rows' : MapRows P) (at : ℕ) (pair : Pair) (result : Result Unit ReplicaFault) (one : CallsOne at items new)
@@ -195,7 +195,7 @@ module _ {D P : Type 0} (DiskTells : Type 0) (files : D → Files) (Tells : Type
     pub kept_all : DiskTells → ((j : ℕ) (r x : Copy D) → At olds j r → At mids j x → KeepsDisk files r x) → (j : ℕ) (r y : Copy D) → At olds j r → At news j y → KeepsDisk files r y
     kept_all tells = through (λ j r x. KeepsDisk files r x) (λ j r y. KeepsDisk files r y) (λ j r x y was l. disk_looked files r x y was (l.keeps tells))
 
-    pub reached_all : CanReach DiskTells files mids rows → CanReach DiskTells files news rows'
+    pub reached_all : CanReach DiskTells files Tells mids rows → CanReach DiskTells files Tells news rows'
     reached_all can = λ tells j y f. let x = mid_at j y f in (looks j x.0 y x.1 f).reach tells (can tells j x.0 x.1)
 
     module _ (opened : (j : ℕ) (r x : Copy D) → At olds j r → At mids j x → OpensAt DiskTells files Tells rows j r x) where

@@ -1,8 +1,8 @@
 -- An opened volume stands for what its disks had, and its notes tell what they had of a change that was broken off.
-use Rattle.std.proofs.Common.{◌≡◌, ◌≢◌, inl, inr, ℕ, zero, suc, ◌+◌, ◌-◌, ◌<◌, ◌≤◌, Bool, true, false, not, List, [], ◌∷◌, length, map, Option, Some, None, Result, Err, refl, sym, ap, subst, ◌∙◌, arith}
-use Rattle.std.specs.Prelude.{◌==◌, slice_get, slice_index}
+use Rattle.std.proofs.Common.{◌≡◌, inl, inr, ℕ, zero, suc, ◌+◌, ◌-◌, ◌<◌, ◌≤◌, Bool, true, false, not, List, [], ◌∷◌, length, map, Option, Some, None, Result, Err, refl, sym, ap, subst, ◌∙◌, arith}
+use Rattle.std.specs.Prelude.{nat_lt, slice_get, slice_index}
 use Rattle.std.specs.List.{AllByRecursion}
-use Rattle.std.proofs.lemmas.Bool.{cases_Bool, cond-true, eq-eqb, ne_eqb, true≢false}
+use Rattle.std.proofs.lemmas.Bool.{cases_Bool, cond-true, le-ltb, lt-ltb, true≢false}
 use Rattle.std.proofs.lemmas.List.{length-map}
 use Rattle.hay_needle.specs.declared.needle.Outcome.{Outcome}
 use Rattle.hay_needle.specs.declared.needle.Outcome.TheVariants as outcome
@@ -128,17 +128,15 @@ live_is Tells pair (place.Unseen at size) outcome.Nothing seen is = absurd seen
 module _ {P : Type 0} (Tells : Type 0) (k : VolumeKnown) (at j : ℕ) (found : Stored) (settled : (replica_at k j).poised ≡ false) (known : j < length k.replicas)
     (rows : MapRows P) (end : ℕ) (ends : end ≡ found.end) (places : (pair : Pair) → PhotoAt Tells (last_cell found.cells pair) (place_in (row_at rows pair) j)) where
   put_keeps : (before : ℕ) (pair : Pair) (cookie : Cookie) (bytes : List ℕ) (b : Bool) (pending : Pending) → pending.entry ≡ Put pair cookie bytes → before ≡ (replica_at k j).end
-      → ReopenedReplica k (replica_at k j) (kept_entry (Some pending) b) (known_of found) → not (end == before) ≡ b
+      → ReopenedReplica k (replica_at k j) (kept_entry (Some pending) b) (known_of found) → nat_lt before end ≡ b
   put_keeps before pair cookie bytes true pending is was r =
       let some = total_some (length bytes) in
       let grown : found.end ≡ (replica_at k j).end + needle_total (length bytes) =
       end_is k (replica_at k j) (Put pair cookie bytes ∷ []) found settled (subst (λ (e : Entry). ReopenedReplica k (replica_at k j) (e ∷ []) (known_of found)) is r) in
-      let apart : end ≢ before = (λ e. omega (arith, some, grown, e, was, ends)) in
-      ap not (ne_eqb end before apart)
+      lt-ltb before end (omega (arith, some, grown, was, ends))
   put_keeps before pair cookie bytes false pending is was r =
       let stays : found.end ≡ (replica_at k j).end + 0 = end_is k (replica_at k j) [] found settled r in
-      let same : end ≡ before = omega (arith, stays, was, ends) in
-      ap not (eq-eqb end before same)
+      le-ltb before end (omega (arith, stays, was, ends))
 
   live_by : (pair : Pair) → IsSeen (place_in (row_at rows pair) j) → may_be_live (sights_of rows pair j) ≡ has_photo (outcome_at (table_of (needles_of found.cells)) pair)
   live_by pair seen =

@@ -35,15 +35,16 @@ module _ {D P : Type 0} (files : D → Files) where
   sight_kept r r' keeps (place.Unseen at size) kept may = keeps.sees.may at size (kept at size refl) may
 
   -- the same places of a replica
-  pub reaches_on : (rows rows' : MapRows P) (j : ℕ) (r r' : Copy D) → (IsUp r' → IsUp r) → (IsOpenCopy r' → IsOpenCopy r) → KeepsReach files physical.Anywhere r r'
-      → ((pair : Pair) → place_in (row_at rows' pair) j ≡ place_in (row_at rows pair) j) → ReachesPlaces files rows j r → ReachesPlaces files rows' j r'
-  reaches_on rows rows' j r r' up is keeps same reach = record {
+  pub reaches_on : {Tells : Type 0} (rows rows' : MapRows P) (j : ℕ) (r r' : Copy D) → (IsUp r' → IsUp r) → (IsOpenCopy r' → IsOpenCopy r) → KeepsReach files physical.Anywhere r r'
+      → ((pair : Pair) → place_in (row_at rows' pair) j ≡ place_in (row_at rows pair) j) → ReachesPlaces files Tells rows j r → ReachesPlaces files Tells rows' j r'
+  reaches_on {Tells = Tells} rows rows' j r r' up is keeps same reach = record {
     deletes = λ going pair. subst (physical.MayDeletePlace files r') (sym (same pair)) (place_kept r r' keeps (place_in (row_at rows pair) j) (reach.deletes (up going) pair));
     sees = λ here. record {
       may = λ pair. subst (physical.MaySeePlace files r') (sym (same pair)) (sight_kept r r' keeps (place_in (row_at rows pair) j) (λ at size e. tt) ((reach.sees (is here)).may pair));
       apart = λ pair other differ.
           subst (λ p. physical.ArePlacesApart p (place_in (row_at rows' other) j)) (sym (same pair))
           (subst (λ p. physical.ArePlacesApart (place_in (row_at rows pair) j) p) (sym (same other)) ((reach.sees (is here)).apart pair other differ));
+      whole = λ pair. subst (physical.HasWholeNeedle Tells) (sym (same pair)) ((reach.sees (is here)).whole pair);
     };
   }
 
@@ -58,6 +59,12 @@ module _ {D P : Type 0} (files : D → Files) where
   gone_sees r place.Gone = tt
   gone_sees r place.None = tt
   gone_sees r (place.Unseen at size) = tt
+
+gone_whole : {P : Type 0} (Tells : Type 0) (p : Place P) → physical.HasWholeNeedle Tells (gone_place p)
+gone_whole Tells (place.Live needle) = tt
+gone_whole Tells place.Gone = tt
+gone_whole Tells place.None = tt
+gone_whole Tells (place.Unseen at size) = tt
 
 gone_apart : {P : Type 0} (p other : Place P) → physical.ArePlacesApart (gone_place p) other
 gone_apart (place.Live needle) other = tt
@@ -96,11 +103,11 @@ module _ {D P : Type 0} (files : D → Files) (rows rows' : MapRows P) (j : ℕ)
   beyond : (q : Pair) → pair_eq pair q ≡ false → place_in (row_at rows' q) j ≡ place_in (row_at rows q) j
   beyond q apart = changed q ∙ cond-false (pair_eq pair q) p (place_in (row_at rows q) j) apart
 
-  pub reaches_changed : (IsUp r' → IsUp r) → (IsOpenCopy r' → IsOpenCopy r) → (IsUp r' → physical.MayDeletePlace files r' p) → physical.MaySeePlace files r' p
-      → ((other : Place P) → physical.ArePlacesApart p other) → (SeesPlaces files rows j r → (q : Pair) → pair_eq q pair ≡ false → physical.ArePlacesApart (place_in (row_at rows q) j) p)
-      → (SeesPlaces files rows j r → (q : Pair) → pair_eq q pair ≡ false → (at size : ℕ) → place_in (row_at rows q) j ≡ place.Unseen at size → IsKept at size)
-      → ReachesPlaces files rows j r → ReachesPlaces files rows' j r'
-  reaches_changed up is deletes sees to from kept reach = record {
+  pub reaches_changed : {Tells : Type 0} → (IsUp r' → IsUp r) → (IsOpenCopy r' → IsOpenCopy r) → (IsUp r' → physical.MayDeletePlace files r' p) → physical.MaySeePlace files r' p
+      → physical.HasWholeNeedle Tells p → ((other : Place P) → physical.ArePlacesApart p other) → (SeesPlaces files Tells rows j r → (q : Pair) → pair_eq q pair ≡ false → physical.ArePlacesApart (place_in (row_at rows q) j) p)
+      → (SeesPlaces files Tells rows j r → (q : Pair) → pair_eq q pair ≡ false → (at size : ℕ) → place_in (row_at rows q) j ≡ place.Unseen at size → IsKept at size)
+      → ReachesPlaces files Tells rows j r → ReachesPlaces files Tells rows' j r'
+  reaches_changed {Tells = Tells} up is deletes sees whole to from kept reach = record {
     deletes = λ going q. elim (cases_Bool (pair_eq pair q)) [
       | inl same ↦ subst (physical.MayDeletePlace files r') (sym (own q same)) (deletes going)
       | inr apart ↦ subst (physical.MayDeletePlace files r') (sym (beyond q apart)) (place_kept files r r' keeps (place_in (row_at rows q) j) (reach.deletes (up going) q))
@@ -120,24 +127,28 @@ module _ {D P : Type 0} (files : D → Files) (rows rows' : MapRows P) (j : ℕ)
               | inr more ↦ subst (λ x. physical.ArePlacesApart (place_in (row_at rows q) j) x) (sym (beyond o more)) (was.apart q o differ)
             ])
       ];
+      whole = λ q. elim (cases_Bool (pair_eq pair q)) [
+        | inl same ↦ subst (physical.HasWholeNeedle Tells) (sym (own q same)) whole
+        | inr apart ↦ subst (physical.HasWholeNeedle Tells) (sym (beyond q apart)) (was.whole q)
+      ];
     };
   }
 
-module _ {D P : Type 0} (DiskTells : Type 0) (files : D → Files) where
+module _ {D P Tells : Type 0} (DiskTells : Type 0) (files : D → Files) where
   -- each replica is closed
-  pub none_open : (replicas : List (Copy D)) (rows : MapRows P) → ((j : ℕ) (r : Copy D) → At replicas j r → r.phase ≡ phase.Closed) → CanReach DiskTells files replicas rows
+  pub none_open : (replicas : List (Copy D)) (rows : MapRows P) → ((j : ℕ) (r : Copy D) → At replicas j r → r.phase ≡ phase.Closed) → CanReach DiskTells files Tells replicas rows
   none_open replicas rows closed = λ tells j r e. reaches_closed files rows j r (closed j r e)
 
   -- the last replica was taken
-  pub shorter : (replicas rest : List (Copy D)) (r : Copy D) (rows : MapRows P) → replicas ≡ rest ++ r ∷ [] → CanReach DiskTells files replicas rows → CanReach DiskTells files rest rows
+  pub shorter : (replicas rest : List (Copy D)) (r : Copy D) (rows : MapRows P) → replicas ≡ rest ++ r ∷ [] → CanReach DiskTells files Tells replicas rows → CanReach DiskTells files Tells rest rows
   shorter replicas rest r rows is can = λ tells j x e. can tells j x (subst (λ rs. At rs j x) (sym is) (at_first rest (r ∷ []) j x e))
 
-  module _ (replicas replicas' : List (Copy D)) (rows rows' : MapRows P) (can : CanReach DiskTells files replicas rows) (count : length replicas' ≡ length replicas)
+  module _ (replicas replicas' : List (Copy D)) (rows rows' : MapRows P) (can : CanReach DiskTells files Tells replicas rows) (count : length replicas' ≡ length replicas)
       (was : (j : ℕ) (r r' : Copy D) → At replicas j r → At replicas' j r' → (IsUp r' → IsUp r) × (IsOpenCopy r' → IsOpenCopy r)) where
     old_at : (j : ℕ) (r' : Copy D) → At replicas' j r' → (r : Copy D) × At replicas j r
     old_at j r' f = at_there replicas j (let h = at_below replicas' j r' f in let less : j < length replicas = omega (arith, h, count) in less)
 
-    pub same_rows : ((j : ℕ) (r r' : Copy D) → At replicas j r → At replicas' j r' → StaysInReach DiskTells files r r') → ((pair : Pair) → row_at rows' pair ≡ row_at rows pair) → CanReach DiskTells files replicas' rows'
+    pub same_rows : ((j : ℕ) (r r' : Copy D) → At replicas j r → At replicas' j r' → StaysInReach DiskTells files r r') → ((pair : Pair) → row_at rows' pair ≡ row_at rows pair) → CanReach DiskTells files Tells replicas' rows'
     same_rows keeps same = λ tells j r' f.
         let old = old_at j r' f in
         let w = was j old.0 r' old.1 f in
@@ -154,14 +165,14 @@ module _ {D P : Type 0} (DiskTells : Type 0) (files : D → Files) where
     pub put_row : (pair : Pair) (row : List (Place P)) → ((other : Pair) → row_at rows' other ≡ cond (pair_eq pair other) row (row_at rows other))
         → ((j : ℕ) (r r' : Copy D) → At replicas j r → At replicas' j r' → StaysInReach DiskTells files r r')
         → ((j : ℕ) (r r' : Copy D) → At replicas j r → At replicas' j r' → DiskTells → physical.MayDeletePlace files r' (place_in row j) × physical.MaySeePlace files r' (place_in row j)
-        × ((other : Place P) → physical.ArePlacesApart (place_in row j) other) × ((at size : ℕ) → physical.MaySee files r at size → physical.IsApartPlace at size (place_in row j)))
-        → CanReach DiskTells files replicas' rows'
+        × physical.HasWholeNeedle Tells (place_in row j) × ((other : Place P) → physical.ArePlacesApart (place_in row j) other) × ((at size : ℕ) → physical.MaySee files r at size → physical.IsApartPlace at size (place_in row j)))
+        → CanReach DiskTells files Tells replicas' rows'
     put_row pair row changed keeps puts = λ tells j r' f.
         let old = old_at j r' f in
         let w = was j old.0 r' old.1 f in
         let put = puts j old.0 r' old.1 f tells in
-        reaches_changed files rows rows' j old.0 r' pair (place_in row j) physical.Anywhere (by_row pair row j changed) (keeps j old.0 r' old.1 f tells) w.0 w.1 (λ up. put.0) put.1 put.2
-        (λ sees q differ. from old.0 (place_in row j) put.3 (place_in (row_at rows q) j) (sees.may q)) (λ sees q differ at size e. tt) (can tells j old.0 old.1)
+        reaches_changed files rows rows' j old.0 r' pair (place_in row j) physical.Anywhere (by_row pair row j changed) (keeps j old.0 r' old.1 f tells) w.0 w.1 (λ up. put.0) put.1 put.2 put.3
+        (λ sees q differ. from old.0 (place_in row j) put.4 (place_in (row_at rows q) j) (sees.may q)) (λ sees q differ at size e. tt) (can tells j old.0 old.1)
       where
         from : (r : Copy D) (p : Place P) → ((at size : ℕ) → physical.MaySee files r at size → physical.IsApartPlace at size p) → (q : Place P) → physical.MaySeePlace files r q → physical.ArePlacesApart q p
         from r p apart (place.Live needle) may = tt
@@ -172,13 +183,13 @@ module _ {D P : Type 0} (DiskTells : Type 0) (files : D → Files) where
     -- a photo was deleted
     pub delete_row : (pair : Pair) → ((other : Pair) → row_at rows' other ≡ cond (pair_eq pair other) (map gone_place (row_at rows other)) (row_at rows other))
         → ((j : ℕ) (r r' : Copy D) → At replicas j r → At replicas' j r' → DiskTells → KeepsReach files (λ at size. physical.IsApartPlace at size (place_in (row_at rows pair) j)) r r')
-        → CanReach DiskTells files replicas' rows'
+        → CanReach DiskTells files Tells replicas' rows'
     delete_row pair changed keeps = λ tells j r' f.
         let old = old_at j r' f in
         let w = was j old.0 r' old.1 f in
         let p : Place P = gone_place (place_in (row_at rows pair) j) in
         reaches_changed files rows rows' j old.0 r' pair p (λ at size. physical.IsApartPlace at size (place_in (row_at rows pair) j)) (gone_by j) (keeps j old.0 r' old.1 f tells) w.0 w.1
-        (λ up. gone_deletable files r' (place_in (row_at rows pair) j)) (gone_sees files r' (place_in (row_at rows pair) j)) (gone_apart (place_in (row_at rows pair) j))
+        (λ up. gone_deletable files r' (place_in (row_at rows pair) j)) (gone_sees files r' (place_in (row_at rows pair) j)) (gone_whole Tells (place_in (row_at rows pair) j)) (gone_apart (place_in (row_at rows pair) j))
         (λ sees q differ. apart_gone (place_in (row_at rows q) j) (place_in (row_at rows pair) j))
         (λ sees q differ at size e. subst (λ x. physical.ArePlacesApart x (place_in (row_at rows pair) j)) e (sees.apart q pair differ)) (can tells j old.0 old.1)
       where
@@ -195,7 +206,7 @@ module _ {D P : Type 0} (DiskTells : Type 0) (files : D → Files) where
     -- it failed, and the places stay: those of other pairs can still be seen, and those of the pair were seen
     pub failed_row : (pair : Pair) → ((q : Pair) → row_at rows' q ≡ row_at rows q)
         → ((j : ℕ) (r r' : Copy D) → At replicas j r → At replicas' j r' → DiskTells → KeepsReach files (λ at size. physical.IsApartPlace at size (place_in (row_at rows pair) j)) r r')
-        → ((j : ℕ) (r : Copy D) → At replicas j r → (at size : ℕ) → place_in (row_at rows pair) j ≡ place.Unseen at size → ⊥) → CanReach DiskTells files replicas' rows'
+        → ((j : ℕ) (r : Copy D) → At replicas j r → (at size : ℕ) → place_in (row_at rows pair) j ≡ place.Unseen at size → ⊥) → CanReach DiskTells files Tells replicas' rows'
     failed_row pair same keeps seen = λ tells j r' f.
         let old = old_at j r' f in
         let w = was j old.0 r' old.1 f in
@@ -213,5 +224,6 @@ module _ {D P : Type 0} (DiskTells : Type 0) (files : D → Files) where
             apart = λ q o differ.
                 subst (λ x. physical.ArePlacesApart x (place_in (row_at rows' o) j)) (sym (there q))
                 (subst (λ x. physical.ArePlacesApart (place_in (row_at rows q) j) x) (sym (there o)) (s.apart q o differ));
+            whole = λ q. subst (physical.HasWholeNeedle Tells) (sym (there q)) (s.whole q);
           };
         }

@@ -16,7 +16,7 @@ use Rattle.hay_physical.proofs.Laws.{no_next}
 use Rattle.hay_logical.specs.declared.unsure.Unsure.{Unsure}
 use Rattle.hay_logical.specs.Fits.{At}
 use Rattle.hay_logical.specs.Refusals.{answer_at}
-use Rattle.hay_logical.specs.Seen.{AreLonger, BeginRefusedSeen, BreaksStep, ChangesAt, ChangesRun, DeleteSeen, EndsAlone, FlushRefusedSeen, FlushesTo, IsEnded, MeetsDamage}
+use Rattle.hay_logical.specs.Seen.{AreLonger, BeginRefusedSeen, BreaksStep, ChangesAt, ChangesRun, DeleteSeen, EndsAlone, FlushRefusedSeen, FlushesTo, IsEnded}
 use Rattle.hay_logical.specs.Seen.{ReplicaSeen, StepRefusedSeen, StepsPartly, StepsTo, Sticks, SwapSeen, VolumeSeen, grown, replica_seen, volume_seen}
 use Rattle.hay_logical.specs.Steps.{CallsOne, IsBeginFault, IsFlushFault, IsStepFault, Lengthens}
 use Rattle.hay_logical.specs.Volumes.{Volume}
@@ -169,15 +169,6 @@ steps_break n r x y first broken =
       λ same. let a : r.next + n * 48 ≤ x.next = first.behind in let b = broken.1 (same ∙ sym goal) in let low = b.0 in (omega (arith, a, low), subst (λ e. y.next ≤ e) ends b.1),
     )
 
--- damage that was met later
-pub meets_later : (r x : ReplicaSeen) (place : ℕ) → r.next ≤ x.next → x.end ≡ r.end → MeetsDamage place x → MeetsDamage place r
-meets_later r x place low ends meets = let next = meets.1 in let end = meets.2 in (meets.0, omega (arith, low, next), omega (arith, end, ends))
-
-pub steps_meet : (cells n : ℕ) (r x : ReplicaSeen) (place : ℕ) → StepsTo cells n r x → MeetsDamage place x → MeetsDamage place r
-steps_meet cells n r x place steps meets =
-    let low : r.next + n * 48 ≤ x.next = steps.behind in
-    meets_later r x place (omega (arith, low)) (ap (λ (s : ReplicaSeen). s.end) steps.only) meets
-
 -- one cell was examined
 pub steps_one : {D : Type 0} (r x y : Copy D) (size : ℕ) → (goal_of r ≡ None → ⊥) → ChangesRun (replica_seen r) (replica_seen x)
     → ChangesRun (replica_seen x) (replica_seen y) → goal_of x ≡ goal_of r → goal_of y ≡ goal_of x
@@ -290,20 +281,20 @@ module _ (settings : Settings) (v at : ℕ) {D : Type 0} (faults : D → ℕ) (r
   begin_refused_seen thawed same (fault.Damaged place) cause = absurd cause
   begin_refused_seen thawed same fault.NoMemory cause = ((thawed, same), (replica_seen r, there, cause))
 
-  pub step_refused_seen : old.frozen ≡ None → (f : ReplicaFault) → IsStepFault faults r r' f → (goal_of r' ≡ goal_of r → ChangesAt at StepsPartly old new)
-      → (goal_of r' ≡ None → ChangesAt at EndsAlone old new) → StepRefusedSeen settings v at old new (answer_at (machine_of settings v at) f)
-  step_refused_seen thawed (fault.Failed printed) cause steps ends = (thawed, refl, ends cause.2)
-  step_refused_seen thawed fault.Frozen cause steps ends = absurd cause
-  step_refused_seen thawed (fault.Full end need capacity) cause steps ends = absurd cause
-  step_refused_seen thawed (fault.Busy goal) cause steps ends = absurd cause
-  step_refused_seen thawed (fault.Ended printed) cause steps ends = absurd cause
-  step_refused_seen thawed fault.Worn cause steps ends = absurd cause
-  step_refused_seen thawed (fault.Damaged place) cause steps ends = ((thawed, refl, ends cause.0), (replica_seen r, there, cause.1))
-  step_refused_seen thawed fault.NoMemory cause steps ends = (thawed, steps cause)
+  pub step_refused_seen : (cells : ℕ) → old.frozen ≡ None → (f : ReplicaFault) → IsStepFault faults cells r r' f → (goal_of r' ≡ goal_of r → ChangesAt at StepsPartly old new)
+      → (goal_of r' ≡ None → ChangesAt at EndsAlone old new) → StepRefusedSeen settings v at cells old new (answer_at (machine_of settings v at) f)
+  step_refused_seen cells thawed (fault.Failed printed) cause steps ends = (thawed, refl, ends cause.2)
+  step_refused_seen cells thawed fault.Frozen cause steps ends = absurd cause
+  step_refused_seen cells thawed (fault.Full end need capacity) cause steps ends = absurd cause
+  step_refused_seen cells thawed (fault.Busy goal) cause steps ends = absurd cause
+  step_refused_seen cells thawed (fault.Ended printed) cause steps ends = absurd cause
+  step_refused_seen cells thawed fault.Worn cause steps ends = absurd cause
+  step_refused_seen cells thawed (fault.Damaged place) cause steps ends = ((thawed, refl, ends cause.0), (replica_seen r, there, cause.1))
+  step_refused_seen cells thawed fault.NoMemory cause steps ends = (thawed, steps cause)
 
   pub flush_refused_seen : (f : ReplicaFault) → old.frozen ≡ None → IsFlushFault faults r r' f → (is_stuck r' ≡ is_stuck r → new ≡ old)
-      → ((f ≡ fault.Frozen → ⊥) → is_stuck r' ≡ true → ChangesAt at Sticks old new) → FlushRefusedSeen settings v at old new (answer_at (machine_of settings v at) f)
-  flush_refused_seen (fault.Failed printed) thawed cause stays sticks = (thawed, refl, sticks (λ e. let wrong : fault.Failed printed ≡ fault.Frozen = e in cc) cause.2)
+      → ((printed : ℕ) → f ≡ fault.Failed printed → is_stuck r' ≡ true → ChangesAt at Sticks old new) → FlushRefusedSeen settings v at old new (answer_at (machine_of settings v at) f)
+  flush_refused_seen (fault.Failed printed) thawed cause stays sticks = (thawed, refl, sticks printed refl cause.2)
   flush_refused_seen fault.Frozen thawed cause stays sticks = inr (((thawed, stays (ap is_stuck cause.1)), refl), (replica_seen r, there, cause.0))
   flush_refused_seen (fault.Full end need capacity) thawed cause stays sticks = absurd cause
   flush_refused_seen (fault.Busy goal) thawed cause stays sticks = absurd cause

@@ -240,7 +240,7 @@ module _ (settings : Settings) (v : ℕ) (pair : Pair) (a b c : Sights) where
   pub delete_refused_behind : (frozen : Option ℕ) → LooksAtPair pair a b → (f : LogicalFault) → ((m : ℕ) → f ≡ refusal.ReadOnly m → ⊥) → DeleteRefusedSights settings v pair frozen b c f
       → DeleteRefusedSights settings v pair frozen a c f
   delete_refused_behind frozen looks (refusal.Failed m printed) thawed (inl is) =
-      inl (is.0, finds_behind pair settings.replicas a b c looks is.1)
+      inl (is.0, finds_behind pair settings.replicas a b c looks is.1, is.2)
   delete_refused_behind frozen looks (refusal.Failed m printed) thawed (inr is) =
       inr (is.0, record { looks = looks_more pair a b c looks is.1.looks; unseen = is.1.unseen })
   delete_refused_behind frozen looks (refusal.Damaged m place) thawed is = record { looks = looks_more pair a b c looks is.looks; unseen = is.unseen }

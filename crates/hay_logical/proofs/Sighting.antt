@@ -105,13 +105,13 @@ module _ {D P : Type 0} (DiskTells : Type 0) (files : D → Files) (Tells : Type
   old_at : (j : ℕ) (r' : Copy D) → At new j r' → (r : Copy D) × At items j r
   old_at j r' f = at_there items j (let h = at_below new j r' f in let count = one_count at items new one in let less : j < length items = omega (arith, h, count) in less)
 
-  pub reach_seen : CanReach DiskTells files items rows → CanReach DiskTells files new rows'
+  pub reach_seen : CanReach DiskTells files Tells items rows → CanReach DiskTells files Tells new rows'
   reach_seen can = λ tells j r' f.
       let old = old_at j r' f in
-      by_replica (λ n x y. ReachesPlaces files rows' n y) (sights.reach tells (can tells at one.before one.was))
+      by_replica (λ n x y. ReachesPlaces files Tells rows' n y) (sights.reach tells (can tells at one.before one.was))
       (λ n x apart e. reaches_same files rows rows' n x (other_places pair at rows rows' result row n apart) (can tells n x e)) j old.0 r' old.1 f
 
-  pub saw : DiskTells → CanReach DiskTells files items rows → (settings : Settings) (number front : ℕ) (frozen : Option ℕ) (unsure : Option Unsure) (k : VolumeKnown)
+  pub saw : DiskTells → CanReach DiskTells files Tells items rows → (settings : Settings) (number front : ℕ) (frozen : Option ℕ) (unsure : Option Unsure) (k : VolumeKnown)
       → StandsFor files Tells (volume_with settings number items rows front frozen unsure) k → StandsFor files Tells (volume_with settings number new rows' front frozen unsure) k
   saw tells can settings number front None unsure k stands = record {
     all = one_count at items new one ∙ stands.all;
@@ -174,7 +174,7 @@ module _ {D P : Type 0} (DiskTells : Type 0) (files : D → Files) (Tells : Type
   }
 
   -- the place that was seen
-  pub known_seen : DiskTells → CanReach DiskTells files items rows → (settings : Settings) (number front : ℕ) (frozen : Option ℕ) (unsure : Option Unsure) (fuses : D → ℕ) (k : VolumeKnown)
+  pub known_seen : DiskTells → CanReach DiskTells files Tells items rows → (settings : Settings) (number front : ℕ) (frozen : Option ℕ) (unsure : Option Unsure) (fuses : D → ℕ) (k : VolumeKnown)
       → StandsFor files Tells (volume_with settings number items rows front frozen unsure) k → IsSeen (place_in (row_at rows' pair) at) → PlaceMeans Tells pair (place_in (row_at rows' pair) at) (outcome_at (now k (replica_at k at)) pair)
   known_seen tells can settings number front frozen unsure fuses k stands seen =
       stands_seen DiskTells files Tells one.after pair (place_in (row_at rows' pair) at) (outcome_at (now k (replica_at k at)) pair) seen

@@ -54,11 +54,11 @@ module _ {D P : Type 0} (DiskTells : Type 0) (files : D → Files) (Tells : Type
   pub swaps_stuck : is_stuck one.after ≡ is_stuck one.before → KeepsStuck items new
   swaps_stuck same = each_of (λ r r'. is_stuck r' ≡ is_stuck r) same (λ r r' up loses. loses.stuck)
 
-  pub swaps_reach : (result : Result (NewFiles P) Unswapped) → SwapsAt DiskTells files faults Tells start rows rows' at one.before one.after result → KeepsPlaces rows rows' at result → CanReach DiskTells files items rows → CanReach DiskTells files new rows'
+  pub swaps_reach : (result : Result (NewFiles P) Unswapped) → SwapsAt DiskTells files faults Tells start rows rows' at one.before one.after result → KeepsPlaces rows rows' at result → CanReach DiskTells files Tells items rows → CanReach DiskTells files Tells new rows'
   swaps_reach result swaps places can tells j r' f = elim (cases_eq j at) [
     | inl same ↦
         let r'_is : r' ≡ one.after = at_same new at r' one.after (subst (λ n. At new n r') same f) one.is in
-        subst (λ n. ReachesPlaces files rows' n r') (sym same) (subst (λ (x : Copy D). ReachesPlaces files rows' at x) (sym r'_is) (swaps.reach tells (can tells at one.before one.was)))
+        subst (λ n. ReachesPlaces files Tells rows' n r') (sym same) (subst (λ (x : Copy D). ReachesPlaces files Tells rows' at x) (sym r'_is) (swaps.reach tells (can tells at one.before one.was)))
     | inr apart ↦
         let old = at_there items j (let h = at_below new j r' f in let count = one.count in let less : j < length items = omega (arith, h, count) in less) in
         let up : IsUp old.0 = ups j old.0 old.1 in
@@ -89,9 +89,9 @@ module _ {D P : Type 0} {DiskTells : Type 0} {files : D → Files} {Tells : Type
       (shaped_on settings number items new rows rows' front front frozen frozen' unsure unsure shape by settled call.one.count (λ j r r' e f. (called_each j r r' e f).1) call.places.width
       (λ none. swaps_thawed DiskTells files Tells faults start items new rows rows' at call.one call.ups (up none)))
 
-  pub called_reach : (replicas : List (Copy D)) → replicas ≡ new → CanReach DiskTells files items rows → CanReach DiskTells files replicas rows'
+  pub called_reach : (replicas : List (Copy D)) → replicas ≡ new → CanReach DiskTells files Tells items rows → CanReach DiskTells files Tells replicas rows'
   called_reach replicas is can =
-      subst (λ rs. CanReach DiskTells files rs rows') (sym is) (swaps_reach DiskTells files Tells faults start items new rows rows' at call.one call.ups result call.swaps call.places can)
+      subst (λ rs. CanReach DiskTells files Tells rs rows') (sym is) (swaps_reach DiskTells files Tells faults start items new rows rows' at call.one call.ups result call.swaps call.places can)
 
   pub called_open : (volume : Volume D P) → volume.replicas ≡ new → length items ≡ volume.settings.replicas → volumes.IsOpenVolume volume
   called_open volume is all = record {

@@ -24,7 +24,7 @@ use Rattle.hay_open.specs.Stored.{Stored, index_file, last_cell, volume_file}
 use Rattle.hay_compact.specs.Finishing.{ArePhotos, AreThePlaces, IsLive, IsSeen}
 use Rattle.hay_physical.specs.declared.fault.ReplicaFault.{ReplicaFault}
 use Rattle.hay_physical.specs.declared.fault.ReplicaFault.TheVariants as fault
-use Rattle.hay_physical.specs.Copies.{Copy, IsFrozen, IsUp, goal_of, is_stuck}
+use Rattle.hay_physical.specs.Copies.{Copy, IsFrozen, IsUp, end_of, goal_of, is_stuck}
 use Rattle.hay_physical.specs.Faults as physical_faults
 use Rattle.hay_physical.specs.Replicas as physical
 use Rattle.hay_physical.specs.Runs.{Run}
@@ -36,7 +36,7 @@ use Rattle.hay_logical.specs.Fits.{At, PhotoAt}
 use Rattle.hay_logical.specs.Seen.{MeetsDamage, ReplicaSeen, replica_seen}
 use Rattle.hay_logical.specs.Sights.{AwaitsLook, LiesWithin, SwapsSights, sight, sights_of}
 use Rattle.hay_logical.specs.Sights.Sight.{Gone, Live, Never, Unseen}
-use Rattle.hay_logical.specs.Steps.{GoesOn, HoldsUnswapped, IsLeftBy, IsStepFault, KeepsPlaces, PlacesAre, Start}
+use Rattle.hay_logical.specs.Steps.{GoesOn, HoldsUnswapped, IsLeftBy, IsStepFault, KeepsPlaces, MeetsDamageBy, PlacesAre, Start}
 use Rattle.hay_logical.specs.Steps.{StartsRun, StaysInReach, StepLeaves, SwapsAt, SwapsTo, WasAtRest, still_gone, still_gone_cell}
 use Rattle.hay_logical.specs.Steps.Start.{Examined, Fresh, Going}
 use Rattle.hay_logical.specs.Volumes.{ReachesPlaces}
@@ -177,13 +177,15 @@ module _ {P : Type 0} (Tells : Type 0) (rows rows' : MapRows P) (at : ℕ) (cell
       (λ e. nothing_at P Tells (last_cell t.cells pair) (still (no_photo P Tells pair _ (inr (place_means Tells s.cells pair place.None tt (at_place place.None e))))))
 
   -- each place is one that was looked at
-  pub reach_swapped : {D : Type 0} (files : D → Files) (r : Copy D) → ((pair : Pair) → physical.MayDeletePlace files r (last_place cells pair place.Gone)) → ReachesPlaces files rows' at r
-  reach_swapped files r may = record {
+  pub reach_swapped : {D : Type 0} (files : D → Files) (r : Copy D) → ((pair : Pair) → physical.MayDeletePlace files r (last_place cells pair place.Gone))
+      → ((pair : Pair) → physical.HasWholeNeedle Tells (last_place cells pair place.Gone)) → ReachesPlaces files Tells rows' at r
+  reach_swapped files r may whole = record {
     deletes = λ up pair. new_place pair (physical.MayDeletePlace files r) (λ some held. may pair) (λ e. tt) (λ e. tt);
     sees = λ is. record {
       may = λ pair. seen_may files r (place_in (row_at rows' pair) at) (new_place pair IsSeen (λ some held. last_is IsSeen cells pair place.Gone photos (λ needle. tt) tt) (λ e. tt) (λ e. tt));
       apart = λ pair other differ. seen_apart (place_in (row_at rows' pair) at) (place_in (row_at rows' other) at)
           (new_place pair IsSeen (λ some held. last_is IsSeen cells pair place.Gone photos (λ needle. tt) tt) (λ e. tt) (λ e. tt));
+      whole = λ pair. new_place pair (physical.HasWholeNeedle Tells) (λ some held. whole pair) (λ e. tt) (λ e. tt);
     };
   }
 
@@ -238,17 +240,17 @@ module _ {D : Type 0} (files : D → Files) (faults : D → ℕ) where
   refused_holds r x s run fault.NoMemory cause stands stuck = (stands, stuck)
 
   -- cells could not be examined
-  pub step_left : (r x y : Copy D) (f : ReplicaFault) → IsUp y → goal_of y ≡ None → y.disk ≡ x.disk → IsStepFault faults r x f → IsLeftBy faults Going r y (Refused f)
-  step_left r x y (fault.Failed n) up goal disk cause = (up, goal, tt, subst (λ d. Rose (faults r.disk) (faults d)) (sym disk) cause.0, cause.1 ∙ ap faults (sym disk))
-  step_left r x y fault.Frozen up goal disk cause = absurd cause
-  step_left r x y (fault.Full end need capacity) up goal disk cause = absurd cause
-  step_left r x y (fault.Busy generation) up goal disk cause = absurd cause
-  step_left r x y (fault.Ended n) up goal disk cause = absurd cause
-  step_left r x y fault.Worn up goal disk cause = absurd cause
-  step_left r x y (fault.Damaged at) up goal disk cause = (up, goal, tt, cause.1)
-  step_left r x y fault.NoMemory up goal disk cause = (up, goal, tt)
+  pub step_left : (cells : ℕ) (r x y : Copy D) (f : ReplicaFault) → cells ≡ end_of r → IsUp y → goal_of y ≡ None → y.disk ≡ x.disk → IsStepFault faults cells r x f → IsLeftBy faults Going r y (Refused f)
+  step_left cells r x y (fault.Failed n) all up goal disk cause = (up, goal, tt, subst (λ d. Rose (faults r.disk) (faults d)) (sym disk) cause.0, cause.1 ∙ ap faults (sym disk))
+  step_left cells r x y fault.Frozen all up goal disk cause = absurd cause
+  step_left cells r x y (fault.Full end need capacity) all up goal disk cause = absurd cause
+  step_left cells r x y (fault.Busy generation) all up goal disk cause = absurd cause
+  step_left cells r x y (fault.Ended n) all up goal disk cause = absurd cause
+  step_left cells r x y fault.Worn all up goal disk cause = absurd cause
+  step_left cells r x y (fault.Damaged at) all up goal disk cause = (up, goal, tt, subst (λ n. MeetsDamage n at (replica_seen r)) all cause.1)
+  step_left cells r x y fault.NoMemory all up goal disk cause = (up, goal, tt)
 
-  pub step_holds : (r x y : Copy D) (s : Stored) (run : Run) (cells : ℕ) (f : ReplicaFault) → IsStepFault faults r x f → StepLeaves files x s run cells f → physical.Stands files y s → is_stuck y ≡ is_stuck r
+  pub step_holds : (r x y : Copy D) (s : Stored) (run : Run) (cells : ℕ) (f : ReplicaFault) → IsStepFault faults cells r x f → StepLeaves files x s run cells f → physical.Stands files y s → is_stuck y ≡ is_stuck r
       → HoldsUnswapped files r y s run (Refused f)
   step_holds r x y s run cells (fault.Failed n) cause leaves stands stuck = (stands, stuck)
   step_holds r x y s run cells fault.Frozen cause leaves stands stuck = (stands, stuck)
@@ -262,7 +264,7 @@ module _ {D : Type 0} (files : D → Files) (faults : D → ℕ) where
   -- BEHIND WHAT WENT BEFORE
 
   pub left_later : (r x y : Copy D) (u : Unswapped) (a b : Start) → (b ≡ Fresh → ⊥) → WasAtRest a r → faults r.disk ≤ faults x.disk
-      → ((at : ℕ) → MeetsDamage at (replica_seen x) → MeetsDamage at (replica_seen r)) → IsLeftBy faults b x y u → IsLeftBy faults a r y u
+      → ((at : ℕ) → MeetsDamageBy b at (replica_seen x) → MeetsDamageBy a at (replica_seen r)) → IsLeftBy faults b x y u → IsLeftBy faults a r y u
   left_later r x y (Refused (fault.Failed n)) a b later rest low meets left = (left.0, left.1, rest, rose_later (faults r.disk) (faults x.disk) (faults y.disk) low left.3, left.4)
   left_later r x y (Refused (fault.Damaged at)) a b later rest low meets left = (left.0, left.1, rest, meets at left.3)
   left_later r x y (Refused fault.NoMemory) a b later rest low meets left = (left.0, left.1, rest)
@@ -302,7 +304,7 @@ stays_later DiskTells files r x y (Err u) before behind = λ tells. reach_throug
 -- A swap behind what went before. `meets` says what it finds then.
 module _ {D P : Type 0} (DiskTells : Type 0) (files : D → Files) (faults : D → ℕ) (Tells : Type 0) (rows rows' : MapRows P) (at : ℕ) (r x y : Copy D) where
   pub swaps_later : (result : Result (NewFiles P) Unswapped) (a b : Start) → (b ≡ Fresh → ⊥) → IsUp r → GoesOn DiskTells files r x → WasAtRest a r → faults r.disk ≤ faults x.disk
-      → ((place : ℕ) → MeetsDamage place (replica_seen x) → MeetsDamage place (replica_seen r))
+      → ((place : ℕ) → MeetsDamageBy b place (replica_seen x) → MeetsDamageBy a place (replica_seen r))
       → (DiskTells → (s : Stored) (run : Run) → physical.Stands files r s → StartsRun files a r s run → PlacesAre Tells rows at s → (next : Run) × (next.tight ≡ run.tight) × StartsRun files b x s next)
       → SwapsAt DiskTells files faults Tells b rows rows' at x y result → SwapsAt DiskTells files faults Tells a rows rows' at r y result
   swaps_later (Ok generation) a b later up on rest low damage meets swaps = record {

@@ -54,15 +54,15 @@ module _ {D : Type 0} (faults : D → ℕ) (r r' : Copy D) (m : ℕ) where
   begin_untouched (fault.Damaged at) cause by = absurd cause
   begin_untouched fault.NoMemory cause by = absurd by
 
-  pub step_untouched : (f : ReplicaFault) → IsStepFault faults r r' f → IsUntouchedBy (answer_at m f) → r' ≡ r
-  step_untouched (fault.Failed printed) cause by = absurd by
-  step_untouched fault.Frozen cause by = absurd cause
-  step_untouched (fault.Full end need capacity) cause by = absurd cause
-  step_untouched (fault.Busy generation) cause by = absurd cause
-  step_untouched (fault.Ended printed) cause by = absurd cause
-  step_untouched fault.Worn cause by = absurd cause
-  step_untouched (fault.Damaged at) cause by = absurd by
-  step_untouched fault.NoMemory cause by = absurd by
+  pub step_untouched : (cells : ℕ) (f : ReplicaFault) → IsStepFault faults cells r r' f → IsUntouchedBy (answer_at m f) → r' ≡ r
+  step_untouched cells (fault.Failed printed) cause by = absurd by
+  step_untouched cells fault.Frozen cause by = absurd cause
+  step_untouched cells (fault.Full end need capacity) cause by = absurd cause
+  step_untouched cells (fault.Busy generation) cause by = absurd cause
+  step_untouched cells (fault.Ended printed) cause by = absurd cause
+  step_untouched cells fault.Worn cause by = absurd cause
+  step_untouched cells (fault.Damaged at) cause by = absurd by
+  step_untouched cells fault.NoMemory cause by = absurd by
 
   -- a replica that takes changes is not refused as frozen
   pub begin_thawed : (f : ReplicaFault) (n : ℕ) → IsBeginFault faults r r' f → answer_at m f ≡ logical.ReadOnly n → ⊥
@@ -75,15 +75,15 @@ module _ {D : Type 0} (faults : D → ℕ) (r r' : Copy D) (m : ℕ) where
   begin_thawed (fault.Damaged at) n cause is = absurd cc
   begin_thawed fault.NoMemory n cause is = absurd cc
 
-  pub step_thawed : (f : ReplicaFault) (n : ℕ) → IsStepFault faults r r' f → answer_at m f ≡ logical.ReadOnly n → ⊥
-  step_thawed (fault.Failed printed) n cause is = absurd cc
-  step_thawed fault.Frozen n cause is = absurd cause
-  step_thawed (fault.Full end need capacity) n cause is = absurd cc
-  step_thawed (fault.Busy generation) n cause is = absurd cc
-  step_thawed (fault.Ended printed) n cause is = absurd cc
-  step_thawed fault.Worn n cause is = absurd cc
-  step_thawed (fault.Damaged at) n cause is = absurd cc
-  step_thawed fault.NoMemory n cause is = absurd cc
+  pub step_thawed : (cells : ℕ) (f : ReplicaFault) (n : ℕ) → IsStepFault faults cells r r' f → answer_at m f ≡ logical.ReadOnly n → ⊥
+  step_thawed cells (fault.Failed printed) n cause is = absurd cc
+  step_thawed cells fault.Frozen n cause is = absurd cause
+  step_thawed cells (fault.Full end need capacity) n cause is = absurd cc
+  step_thawed cells (fault.Busy generation) n cause is = absurd cc
+  step_thawed cells (fault.Ended printed) n cause is = absurd cc
+  step_thawed cells fault.Worn n cause is = absurd cc
+  step_thawed cells (fault.Damaged at) n cause is = absurd cc
+  step_thawed cells fault.NoMemory n cause is = absurd cc
 
 -- want of memory is answered as such
 pub answered_memory : (m : ℕ) (f : ReplicaFault) → answer_at m f ≡ logical.NoMemory → f ≡ fault.NoMemory

@@ -1,15 +1,19 @@
 -- What looks and compactions tell of the needles of a volume file, where the disk tells what it holds.
-use Rattle.std.specs.Prelude.{◌≡◌, ◌<◌, ℕ, true, false, List, Result, Err}
+use Rattle.std.specs.Prelude.{◌≡◌, ◌≤◌, ◌<◌, ℕ, true, false, List, length, Result, Err}
+use Rattle.std.specs.List.{AllByRecursion}
+use Rattle.hay_needle.specs.declared.needle.CellHead.{CellHead}
 use Rattle.hay_needle.specs.declared.settings.Settings.{Settings}
 use Rattle.hay_needle.specs.declared.needle.Pair.{Pair}
 use Rattle.hay_disk.specs.Disk.{Files}
 use Rattle.hay_legal.specs.Known.{machine_of}
-use Rattle.hay_volume.specs.Needles.{HasNeedleOf, LacksNeedleOf, LacksNeedleWithin}
+use Rattle.hay_volume.specs.Needles.{AreHeadsFrom, HasNeedleOf, LacksNeedleOf, LacksNeedleWithin}
+use Rattle.hay_compact.specs.Copying.{HeadStands}
 use Rattle.hay_physical.specs.declared.fault.ReplicaFault.{ReplicaFault}
 use Rattle.hay_physical.specs.declared.fault.ReplicaFault.TheVariants as fault
-use Rattle.hay_physical.specs.Copies.{Copy, end_of, volume_bytes}
+use Rattle.hay_physical.specs.Copies.{Copy, volume_bytes}
 use Rattle.hay_map.specs.MapRows.{MapRows}
 use Rattle.hay_logical.specs.Fits.{At}
+use Rattle.hay_logical.specs.Seen.{ReplicaSeen, begun, replica_seen}
 use Rattle.hay_logical.specs.Sights.{DeletesSights, Sight, Sights, sights_of}
 use Rattle.hay_logical.specs.Sights.Sight.{Gone, Live, Never, Unseen}
 
@@ -56,11 +60,39 @@ pub record IsDamagedLook {D : Type 0} (files : D → Files) (settings : Settings
   pub is : At replicas replica there
   pub lacks : LacksSeen (volume_bytes files there) place (sights pair replica)
 
+-- So it is of a pair on this replica, whose look did.
+abbrev pub LacksSeenOn : {D : Type 0} → (D → Files) → List (Copy D) → Pair → ℕ → ℕ → Sights → Type 0
+LacksSeenOn {D} files replicas pair replica place sights = (r : Copy D) → At replicas replica r → LacksSeen (volume_bytes files r) place (sights pair replica)
+
 -- COMPACTIONS
 
--- A compaction of a replica was refused for damage: no needle that ends before the cells do begins there.
-abbrev pub LacksCell : {D : Type 0} → (D → Files) → Copy D → ℕ → Type 0
-LacksCell files r place = LacksNeedleWithin (end_of r) place (volume_bytes files r)
+-- From `next` on so many heads of needles stand, each where the needle of the one before it ends, up to `place`.
+pub record HeadsLead (number next place : ℕ) (file : List ℕ) : Type 0 where
+  pub heads : List CellHead
+  pub row : AreHeadsFrom next heads place
+  pub stand : AllByRecursion (λ (head : CellHead). HeadStands head.at head file) heads
+  pub many : length heads ≡ number
 
-abbrev pub IsDamagedCell : {D : Type 0} → (D → Files) → List (Copy D) → ℕ → ℕ → Type 0
-IsDamagedCell {D} files replicas replica place = (r : Copy D) → At replicas replica r → LacksCell files r place
+-- So they do from the next cell of a compaction on, as far as the end of the cells.
+abbrev pub HeadsLeadOn : ReplicaSeen → List ℕ → Type 0
+HeadsLeadOn r file = (number : ℕ) × (place : ℕ) × (r.end ≤ place) × HeadsLead number r.next place file
+
+-- A compaction that was to examine so many cells met damage here: the heads of fewer lead from its next one to this place, and no needle
+-- that ends before the cells do begins there.
+pub record LacksCell (cells place : ℕ) (r : ReplicaSeen) (file : List ℕ) : Type 0 where
+  pub examined : ℕ
+  pub few : examined < cells
+  pub lead : HeadsLead examined r.next place file
+  pub lacks : LacksNeedleWithin r.end place file
+
+-- So did one that was to examine all that are left: there are fewer cells than bytes.
+abbrev pub LacksCellLeft : ℕ → ReplicaSeen → List ℕ → Type 0
+LacksCellLeft place r file = LacksCell r.end place r file
+
+-- and one that began with the first cell
+abbrev pub LacksCellAnew : ℕ → ReplicaSeen → List ℕ → Type 0
+LacksCellAnew place r file = LacksCellLeft place (begun r) file
+
+-- It is so of this replica, and of what reads of its volume file give.
+abbrev pub IsDamagedCell : {D : Type 0} → (D → Files) → List (Copy D) → ℕ → (ReplicaSeen → List ℕ → Type 0) → Type 0
+IsDamagedCell {D} files replicas replica Is = (r : Copy D) → At replicas replica r → Is (replica_seen r) (volume_bytes files r)

@@ -1,5 +1,5 @@
 -- Which replicas have a change that was broken off, by what was kept of it in memory, and how that is told.
-use Rattle.std.specs.Prelude.{◌≡◌, ◌==◌, ℕ, not, Bool, true, false, List, [], length, slice_get, slice_index, Option, Some, None}
+use Rattle.std.specs.Prelude.{◌≡◌, ℕ, nat_lt, not, Bool, true, false, List, [], length, slice_get, slice_index, Option, Some, None}
 use Rattle.hay_needle.specs.declared.settings.Settings.{Settings}
 use Rattle.hay_reply.specs.declared.Note.{Note}
 use Rattle.hay_legal.specs.Restarts.{replica_notes}
@@ -31,9 +31,9 @@ may_be_live Never = false
 may_be_live Gone = false
 may_be_live (Unseen at size) = true
 
--- a replica has a put if its cells end elsewhere now, and a delete if no photo of the pair is there
+-- a replica has a put if its cells end further on now, and a delete if no photo of the pair is there
 abbrev pub keeps : Change → Sights → ℕ → ℕ → Bool
-keeps (change.Put ends) sights j end = not (end == slice_index ends j)
+keeps (change.Put ends) sights j end = nat_lt (slice_index ends j) end
 keeps (change.Delete pair) sights j end = not (may_be_live (sights pair j))
 
 -- the place that tells whether a replica has the change was seen

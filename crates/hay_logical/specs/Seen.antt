@@ -133,20 +133,33 @@ BreaksStep r r' = ChangesRun r r' × (r'.goal ≡ r.goal → (r.next ≤ r'.next
 abbrev pub StepsPartly : ReplicaSeen → ReplicaSeen → Type 0
 StepsPartly r r' = HasGoal r × (r' ≡ record r { next = r'.next }) × (r.next ≤ r'.next) × (r'.next ≤ r.end)
 
--- a compaction met damage at its next cell, or at one behind it
-abbrev pub MeetsDamage : ℕ → ReplicaSeen → Type 0
-MeetsDamage place r = (64 ≤ place) × (r.next ≤ place) × (place < r.end)
+-- A compaction that was to examine so many cells met damage here: at its next one, or behind whole cells, of which it examined fewer.
+pub record MeetsDamage (cells place : ℕ) (r : ReplicaSeen) : Type 0 where
+  pub examined : ℕ
+  pub few : examined < cells
+  pub behind : r.next + examined * needle_total 0 ≤ place
+  pub most : place ≤ r.next + examined * needle_total (max_photo Two)
+  pub from : 64 ≤ place
+  pub within : place < r.end
 
-abbrev pub StepRefusedSeen : Settings → ℕ → ℕ → VolumeSeen → VolumeSeen → LogicalFault → Type 0
-StepRefusedSeen settings v at old new (ReadOnly m) = RefusedFrozen m old new
-StepRefusedSeen settings v at old new Idle = StaysThawed old new × SeesAt at (λ r. r.goal ≡ None) old
-StepRefusedSeen settings v at old new (Failed m faults) = EndedBy (machine_of settings v at) at m old new
-StepRefusedSeen settings v at old new (Damaged m place) = EndedBy (machine_of settings v at) at m old new × SeesAt at (MeetsDamage place) old
-StepRefusedSeen settings v at old new NoMemory = (old.frozen ≡ None) × ChangesAt at StepsPartly old new
-StepRefusedSeen settings v at old new (Full m end need capacity) = ⊥
-StepRefusedSeen settings v at old new (Gone front) = ⊥
-StepRefusedSeen settings v at old new (Busy m goal) = ⊥
-StepRefusedSeen settings v at old new (Worn m) = ⊥
+-- So did one that was to examine all that are left: there are fewer cells than bytes.
+abbrev pub MeetsDamageLeft : ℕ → ReplicaSeen → Type 0
+MeetsDamageLeft place r = MeetsDamage r.end place r
+
+-- a compaction has begun, whose first cell stands behind the superblock
+abbrev pub begun : ReplicaSeen → ReplicaSeen
+begun r = record r { next = 64 }
+
+abbrev pub StepRefusedSeen : Settings → ℕ → ℕ → ℕ → VolumeSeen → VolumeSeen → LogicalFault → Type 0
+StepRefusedSeen settings v at cells old new (ReadOnly m) = RefusedFrozen m old new
+StepRefusedSeen settings v at cells old new Idle = StaysThawed old new × SeesAt at (λ r. r.goal ≡ None) old
+StepRefusedSeen settings v at cells old new (Failed m faults) = EndedBy (machine_of settings v at) at m old new
+StepRefusedSeen settings v at cells old new (Damaged m place) = EndedBy (machine_of settings v at) at m old new × SeesAt at (MeetsDamage cells place) old
+StepRefusedSeen settings v at cells old new NoMemory = (old.frozen ≡ None) × ChangesAt at StepsPartly old new
+StepRefusedSeen settings v at cells old new (Full m end need capacity) = ⊥
+StepRefusedSeen settings v at cells old new (Gone front) = ⊥
+StepRefusedSeen settings v at cells old new (Busy m goal) = ⊥
+StepRefusedSeen settings v at cells old new (Worn m) = ⊥
 
 -- Its files are those that the compaction made.
 pub record SwapSeen (generation end : ℕ) (r r' : ReplicaSeen) : Type 0 where
@@ -186,7 +199,7 @@ FinishRefusedSeen settings v at old new (ReadOnly m) = RefusedFrozen m old new
 FinishRefusedSeen settings v at old new Idle = StaysThawed old new × SeesAt at (λ r. r.goal ≡ None) old
 FinishRefusedSeen settings v at old new (Failed m faults) =
     EndedBy (machine_of settings v at) at m old new ⊎ ((m ≡ machine_of settings v at) × SeesAt at HasGoal old × FreezesSeen m old.unsure old new)
-FinishRefusedSeen settings v at old new (Damaged m place) = EndedBy (machine_of settings v at) at m old new × SeesAt at (MeetsDamage place) old
+FinishRefusedSeen settings v at old new (Damaged m place) = EndedBy (machine_of settings v at) at m old new × SeesAt at (MeetsDamageLeft place) old
 FinishRefusedSeen settings v at old new NoMemory = (old.frozen ≡ None) × ChangesAt at EndsAlone old new
 FinishRefusedSeen settings v at old new (Full m end need capacity) = ⊥
 FinishRefusedSeen settings v at old new (Gone front) = ⊥
@@ -207,7 +220,7 @@ CompactRefusedSeen settings v at old new (Worn m) = RefusedBy (machine_of settin
 CompactRefusedSeen settings v at old new (Failed m faults) =
     (m ≡ machine_of settings v at) × SeesAt at CanBegin old × (StaysThawed old new ⊎ FreezesSeen m old.unsure old new)
 CompactRefusedSeen settings v at old new (Damaged m place) =
-    RefusedBy (machine_of settings v at) m old new × SeesAt at (λ r. CanBegin r × MeetsDamage place r) old
+    RefusedBy (machine_of settings v at) m old new × SeesAt at (λ r. CanBegin r × MeetsDamageLeft place (begun r)) old
 CompactRefusedSeen settings v at old new NoMemory = StaysThawed old new × SeesAt at CanBegin old
 CompactRefusedSeen settings v at old new (Full m end need capacity) = ⊥
 CompactRefusedSeen settings v at old new (Gone front) = ⊥
@@ -222,8 +235,9 @@ FlushesTo number r r' = (r.stuck ≡ false) × (number ≡ r.bare) × (r' ≡ re
 abbrev pub FlushSeen : ℕ → ℕ → VolumeSeen → VolumeSeen → Type 0
 FlushSeen at number old new = (old.frozen ≡ None) × ChangesAt at (FlushesTo number) old new
 
+-- cells without a record were to get theirs, and none is written to the index any more
 abbrev pub Sticks : ReplicaSeen → ReplicaSeen → Type 0
-Sticks r r' = (r.stuck ≡ false) × (r' ≡ record r { stuck = true })
+Sticks r r' = (r.stuck ≡ false) × (r' ≡ record r { stuck = true }) × (0 < r.bare)
 
 abbrev pub FlushRefusedSeen : Settings → ℕ → ℕ → VolumeSeen → VolumeSeen → LogicalFault → Type 0
 FlushRefusedSeen settings v at old new (ReadOnly m) =

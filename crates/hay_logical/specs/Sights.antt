@@ -190,14 +190,15 @@ SeeRefusedSights pair replica old new (refusal.Busy m goal) = ⊥
 SeeRefusedSights pair replica old new (refusal.Worn m) = ⊥
 SeeRefusedSights pair replica old new refusal.Idle = ⊥
 
--- By what freezes the volume behind it: a failure behind the looks does, and a look that has failed does not.
+-- By what freezes the volume behind it: a failure behind the looks does, at a replica that has the photo, and a look that has failed
+-- does not.
 abbrev pub DeleteRefusedSights : Settings → ℕ → Pair → Option ℕ → Sights → Sights → LogicalFault → Type 0
 DeleteRefusedSights settings v pair frozen old new (refusal.ReadOnly m) = KeepsSights old new
 DeleteRefusedSights settings v pair frozen old new (refusal.Gone front) = FindsNone pair settings.replicas old new
 DeleteRefusedSights settings v pair frozen old new (refusal.Damaged m place) = LooksInVain settings v pair m (AwaitsLookAt place) old new
 DeleteRefusedSights settings v pair frozen old new refusal.NoMemory = LooksAtPair pair old new
 DeleteRefusedSights settings v pair frozen old new (refusal.Failed m faults) =
-    ((frozen ≡ Some m) × FindsPhoto pair settings.replicas old new) ⊎ ((frozen ≡ None) × LooksInVain settings v pair m AwaitsLook old new)
+    ((frozen ≡ Some m) × FindsPhoto pair settings.replicas old new × IsSeenOn settings v pair m IsLiveSight new) ⊎ ((frozen ≡ None) × LooksInVain settings v pair m AwaitsLook old new)
 DeleteRefusedSights settings v pair frozen old new (refusal.Full m end need capacity) = ⊥
 DeleteRefusedSights settings v pair frozen old new (refusal.Busy m goal) = ⊥
 DeleteRefusedSights settings v pair frozen old new (refusal.Worn m) = ⊥

@@ -43,7 +43,7 @@ use Rattle.hay_logical.specs.declared.runs.Unswapped.TheVariants.{Refused, Unsur
 use Rattle.hay_logical.specs.Answers.{HasSizes}
 use Rattle.hay_logical.specs.Fits.{At, PhotoAt, PlaceStands}
 use Rattle.hay_logical.specs.Refusals.{IsUntouched}
-use Rattle.hay_logical.specs.Seen.{CanBegin, MeetsDamage, ReplicaSeen, replica_seen}
+use Rattle.hay_logical.specs.Seen.{CanBegin, MeetsDamage, MeetsDamageLeft, ReplicaSeen, begun, replica_seen}
 use Rattle.hay_logical.specs.Sights.{AwaitsLook, AwaitsLookAt, LiesWithinAt, SeesPair, Sight, SwapsSights, sight, sights_of}
 use Rattle.hay_logical.specs.Sights.Sight.{Live}
 use Rattle.hay_logical.specs.Volumes.{ReachesPlaces}
@@ -123,6 +123,7 @@ pub record PutsAt {D P : Type 0} (DiskTells : Type 0) (files : D → Files) (Tel
   pub live : sight p ≡ Live (end_of r)
   pub deletable : DiskTells → physical.MayDeletePlace files r' p
   pub apart : DiskTells → (at size : ℕ) → physical.MaySee files r at size → physical.IsApartPlace at size p
+  pub whole : DiskTells → physical.HasWholeNeedle Tells p
 
 -- Where a put was broken off, the replicas below have the photo, that one perhaps, and those above are as they were.
 pub record PutBroken {D : Type 0} (DiskTells : Type 0) (files : D → Files) (pair : Pair) (cookie : Cookie) (bytes : List ℕ) (r r' : Copy D) : Type 0 where
@@ -194,12 +195,12 @@ pub record SightsAt {D P : Type 0} (DiskTells : Type 0) (files : D → Files) (f
   pub run : DiskTells → (s : Stored) (run : Option Run) → physical.Stands files r s → PlacesAre Tells rows at s → HasRun files r s run → HasRun files r' s run
   pub holds : DiskTells → (stuck : Bool) (s t : Stored) → physical.Holds files r stuck s t → physical.Holds files r' stuck s t
   pub keeps : DiskTells → KeepsBytes (files r.disk) (files r'.disk)
-  pub means : DiskTells → ReachesPlaces files rows at r → (what : Pair → Outcome) →
+  pub means : DiskTells → ReachesPlaces files Tells rows at r → (what : Pair → Outcome) →
       ((other : Pair) → PlaceStands files Tells r other (place_in (row_at rows other) at) (what other)) →
       (other : Pair) → PlaceStands files Tells r' other (place_in (row_at rows' other) at) (what other)
   pub undamaged : DiskTells → (what : Outcome) → PlaceStands files Tells r pair (place_in (row_at rows pair) at) what →
       (k : ℕ) → result ≡ Err (fault.Damaged k) → ⊥
-  pub reach : DiskTells → ReachesPlaces files rows at r → ReachesPlaces files rows' at r'
+  pub reach : DiskTells → ReachesPlaces files Tells rows at r → ReachesPlaces files Tells rows' at r'
   pub cause : IfErr result (IsSightFault (faults r.disk) (faults r'.disk))
 
 -- The row of a pair has this place on a replica, and every other row stays.
@@ -305,6 +306,7 @@ pub record FlushesAt {D : Type 0} (DiskTells : Type 0) (files : D → Files) (fa
   pub run_stays : DiskTells → (s : Stored) (run : Option Run) → physical.Stands files r s → HasRun files r s run → OnErr result (HasRun files r' s run)
   pub cause : IfErr result (IsFlushFault faults r r')
   pub not_stuck : (result ≡ Err fault.Frozen → ⊥) → is_stuck r ≡ false
+  pub tried : IfErr result (λ refused. (printed : ℕ) → refused ≡ fault.Failed printed → 0 < bare_of r)
   pub reach : StaysInReach DiskTells files r r'
 
 -- one replica was called, and the others are as they were
@@ -379,16 +381,16 @@ pub record BeginsAt {D : Type 0} (DiskTells : Type 0) (files : D → Files) (fau
   pub kept : OnErr result (goal_of r' ≡ goal_of r)
   pub cause : IfErr result (IsBeginFault faults r r')
 
--- damage is found only on a disk that does not tell what it holds
-abbrev pub IsStepFault : {D : Type 0} → (D → ℕ) → Copy D → Copy D → ReplicaFault → Type 0
-IsStepFault faults r r' (fault.Failed printed) = Rose (faults r.disk) (faults r'.disk) × (printed ≡ faults r'.disk) × (goal_of r' ≡ None)
-IsStepFault faults r r' fault.Frozen = ⊥
-IsStepFault faults r r' (fault.Full end need capacity) = ⊥
-IsStepFault faults r r' (fault.Busy generation) = ⊥
-IsStepFault faults r r' (fault.Ended printed) = ⊥
-IsStepFault faults r r' fault.Worn = ⊥
-IsStepFault faults r r' (fault.Damaged at) = (goal_of r' ≡ None) × MeetsDamage at (replica_seen r)
-IsStepFault faults r r' fault.NoMemory = goal_of r' ≡ goal_of r
+-- why fewer than so many cells were examined; damage ends the compaction where it was met
+abbrev pub IsStepFault : {D : Type 0} → (D → ℕ) → ℕ → Copy D → Copy D → ReplicaFault → Type 0
+IsStepFault faults cells r r' (fault.Failed printed) = Rose (faults r.disk) (faults r'.disk) × (printed ≡ faults r'.disk) × (goal_of r' ≡ None)
+IsStepFault faults cells r r' fault.Frozen = ⊥
+IsStepFault faults cells r r' (fault.Full end need capacity) = ⊥
+IsStepFault faults cells r r' (fault.Busy generation) = ⊥
+IsStepFault faults cells r r' (fault.Ended printed) = ⊥
+IsStepFault faults cells r r' fault.Worn = ⊥
+IsStepFault faults cells r r' (fault.Damaged at) = (goal_of r' ≡ None) × MeetsDamage cells at (replica_seen r)
+IsStepFault faults cells r r' fault.NoMemory = goal_of r' ≡ goal_of r
 
 -- what want of memory leaves of so many cells to examine
 pub record SteppedPart {D : Type 0} (files : D → Files) (r' : Copy D) (s : Stored) (run : Run) (cells : ℕ) : Type 0 where
@@ -414,7 +416,7 @@ pub record StepsAt {D P : Type 0} (DiskTells : Type 0) (files : D → Files) (fa
       IfOk result (λ n. (n ≡ min cells run.left) × HasRun files r' s (Some (stepped_by n run)))
   pub refused : DiskTells → (s : Stored) (run : Run) → physical.Stands files r s → HasRun files r s (Some run) → PlacesAre Tells rows at s →
       IfErr result (StepLeaves files r' s run cells)
-  pub cause : IfErr result (IsStepFault faults r r')
+  pub cause : IfErr result (IsStepFault faults cells r r')
 
 -- one cell is examined, if one is left
 pub record ExaminesAt {D P : Type 0} (DiskTells : Type 0) (files : D → Files) (faults : D → ℕ) (Tells : Type 0) (rows : MapRows P) (at : ℕ) (r r' : Copy D) (result : Result Bool ReplicaFault) : Type 0 where
@@ -424,7 +426,7 @@ pub record ExaminesAt {D P : Type 0} (DiskTells : Type 0) (files : D → Files) 
       IfOk result (λ more. (more ≡ true → (1 ≤ run.left) × HasRun files r' s (Some (stepped_by 1 run))) × (more ≡ false → (run.left ≡ 0) × HasRun files r' s (Some run)))
   pub refused : DiskTells → (s : Stored) (run : Run) → physical.Stands files r s → HasRun files r s (Some run) → PlacesAre Tells rows at s →
       IfErr result (StepLeaves files r' s run 0)
-  pub cause : IfErr result (IsStepFault faults r r')
+  pub cause : IfErr result (IsStepFault faults 1 r r')
 
 -- SWAPS
 
@@ -454,11 +456,17 @@ WasAtRest Fresh r = CanBegin (replica_seen r)
 WasAtRest Going r = Unit {0}
 WasAtRest Examined r = Unit {0}
 
+-- Where one of these met damage: a fresh one begins with the first cell, and one whose cells are all examined meets none.
+abbrev pub MeetsDamageBy : Start → ℕ → ReplicaSeen → Type 0
+MeetsDamageBy Fresh place r = MeetsDamageLeft place (begun r)
+MeetsDamageBy Going place r = MeetsDamageLeft place r
+MeetsDamageBy Examined place r = ⊥
+
 -- The replica takes changes, or its volume has to be frozen. No compaction stands.
 abbrev pub IsLeftBy : {D : Type 0} → (D → ℕ) → Start → Copy D → Copy D → Unswapped → Type 0
 IsLeftBy faults start r r' (Refused (fault.Failed printed)) =
     IsUp r' × (goal_of r' ≡ None) × WasAtRest start r × Rose (faults r.disk) (faults r'.disk) × (printed ≡ faults r'.disk)
-IsLeftBy faults start r r' (Refused (fault.Damaged at)) = IsUp r' × (goal_of r' ≡ None) × WasAtRest start r × MeetsDamage at (replica_seen r)
+IsLeftBy faults start r r' (Refused (fault.Damaged at)) = IsUp r' × (goal_of r' ≡ None) × WasAtRest start r × MeetsDamageBy start at (replica_seen r)
 IsLeftBy faults start r r' (Refused fault.NoMemory) = IsUp r' × (goal_of r' ≡ None) × WasAtRest start r
 IsLeftBy faults start r r' (Refused (fault.Busy goal)) = (start ≡ Fresh) × (goal_of r ≡ Some goal) × (r' ≡ r)
 IsLeftBy faults start r r' (Refused fault.Worn) = (start ≡ Fresh) × (goal_of r ≡ None) × (generation_of r ≡ 65535) × (r' ≡ r)
@@ -507,7 +515,7 @@ pub record SwapsAt {D P : Type 0} (DiskTells : Type 0) (files : D → Files) (fa
   pub refused : DiskTells → (s : Stored) (run : Run) → physical.Stands files r s → StartsRun files start r s run → PlacesAre Tells rows at s →
       IfErr result (HoldsUnswapped files r r' s run)
   pub still : OnErr result (is_stuck r' ≡ is_stuck r)
-  pub reach : DiskTells → ReachesPlaces files rows at r → ReachesPlaces files rows' at r'
+  pub reach : DiskTells → ReachesPlaces files Tells rows at r → ReachesPlaces files Tells rows' at r'
 
 -- the places of the replica moved to its new cells, those of the other replicas stay, and all rows behind a refusal
 pub record KeepsPlaces {P : Type 0} (rows rows' : MapRows P) (at : ℕ) (result : Result (NewFiles P) Unswapped) : Type 0 where
@@ -544,7 +552,7 @@ pub record OpensAt {D P : Type 0} (DiskTells : Type 0) (files : D → Files) (Te
   pub opened : DiskTells → (s : Stored) → OpensAs r.sup (contents_of files r.disk) s → physical.Stands files r' s × PlacesAre Tells rows j s
   pub reopened : DiskTells → (stuck : Bool) (s t : Stored) → physical.Holds files r stuck s t → (found : Stored)
       × (physical.IsLike stuck s found ⊎ physical.IsLike stuck t found) × physical.Stands files r' found × PlacesAre Tells rows j found
-  pub reach : DiskTells → ReachesPlaces files rows j r'
+  pub reach : DiskTells → ReachesPlaces files Tells rows j r'
 
 -- what an opening that was refused has left of a replica
 pub record LeftAt {D : Type 0} (DiskTells : Type 0) (files : D → Files) (r r' : Copy D) : Type 0 where
@@ -587,7 +595,7 @@ pub record LooksAt {D P : Type 0} (DiskTells : Type 0) (files : D → Files) (Te
   pub stands : DiskTells → (s : Stored) → physical.Stands files r s → PlacesAre Tells rows j s → physical.Stands files r' s × PlacesAre Tells rows' j s
   pub holds : DiskTells → (stuck : Bool) (s t : Stored) → physical.Holds files r stuck s t → physical.Holds files r' stuck s t
   pub keeps : DiskTells → KeepsBytes (files r.disk) (files r'.disk)
-  pub reach : DiskTells → ReachesPlaces files rows j r → ReachesPlaces files rows' j r'
+  pub reach : DiskTells → ReachesPlaces files Tells rows j r → ReachesPlaces files Tells rows' j r'
   pub within : (end : ℕ) → LiesWithinAt j end (sights_of rows) → LiesWithinAt j end (sights_of rows')
 
 -- A needle that is damaged ends no opening.

@@ -84,11 +84,11 @@ pub record IsWritten {D P : Type 0} (files : D → Files) (Tells : Type 0) (k : 
   pub unshown : IsUnshown files Tells k (Put pair cookie bytes) (op.Put pair written.row) (map (grown (length bytes)) k.replicas) volume
 
 -- It can be shown without memory, each place is that of the photo, behind the cells before it, and each photo is in reach then.
-pub record IsWrittenFor {D P : Type 0} (DiskTells : Type 0) (files : D → Files) (written : Written P) (volume : Volume D P) : Type 0 where
+pub record IsWrittenFor {D P : Type 0} (DiskTells : Type 0) (files : D → Files) (Tells : Type 0) (written : Written P) (volume : Volume D P) : Type 0 where
   pub room : HasRowRoom volume.rows
   pub long : length written.row ≡ volume.rows.replicas
   pub live : (j : ℕ) → j < length written.row → sight (place_in written.row j) ≡ Live (slice_index written.ends j)
-  pub reach : (rows : MapRows P) → ChangesRows (op.Put written.pair written.row) volume.rows rows → CanReach DiskTells files volume.replicas rows
+  pub reach : (rows : MapRows P) → ChangesRows (op.Put written.pair written.row) volume.rows rows → CanReach DiskTells files Tells volume.replicas rows
 
 -- DELETES
 

@@ -60,19 +60,21 @@ pub record IsShaped {D P : Type 0} (volume : Volume D P) : Type 0 where
 abbrev pub DeletesPlaces : {D P : Type 0} → (D → Files) → MapRows P → ℕ → Copy D → Type 0
 DeletesPlaces files rows j r = (pair : Pair) → physical.MayDeletePlace files r (place_in (row_at rows pair) j)
 
--- Each place that was not looked at yet can be seen, and its needle does not have the flags of another pair's cell.
-pub record SeesPlaces {D P : Type 0} (files : D → Files) (rows : MapRows P) (j : ℕ) (r : Copy D) : Type 0 where
+-- Each place that was not looked at yet can be seen, and its needle does not have the flags of another pair's cell. The piece that a
+-- place has tells, and is a whole needle.
+pub record SeesPlaces {D P : Type 0} (files : D → Files) (Tells : Type 0) (rows : MapRows P) (j : ℕ) (r : Copy D) : Type 0 where
   pub may : (pair : Pair) → physical.MaySeePlace files r (place_in (row_at rows pair) j)
   pub apart : (pair other : Pair) → pair_eq pair other ≡ false →
       physical.ArePlacesApart (place_in (row_at rows pair) j) (place_in (row_at rows other) j)
+  pub whole : (pair : Pair) → physical.HasWholeNeedle Tells (place_in (row_at rows pair) j)
 
 -- What the rows have of a replica which takes changes can be deleted, and what they have of one that is open can be seen.
-pub record ReachesPlaces {D P : Type 0} (files : D → Files) (rows : MapRows P) (j : ℕ) (r : Copy D) : Type 0 where
+pub record ReachesPlaces {D P : Type 0} (files : D → Files) (Tells : Type 0) (rows : MapRows P) (j : ℕ) (r : Copy D) : Type 0 where
   pub deletes : copies.IsUp r → DeletesPlaces files rows j r
-  pub sees : copies.IsOpenCopy r → SeesPlaces files rows j r
+  pub sees : copies.IsOpenCopy r → SeesPlaces files Tells rows j r
 
-abbrev pub CanReach : {D P : Type 0} → Type 0 → (D → Files) → List (Copy D) → MapRows P → Type 0
-CanReach {D} DiskTells files replicas rows = DiskTells → (j : ℕ) (r : Copy D) → At replicas j r → ReachesPlaces files rows j r
+abbrev pub CanReach : {D P : Type 0} → Type 0 → (D → Files) → Type 0 → List (Copy D) → MapRows P → Type 0
+CanReach {D} DiskTells files Tells replicas rows = DiskTells → (j : ℕ) (r : Copy D) → At replicas j r → ReachesPlaces files Tells rows j r
 
 -- all replicas are there
 abbrev pub HasAll : {D P : Type 0} → Volume D P → Type 0

@@ -14,18 +14,19 @@ ghost use Rattle.hay_map.specs.declared.view.MapOp.TheVariants as map_op;
 ghost use Rattle.hay_open.specs.Damage.{IsOpeningDamage};
 ghost use Rattle.hay_open.specs.declared.fault.OpenFault.TheVariants as open_fault;
 ghost use Rattle.hay_physical.specs.declared.state.Phase.TheVariants.{Closed};
-ghost use Rattle.hay_physical.specs.Copies.{Copy, contents_of, generation_of, goal_of, is_stuck};
+ghost use Rattle.hay_physical.specs.Copies.{Copy, contents_of, generation_of, goal_of, is_stuck, next_of, volume_bytes};
 ghost use Rattle.hay_physical.specs.Copies as copies;
+ghost use Rattle.hay_physical.specs.Replicas.{HasWholeNeedle};
 ghost use Rattle.hay_compact.specs.Finishing.{IsSeen};
 ghost use Rattle.hay_logical.specs.Draws.{DrewAt, HasDrawnNothing, looked_pair};
 ghost use Rattle.hay_logical.specs.Fits.{At, PlaceStands, super_of};
 ghost use Rattle.hay_logical.specs.Notes.{NotesTell};
 ghost use Rattle.hay_logical.specs.Refusals.{IsUntouchedBy};
-ghost use Rattle.hay_logical.specs.Seen.{AreEnds, BeginRefusedSeen, BeginSeen, ChangesAt, CompactRefusedSeen, CompactSeen, DeleteRefusedSeen, EraseSeen, FinishRefusedSeen, FinishSeen, FlushRefusedSeen, FlushSeen, FreezesSeen, HideSeen, IsEnded, OpenSeen, PutRefusedSeen, PutSeen, ReplicaSeen, RoomRefusedSeen, RoomSeen, StepRefusedSeen, StepSeen, WriteSeen, volume_seen};
-ghost use Rattle.hay_logical.specs.Needles.{AreToldBy, DeletesTold, IsDamagedCell, IsDamagedLook};
+ghost use Rattle.hay_logical.specs.Seen.{AreEnds, BeginRefusedSeen, BeginSeen, ChangesAt, CompactRefusedSeen, CompactSeen, DeleteRefusedSeen, EraseSeen, FinishRefusedSeen, FinishSeen, FlushRefusedSeen, FlushSeen, FreezesSeen, HideSeen, IsEnded, OpenSeen, PutRefusedSeen, PutSeen, ReplicaSeen, RoomRefusedSeen, RoomSeen, StepRefusedSeen, StepSeen, WriteSeen, begun, replica_seen, volume_seen};
+ghost use Rattle.hay_logical.specs.Needles.{AreToldBy, DeletesTold, HeadsLead, HeadsLeadOn, IsDamagedCell, IsDamagedLook, LacksCell, LacksCellAnew, LacksCellLeft, LacksSeenOn};
 ghost use Rattle.hay_logical.specs.Sights.{DeleteRefusedSights, DeletesSights, ErasesSights, FindsPhoto, KeepsSights, LiesWithinEach, LookRefusedSights, LooksAtPair, SeeRefusedSights, SeesPair, StoresSights, SwapsSights, sights_of};
 ghost use Rattle.hay_logical.specs.Steps.{AllIdle, IsRefusedAt, IsSeenBy, KeepsAbove, KeepsDisk, KeepsFiles, KeepsRuns, KeepsStuck, LosesRun, RoomFor, SetsPlaceAt};
-ghost use Rattle.hay_logical.specs.Volumes.{HasAll, IsClosed, IsMachineOf, IsOfSettings, IsOpenVolume, IsSame, KeepsCounts, Volume};
+ghost use Rattle.hay_logical.specs.Volumes.{HasAll, HasSupers, IsClosed, IsMachineOf, IsOfSettings, IsOpenVolume, IsSame, KeepsCounts, Volume};
 ghost use Rattle.hay_logical.specs.Unshown.{GivesUp, IsErased, IsWritten, IsWrittenFor, ShowsSame};
 ghost use Rattle.hay_logical.specs.Stands.{Holds, IsFirst, IsIdleVolume, IsTightAt, Stands, Stopped};
 ghost use Rattle.hay_logical.specs.Answers.{BeginRefused, BreaksPutOff, CompactRefused, DeleteRefused, FinishRefused, FlushRefused, HasSizes, IsBeginFault, IsBegun, IsCompactFault, IsCompacted, IsDeleteFault, IsDeleted, IsFinished, IsFlushFault, IsFlushed, IsPut, IsPutFault, IsReopened, IsRoomFault, IsRunFault, IsSightFault, IsStepped, IsTightened, PutRefused, RemovesOld, StepRefused, change_at, room_answer};
@@ -94,7 +95,7 @@ impl<D: Disk> Model for Logical<D> {
       front = v.front;
       frozen = v.frozen;
       unsure = v.unsure;
-    }) × (4 ≤ vec_capacity v.replicas) × CanReach D.Tells D.files v.replicas.items v.rows };
+    }) × (4 ≤ vec_capacity v.replicas) × CanReach D.Tells D.files D.Piece.Tells v.replicas.items v.rows };
 }
 
 impl<D: Disk> Logical<D> {
@@ -237,6 +238,8 @@ impl<D: Disk> Logical<D> {
         ensures long { length result.row ≡ self.now.settings.replicas }
         ensures known { D.Tells → (k : VolumeKnown) → Stands D.files D.Piece.Tells self.now k → (result.front ≡ length k.log)
             × ((j : ℕ) (r : Copy D) → At self.now.replicas j r → PlaceStands D.files D.Piece.Tells r pair (place_in result.row j) (outcome_at (now k (replica_at k j)) pair)) }
+        // Where the disk tells, whatever it has, the piece that a place has tells, and is a whole needle.
+        ensures whole { D.Tells → (j : ℕ) (r : Copy D) → At self.now.replicas j r → copies.IsOpenCopy r → HasWholeNeedle D.Piece.Tells (place_in result.row j) }
     {
         Looked {
             front: self.front,
@@ -266,7 +269,7 @@ impl<D: Disk> Logical<D> {
         requires open { IsOpenVolume self.old }
         ensures written { D.Tells → (k : VolumeKnown) → Stands D.files D.Piece.Tells self.old k →
             IfOk result (λ written. IsWritten D.files D.Piece.Tells k pair cookie bytes.now written self.new) }
-        ensures fits { IfOk result (λ written. IsWrittenFor D.Tells D.files written self.new) }
+        ensures fits { IfOk result (λ written. IsWrittenFor D.Tells D.files D.Piece.Tells written self.new) }
         ensures of { IfOk result (λ written. (written.pair ≡ pair) × (written.position ≡ self.old.front + 1) × (length written.row ≡ self.old.settings.replicas)) }
         ensures still { OnOk result (ShowsSame self.old self.new) }
         ensures refused { D.Tells → (k : VolumeKnown) → Stands D.files D.Piece.Tells self.old k →
@@ -323,7 +326,7 @@ impl<D: Disk> Logical<D> {
 
     /// Shows a photo that was written, and answers the position of the change. It takes no memory.
     pub fn show(&mut self, written: Written<D::Piece>) -> u64
-        requires { IsWrittenFor D.Tells D.files written self.old }
+        requires { IsWrittenFor D.Tells D.files D.Piece.Tells written self.old }
         ensures put { D.Tells → (k : VolumeKnown) (tag : CoreTag) (pair : Pair) (cookie : Cookie) (bytes : List ℕ) →
             IsWritten D.files D.Piece.Tells k pair cookie bytes written self.old → IsPut D.files D.Piece.Tells k tag pair cookie bytes result self.new }
         ensures position { result ≡ written.position }
@@ -473,6 +476,7 @@ impl<D: Disk> Logical<D> {
         ensures told { D.Tells → AreToldBy D.files self.old.replicas pair (sights_of self.old.rows) (sights_of self.new.rows) }
         ensures damaged { D.Tells → (m place : ℕ) → result ≡ Err (LogicalFault.Damaged m place) →
             IsDamagedLook D.files self.old.settings self.old.number self.old.replicas pair m place (sights_of self.old.rows) }
+        ensures lacks { D.Tells → (m place : ℕ) → result ≡ Err (LogicalFault.Damaged m place) → LacksSeenOn D.files self.old.replicas pair replica place (sights_of self.old.rows) }
 
         // A place that was not looked at yet is what the needle shows that was read. Where the disk tells, its piece has that photo.
         ensures needle { (IsSeen (place_in (row_at self.old.rows pair) replica) → ⊥) →
@@ -518,6 +522,7 @@ impl<D: Disk> Logical<D> {
         ensures told { D.Tells → AreToldBy D.files self.old.replicas pair (sights_of self.old.rows) (sights_of self.new.rows) }
         ensures damaged { D.Tells → (m place : ℕ) → result ≡ Err (LogicalFault.Damaged m place) →
             IsDamagedLook D.files self.old.settings self.old.number self.old.replicas pair m place (sights_of self.old.rows) }
+        ensures lacks { D.Tells → (m place : ℕ) → result ≡ Err (LogicalFault.Damaged m place) → LacksSeenOn D.files self.old.replicas pair replica place (sights_of self.old.rows) }
         ensures refused_sights { IfErr result (LookRefusedSights self.old.settings self.old.number pair (sights_of self.old.rows) (sights_of self.new.rows)) }
         ensures needle { (IsSeen (place_in (row_at self.old.rows pair) replica) → ⊥) →
             OnOk result (IsSeenBy D.Tells D.Piece.Tells out.new.items (place_in (row_at self.new.rows pair) replica)) }
@@ -834,8 +839,11 @@ impl<D: Disk> Logical<D> {
         ensures counts { KeepsCounts D.fault_count D.fuse_count self.old.replicas self.new.replicas }
         ensures same { IsSame self.old self.new }
         ensures seen { IfOk result (λ number. StepSeen replica cells number (volume_seen self.old) (volume_seen self.new)) }
-        ensures refused_seen { IfErr result (StepRefusedSeen self.old.settings self.old.number replica (volume_seen self.old) (volume_seen self.new)) }
-        ensures damaged { D.Tells → (m place : ℕ) → result ≡ Err (LogicalFault.Damaged m place) → IsDamagedCell D.files self.old.replicas replica place }
+        ensures refused_seen { IfErr result (StepRefusedSeen self.old.settings self.old.number replica cells (volume_seen self.old) (volume_seen self.new)) }
+        // Where the disk tells, the heads of the cells that were examined stand one behind another, and no needle is where damage is.
+        ensures lead { D.Tells → (r r' : Copy D) → At self.old.replicas replica r → At self.new.replicas replica r' →
+            IfOk result (λ number. HeadsLead number (next_of r) (next_of r') (volume_bytes D.files r)) }
+        ensures damaged { D.Tells → (m place : ℕ) → result ≡ Err (LogicalFault.Damaged m place) → IsDamagedCell D.files self.old.replicas replica (LacksCell cells place) }
     {
         if let Some(machine) = self.frozen {
             return Err(LogicalFault::ReadOnly { machine });
@@ -891,7 +899,8 @@ impl<D: Disk> Logical<D> {
         ensures same { IsSame self.old self.new }
         ensures seen { IfOk result (λ files. FinishSeen replica files.generation files.end (volume_seen self.old) (volume_seen self.new)) }
         ensures refused_seen { IfErr result (FinishRefusedSeen self.old.settings self.old.number replica (volume_seen self.old) (volume_seen self.new)) }
-        ensures damaged { D.Tells → (m place : ℕ) → result ≡ Err (LogicalFault.Damaged m place) → IsDamagedCell D.files self.old.replicas replica place }
+        ensures lead { D.Tells → OnOk result ((r : Copy D) → At self.old.replicas replica r → HeadsLeadOn (replica_seen r) (volume_bytes D.files r)) }
+        ensures damaged { D.Tells → (m place : ℕ) → result ≡ Err (LogicalFault.Damaged m place) → IsDamagedCell D.files self.old.replicas replica (LacksCellLeft place) }
         ensures sights { OnOk result (SwapsSights replica (volume_seen self.new).replicas (sights_of self.old.rows) (sights_of self.new.rows)) }
         ensures refused_sights { OnErr result (KeepsSights (sights_of self.old.rows) (sights_of self.new.rows)) }
     {
@@ -943,7 +952,8 @@ impl<D: Disk> Logical<D> {
         ensures same { IsSame self.old self.new }
         ensures seen { IfOk result (λ generation. (end : ℕ) × FinishSeen replica generation end (volume_seen self.old) (volume_seen self.new)) }
         ensures refused_seen { IfErr result (FinishRefusedSeen self.old.settings self.old.number replica (volume_seen self.old) (volume_seen self.new)) }
-        ensures damaged { D.Tells → (m place : ℕ) → result ≡ Err (LogicalFault.Damaged m place) → IsDamagedCell D.files self.old.replicas replica place }
+        ensures lead { D.Tells → OnOk result ((r : Copy D) → At self.old.replicas replica r → HeadsLeadOn (replica_seen r) (volume_bytes D.files r)) }
+        ensures damaged { D.Tells → (m place : ℕ) → result ≡ Err (LogicalFault.Damaged m place) → IsDamagedCell D.files self.old.replicas replica (LacksCellLeft place) }
         ensures sights { OnOk result (SwapsSights replica (volume_seen self.new).replicas (sights_of self.old.rows) (sights_of self.new.rows)) }
         ensures refused_sights { OnErr result (KeepsSights (sights_of self.old.rows) (sights_of self.new.rows)) }
     {
@@ -986,7 +996,8 @@ impl<D: Disk> Logical<D> {
         ensures same { IsSame self.old self.new }
         ensures seen { IfOk result (λ files. CompactSeen replica files.generation files.end (volume_seen self.old) (volume_seen self.new)) }
         ensures refused_seen { IfErr result (CompactRefusedSeen self.old.settings self.old.number replica (volume_seen self.old) (volume_seen self.new)) }
-        ensures damaged { D.Tells → (m place : ℕ) → result ≡ Err (LogicalFault.Damaged m place) → IsDamagedCell D.files self.old.replicas replica place }
+        ensures lead { D.Tells → OnOk result ((r : Copy D) → At self.old.replicas replica r → HeadsLeadOn (begun (replica_seen r)) (volume_bytes D.files r)) }
+        ensures damaged { D.Tells → (m place : ℕ) → result ≡ Err (LogicalFault.Damaged m place) → IsDamagedCell D.files self.old.replicas replica (LacksCellAnew place) }
         ensures sights { OnOk result (SwapsSights replica (volume_seen self.new).replicas (sights_of self.old.rows) (sights_of self.new.rows)) }
         ensures refused_sights { OnErr result (KeepsSights (sights_of self.old.rows) (sights_of self.new.rows)) }
     {
@@ -1034,7 +1045,8 @@ impl<D: Disk> Logical<D> {
         ensures same { IsSame self.old self.new }
         ensures seen { IfOk result (λ generation. (end : ℕ) × CompactSeen replica generation end (volume_seen self.old) (volume_seen self.new)) }
         ensures refused_seen { IfErr result (CompactRefusedSeen self.old.settings self.old.number replica (volume_seen self.old) (volume_seen self.new)) }
-        ensures damaged { D.Tells → (m place : ℕ) → result ≡ Err (LogicalFault.Damaged m place) → IsDamagedCell D.files self.old.replicas replica place }
+        ensures lead { D.Tells → OnOk result ((r : Copy D) → At self.old.replicas replica r → HeadsLeadOn (begun (replica_seen r)) (volume_bytes D.files r)) }
+        ensures damaged { D.Tells → (m place : ℕ) → result ≡ Err (LogicalFault.Damaged m place) → IsDamagedCell D.files self.old.replicas replica (LacksCellAnew place) }
         ensures sights { OnOk result (SwapsSights replica (volume_seen self.new).replicas (sights_of self.old.rows) (sights_of self.new.rows)) }
         ensures refused_sights { OnErr result (KeepsSights (sights_of self.old.rows) (sights_of self.new.rows)) }
     {
@@ -1084,6 +1096,8 @@ impl<D: Disk> Logical<D> {
     pub fn front(&self) -> u64
         ensures is { result ≡ self.now.front }
         ensures known { D.Tells → (k : VolumeKnown) → Stands D.files D.Piece.Tells self.now k → result ≡ length k.log }
+        // Each replica has the superblock of its place.
+        ensures sups { HasSupers self.now }
     {
         self.front
     }

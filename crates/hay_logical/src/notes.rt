@@ -47,7 +47,7 @@ fn is_kept<P: Piece>(change: &Change, rows: &MapView<P>, replica: usize, end: u6
     ensures { result ≡ keeps change.now (sights_of rows.now) replica end }
 {
     match change {
-        Change::Put { ends } => end != ends[replica],
+        Change::Put { ends } => ends[replica] < end,
         Change::Delete { pair } => {
             let row = rows.row(*pair);
             !may_be_live(row.place(replica))

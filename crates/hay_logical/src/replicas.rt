@@ -277,7 +277,7 @@ pub(crate) fn open_each<D: Disk>(
         DrewRecordedAt D.files D.drawn rows.new j r r') }
     ensures left { (j : ℕ) (r r' : Copy D) → At replicas.old j r → At replicas.new j r' → LeftAt D.Tells D.files r r' }
     ensures kept { D.Tells → (j : ℕ) (r r' : Copy D) → At replicas.old j r → At replicas.new j r' → KeepsDisk D.files r r' }
-    ensures reach { CanReach D.Tells D.files replicas.new rows.new }
+    ensures reach { CanReach D.Tells D.files D.Piece.Tells replicas.new rows.new }
     ensures refused { IfErr result (IsRefusedAt D.Tells D.files D.fault_count replicas.old replicas.new) }
 {
     for (j, replica) in replicas.iter_mut().enumerate() {
@@ -311,7 +311,7 @@ fn open_one<D: Disk>(
     ensures left { LeftAt D.Tells D.files replica.old replica.new }
     ensures thawed { is_frozen replica.new ≡ false }
     ensures kept { D.Tells → KeepsDisk D.files replica.old replica.new }
-    ensures reach { D.Tells → ReachesPlaces D.files rows.new j replica.new }
+    ensures reach { D.Tells → ReachesPlaces D.files D.Piece.Tells rows.new j replica.new }
     ensures refused { IfErr result (IsOpenFault D.Tells D.files D.fault_count replica.old replica.new) }
     ensures others { (pair : Pair) (i : ℕ) → (i ≡ j → ⊥) → place_in (row_at rows.new pair) i ≡ place_in (row_at rows.old pair) i }
     ensures long { (pair : Pair) → length (row_at rows.new pair) ≡ rows.new.replicas }

@@ -94,7 +94,7 @@ fn see_undamaged<D: Disk>(
     requires most { length replicas.old ≤ 4 }
     requires width { rows.old.replicas ≡ length replicas.old }
     requires open { (j : ℕ) (r : Copy D) → At replicas.old j r → IsOpenCopy r }
-    requires reach { CanReach D.Tells D.files replicas.old rows.old }
+    requires reach { CanReach D.Tells D.files D.Piece.Tells replicas.old rows.old }
     ensures looks { (j : ℕ) (r r' : Copy D) → At replicas.old j r → At replicas.new j r' → LooksAt D.Tells D.files D.Piece.Tells rows.old rows.new j r r' }
     ensures seen { D.Tells → OnOk result ((j : ℕ) (r : Copy D) (s : Stored) → At replicas.old j r →
         physical.Stands D.files r s → PlacesAre D.Piece.Tells rows.old j s → IsSeen (place_in (row_at rows.new pair) j)) }
@@ -145,7 +145,7 @@ fn see_broken_off<D: Disk>(
     requires most { length replicas.old ≤ 4 }
     requires width { rows.old.replicas ≡ length replicas.old }
     requires open { (j : ℕ) (r : Copy D) → At replicas.old j r → IsOpenCopy r }
-    requires reach { CanReach D.Tells D.files replicas.old rows.old }
+    requires reach { CanReach D.Tells D.files D.Piece.Tells replicas.old rows.old }
     ensures looks { (j : ℕ) (r r' : Copy D) → At replicas.old j r → At replicas.new j r' → LooksAt D.Tells D.files D.Piece.Tells rows.old rows.new j r r' }
     ensures seen { D.Tells → OnOk result ((j : ℕ) (r : Copy D) (s : Stored) → At replicas.old j r →
         physical.Stands D.files r s → PlacesAre D.Piece.Tells rows.old j s → SeesUnsure unsure.now rows.new j) }
@@ -189,7 +189,7 @@ pub(crate) fn open_all<D: Disk>(
         physical.Holds D.files r stuck s t → SeesUnsure unsure.now rows.new j) }
     ensures left { (j : ℕ) (r r' : Copy D) → At replicas.old j r → At replicas.new j r' → LeftAt D.Tells D.files r r' }
     ensures kept { D.Tells → (j : ℕ) (r r' : Copy D) → At replicas.old j r → At replicas.new j r' → KeepsDisk D.files r r' }
-    ensures reach { CanReach D.Tells D.files replicas.new rows.new }
+    ensures reach { CanReach D.Tells D.files D.Piece.Tells replicas.new rows.new }
     ensures refused { IfErr result (IsRefusedAt D.Tells D.files D.fault_count replicas.old replicas.new) }
 {
     match open_each(replicas, rows, alloc) {

@@ -39,6 +39,13 @@ needle_there file cell here =
     subst (λ (l : List ℕ). NeedleBytes l (needle_of_cell cell))
     (sym here.stand ∙ ap (λ n. take n (drop cell.at file)) (needle_long cell.at here.needle cell here.is)) here.is.is
 
+-- so are the bytes that were read of it
+pub needle_from : (at n : ℕ) (file bytes : List ℕ) (cell : Cell) → StandsCell at file cell → n ≡ needle_total (length cell.bytes) → bytes ≡ take n (drop at file) → NeedleBytes bytes (needle_of_cell cell)
+needle_from at n file bytes cell stands total read =
+    let place : cell.at ≡ at = stands.is.place in
+    let here : bytes ≡ take (needle_total (length cell.bytes)) (drop cell.at file) = read ∙ ap (λ k. take k (drop at file)) total ∙ ap (λ k. take (needle_total (length cell.bytes)) (drop k file)) (sym place) in
+    subst (λ (l : List ℕ). NeedleBytes l (needle_of_cell cell)) (sym here) (needle_there file cell (subst (λ k. StandsCell k file cell) (sym place) stands))
+
 -- FLAGS
 
 pub flags_kept : (old new : FileState) (cells : List Cell) → ((k : ℕ) → old.sealed k ≡ false → new.sealed k ≡ false) → FlagsFree old cells → FlagsFree new cells

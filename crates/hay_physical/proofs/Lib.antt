@@ -14,3 +14,4 @@ pub mod Seeing
 pub mod Looks
 pub mod Apartness
 pub mod Drawing
+pub mod Whole

@@ -10,9 +10,11 @@ use Rattle.hay_disk.specs.Disk.{Files, FileState, IsFree, IsImage, IsOutside, Is
 use Rattle.hay_volume.specs.Cells.{StandsCell, live_cell, with_flag}
 use Rattle.hay_volume.specs.Needles.{HasNeedleOf}
 use Rattle.hay_index.specs.Records.{IsIndex, index_magic}
-use Rattle.hay_needle.specs.Needle.{needle_magic}
+use Rattle.hay_needle.specs.declared.needle.Needle.{Needle}
+use Rattle.hay_needle.specs.Needle.{NeedleBytes, needle_magic}
 use Rattle.hay_disk.specs.Gate.{IsGate}
 use Rattle.hay_head.specs.Head.{head_magic, row_place}
+use Rattle.hay_map.specs.Sealed.{SealedNeedle}
 use Rattle.hay_map.specs.declared.place.Place.{Place}
 use Rattle.hay_map.specs.declared.place.Place.TheVariants as place
 use Rattle.hay_open.specs.Stored.{HeadRests, IndexRests, IsStored, Stored, VolumeRests, cell_record, index_file, index_super, unrecorded, volume_file}
@@ -262,6 +264,17 @@ pub record KeepsBefore (end : ℕ) (old new : FileState) : Type 0 where
   pub grows : length old.now ≤ length new.now
   pub solid : (k : ℕ) → k < end → old.loose k ≡ false → new.loose k ≡ false
   pub free : (k : ℕ) → k < end → old.sealed k ≡ false → new.sealed k ≡ false
+
+-- the piece that was given out tells, and is a whole needle, of whatever photo
+abbrev pub IsWholeNeedle : Type 0 → SealedNeedle → Type 0
+IsWholeNeedle Tells needle = Tells × (n : Needle) × NeedleBytes needle.bytes n
+
+-- so is that of a place, if it has one
+abbrev pub HasWholeNeedle : {P : Type 0} → Type 0 → Place P → Type 0
+HasWholeNeedle Tells (place.Live needle) = IsWholeNeedle Tells needle
+HasWholeNeedle Tells place.None = Unit {0}
+HasWholeNeedle Tells place.Gone = Unit {0}
+HasWholeNeedle Tells (place.Unseen at size) = Unit {0}
 
 -- On any disk: a place was seen by the needle of this cell.
 abbrev pub IsSightOf : {P : Type 0} → Cell → Place P → Type 0

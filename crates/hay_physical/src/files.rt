@@ -5,10 +5,11 @@ ghost use Rattle.hay_needle.specs.Sizes.{needle_total};
 ghost use Rattle.hay_needle.specs.declared.needle.Cookie.{Cookie};
 ghost use Rattle.hay_needle.specs.declared.needle.Pair.{Pair};
 ghost use Rattle.hay_needle.specs.declared.settings.Super.{Super};
-ghost use Rattle.hay_volume.specs.Cells.{live_cell};
+ghost use Rattle.hay_needle.specs.declared.needle.Cell.{Cell};
+ghost use Rattle.hay_volume.specs.Cells.{StandsCell, live_cell};
 ghost use Rattle.hay_open.specs.Stored.{IsSealedCell, Stored};
 ghost use Rattle.hay_physical.specs.Faults.{IsDeleteFault, IsFlushFault, IsPutFault};
-ghost use Rattle.hay_physical.specs.Replicas.{FilesReady, FilesStand, HasLive, IsLastCell, KeepsBefore, MayFind, MayFlag, all_recorded, with_cell, without_cell};
+ghost use Rattle.hay_physical.specs.Replicas.{FilesReady, FilesStand, HasLive, IsLastCell, IsWholeNeedle, KeepsBefore, MayFind, MayFlag, all_recorded, with_cell, without_cell};
 ghost use Rattle.hay_physical.specs.Runs.{KeepsCopier};
 ghost use Rattle.hay_physical.specs.declared.state.Copier.TheVariants.{Ended};
 ghost use Rattle.hay_disk.specs.Disk.{Changes, KeepsOthers, Seals};
@@ -88,6 +89,8 @@ impl OpenFiles {
         ensures stored { D.Tells → (sup : Super) (s : Stored) → FilesStand sup (D.files disk.old) self.old s →
             IfOk result (λ needle. FilesStand sup (D.files disk.new) self.new (with_cell s pair cookie bytes.now)
             × IsSealedCell D.Piece.Tells (live_cell s.end pair cookie bytes.now) needle) }
+        // Whatever the disk has, the needle that is answered is a whole one.
+        ensures whole { D.Tells → IfOk result (IsWholeNeedle D.Piece.Tells) }
         ensures open { OnOk result (self.new.frozen ≡ false) }
         ensures refused { D.Tells → (sup : Super) (s : Stored) → self.old.frozen ≡ false → FilesStand sup (D.files disk.old) self.old s →
             OnErr result (((self.new.frozen ≡ false) × FilesStand sup (D.files disk.new) self.new s)
@@ -144,6 +147,7 @@ impl OpenFiles {
         ensures noted { OnOk result (length self.new.index.pending ≡ length self.old.index.pending + 1) }
         ensures added { D.Tells → (sup : Super) (s : Stored) → FilesStand sup (D.files disk.old) self.old s →
             OnOk result (FilesStand sup (D.files disk.new) self.new (with_cell s pair cookie bytes.now)) }
+        ensures stands { D.Tells → IfOk result (λ at. StandsCell at (D.files disk.new self.new.volume.file).now (live_cell at pair cookie bytes.now)) }
         ensures open { OnOk result (self.new.frozen ≡ self.old.frozen) }
         ensures refused { D.Tells → (sup : Super) (s : Stored) → FilesStand sup (D.files disk.old) self.old s →
             OnErr result (((self.new.frozen ≡ self.old.frozen) × FilesStand sup (D.files disk.new) self.new s)
@@ -203,6 +207,7 @@ impl OpenFiles {
             FilesStand sup (D.files disk.old) self.old (with_cell s pair cookie photo) → at ≡ s.end → size ≡ length photo →
             IfOk result (λ needle. FilesStand sup (D.files disk.new) self.new (with_cell s pair cookie photo)
             × IsSealedCell D.Piece.Tells (live_cell s.end pair cookie photo) needle) }
+        ensures whole { D.Tells → (cell : Cell) → StandsCell at (D.files disk.old self.old.volume.file).now cell → length cell.bytes ≡ size → IfOk result (IsWholeNeedle D.Piece.Tells) }
         ensures stayed { OnOk result (self.new ≡ self.old) }
         ensures froze { OnErr result (self.new ≡ record self.old { frozen = true; copier = Ended (D.fault_count disk.new) }) }
         ensures kept { D.Tells → OnErr result (D.files disk.new ≡ D.files disk.old) }
@@ -280,6 +285,7 @@ impl OpenFiles {
         ensures open { self.new.frozen ≡ self.old.frozen }
         ensures going { OnOk result (self.new.index.frozen ≡ false) }
         ensures stuck { IfErr result (λ fault. (faults : ℕ) → fault ≡ ReplicaFault.Failed faults → self.new.index.frozen ≡ true) }
+        ensures tried { IfErr result (λ fault. (faults : ℕ) → fault ≡ ReplicaFault.Failed faults → 0 < length self.old.index.pending) }
         ensures stayed { IsErrOf result ReplicaFault.NoMemory → self.new ≡ self.old }
         ensures number { IfOk result (λ n. n ≡ length self.old.index.pending) }
         ensures none { OnOk result (self.new.index.pending ≡ []) }

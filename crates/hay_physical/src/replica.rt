@@ -22,7 +22,7 @@ ghost use Rattle.hay_physical.specs.Copies.{goal_of, is_frozen, is_stuck, next_o
 ghost use Rattle.hay_physical.specs.Draws.{DrewRecorded};
 ghost use Rattle.hay_physical.specs.Faults.{IsDeleteFault, IsFlushFault, IsPutFault};
 ghost use Rattle.hay_needle.specs.Tables.{pair_eq};
-ghost use Rattle.hay_physical.specs.Replicas.{Anywhere, ApartFrom, ArePlacesApart, HasLive, Holds, IsApart, IsIdleCopy, IsLike, KeepsSight, MayDelete, MayDeletePlace, MaySee, MaySeePlace, ShowsCell, Stands, all_recorded, with_cell, without_cell};
+ghost use Rattle.hay_physical.specs.Replicas.{Anywhere, ApartFrom, ArePlacesApart, HasLive, HasWholeNeedle, Holds, IsApart, IsIdleCopy, IsLike, IsWholeNeedle, KeepsSight, MayDelete, MayDeletePlace, MaySee, MaySeePlace, ShowsCell, Stands, all_recorded, with_cell, without_cell};
 
 use crate::fault::ReplicaFault;
 use crate::state::{Copier, OpenFiles, Phase};
@@ -100,6 +100,8 @@ impl<D: Disk> Replica<D> {
         ensures apart { D.Tells → IfOk result (λ cells. (pair other : Pair) → pair_eq pair other ≡ false →
             ArePlacesApart (last_place cells.items pair place.None) (last_place cells.items other place.None)) }
         ensures shows { D.Tells → OnOk result ((s : Stored) → Stands D.files self.new s → AllByRecursion (ShowsCell D.files self.new) s.cells) }
+        // Each needle that a place has is a whole one.
+        ensures needles { D.Tells → IfOk result (λ cells. (pair : Pair) → HasWholeNeedle D.Piece.Tells (last_place cells.items pair place.None)) }
 
         // What a refusal leaves, and its cause.
         ensures closed { OnErr result (self.new.phase ≡ Closed) }
@@ -175,6 +177,8 @@ impl<D: Disk> Replica<D> {
         ensures stored { D.Tells → (s : Stored) → Stands D.files self.old s →
             IfOk result (λ needle. Stands D.files self.new (with_cell s pair cookie bytes.now)
             × IsSealedCell D.Piece.Tells (live_cell s.end pair cookie bytes.now) needle) }
+        // Whatever the disk has, the needle that is answered is a whole one.
+        ensures whole { D.Tells → IfOk result (IsWholeNeedle D.Piece.Tells) }
         ensures up { OnOk result (IsUp self.new) }
 
         ensures can_delete { D.Tells → IfOk result (λ needle. MayDelete D.files self.new needle.at) }
@@ -292,6 +296,7 @@ impl<D: Disk> Replica<D> {
         // A refusal leaves the photos and the records.
         ensures refused { D.Tells → (s : Stored) → Stands D.files self.old s → OnErr result (Stands D.files self.new s) }
         ensures stuck { IfErr result (λ fault. (faults : ℕ) → fault ≡ ReplicaFault.Failed faults → is_stuck self.new ≡ true) }
+        ensures tried { IfErr result (λ fault. (faults : ℕ) → fault ≡ ReplicaFault.Failed faults → 0 < bare_of self.old) }
         ensures stayed { IsErrOf result ReplicaFault.NoMemory → self.new.phase ≡ self.old.phase }
         ensures open { IsOpenCopy self.new }
         ensures same { is_frozen self.new ≡ is_frozen self.old }

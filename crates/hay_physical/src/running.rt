@@ -13,7 +13,7 @@ ghost use Rattle.hay_compact.specs.Copying.{HeadStands, IsLatest, IsNextWithin};
 ghost use Rattle.hay_compact.specs.Finishing.{ArePhotos, AreThePlaces, IsSeen};
 ghost use Rattle.hay_physical.specs.Copies.{CanBegin, IsFrozen, IsOpenCopy, IsUp, KeepsEnd, bare_of, copied_of, end_of, faults_at_end, generation_of, goal_of, is_frozen, is_stuck, next_of, volume_bytes};
 ghost use Rattle.hay_physical.specs.Faults.{IsBeginFault, IsPeekFault, IsRunFault};
-ghost use Rattle.hay_physical.specs.Replicas.{Anywhere, Holds, KeepsSight, MayDelete, MayDeletePlace, ShowsCell, Stands};
+ghost use Rattle.hay_physical.specs.Replicas.{Anywhere, HasWholeNeedle, Holds, KeepsSight, MayDelete, MayDeletePlace, ShowsCell, Stands};
 ghost use Rattle.hay_physical.specs.Runs.{EndsRun, HasNext, HasPair, HasRun, IsPeeked, IsTight, RemovedBoth, Run, Swaps, stepped};
 
 use crate::fault::ReplicaFault;
@@ -224,8 +224,9 @@ impl<D: Disk> Replica<D> {
         // On any disk each place lies within the new file.
         ensures within { IfOk result (λ places. ArePlacesWithin (end_of self.new) places.items) }
         ensures photos { IfOk result (λ places. ArePhotos places.items) }
-        // Each place is one that was looked at, and each cell of the new file can be seen.
+        // Each place is one that was looked at, each needle that one has is a whole one, and each cell of the new file can be seen.
         ensures seen { D.Tells → IfOk result (λ places. (pair : Pair) → IsSeen (last_place places.items pair place.Gone)) }
+        ensures needles { D.Tells → IfOk result (λ places. (pair : Pair) → HasWholeNeedle D.Piece.Tells (last_place places.items pair place.Gone)) }
         ensures shows { D.Tells → OnOk result ((s : Stored) → Stands D.files self.new s → AllByRecursion (ShowsCell D.files self.new) s.cells) }
 
         // The files of the old generation are gone, but for one whose removal failed.

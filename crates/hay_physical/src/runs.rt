@@ -13,7 +13,7 @@ ghost use Rattle.hay_compact.specs.Copying.{HeadStands, IsLatest, IsNextWithin, 
 ghost use Rattle.hay_compact.specs.Finishing.{ArePhotos, AreThePlaces, IsSeen};
 ghost use Rattle.hay_physical.specs.Copies.{copier_copied, copier_faults, copier_goal, copier_next};
 ghost use Rattle.hay_physical.specs.Faults.{IsBeginFault, IsPeekFault, IsRunFault};
-ghost use Rattle.hay_physical.specs.Replicas.{FilesReady, FilesStand, IsBounded, IsCopierReady, IsSettled, MayFind, MayFlagPlace};
+ghost use Rattle.hay_physical.specs.Replicas.{FilesReady, FilesStand, HasWholeNeedle, IsBounded, IsCopierReady, IsSettled, MayFind, MayFlagPlace};
 ghost use Rattle.hay_physical.specs.Runs.{CopierPeeked, EndsBy, EndsInDelete, FilesPeek, FilesRun, IsTight, KeepsFiles, RemovedBoth, RepeatsIn, Run, Swaps, stepped};
 ghost use Rattle.hay_physical.specs.declared.state.Copier.TheVariants.{Ended, Standing};
 
@@ -292,6 +292,7 @@ impl OpenFiles {
         ensures within { IfOk result (λ places. ArePlacesWithin self.new.volume.end places.items) }
         ensures photos { IfOk result (λ places. ArePhotos places.items) }
         ensures seen { D.Tells → IfOk result (λ places. (pair : Pair) → IsSeen (last_place places.items pair place.Gone)) }
+        ensures needles { D.Tells → IfOk result (λ places. (pair : Pair) → HasWholeNeedle D.Piece.Tells (last_place places.items pair place.Gone)) }
         ensures volume { D.Tells → self.old.frozen ≡ false → OnErr result (D.files disk.new self.old.volume.file ≡ D.files disk.old self.old.volume.file) }
 
         ensures causes { IfErr result (IsRunFault (D.fault_count disk.old) (D.fault_count disk.new)) }

@@ -14,7 +14,7 @@ ghost use Rattle.hay_open.specs.Stored.{Stored, volume_file};
 ghost use Rattle.hay_compact.specs.Copying.{IsMaking, Making, stored_of};
 ghost use Rattle.hay_compact.specs.Finishing.{ArePhotos, AreThePlaces, IsSeen};
 ghost use Rattle.hay_physical.specs.Faults.{IsRunFault};
-ghost use Rattle.hay_physical.specs.Replicas.{FilesReady, FilesStand, MayFind, MayFlagPlace};
+ghost use Rattle.hay_physical.specs.Replicas.{FilesReady, FilesStand, HasWholeNeedle, MayFind, MayFlagPlace};
 ghost use Rattle.hay_physical.specs.Runs.{KeepsBut, MaySwitch, RemovedBoth, Switches};
 
 use crate::fault::ReplicaFault;
@@ -51,6 +51,7 @@ impl OpenFiles {
         ensures shorter { OnOk result (self.new.volume.end ≤ compactor.next) }
         ensures flags { D.Tells → IfOk result (λ places. (pair : Pair) → MayFlagPlace (D.files disk.new) self.new (last_place places.items pair place.Gone)) }
         ensures seen { D.Tells → IfOk result (λ places. (pair : Pair) → IsSeen (last_place places.items pair place.Gone)) }
+        ensures needles { D.Tells → IfOk result (λ places. (pair : Pair) → HasWholeNeedle D.Piece.Tells (last_place places.items pair place.Gone)) }
         ensures photos { IfOk result (λ places. ArePhotos places.items) }
         ensures ready { D.Tells → self.new.frozen ≡ false → FilesReady (D.files disk.new) self.new }
         ensures copier { self.new.copier ≡ self.old.copier }

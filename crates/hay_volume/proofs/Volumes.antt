@@ -1,6 +1,6 @@
 -- One more cell in a volume file.
 use Rattle.std.proofs.Common.{false, ◌≡◌, ◌⊎◌, inl, inr, ⊎_elim, ◌≤◌, ◌+◌, ◌-◌, ℕ, List, [], ◌∷◌, ◌++◌, length, take, drop, sym, ◌∙◌, ap, subst, refl, arith, length-append, append_assoc, take-append-drop, lit<}
-use Rattle.std.proofs.lemmas.List.{take_at, drop_at}
+use Rattle.std.proofs.lemmas.List.{drop_at, length-take-le, take_at}
 use Rattle.hay_needle.specs.declared.needle.Cell.{Cell}
 use Rattle.hay_needle.specs.declared.needle.Cookie.{Cookie}
 use Rattle.hay_needle.specs.declared.needle.Pair.{Pair}
@@ -9,9 +9,9 @@ use Rattle.hay_needle.specs.Needle.{live, needle_magic, AppendsBehindMagic, Need
 use Rattle.hay_needle.specs.Sizes.{needle_total}
 use Rattle.hay_needle.proofs.Needles.{length-needle}
 use Rattle.hay_disk.specs.Disk.{FileState, IsImage, IsSolid, IsSolidIn, Changes, overwrite}
-use Rattle.hay_disk.specs.Gate.{magic_bytes, record_of, end_mark, EndsInMark, IsLog, IsGate, LogGrows, LogStays}
+use Rattle.hay_disk.specs.Gate.{magic_bytes, record_of, end_mark, EndsInMark, IsClosed, IsLog, IsGate, LogGrows, LogStays}
 use Rattle.hay_disk.proofs.Logs.{log_kept, log_grows, not_mark}
-use Rattle.hay_volume.specs.Cells.{IsVolume, IsMarked, live_cell}
+use Rattle.hay_volume.specs.Cells.{IsVolume, IsMarked, StandsCell, live_cell}
 use Rattle.hay_volume.proofs.CellLaws.{one_more, volume_log, log_volume, length-superblock}
 
 -- what is written behind the magic: it ends in the end mark, and is as long as the needle
@@ -46,6 +46,26 @@ volume_grows superblock old new cells end need pair cookie photo body needs made
     subst (λ n. IsVolume superblock new (cells ++ live_cell end pair cookie photo ∷ []) (end + n)) (sym needs)
     (with_cell superblock old new cells end pair cookie photo body made is
     (grows.longer (superblock ++ is.has.needles) made.rest (front_length superblock old cells end is) made.grown (volume_log superblock old cells end is)))
+
+-- the needle stands behind what the file had, whatever that is
+pub appended_stands : (old new : List ℕ) (end : ℕ) (pair : Pair) (cookie : Cookie) (photo body : List ℕ) → AppendsBehindMagic [] body (live pair cookie photo) → LogGrows needle_magic end body old new
+    → IsClosed needle_magic end old → StandsCell end new (live_cell end pair cookie photo)
+appended_stands old new end pair cookie photo body made grows closed =
+    let front : List ℕ = take end old in
+    let room = closed.room in
+    let long : length front ≡ end = length-take-le end old (omega (arith, room)) in
+    let needle : List ℕ = record_of needle_magic made.rest in
+    let log : IsLog needle_magic (front ++ needle) new =
+    grows.longer front made.rest long made.grown (record { begins = ap (λ n. take n old) long; closed = subst (λ n. IsClosed needle_magic n old) (sym long) closed }) in
+    let tail : List ℕ = drop (length (front ++ needle)) new in
+    let whole : new ≡ front ++ (needle ++ tail) =
+    sym (take-append-drop (length (front ++ needle)) new) ∙ ap (λ (l : List ℕ). l ++ tail) log.begins ∙ append_assoc front needle tail in
+    record {
+      needle = needle;
+      is = record { place = refl; is = made.is };
+      stand = ap (λ (l : List ℕ). take (length needle) (drop end l)) whole
+          ∙ ap (λ (l : List ℕ). take (length needle) l) (drop_at front (needle ++ tail) end long) ∙ take_at needle tail (length needle) refl;
+    }
 
 -- the log without it is the volume file as it was
 without_cell : (superblock file image : List ℕ) (cells : List Cell) (end : ℕ) (is : IsVolume superblock file cells end) → IsLog needle_magic (superblock ++ is.has.needles) image → IsVolume superblock image cells end

@@ -10,7 +10,7 @@ ghost use Rattle.hay_needle.specs.Super.{super_bytes};
 ghost use Rattle.hay_needle.specs.declared.needle.Cell.{Cell};
 ghost use Rattle.hay_needle.specs.declared.needle.Cookie.{Cookie};
 ghost use Rattle.hay_needle.specs.declared.needle.Pair.{Pair};
-ghost use Rattle.hay_volume.specs.Cells.{IsMarked, IsVolume, live_cell};
+ghost use Rattle.hay_volume.specs.Cells.{IsMarked, IsVolume, StandsCell, live_cell};
 
 use crate::fault::VolumeFault;
 use hay_disk::{Disk, DiskFault, gate_append};
@@ -113,7 +113,8 @@ impl VolumeFile {
         ensures stayed { OnErr result (self.new ≡ self.old) }
         ensures kept { D.Tells → IfErr result (λ fault. (fault ≡ VolumeFault.Failed → ⊥) → D.files disk.new ≡ D.files disk.old) }
 
-        // At `Ok` the file has one more cell, all of it is on the disk, and the next append may follow.
+        // At `Ok` the file has one more cell, whatever it had before, all of it is on the disk, and the next append may follow.
+        ensures stands { D.Tells → IfOk result (λ at. StandsCell at (D.files disk.new self.old.file).now (live_cell at pair cookie bytes.now)) }
         ensures added { D.Tells → OnOk result ((superblock : List ℕ) (cells : List Cell) →
             IsVolume superblock (D.files disk.old self.old.file).now cells self.old.end →
             IsVolume superblock (D.files disk.new self.old.file).now (cells ++ live_cell self.old.end pair cookie bytes.now ∷ []) self.new.end) }

@@ -35,6 +35,7 @@ returns-clause-flushes g c = λ r r' e f.
       run_stays = c.flush.ensures.run_stays;
       cause = flush_if g.D.Disk.fault_count here c.flush.new.self c.flush.result up c.flush.ensures.causes c.flush.ensures.stuck c.flush.ensures.stayed c.flush.ensures.thawed c.flush.ensures.frozen;
       not_stuck = not_stuck_before here c.flush.new.self c.flush.result c.flush.ensures.frozen;
+      tried = c.flush.ensures.tried;
       reach = λ tells. record { deletes = c.flush.ensures.deletes tells; sees = c.flush.ensures.sees tells };
     } in
     subst (λ x. FlushesAt g.D.Disk.Tells g.D.Disk.files g.D.Disk.fault_count x r' c.flush.result) (sym same.0)

@@ -128,7 +128,7 @@ returns-in-Err-clause-reach g c =
     let within : c.loop-j.j < length c.loop-j.replicas = omega arith in
     let here : Copy g.row.D.Denot = slice_index_or c.loop-j.replicas c.loop-j.j c.index-replicas-j.result in
     let there : At c.loop-j.replicas c.loop-j.j here = at_read c.loop-j.replicas c.loop-j.j c.index-replicas-j.result within in
-    let Reach : ℕ → Copy g.row.D.Denot → Copy g.row.D.Denot → Type 0 = λ i x y. g.D.Disk.Tells → ReachesPlaces g.D.Disk.files c.open_one.new.rows i y in
+    let Reach : ℕ → Copy g.row.D.Denot → Copy g.row.D.Denot → Type 0 = λ i x y. g.D.Disk.Tells → ReachesPlaces g.D.Disk.files g.D.Piece.Piece.Tells c.open_one.new.rows i y in
     let went : Went Reach (c.loop-j.j + 1) c.args.replicas.now (slice_set c.loop-j.replicas c.loop-j.j c.open_one.new.replica) =
     went_step _ Reach c.loop-j.j c.args.replicas.now c.loop-j.replicas here c.open_one.new.replica c.loop-j.invariant.went there
     (λ i x y h p tells. reaches_same g.D.Disk.files c.loop-j.rows c.open_one.new.rows i y (λ pair. c.open_one.ensures.others pair i (λ e. absurd (omega (arith, h, e)))) (p.0.reach tells))

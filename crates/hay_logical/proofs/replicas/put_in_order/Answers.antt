@@ -85,6 +85,7 @@ loop-j-preserved g c =
                   live = ap (λ n. Live n) c.in-Ok.ensures.there;
                   deletable = c.in-Ok.ensures.can_delete;
                   apart = c.in-Ok.ensures.apart;
+                  whole = c.in-Ok.ensures.whole;
                 }),
             c.put.ensures.counts,
             c.put.ensures.fuses,

@@ -1,18 +1,17 @@
-use Rattle.std.proofs.Common.{◌≡◌, Err, Ok, true, length, refl, sym, ap, subst, arith}
-use Rattle.hay_physical.specs.Copies.{Copy}
+use Rattle.std.proofs.Common.{◌≡◌, Err, Ok, true, length, refl, sym, ap, subst}
+use Rattle.hay_physical.specs.Copies.{Copy, volume_bytes}
 use Rattle.hay_physical.specs.Faults as physical_faults
 use Rattle.hay_physical.specs.declared.fault.ReplicaFault.{ReplicaFault}
 use Rattle.hay_logical.specs.Steps.{BeginsAt}
-use Rattle.hay_logical.proofs.Bytes.{lacks_there}
 use Rattle.hay_logical.specs.Steps.Start.{Fresh, Going}
 use Rattle.hay_logical.proofs.Beginning.{begin_holds, begin_left, begins}
 use Rattle.hay_logical.proofs.Calls.{up_open}
 use Rattle.hay_logical.proofs.Reaching.{reaches_on}
 use Rattle.hay_logical.proofs.Swapping.{keeps_rows, stays_later, swaps_later}
 use Rattle.hay_logical.proofs.runs.compact.Given as given
-use Rattle.hay_physical.proofs.Views.{if_ok_so, on_err_so}
-use Rattle.hay_physical.proofs.Laws.{no_next}
-use Rattle.hay_logical.proofs.Seen.{changes_through, meets_later, run_changed, swap_later}
+use Rattle.hay_physical.proofs.Views.{if_ok_so, on_err_so, on_ok_one}
+use Rattle.hay_logical.proofs.Damages.{heads_anew, lacks_anew, meets_anew}
+use Rattle.hay_logical.proofs.Seen.{changes_through, run_changed, swap_later}
 use Rattle.hay_logical.specs.Seen.{replica_seen}
 use Rattle.hay_logical.proofs.runs.compact.Goals as goal
 use Rattle.hay_logical.proofs.runs.compact.Goals.{After-begin}
@@ -33,7 +32,7 @@ returns-in-Ok-clause-swaps g c =
     subst (λ z. BeginsAt g.D.Disk.Tells g.D.Disk.files g.D.Disk.fault_count r x z) c.in-Ok.is (begun g (goal.at.returns-in-Ok-clause-swaps g c).After-begin) in
     swaps_later g.D.Disk.Tells g.D.Disk.files g.D.Disk.fault_count g.D.Piece.Piece.Tells c.args.rows.now c.finish.new.rows c.args.at r x y c.finish.result Fresh Going (λ e. let wrong : Going ≡ Fresh = e in cc)
     c.requires.up began.on began.rest c.begin.ensures.counts
-    (λ place. meets_later (replica_seen r) (replica_seen x) place (let none = no_next r began.rest.0 in omega (arith, none)) c.begin.ensures.stays.1)
+    (λ place. meets_anew (replica_seen r) (replica_seen x) place c.in-Ok.ensures.first c.begin.ensures.stays.1)
     (λ tells s run stands start places.
     let has = began.begun tells s stands in
     (record { goal = c.in-Ok.field-0; left = length s.cells; tight = true }, ap (λ z. z.tight) (sym start.1), has.1))
@@ -87,9 +86,17 @@ returns-in-Ok-clause-kept g c =
 pub returns-in-Err-clause-kept : goal.returns-in-Err-clause-kept
 returns-in-Err-clause-kept g c = let b = c.begin.ensures in run_changed c.args.replica.now c.begin.new.self b.stays b.stuck b.bare
 
+pub returns-in-Ok-clause-lead : goal.returns-in-Ok-clause-lead
+returns-in-Ok-clause-lead g c = λ tells.
+    on_ok_one c.finish.result _ _
+    (heads_anew (replica_seen c.args.replica.now) (replica_seen c.begin.new.self) (volume_bytes g.D.Disk.files c.args.replica.now) (volume_bytes g.D.Disk.files c.begin.new.self)
+    c.in-Ok.ensures.first c.begin.ensures.stays.1 (c.begin.ensures.bytes tells))
+    (c.finish.ensures.lead tells)
+
 pub returns-in-Ok-clause-damaged : goal.returns-in-Ok-clause-damaged
 returns-in-Ok-clause-damaged g c = λ tells place is.
-    lacks_there g.D.Disk.files c.args.replica.now c.begin.new.self place c.begin.ensures.stays.1 (c.begin.ensures.bytes tells) (c.finish.ensures.damaged tells place is)
+    lacks_anew place (replica_seen c.args.replica.now) (replica_seen c.begin.new.self) (volume_bytes g.D.Disk.files c.args.replica.now) (volume_bytes g.D.Disk.files c.begin.new.self)
+    c.in-Ok.ensures.first c.begin.ensures.stays.1 (c.begin.ensures.bytes tells) (c.finish.ensures.damaged tells place is)
 
 pub returns-in-Err-clause-damaged : goal.returns-in-Err-clause-damaged
 returns-in-Err-clause-damaged g c = λ tells place is.

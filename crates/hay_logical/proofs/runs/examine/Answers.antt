@@ -4,19 +4,19 @@ use Rattle.hay_physical.specs.declared.fault.ReplicaFault.TheVariants as fault
 use Rattle.hay_map.specs.Places.{place_in}
 use Rattle.hay_open.specs.Stored.{last_cell}
 use Rattle.hay_compact.specs.Copying.{IsLatest}
-use Rattle.hay_physical.specs.Copies.{Copy, end_of, goal_of, next_of}
+use Rattle.hay_physical.specs.Copies.{Copy, end_of, goal_of, next_of, volume_bytes}
 use Rattle.hay_physical.proofs.Laws.{next_left}
 use Rattle.hay_logical.specs.Fits.{PhotoAt}
 use Rattle.hay_logical.specs.Steps.{GoesOn, IsStepFault}
 use Rattle.std.proofs.lemmas.Bool.{true≢false}
-use Rattle.hay_logical.proofs.Bytes.{lacks_there}
 use Rattle.hay_logical.proofs.Calls.{still_up}
 use Rattle.hay_logical.proofs.Examining.{examine_cause, goes_after, latest_is, leaves_none, peeked_fits, peeked_small, step_ends, step_later}
 use Rattle.hay_logical.proofs.runs.examine.Given as given
 use Rattle.std.proofs.Common.{arith}
 use Rattle.hay_physical.specs.Runs.{IsPeeked}
 use Rattle.hay_logical.specs.Seen.{ChangesRun, replica_seen}
-use Rattle.hay_logical.proofs.Seen.{changes_through, meets_later, run_changed, steps_end, steps_one}
+use Rattle.hay_logical.proofs.Damages.{heads_none, heads_one, lacks_next, lacks_there, meets_later}
+use Rattle.hay_logical.proofs.Seen.{changes_through, run_changed, steps_end, steps_one}
 use Rattle.hay_logical.proofs.runs.examine.Goals as goal
 use Rattle.hay_logical.proofs.runs.examine.Goals.{After-peek, After-copy}
 
@@ -90,8 +90,8 @@ returns-in-Err-copy-clause-examines g c =
           leaves_none g.D.Disk.files y s run 0 c.in-Err-copy.fault
           (λ e. c.copy.ensures.memory tells (c.in-Err-copy.is ∙ ap Err e) s run (c.in-Ok-Some.ensures.run tells s run has))
           (λ at e. c.copy.ensures.whole tells s run (rw c.in-Ok-Some.field-0-is at (c.in-Ok-Some.ensures.next tells s run has)).0 at (c.in-Err-copy.is ∙ ap Err e));
-      cause = step_later g.D.Disk.fault_count r x y c.in-Err-copy.fault c.peek.ensures.counts goal_stays
-          (λ at meets. meets_later (replica_seen r) (replica_seen x) at (let next = c.peek.ensures.place goal_stays in omega (arith, next)) c.peek.ensures.stays.1 meets)
+      cause = step_later g.D.Disk.fault_count 1 1 r x y c.in-Err-copy.fault c.peek.ensures.counts goal_stays
+          (λ at meets. meets_later 1 (replica_seen r) (replica_seen x) at (c.peek.ensures.place goal_stays) c.peek.ensures.stays.1 meets)
           (examine_cause g.D.Disk.fault_count x y c.in-Err-copy.fault peeks.up (λ e. c.requires.standing (sym goal_stays ∙ e))
           (λ e. c.copy.ensures.thawed (c.in-Err-copy.is ∙ ap Err e)) (λ n e. c.copy.ensures.none n (c.in-Err-copy.is ∙ ap Err e))
           (λ at e. c.copy.ensures.damaged at (c.in-Err-copy.is ∙ ap Err e))
@@ -99,7 +99,7 @@ returns-in-Err-copy-clause-examines g c =
     }
 
 -- why no cell was peeked at
-peek_cause : (g : given.Over) (c : goal.In-Err g) → IsStepFault g.D.Disk.fault_count c.args.replica.now c.peek.new.self c.in-Err.fault
+peek_cause : (g : given.Over) (c : goal.In-Err g) → IsStepFault g.D.Disk.fault_count 1 c.args.replica.now c.peek.new.self c.in-Err.fault
 peek_cause g c = examine_cause g.D.Disk.fault_count c.args.replica.now c.peek.new.self c.in-Err.fault c.requires.up c.requires.standing
     (λ e. c.peek.ensures.thawed (c.in-Err.is ∙ ap Err e)) (λ n e. c.peek.ensures.none n (c.in-Err.is ∙ ap Err e))
     (λ at e. c.peek.ensures.damaged at (c.in-Err.is ∙ ap Err e)) c.in-Err.ensures.causes c.in-Err.ensures.ends
@@ -160,7 +160,7 @@ returns-in-Err-copy-clause-left g c =
 pub returns-in-Err-clause-left : goal.returns-in-Err-clause-left
 returns-in-Err-clause-left g c = (
   peek_changes g (goal.at.returns-in-Err-clause-left g c).After-peek,
-  λ same. absurd (c.requires.standing (sym same ∙ step_ends g.D.Disk.fault_count c.args.replica.now c.peek.new.self c.in-Err.fault
+  λ same. absurd (c.requires.standing (sym same ∙ step_ends g.D.Disk.fault_count 1 c.args.replica.now c.peek.new.self c.in-Err.fault
       (λ e. c.peek.ensures.memory (c.in-Err.is ∙ ap Err e)) (peek_cause g c))),
 )
 
@@ -176,14 +176,32 @@ returns-in-Err-copy-clause-bytes g c = λ tells. c.copy.ensures.bytes tells ∙ 
 pub returns-in-Err-clause-bytes : goal.returns-in-Err-clause-bytes
 returns-in-Err-clause-bytes g c = c.peek.ensures.bytes
 
+pub returns-in-Ok-None-clause-lead : goal.returns-in-Ok-None-clause-lead
+returns-in-Ok-None-clause-lead g c = λ tells.
+    heads_none (next_of c.args.replica.now) (next_of c.peek.new.self) (volume_bytes g.D.Disk.files c.args.replica.now) (c.peek.ensures.place c.in-Ok-None.ensures.goal)
+
+pub returns-in-Ok-clause-lead : goal.returns-in-Ok-clause-lead
+returns-in-Ok-clause-lead g c = λ tells.
+    let r : Copy g.row.D.Denot = c.args.replica.now in
+    let x : Copy g.row.D.Denot = c.peek.new.self in
+    let head = rw c.in-Ok-Some.field-0-is at (c.in-Ok-Some.ensures.head tells) in
+    heads_one (next_of r) (next_of x) (next_of c.copy.new.self) (volume_bytes g.D.Disk.files r) (volume_bytes g.D.Disk.files x) c.in-Ok-Some.cell
+    (c.peek.ensures.place c.in-Ok-Some.ensures.goal) (c.peek.ensures.bytes tells) c.in-Ok.ensures.moved head
+
 pub returns-in-Err-copy-clause-damaged : goal.returns-in-Err-copy-clause-damaged
 returns-in-Err-copy-clause-damaged g c = λ tells place is.
+    let r : Copy g.row.D.Denot = c.args.replica.now in
+    let x : Copy g.row.D.Denot = c.peek.new.self in
     let head = rw c.in-Ok-Some.field-0-is at (c.in-Ok-Some.ensures.head tells) in
     let same : c.in-Err-copy.fault ≡ fault.Damaged place = cc in
-    lacks_there g.D.Disk.files c.args.replica.now c.peek.new.self place c.peek.ensures.stays.1 (c.peek.ensures.bytes tells)
-    (c.in-Err-copy.ensures.lacks tells head place (ap (λ (f : ReplicaFault). Err f) same))
+    let here = c.copy.ensures.damaged place (c.in-Err-copy.is ∙ ap (λ (f : ReplicaFault). Err f) same) in
+    lacks_there 1 place (replica_seen r) (replica_seen x) (volume_bytes g.D.Disk.files r) (volume_bytes g.D.Disk.files x)
+    (c.peek.ensures.place c.in-Ok-Some.ensures.goal) c.peek.ensures.stays.1 (c.peek.ensures.bytes tells)
+    (lacks_next place (replica_seen x) (volume_bytes g.D.Disk.files x) here.0 (c.in-Err-copy.ensures.lacks tells head place (ap (λ (f : ReplicaFault). Err f) same)))
 
 pub returns-in-Err-clause-damaged : goal.returns-in-Err-clause-damaged
 returns-in-Err-clause-damaged g c = λ tells place is.
     let same : c.in-Err.fault ≡ fault.Damaged place = cc in
-    c.in-Err.ensures.lacks tells place (ap (λ (f : ReplicaFault). Err f) same)
+    let here = c.peek.ensures.damaged place (c.in-Err.is ∙ ap (λ (f : ReplicaFault). Err f) same) in
+    lacks_next place (replica_seen c.args.replica.now) (volume_bytes g.D.Disk.files c.args.replica.now) here.0
+    (c.in-Err.ensures.lacks tells place (ap (λ (f : ReplicaFault). Err f) same))

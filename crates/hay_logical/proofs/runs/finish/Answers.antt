@@ -1,5 +1,5 @@
 use Rattle.hay_physical.specs.declared.fault.ReplicaFault.{ReplicaFault}
-use Rattle.std.proofs.Common.{◌≡◌, ◌-◌, Err, refl, ◌∙◌, arith}
+use Rattle.std.proofs.Common.{◌≡◌, ◌-◌, Err, refl, subst, ◌∙◌, arith}
 use Rattle.hay_physical.specs.Copies.{Copy, IsUp}
 use Rattle.hay_physical.proofs.Laws.{run_within, stands_cells_end}
 use Rattle.hay_logical.specs.Steps.{GoesOn, StaysInReach, stepped_by}
@@ -10,8 +10,12 @@ use Rattle.hay_logical.proofs.SwapSizes.{cells_within}
 use Rattle.hay_logical.proofs.Swapping.{keeps_rows, stays_later, step_holds, step_left, swaps_later}
 use Rattle.hay_logical.proofs.runs.finish.Given as given
 use Rattle.hay_physical.proofs.Views.{if_ok_so, on_err_so}
-use Rattle.hay_logical.proofs.Seen.{changes_through, run_changed, steps_change, steps_meet, swap_later}
-use Rattle.hay_logical.specs.Seen.{ReplicaSeen, replica_seen}
+use Rattle.hay_logical.proofs.Seen.{changes_through, run_changed, steps_change, swap_later}
+use Rattle.hay_logical.specs.Needles.{LacksCell}
+use Rattle.hay_logical.proofs.Damages.{heads_all}
+use Rattle.hay_physical.proofs.Looks.{always_ok}
+use Rattle.hay_physical.specs.Copies.{volume_bytes}
+use Rattle.hay_logical.specs.Seen.{ReplicaSeen, StepsTo, replica_seen}
 use Rattle.std.proofs.Common.{ap}
 use Rattle.hay_logical.proofs.runs.finish.Goals as goal
 use Rattle.hay_logical.proofs.runs.finish.Goals.{After-drop_run}
@@ -22,7 +26,7 @@ returns-in-Ok-clause-swaps g c =
     let x : Copy g.row.D.Denot = c.step.new.replica in
     let y : Copy g.row.D.Denot = c.swap.new.replica in
     swaps_later g.D.Disk.Tells g.D.Disk.files g.D.Disk.fault_count g.D.Piece.Piece.Tells c.args.rows.now c.swap.new.rows c.args.at r x y c.swap.result Going Examined (λ e. let wrong : Examined ≡ Fresh = e in cc)
-    c.requires.up c.in-Ok.ensures.steps.on tt c.step.ensures.counts (λ at. steps_meet c.end-most.result c.in-Ok.field-0 (replica_seen r) (replica_seen x) at c.in-Ok.ensures.seen)
+    c.requires.up c.in-Ok.ensures.steps.on tt c.step.ensures.counts (λ at none. absurd none)
     (λ tells s run stands has places.
     let done = c.in-Ok.ensures.steps.stepped tells s run stands has places in
     let number = done.0 in
@@ -57,7 +61,7 @@ returns-in-Err-clause-swaps g c =
       «open» = up_open y up;
       sup = c.drop_run.ensures.sup ∙ on.sup;
       up = tt;
-      left = step_left g.D.Disk.files g.D.Disk.fault_count r x y c.in-Err.fault up c.drop_run.ensures.goal c.drop_run.ensures.disk c.in-Err.ensures.steps.cause;
+      left = step_left g.D.Disk.files g.D.Disk.fault_count c.end-most.result r x y c.in-Err.fault c.end-most.ensures.is up c.drop_run.ensures.goal c.drop_run.ensures.disk c.in-Err.ensures.steps.cause;
       swapped = λ tells s run stands start places. tt;
       sizes = λ tells. tt;
       still = c.drop_run.ensures.stuck ∙ on.stuck;
@@ -90,10 +94,18 @@ returns-in-Err-clause-kept g c =
     changes_through (replica_seen c.args.replica.now) (replica_seen c.step.new.replica) (replica_seen c.drop_run.new.self) c.in-Err.ensures.left.0
     (run_changed c.step.new.replica c.drop_run.new.self d.stays d.stuck d.bare)
 
+pub returns-in-Ok-clause-lead : goal.returns-in-Ok-clause-lead
+returns-in-Ok-clause-lead g c = λ tells.
+    let r : ReplicaSeen = replica_seen c.args.replica.now in
+    let x : ReplicaSeen = replica_seen c.step.new.replica in
+    always_ok c.swap.result _
+    (heads_all c.in-Ok.field-0 r x (volume_bytes g.D.Disk.files c.args.replica.now) (subst (λ n. StepsTo n c.in-Ok.field-0 r x) c.end-most.ensures.is c.in-Ok.ensures.seen) (c.in-Ok.ensures.lead tells))
+
 pub returns-in-Ok-clause-damaged : goal.returns-in-Ok-clause-damaged
 returns-in-Ok-clause-damaged g c = λ tells place is. absurd (c.swap.ensures.undamaged place is)
 
 pub returns-in-Err-clause-damaged : goal.returns-in-Err-clause-damaged
 returns-in-Err-clause-damaged g c = λ tells place is.
     let same : c.in-Err.fault ≡ ReplicaFault.Damaged place = cc in
-    c.in-Err.ensures.damaged tells place (ap (λ (f : ReplicaFault). Err f) same)
+    subst (λ n. LacksCell n place (replica_seen c.args.replica.now) (volume_bytes g.D.Disk.files c.args.replica.now)) c.end-most.ensures.is
+    (c.in-Err.ensures.damaged tells place (ap (λ (f : ReplicaFault). Err f) same))

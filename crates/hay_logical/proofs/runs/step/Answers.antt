@@ -1,13 +1,15 @@
-use Rattle.std.proofs.Common.{◌≡◌, ◌≤◌, Err, ◌<◌, ◌+◌, Some, refl, sym, ap, subst, ◌∙◌, arith}
+use Rattle.std.proofs.Common.{◌≡◌, ◌≤◌, ℕ, List, Err, ◌<◌, ◌+◌, Some, refl, sym, ap, subst, ◌∙◌, arith}
 use Rattle.hay_physical.specs.declared.fault.ReplicaFault.{ReplicaFault}
 use Rattle.hay_physical.specs.declared.fault.ReplicaFault.TheVariants as fault
 use Rattle.std.specs.Prelude.{if◌then◌else◌, min}
 use Rattle.hay_physical.specs.Runs.{HasRun, Run}
 use Rattle.hay_logical.specs.Steps.{stepped_by}
 use Rattle.hay_logical.proofs.Examining.{goes_after, goes_none, leaves_some, step_later, step_more, step_none}
-use Rattle.hay_logical.proofs.Seen.{steps_break, steps_meet, steps_more, steps_none, steps_stop}
+use Rattle.hay_logical.proofs.Seen.{steps_break, steps_more, steps_none, steps_stop}
 use Rattle.hay_logical.specs.Seen.{ReplicaSeen, StepsTo, replica_seen}
-use Rattle.hay_logical.proofs.Bytes.{lacks_there}
+use Rattle.hay_logical.proofs.Damages.{heads_more, heads_none, lacks_behind, meets_behind}
+use Rattle.hay_logical.specs.Needles.{HeadsLead}
+use Rattle.hay_physical.specs.Copies.{next_of, volume_bytes}
 use Rattle.hay_logical.proofs.runs.step.Goals as goal
 
 pub loop-examined-init : goal.loop-examined-init
@@ -17,6 +19,7 @@ loop-examined-init g c = record {
   seen = steps_none c.args.replica.now c.requires.standing;
   counts = omega arith;
   bytes = λ tells. refl;
+  lead = λ tells. heads_none (next_of c.args.replica.now) (next_of c.args.replica.now) (volume_bytes g.D.Disk.files c.args.replica.now) refl;
   fuses = refl;
   stepped = λ tells s run stands has places. ((let low : 0 ≤ run.left = omega arith in low), subst (λ (x : Run). HasRun g.D.Disk.files c.args.replica.now s (Some x)) (sym (step_none run)) has);
 }
@@ -32,6 +35,10 @@ loop-examined-preserved g c =
           (subst (λ more. StepsTo 1 (if more then 1 else 0) (replica_seen c.loop-examined.replica) (replica_seen c.examine.new.replica)) c.in-Ok-true.field-0-test c.in-Ok-true.ensures.seen);
       counts = (let low = was.counts in omega (arith, low, counts));
       bytes = λ tells. c.examine.ensures.bytes tells ∙ was.bytes tells;
+      lead = λ tells.
+          heads_more c.loop-examined.examined 1 (next_of c.args.replica.now) (next_of c.loop-examined.replica) (next_of c.examine.new.replica) (volume_bytes g.D.Disk.files c.args.replica.now) (was.lead tells)
+          (subst (λ more. HeadsLead (if more then 1 else 0) (next_of c.loop-examined.replica) (next_of c.examine.new.replica) (volume_bytes g.D.Disk.files c.args.replica.now)) c.in-Ok-true.field-0-test
+          (subst (λ (l : List ℕ). HeadsLead (if c.in-Ok-true.field-0 then 1 else 0) (next_of c.loop-examined.replica) (next_of c.examine.new.replica) l) (was.bytes tells) (c.in-Ok-true.ensures.lead tells)));
       fuses = c.examine.ensures.fuses ∙ was.fuses;
       stepped = λ tells s run stands has places.
           let so_far = was.stepped tells s run stands has places in
@@ -75,8 +82,9 @@ returns-in-Err-clause-steps g c =
           let low : c.loop-examined.examined < c.args.cells = omega (arith, test) in
           leaves_some g.D.Disk.files c.examine.new.replica s run c.args.cells c.loop-examined.examined c.in-Err.fault low so_far.0
           (c.in-Err.ensures.examines.refused tells s (stepped_by c.loop-examined.examined run) (was.on.stands tells s stands) so_far.1 places);
-      cause = step_later g.D.Disk.fault_count c.args.replica.now c.loop-examined.replica c.examine.new.replica c.in-Err.fault was.counts was.goal
-          (λ at. steps_meet c.loop-examined.examined c.loop-examined.examined (replica_seen c.args.replica.now) (replica_seen c.loop-examined.replica) at was.seen)
+      cause = step_later g.D.Disk.fault_count c.args.cells 1 c.args.replica.now c.loop-examined.replica c.examine.new.replica c.in-Err.fault was.counts was.goal
+          (λ at. meets_behind c.args.cells c.loop-examined.examined (replica_seen c.args.replica.now) (replica_seen c.loop-examined.replica) at
+          (let test = c.loop-examined-test.true in omega (arith, test)) was.seen)
           c.in-Err.ensures.examines.cause;
     }
 
@@ -118,5 +126,20 @@ pub returns-in-Err-clause-damaged : goal.returns-in-Err-clause-damaged
 returns-in-Err-clause-damaged g c = λ tells place is.
     let was = c.loop-examined.invariant in
     let same : c.in-Err.fault ≡ fault.Damaged place = cc in
-    lacks_there g.D.Disk.files c.args.replica.now c.loop-examined.replica place (ap (λ (s : ReplicaSeen). s.end) was.seen.only) (was.bytes tells)
+    let test = c.loop-examined-test.true in
+    lacks_behind c.args.cells c.loop-examined.examined place (replica_seen c.args.replica.now) (replica_seen c.loop-examined.replica)
+    (volume_bytes g.D.Disk.files c.args.replica.now) (volume_bytes g.D.Disk.files c.loop-examined.replica) (omega (arith, test)) (was.lead tells)
+    (ap (λ (s : ReplicaSeen). s.end) was.seen.only) (was.bytes tells)
     (c.in-Err.ensures.damaged tells place (ap (λ (f : ReplicaFault). Err f) same))
+
+pub returns-in-Ok-false-clause-lead : goal.returns-in-Ok-false-clause-lead
+returns-in-Ok-false-clause-lead g c = λ tells.
+    let was = c.loop-examined.invariant in
+    let same : next_of c.examine.new.replica ≡ next_of c.loop-examined.replica =
+    (subst (λ more. StepsTo 1 (if more then 1 else 0) (replica_seen c.loop-examined.replica) (replica_seen c.examine.new.replica)) c.in-Ok-false.field-0-test c.in-Ok-false.ensures.seen).none refl in
+    subst (λ n. HeadsLead c.loop-examined.examined (next_of c.args.replica.now) n (volume_bytes g.D.Disk.files c.args.replica.now)) (sym same) (was.lead tells)
+
+pub returns-clause-lead : goal.returns-clause-lead
+returns-clause-lead g c = λ tells.
+    let done : c.loop-examined.examined ≡ c.args.cells = omega arith in
+    subst (λ n. HeadsLead n (next_of c.args.replica.now) (next_of c.loop-examined.replica) (volume_bytes g.D.Disk.files c.args.replica.now)) done (c.loop-examined.invariant.lead tells)

@@ -1,4 +1,4 @@
-use Rattle.std.proofs.Common.{◌≡◌, ◌<◌, length, Err, inl, inr, refl, sym, ap, subst, ◌∙◌, arith}
+use Rattle.std.proofs.Common.{◌≡◌, ◌<◌, length, Err, Some, inl, inr, refl, sym, ap, subst, ◌∙◌, arith}
 use Rattle.hay_map.specs.Places.{place_in}
 use Rattle.hay_map.specs.Rows.{row_at}
 use Rattle.hay_map.specs.declared.place.Place.TheVariants as place
@@ -8,6 +8,7 @@ use Rattle.hay_logical.specs.Draws.{DrawsAtMost, look_total}
 use Rattle.hay_logical.specs.Steps.{IsSeenBy, LookAwaited}
 use Rattle.hay_logical.proofs.Looking.{Looked, becomes_same, becomes_seen, same_places, same_sets, set_here, set_places, sets_this, sight_seen, sights_looked, sights_none}
 use Rattle.hay_physical.specs.Copies.{volume_bytes}
+use Rattle.hay_physical.proofs.Whole.{whole_of}
 use Rattle.hay_logical.specs.Needles.{IsToldBy, LacksSeen}
 use Rattle.hay_logical.specs.Sights.{AwaitsLook, sight, sights_of}
 use Rattle.hay_logical.specs.Sights.Sight.{Unseen}
@@ -27,7 +28,8 @@ returns-in-Ok-see-clause-sights g c =
     (record { same = c.cell.ensures.same; stands = c.cell.ensures.stands; run = c.cell.ensures.run; deletes = c.cell.ensures.deletes; sees = c.cell.ensures.sees }) was
     (set_places c.args.pair c.args.at c.args.rows.now c.see.new.self c.in-Ok.seen c.in-Ok-see.ensures.ok.rows long)
     (λ tells. becomes_seen T files g.D.Piece.Piece.Tells c.in-Unseen.place c.in-Unseen.size c.args.pair c.in-Ok.seen c.args.replica.now c.cell.new.self seen.needle.0 seen.needle.3 seen.needle.1.place
-    (λ cell stands here. (seen.known tells cell stands here).1) (seen.can_delete tells))
+    (λ cell stands here. (seen.known tells cell stands here).1) (seen.can_delete tells)
+    (whole_of g.D.Piece.Piece.Tells (Some seen.needle.0) c.in-Ok.seen (seen.known tells seen.needle.0 (seen.needle.4 tells) seen.needle.1.place).1))
     c.requires.«open» c.cell.ensures.holds (λ tells. record { now = c.cell.ensures.now tells; solid = c.cell.ensures.solid tells; leaves = c.cell.ensures.leaves tells }) (sight_seen T files g.D.Piece.Piece.Tells seen.needle.0 c.in-Ok.seen seen.needle.3) (λ tells k e cell stands here size. cc) tt
 
 pub returns-in-Ok-see-clause-row : goal.returns-in-Ok-see-clause-row

@@ -77,7 +77,7 @@ invariant_of-self g c =
           (shaped_on c.self.inside.settings c.self.inside.number c.self.inside.replicas.items c.begin_at.new.replicas c.self.inside.rows c.self.inside.rows c.self.inside.front c.self.inside.front c.self.inside.frozen c.self.inside.frozen c.self.inside.unsure c.self.inside.unsure
           c.self.invariant.0 (c.self.invariant.0).frozen_by (c.self.invariant.0).settled count (λ j r r' e f. (each j r r' e f).1) refl (λ none j r r' e f. up_thawed r' ((each j r r' e f).0 (up j r e)))),
       c.self.invariant.1,
-      subst (λ rs. CanReach g.D.Disk.Tells g.D.Disk.files rs c.self.inside.rows) (sym kept)
+      subst (λ rs. CanReach g.D.Disk.Tells g.D.Disk.files g.D.Piece.Piece.Tells rs c.self.inside.rows) (sym kept)
           (same_rows g.D.Disk.Tells g.D.Disk.files c.self.inside.replicas.items c.begin_at.new.replicas c.self.inside.rows c.self.inside.rows c.self.invariant.2 count
           (λ j r r' e f. (λ u. up j r e, λ u. up_open r (up j r e))) (λ j r r' e f. (each j r r' e f).2) (λ pair. refl)),
     )

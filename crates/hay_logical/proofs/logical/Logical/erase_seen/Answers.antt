@@ -32,7 +32,7 @@ use Rattle.std.specs.Prelude.{map}
 use Rattle.hay_logical.specs.Seen.{DeleteSeen, EraseSeen, ReplicaSeen, VolumeSeen, replica_seen, volume_seen}
 use Rattle.hay_logical.proofs.Seen.{longer_seen, many_seen, map_at}
 use Rattle.hay_logical.proofs.SeenSwaps.{idle_seen}
-use Rattle.hay_logical.specs.Sights.{FindsPhoto, SeesLive, sights_of}
+use Rattle.hay_logical.specs.Sights.{FindsPhoto, IsLiveSight, IsSeenOn, SeesLive, sight, sights_of}
 use Rattle.hay_logical.proofs.Calls.{follows_keeps}
 use Rattle.hay_logical.proofs.SightChanges.{live_none, live_some, looks_kept, seen_sight}
 use Rattle.hay_logical.proofs.logical.Logical.erase_seen.Goals as goal
@@ -86,7 +86,7 @@ invariant_of-self g c =
           (shaped_on c.self.inside.settings c.self.inside.number c.self.inside.replicas.items c.delete_each.new.replicas c.self.inside.rows c.self.inside.rows c.self.inside.front c.self.inside.front c.self.inside.frozen c.self.inside.frozen c.self.inside.unsure c.self.inside.unsure
           c.self.invariant.0 (c.self.invariant.0).frozen_by (c.self.invariant.0).settled (c.delete_each.ensures.counts.count ∙ ap length now) (λ j r r' e f. (step j r r' e f).1) refl (λ none j r r' e f. up_thawed r' (step j r r' e f).0)),
       c.self.invariant.1,
-      subst (λ rs. CanReach g.D.Disk.Tells g.D.Disk.files rs c.self.inside.rows) (sym kept)
+      subst (λ rs. CanReach g.D.Disk.Tells g.D.Disk.files g.D.Piece.Piece.Tells rs c.self.inside.rows) (sym kept)
           (failed_row g.D.Disk.Tells g.D.Disk.files c.self.inside.replicas.items c.delete_each.new.replicas c.self.inside.rows c.self.inside.rows c.self.invariant.2 (c.delete_each.ensures.counts.count ∙ ap length now)
           (λ j r r' e f. (λ u. up j r e, λ u. up_open r (up j r e))) c.args.pair (λ pair. refl)
           (λ j r r' e f tells. subst (λ l. KeepsReach g.D.Disk.files (λ at size. physical.IsApartPlace at size (place_in l j)) r r') c.row-row.ensures.row (c.delete_each.ensures.reach j r r' (subst (λ xs. At xs j r) (sym now) e) f tells))
@@ -173,7 +173,7 @@ invariant_of-self-in-Err g c =
           (shaped_on c.self.inside.settings c.self.inside.number c.self.inside.replicas.items c.delete_each.new.replicas c.self.inside.rows c.self.inside.rows c.self.inside.front c.self.inside.front c.self.inside.frozen (Some c.machine_of-machine.result) c.self.inside.unsure (Some (record { tag = c.args.tag; change = change.Delete c.args.pair }))
           c.self.invariant.0 (frozen_machine c.self.inside.settings c.self.inside.number c.in-Err.failed.at c.machine_of-machine.result within c.machine_of-machine.ensures) (λ none. some_none none) (c.delete_each.ensures.counts.count ∙ ap length now) (λ j r r' e f. (remains j r r' e f).sup) refl (λ none j r r' e f. some_none none)),
       c.self.invariant.1,
-      subst (λ rs. CanReach g.D.Disk.Tells g.D.Disk.files rs c.self.inside.rows) (sym kept)
+      subst (λ rs. CanReach g.D.Disk.Tells g.D.Disk.files g.D.Piece.Piece.Tells rs c.self.inside.rows) (sym kept)
           (failed_row g.D.Disk.Tells g.D.Disk.files c.self.inside.replicas.items c.delete_each.new.replicas c.self.inside.rows c.self.inside.rows c.self.invariant.2 (c.delete_each.ensures.counts.count ∙ ap length now)
           (λ j r r' e f. (λ u. up j r e, λ u. up_open r (up j r e))) c.args.pair (λ pair. refl)
           (λ j r r' e f tells. subst (λ l. KeepsReach g.D.Disk.files (λ at size. physical.IsApartPlace at size (place_in l j)) r r') c.row-row.ensures.row (c.delete_each.ensures.reach j r r' (subst (λ xs. At xs j r) (sym now) e) f tells))
@@ -383,17 +383,26 @@ returns-in-Ok-clause-sights g c = subst (λ v. FindsPhoto c.args.pair v.settings
 })
 
 pub returns-clause-refused_sights : goal.returns-clause-refused_sights
-returns-clause-refused_sights g c = inl (
-  refl,
-  subst (λ v. FindsPhoto c.args.pair v.settings.replicas (sights_of v.rows) (sights_of c.self.inside.rows)) c.self.view_is (record {
-    looks = looks_kept c.args.pair (sights_of c.self.inside.rows) (sights_of c.self.inside.rows) (λ q j. refl);
-    all = λ j h.
-        seen_sight (place_in (row_at c.self.inside.rows c.args.pair) j)
-        (subst (λ v. IsSeen (place_in (row_at v.rows c.args.pair) j)) (sym c.self.view_is) (c.requires.seen j (subst (λ v. j < v.settings.replicas) c.self.view_is h)));
-    live = live_some c.self.inside.rows c.args.pair c.row-row.result c.self.inside.settings.replicas c.row-row.ensures.row (c.row-row.ensures.long ∙ (c.self.invariant.0).width)
-        (c.has_live.ensures.some c.if-not-has_live.false);
-  }),
-)
+returns-clause-refused_sights g c =
+    let now = c.as_mut_slice.ensures.value in
+    let failed = c.in-Err.ensures.broken in
+    let below = at_below c.as_mut_slice.result.now c.in-Err.failed.at failed.before failed.was in
+    let few = (c.self.invariant.0).count in
+    let long = ap length now in
+    let within : c.in-Err.failed.at < c.self.inside.settings.replicas = omega (arith, below, few, long) in
+    let live : IsLiveSight (sights_of c.self.inside.rows c.args.pair c.in-Err.failed.at) = subst IsLiveSight (sym (ap sight (ap (λ l. place_in l c.in-Err.failed.at) (sym c.row-row.ensures.row) ∙ failed.live))) tt in inl (
+      refl,
+      subst (λ v. FindsPhoto c.args.pair v.settings.replicas (sights_of v.rows) (sights_of c.self.inside.rows)) c.self.view_is (record {
+        looks = looks_kept c.args.pair (sights_of c.self.inside.rows) (sights_of c.self.inside.rows) (λ q j. refl);
+        all = λ j h.
+            seen_sight (place_in (row_at c.self.inside.rows c.args.pair) j)
+            (subst (λ v. IsSeen (place_in (row_at v.rows c.args.pair) j)) (sym c.self.view_is) (c.requires.seen j (subst (λ v. j < v.settings.replicas) c.self.view_is h)));
+        live = live_some c.self.inside.rows c.args.pair c.row-row.result c.self.inside.settings.replicas c.row-row.ensures.row (c.row-row.ensures.long ∙ (c.self.invariant.0).width)
+            (c.has_live.ensures.some c.if-not-has_live.false);
+      }),
+      subst (λ v. IsSeenOn v.settings v.number c.args.pair c.machine_of-machine.result IsLiveSight (sights_of c.self.inside.rows)) c.self.view_is
+          (c.in-Err.failed.at, within, c.machine_of-machine.ensures, live),
+    )
 
 pub returns-in-Ok-clause-ended : goal.returns-in-Ok-clause-ended
 returns-in-Ok-clause-ended g c = λ j r r' e f.

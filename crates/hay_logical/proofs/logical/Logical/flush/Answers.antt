@@ -70,7 +70,7 @@ invariant_of-self g c =
           (shaped_on c.self.inside.settings c.self.inside.number c.self.inside.replicas.items c.flush_at.new.replicas c.self.inside.rows c.self.inside.rows c.self.inside.front c.self.inside.front c.self.inside.frozen c.self.inside.frozen c.self.inside.unsure c.self.inside.unsure
           c.self.invariant.0 (c.self.invariant.0).frozen_by (c.self.invariant.0).settled count (λ j r r' e f. (each j r r' e f).1) refl (λ none j r r' e f. up_thawed r' ((each j r r' e f).0 (up j r e)))),
       c.self.invariant.1,
-      subst (λ rs. CanReach g.D.Disk.Tells g.D.Disk.files rs c.self.inside.rows) (sym kept)
+      subst (λ rs. CanReach g.D.Disk.Tells g.D.Disk.files g.D.Piece.Piece.Tells rs c.self.inside.rows) (sym kept)
           (same_rows g.D.Disk.Tells g.D.Disk.files c.self.inside.replicas.items c.flush_at.new.replicas c.self.inside.rows c.self.inside.rows c.self.invariant.2 count
           (λ j r r' e f. (λ u. up j r e, λ u. up_open r (up j r e))) (λ j r r' e f. (each j r r' e f).2) (λ pair. refl)),
     )
@@ -318,9 +318,8 @@ returns-clause-refused_seen g c =
           (λ stuck. same_one c.args.replica c.self.inside.settings c.self.inside.number c.self.inside.replicas.items c.flush_at.new.replicas c.self.inside.rows c.self.inside.front
           c.self.inside.frozen c.self.inside.unsure one c.args.self.now c.self.view_is (with_items c.self.inside.replicas c.flush_at.new.replicas).items kept
           (sticks ∙ ap (λ b. record (replica_seen one.before) { stuck = b }) stuck))
-          (λ never stuck. let loose = left.not_stuck (λ e. never
-          (let same : w.in-Err.fault ≡ fault.Frozen = cc in same)) in changes_one c.args.replica Sticks c.self.inside.settings c.self.inside.number c.self.inside.replicas.items
+          (λ printed failed stuck. let loose = left.not_stuck (λ e. let wrong : fault.Failed printed ≡ fault.Frozen = cc in cc) in changes_one c.args.replica Sticks c.self.inside.settings c.self.inside.number c.self.inside.replicas.items
           c.flush_at.new.replicas c.self.inside.rows c.self.inside.front c.self.inside.frozen c.self.inside.unsure one c.args.self.now c.self.view_is
           (with_items c.self.inside.replicas c.flush_at.new.replicas).items kept
-          (loose, sticks ∙ ap (λ b. record (replica_seen one.before) { stuck = b }) stuck))))
+          (loose, sticks ∙ ap (λ b. record (replica_seen one.before) { stuck = b }) stuck, left.tried printed failed))))
     ]

@@ -51,7 +51,7 @@ invariant_of-self g c =
           (λ j r r' e f. (each j r r' (subst (λ xs. At xs j r) (sym now) e) f).0) refl
           (λ none j r r' e f. ap phase_frozen (each j r r' (subst (λ xs. At xs j r) (sym now) e) f).1 ∙ (c.self.invariant.0).thawed none j r e)),
       c.self.invariant.1,
-      subst (λ rs. CanReach g.D.Disk.Tells g.D.Disk.files rs c.self.inside.rows) (sym kept)
+      subst (λ rs. CanReach g.D.Disk.Tells g.D.Disk.files g.D.Piece.Piece.Tells rs c.self.inside.rows) (sym kept)
           (same_rows g.D.Disk.Tells g.D.Disk.files c.self.inside.replicas.items c.fuse_at.new.replicas c.self.inside.rows c.self.inside.rows c.self.invariant.2
           (one_count c.args.replica c.as_mut_slice.result.now c.fuse_at.new.replicas one ∙ ap length now)
           (λ j r r' e f. let same = (each j r r' (subst (λ xs. At xs j r) (sym now) e) f).1 in (λ up. subst (copies.HasFrozen false) same up, λ is. subst copies.IsOpenPhase same is))

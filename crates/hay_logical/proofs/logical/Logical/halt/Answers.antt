@@ -41,7 +41,7 @@ invariant_of-self g c =
           c.self.invariant.0 (frozen_machine c.self.inside.settings c.self.inside.number 0 c.machine_of.result (let first : 0 < c.self.inside.settings.replicas = omega (arith, some) in first) c.machine_of.ensures) (λ none. some_none none) (count g a)
           (λ j r r' e f. (loses g a j r r' e f).sup) refl (λ none j r r' e f. some_none none)),
       c.self.invariant.1,
-      subst (λ rs. CanReach g.D.Disk.Tells g.D.Disk.files rs c.self.inside.rows) (sym (kept g a))
+      subst (λ rs. CanReach g.D.Disk.Tells g.D.Disk.files g.D.Piece.Piece.Tells rs c.self.inside.rows) (sym (kept g a))
           (same_rows g.D.Disk.Tells g.D.Disk.files c.self.inside.replicas.items c.drop_runs.new.replicas c.self.inside.rows c.self.inside.rows c.self.invariant.2 (count g a)
           (λ j r r' e f. (λ up. open_up r (is_open g a j r e) (sym (loses g a j r r' e f).frozen ∙ up_thawed r' up), λ is. is_open g a j r e))
           (λ j r r' e f. (loses g a j r r' e f).reach) (λ pair. refl)),

@@ -80,7 +80,7 @@ invariant_of-self g c =
           (c.open_all.ensures.width ∙ c.new.ensures.replicas ∙ sym shape.width)
           (λ none j r r' e f. c.in-Err.ensures.thawed j r' f)),
       c.self.invariant.1,
-      subst (λ rs. CanReach g.D.Disk.Tells g.D.Disk.files rs c.open_all.new.rows) (sym kept) c.open_all.ensures.reach,
+      subst (λ rs. CanReach g.D.Disk.Tells g.D.Disk.files g.D.Piece.Piece.Tells rs c.open_all.new.rows) (sym kept) c.open_all.ensures.reach,
     )
 
 pub returns-in-Err-clause-left : goal.returns-in-Err-clause-left
@@ -152,7 +152,7 @@ invariant_of-self-in_default g c =
           (c.open_all.ensures.width ∙ c.new.ensures.replicas ∙ sym shape.width)
           (λ none j r r' e f. up_thawed r' (opened j r r' e f).up)),
       c.self.invariant.1,
-      subst (λ rs. CanReach g.D.Disk.Tells g.D.Disk.files rs c.open_all.new.rows) (sym kept) c.open_all.ensures.reach,
+      subst (λ rs. CanReach g.D.Disk.Tells g.D.Disk.files g.D.Piece.Piece.Tells rs c.open_all.new.rows) (sym kept) c.open_all.ensures.reach,
     )
 
 pub returns-in_default-clause-left : goal.returns-in_default-clause-left
@@ -229,7 +229,7 @@ invariant_of-self-2 g c =
           (c.open_all.ensures.width ∙ c.new.ensures.replicas ∙ sym shape.width)
           (λ none j r r' e f. up_thawed r' (opened j r r' e f).up)),
       c.self.invariant.1,
-      subst (λ rs. CanReach g.D.Disk.Tells g.D.Disk.files rs c.open_all.new.rows) (sym kept) c.open_all.ensures.reach,
+      subst (λ rs. CanReach g.D.Disk.Tells g.D.Disk.files g.D.Piece.Piece.Tells rs c.open_all.new.rows) (sym kept) c.open_all.ensures.reach,
     )
 
 pub returns-clause-first : goal.returns-clause-first

@@ -108,3 +108,9 @@ returns-clause-damaged g c = λ tells m place e. elim c.match-see_in.branch [
   | in-Ok w ↦ let wrong = sym w.result-is ∙ e in cc
   | in-Err w ↦ c.see_in.ensures.damaged tells m place (let was = w.in-Err.is in let is = w.result-is in cc)
 ]
+
+pub returns-clause-lacks : goal.returns-clause-lacks
+returns-clause-lacks g c = λ tells m place e. elim c.match-see_in.branch [
+  | in-Ok w ↦ let wrong = sym w.result-is ∙ e in cc
+  | in-Err w ↦ c.see_in.ensures.lacks tells m place (let was = w.in-Err.is in let is = w.result-is in cc)
+]

@@ -31,7 +31,7 @@ use Rattle.std.proofs.Common.{inl, inr}
 use Rattle.std.proofs.lemmas.Bool.{cases_eq}
 use Rattle.hay_physical.specs.Copies.{volume_bytes}
 use Rattle.hay_logical.specs.declared.fault.LogicalFault.TheVariants as refusal
-use Rattle.hay_logical.specs.Needles.{IsDamagedLook, IsToldBy}
+use Rattle.hay_logical.specs.Needles.{IsDamagedLook, IsToldBy, LacksSeenOn}
 use Rattle.hay_logical.specs.Sights.{LookRefusedSights, SeeRefusedSights, SeesPair, sight, sights_of}
 use Rattle.hay_logical.specs.Steps.{LookAwaited}
 use Rattle.hay_logical.proofs.Needles.{damaged_machine, told_same}
@@ -78,7 +78,7 @@ invariant_of-self g c =
           (shaped_on c.self.inside.settings c.self.inside.number c.self.inside.replicas.items c.see_at.new.replicas c.self.inside.rows c.see_at.new.rows c.self.inside.front c.self.inside.front c.self.inside.frozen c.self.inside.frozen c.self.inside.unsure c.self.inside.unsure
           c.self.invariant.0 (c.self.invariant.0).frozen_by (c.self.invariant.0).settled count (λ j r r' e f. (each j r r' e f).0) c.see_at.ensures.row.width (λ none j r r' e f. (each j r r' e f).1 ∙ (c.self.invariant.0).thawed none j r e)),
       c.self.invariant.1,
-      subst (λ rs. CanReach g.D.Disk.Tells g.D.Disk.files rs c.see_at.new.rows) (sym kept) (reach_seen g.D.Disk.Tells g.D.Disk.files g.D.Piece.Piece.Tells g.D.Disk.fault_count c.self.inside.replicas.items c.see_at.new.replicas c.self.inside.rows c.see_at.new.rows c.args.replica c.args.pair c.see_at.result one sights c.see_at.ensures.row c.self.invariant.2),
+      subst (λ rs. CanReach g.D.Disk.Tells g.D.Disk.files g.D.Piece.Piece.Tells rs c.see_at.new.rows) (sym kept) (reach_seen g.D.Disk.Tells g.D.Disk.files g.D.Piece.Piece.Tells g.D.Disk.fault_count c.self.inside.replicas.items c.see_at.new.replicas c.self.inside.rows c.see_at.new.rows c.args.replica c.args.pair c.see_at.result one sights c.see_at.ensures.row c.self.invariant.2),
     )
 
 pub returns-clause-stands : goal.returns-clause-stands
@@ -373,3 +373,16 @@ returns-clause-refused_sights g c =
           (look_refused_at c.self.inside.settings c.self.inside.number c.args.pair (sights_of c.self.inside.rows) (sights_of c.see_at.new.rows) c.args.replica c.machine_of-machine.result within
           c.machine_of-machine.ensures (sights_kept c.self.inside.rows c.see_at.new.rows kept) w.in-Err.fault awaits)))
     ]
+
+pub returns-clause-lacks : goal.returns-clause-lacks
+returns-clause-lacks g c = λ tells m place e. elim c.match-see_at.branch [
+  | in-Ok w ↦ let wrong = sym w.result-is ∙ e in cc
+  | in-Err w ↦
+      let both = sym w.result-is ∙ e in
+      let by : w.answer_at.result ≡ refusal.Damaged m place = cc in
+      let is = damaged_answer c.machine_of-machine.result w.in-Err.fault m place (sym w.answer_at.ensures ∙ by) in
+      subst (λ (v : Volume g.row.D.Denot g.row.D-Piece.Denot). LacksSeenOn g.D.Disk.files v.replicas c.args.pair c.args.replica place (sights_of v.rows)) c.self.view_is
+      (λ r there.
+      let looked = c.see_at.ensures.told tells r (subst (λ xs. At xs c.args.replica r) (sym c.as_mut_slice.ensures.value) there) in
+      looked.lacks place (w.in-Err.is ∙ ap (λ (f : ReplicaFault). Err f) is))
+]

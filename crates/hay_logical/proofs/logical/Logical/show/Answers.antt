@@ -13,12 +13,12 @@ use Rattle.hay_logical.proofs.logical.Logical.show.Goals as goal
 
 pub give_row-requires : goal.give_row-requires
 give_row-requires g c =
-    let fits = subst (λ v. IsWrittenFor g.D.Disk.Tells g.D.Disk.files c.args.written v) (sym c.self.view_is) c.requires in
+    let fits = subst (λ v. IsWrittenFor g.D.Disk.Tells g.D.Disk.files g.D.Piece.Piece.Tells c.args.written v) (sym c.self.view_is) c.requires in
     record { room = fits.room; long = fits.long }
 
 pub invariant_of-self : goal.invariant_of-self
 invariant_of-self g c =
-    let fits = subst (λ v. IsWrittenFor g.D.Disk.Tells g.D.Disk.files c.args.written v) (sym c.self.view_is) c.requires in (
+    let fits = subst (λ v. IsWrittenFor g.D.Disk.Tells g.D.Disk.files g.D.Piece.Piece.Tells c.args.written v) (sym c.self.view_is) c.requires in (
       shaped_on c.self.inside.settings c.self.inside.number c.self.inside.replicas.items c.self.inside.replicas.items c.self.inside.rows c.give_row.new.rows c.self.inside.front c.args.written.position c.self.inside.frozen c.self.inside.frozen c.self.inside.unsure c.self.inside.unsure
           c.self.invariant.0 (c.self.invariant.0).frozen_by (c.self.invariant.0).settled refl (λ j r r' e f. ap (λ x. x.sup) (at_same c.self.inside.replicas.items j r' r f e)) c.give_row.ensures.replicas (λ none j r r' e f. (c.self.invariant.0).thawed none j r' f),
       c.self.invariant.1,
@@ -38,7 +38,7 @@ returns-clause-still g c = ap (λ (v : Volume g.row.D.Denot g.row.D-Piece.Denot)
 
 pub returns-clause-sights : goal.returns-clause-sights
 returns-clause-sights g c =
-    let fits = subst (λ v. IsWrittenFor g.D.Disk.Tells g.D.Disk.files c.args.written v) (sym c.self.view_is) c.requires in
+    let fits = subst (λ v. IsWrittenFor g.D.Disk.Tells g.D.Disk.files g.D.Piece.Piece.Tells c.args.written v) (sym c.self.view_is) c.requires in
     let long = fits.long in
     let width = (c.self.invariant.0).width in
     subst (λ v. (replicas : List ReplicaSeen) → length replicas ≡ v.settings.replicas → AreEnds c.args.written.ends replicas → StoresSights c.args.written.pair replicas (sights_of v.rows) (sights_of c.give_row.new.rows)) c.self.view_is

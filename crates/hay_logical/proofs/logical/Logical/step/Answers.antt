@@ -19,7 +19,7 @@ use Rattle.hay_logical.proofs.Stepping.{none_there, stands_there, step_fault, st
 use Rattle.hay_logical.proofs.Reaching.{same_rows}
 use Rattle.hay_logical.specs.declared.fault.LogicalFault.{LogicalFault}
 use Rattle.hay_logical.proofs.Untouched.{answered_memory, one_untouched, step_thawed, step_untouched, stuck_same}
-use Rattle.hay_physical.specs.Copies.{is_stuck, next_of}
+use Rattle.hay_physical.specs.Copies.{is_stuck, next_of, volume_bytes}
 use Rattle.hay_logical.proofs.Tightness.{tight_one, tight_partly, tight_stepped}
 use Rattle.hay_logical.specs.Stands.{RunsTight}
 use Rattle.std.specs.Prelude.{OnErr, OnOk}
@@ -31,7 +31,7 @@ use Rattle.std.proofs.Common.{None, Option, ◌≤◌}
 use Rattle.hay_logical.specs.Seen.{BreaksStep, EndsAlone, StepRefusedSeen, StepSeen, StepsPartly, StepsTo, VolumeSeen, replica_seen, volume_seen}
 use Rattle.hay_logical.proofs.Lists.{at_map}
 use Rattle.hay_physical.specs.declared.fault.ReplicaFault.{ReplicaFault}
-use Rattle.hay_logical.specs.Needles.{IsDamagedCell}
+use Rattle.hay_logical.specs.Needles.{HeadsLead, IsDamagedCell, LacksCell}
 use Rattle.hay_logical.proofs.Sighting.{damaged_answer}
 use Rattle.hay_logical.proofs.Seen.{changes_one, no_goal, run_ended, sees_before, step_refused_seen}
 use Rattle.hay_logical.proofs.logical.Logical.step.Goals as goal
@@ -91,7 +91,7 @@ invariant_of-self g c =
           (shaped_on c.self.inside.settings c.self.inside.number c.self.inside.replicas.items c.step_at.new.replicas c.self.inside.rows c.self.inside.rows c.self.inside.front c.self.inside.front c.self.inside.frozen c.self.inside.frozen c.self.inside.unsure c.self.inside.unsure
           c.self.invariant.0 (c.self.invariant.0).frozen_by (c.self.invariant.0).settled count (λ j r r' e f. (each j r r' e f).1) refl (λ none j r r' e f. up_thawed r' ((each j r r' e f).0 (up j r e)))),
       c.self.invariant.1,
-      subst (λ rs. CanReach g.D.Disk.Tells g.D.Disk.files rs c.self.inside.rows) (sym kept)
+      subst (λ rs. CanReach g.D.Disk.Tells g.D.Disk.files g.D.Piece.Piece.Tells rs c.self.inside.rows) (sym kept)
           (same_rows g.D.Disk.Tells g.D.Disk.files c.self.inside.replicas.items c.step_at.new.replicas c.self.inside.rows c.self.inside.rows c.self.invariant.2 count
           (λ j r r' e f. (λ u. up j r e, λ u. up_open r (up j r e))) (λ j r r' e f. (each j r r' e f).2) (λ pair. refl)),
     )
@@ -241,7 +241,7 @@ returns-clause-untouched g c =
           subst (λ r. IfErr r (λ (f : LogicalFault). IsUntouchedBy f → new ≡ c.args.self.now)) (sym w.result-is)
           (subst (λ (f : LogicalFault). IsUntouchedBy f → new ≡ c.args.self.now) (sym w.answer_at.ensures)
           (λ by. ap (λ rs. volume_with c.self.inside.settings c.self.inside.number rs c.self.inside.rows c.self.inside.front c.self.inside.frozen c.self.inside.unsure)
-          (kept ∙ one_untouched c.args.replica c.self.inside.replicas.items c.step_at.new.replicas one (step_untouched g.D.Disk.fault_count one.before one.after c.machine_of-machine.result w.in-Err.fault step.cause by)) ∙ c.self.view_is))
+          (kept ∙ one_untouched c.args.replica c.self.inside.replicas.items c.step_at.new.replicas one (step_untouched g.D.Disk.fault_count one.before one.after c.machine_of-machine.result c.args.cells w.in-Err.fault step.cause by)) ∙ c.self.view_is))
     ]
 
 pub returns-clause-stuck : goal.returns-clause-stuck
@@ -323,7 +323,7 @@ returns-clause-thawed g c = λ none m e.
           subst (λ x. StepsAt g.D.Disk.Tells g.D.Disk.files g.D.Disk.fault_count g.D.Piece.Piece.Tells c.self.inside.rows c.args.replica c.args.cells one.before one.after x) w.in-Err.is
           (c.step_at.ensures.steps one.before one.after (subst (λ xs. At xs c.args.replica one.before) (sym now) one.was) (one_after c.args.replica c.self.inside.replicas.items c.step_at.new.replicas one)) in
           let said : Err w.answer_at.result ≡ Err (logical.ReadOnly m) = sym w.result-is ∙ e in
-          step_thawed g.D.Disk.fault_count one.before one.after c.machine_of-machine.result w.in-Err.fault m step.cause (sym w.answer_at.ensures ∙ (let same : w.answer_at.result ≡ logical.ReadOnly m = cc in same))
+          step_thawed g.D.Disk.fault_count one.before one.after c.machine_of-machine.result c.args.cells w.in-Err.fault m step.cause (sym w.answer_at.ensures ∙ (let same : w.answer_at.result ≡ logical.ReadOnly m = cc in same))
     ]
 
 pub returns-in-Some-clause-refused_seen : goal.returns-in-Some-clause-refused_seen
@@ -379,11 +379,11 @@ returns-clause-refused_seen g c =
           let has : goal_of one.before ≡ None → ⊥ =
           λ none. stands_there c.standing.result c.is_none.result c.is_none.ensures c.if-is_none.false
           (c.standing.ensures.is one.before (subst (λ v. At v.replicas c.args.replica one.before) c.self.view_is one.was) ∙ none) in
-          subst (λ r. IfErr r (StepRefusedSeen c.args.self.now.settings c.args.self.now.number c.args.replica old new)) (sym w.result-is)
-          (subst (λ f. StepRefusedSeen c.args.self.now.settings c.args.self.now.number c.args.replica old new f) (sym said)
+          subst (λ r. IfErr r (StepRefusedSeen c.args.self.now.settings c.args.self.now.number c.args.replica c.args.cells old new)) (sym w.result-is)
+          (subst (λ f. StepRefusedSeen c.args.self.now.settings c.args.self.now.number c.args.replica c.args.cells old new f) (sym said)
           (step_refused_seen c.args.self.now.settings c.args.self.now.number c.args.replica g.D.Disk.fault_count one.before one.after old new
           (sees_before c.args.replica c.self.inside.settings c.self.inside.number c.self.inside.replicas.items c.step_at.new.replicas c.self.inside.rows c.self.inside.front
-          c.self.inside.frozen c.self.inside.unsure one c.args.self.now c.self.view_is (with_items c.self.inside.replicas c.step_at.new.replicas).items kept) none w.in-Err.fault left.cause
+          c.self.inside.frozen c.self.inside.unsure one c.args.self.now c.self.view_is (with_items c.self.inside.replicas c.step_at.new.replicas).items kept) c.args.cells none w.in-Err.fault left.cause
           (λ goal. changes_one c.args.replica StepsPartly c.self.inside.settings c.self.inside.number c.self.inside.replicas.items c.step_at.new.replicas c.self.inside.rows c.self.inside.front
           c.self.inside.frozen c.self.inside.unsure one c.args.self.now c.self.view_is (with_items c.self.inside.replicas c.step_at.new.replicas).items kept
           (has, broken.0 ∙ ap (λ (o : Option ℕ). record (replica_seen one.before) { goal = o; next = next_of one.after }) goal, (broken.1 goal).0, (broken.1 goal).1))
@@ -414,5 +414,19 @@ returns-clause-damaged g c = λ tells m place e. elim c.match-step_at.branch [
       let by : w.answer_at.result ≡ logical.Damaged m place = cc in
       let is = damaged_answer c.machine_of-machine.result w.in-Err.fault m place (sym w.answer_at.ensures ∙ by) in
       let here = c.step_at.ensures.damaged tells place (w.in-Err.is ∙ ap (λ (f : ReplicaFault). Err f) is) in
-      subst (λ v. IsDamagedCell g.D.Disk.files v.replicas c.args.replica place) c.self.view_is (subst (λ xs. IsDamagedCell g.D.Disk.files xs c.args.replica place) c.as_mut_slice.ensures.value here)
+      subst (λ v. IsDamagedCell g.D.Disk.files v.replicas c.args.replica (LacksCell c.args.cells place)) c.self.view_is
+      (subst (λ xs. IsDamagedCell g.D.Disk.files xs c.args.replica (LacksCell c.args.cells place)) c.as_mut_slice.ensures.value here)
 ]
+
+pub returns-clause-lead : goal.returns-clause-lead
+returns-clause-lead g c = λ tells r r' e f.
+    let now = c.as_mut_slice.ensures.value in
+    let kept = with_items_is c.self.inside.replicas c.step_at.new.replicas (c.step_at.auto.replicas ∙ c.as_mut_slice.ensures.len) in
+    let was : At c.as_mut_slice.result.now c.args.replica r = subst (λ xs. At xs c.args.replica r) (sym now) (subst (λ v. At v.replicas c.args.replica r) (sym c.self.view_is) e) in
+    let lead = c.step_at.ensures.lead tells r r' was (subst (λ xs. At xs c.args.replica r') kept f) in
+    elim c.match-step_at.branch [
+      | in-Ok w ↦
+          subst (λ x. IfOk x (λ number. HeadsLead number (next_of r) (next_of r') (volume_bytes g.D.Disk.files r))) (sym w.result-is)
+          (subst (λ x. IfOk x (λ number. HeadsLead number (next_of r) (next_of r') (volume_bytes g.D.Disk.files r))) w.in-Ok.is lead)
+      | in-Err w ↦ rw w.result-is tt
+    ]

@@ -21,7 +21,7 @@ invariant_of-self g c =
           (shaped_on c.self.inside.settings c.self.inside.number c.self.inside.replicas.items c.stop_each.new.replicas c.self.inside.rows c.self.inside.rows c.self.inside.front c.self.inside.front c.self.inside.frozen c.self.inside.frozen c.self.inside.unsure c.self.inside.unsure
           c.self.invariant.0 (c.self.invariant.0).frozen_by (c.self.invariant.0).settled (c.stop_each.ensures.count ∙ ap length now) (λ j r r' e f. (stops j r r' e f).sup) refl (λ none j r r' e f. ap phase_frozen (stops j r r' e f).closed)),
       c.self.invariant.1,
-      subst (λ rs. CanReach g.D.Disk.Tells g.D.Disk.files rs c.self.inside.rows) (sym kept)
+      subst (λ rs. CanReach g.D.Disk.Tells g.D.Disk.files g.D.Piece.Piece.Tells rs c.self.inside.rows) (sym kept)
           (none_open g.D.Disk.Tells g.D.Disk.files c.stop_each.new.replicas c.self.inside.rows (λ j r' f.
           let old = at_there c.as_mut_slice.result.now j (subst (λ n. j < n) c.stop_each.ensures.count (at_below c.stop_each.new.replicas j r' f)) in
           (c.stop_each.ensures.stopped j old.0 r' old.1 f).closed)),

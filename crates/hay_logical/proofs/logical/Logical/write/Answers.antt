@@ -128,7 +128,7 @@ invariant_of-self-in-Ok g c =
           (shaped_on c.self.inside.settings c.self.inside.number c.self.inside.replicas.items c.put_each.new.replicas c.self.inside.rows c.reserve.new.self c.self.inside.front c.self.inside.front c.self.inside.frozen c.self.inside.frozen c.self.inside.unsure c.self.inside.unsure
           c.self.invariant.0 (c.self.invariant.0).frozen_by (c.self.invariant.0).settled (c.put_each.ensures.counts.count ∙ ap length now) (λ j r r' e f. (each j r r' e f).sup) c.reserve.ensures.rows.replicas (λ none j r r' e f. up_thawed r' (each j r r' e f).up)),
       c.self.invariant.1,
-      subst (λ rs. CanReach g.D.Disk.Tells g.D.Disk.files rs c.reserve.new.self) (sym kept)
+      subst (λ rs. CanReach g.D.Disk.Tells g.D.Disk.files g.D.Piece.Piece.Tells rs c.reserve.new.self) (sym kept)
           (same_rows g.D.Disk.Tells g.D.Disk.files c.self.inside.replicas.items c.put_each.new.replicas c.self.inside.rows c.reserve.new.self c.self.invariant.2 (c.put_each.ensures.counts.count ∙ ap length now) (λ j r r' e f. (λ u. up j r e, λ u. up_open r (up j r e))) (λ j r r' e f. c.put_each.ensures.reach j r r' (subst (λ xs. At xs j r) (sym now) e) f) c.reserve.ensures.rows.rows),
     )
 
@@ -156,7 +156,7 @@ invariant_of-self-then-is_untouched g c =
           c.self.invariant.0 (c.self.invariant.0).frozen_by (c.self.invariant.0).settled (c.put_each.ensures.counts.count ∙ ap length now) (λ j r r' e f. (remains j r r' e f).sup) c.reserve.ensures.rows.replicas
           (λ none j r r' e f. all_thawed g.D.Disk.Tells g.D.Disk.files g.D.Disk.fault_count c.args.pair c.args.cookie c.args.bytes.now c.self.inside.replicas.items c.put_each.new.replicas c.in-Err.broken left un up j r r' e f)),
       c.self.invariant.1,
-      subst (λ rs. CanReach g.D.Disk.Tells g.D.Disk.files rs c.reserve.new.self) (sym kept)
+      subst (λ rs. CanReach g.D.Disk.Tells g.D.Disk.files g.D.Piece.Piece.Tells rs c.reserve.new.self) (sym kept)
           (same_rows g.D.Disk.Tells g.D.Disk.files c.self.inside.replicas.items c.put_each.new.replicas c.self.inside.rows c.reserve.new.self c.self.invariant.2 (c.put_each.ensures.counts.count ∙ ap length now) (λ j r r' e f. (λ u. up j r e, λ u. up_open r (up j r e))) (λ j r r' e f. c.put_each.ensures.reach j r r' (subst (λ xs. At xs j r) (sym now) e) f) c.reserve.ensures.rows.rows),
     )
 
@@ -235,7 +235,7 @@ invariant_of-self-in-Err g c =
           (shaped_on c.self.inside.settings c.self.inside.number c.self.inside.replicas.items c.put_each.new.replicas c.self.inside.rows c.reserve.new.self c.self.inside.front c.self.inside.front c.self.inside.frozen (Some c.put_refusal-refusal.result.machine) c.self.inside.unsure (Some (record { tag = c.args.tag; change = change.Put c.ends_of-ends.result }))
           c.self.invariant.0 (frozen_refusal c.self.inside.settings c.self.inside.number c.in-Err.broken.at c.in-Err.broken.fault c.put_refusal-refusal.result ((c.self.invariant.0).settings).some within c.put_refusal-refusal.ensures) (λ none. some_none none) (c.put_each.ensures.counts.count ∙ ap length now) (λ j r r' e f. (remains j r r' e f).sup) c.reserve.ensures.rows.replicas (λ none j r r' e f. some_none none)),
       c.self.invariant.1,
-      subst (λ rs. CanReach g.D.Disk.Tells g.D.Disk.files rs c.reserve.new.self) (sym kept)
+      subst (λ rs. CanReach g.D.Disk.Tells g.D.Disk.files g.D.Piece.Piece.Tells rs c.reserve.new.self) (sym kept)
           (same_rows g.D.Disk.Tells g.D.Disk.files c.self.inside.replicas.items c.put_each.new.replicas c.self.inside.rows c.reserve.new.self c.self.invariant.2 (c.put_each.ensures.counts.count ∙ ap length now) (λ j r r' e f. (λ u. up j r e, λ u. up_open r (up j r e))) (λ j r r' e f. c.put_each.ensures.reach j r r' (subst (λ xs. At xs j r) (sym now) e) f) c.reserve.ensures.rows.rows),
     )
 
@@ -275,7 +275,7 @@ returns-in-Ok-clause-fits g c =
           let r' = at_there c.put_each.new.replicas j (let less : j < length c.put_each.new.replicas = omega (arith, h, long, count) in less) in
           (each j r.0 r'.0 r.1 r'.1).live ∙ ap (λ n. Live n) (sym (c.ends_of-ends.ensures j r.0 (subst (λ xs. At xs j r.0) (sym c.as_slice.ensures.value) r.1)));
       reach = λ rows changes.
-          subst (λ rs. CanReach g.D.Disk.Tells g.D.Disk.files rs rows) (sym kept)
+          subst (λ rs. CanReach g.D.Disk.Tells g.D.Disk.files g.D.Piece.Piece.Tells rs rows) (sym kept)
           (put_row g.D.Disk.Tells g.D.Disk.files c.self.inside.replicas.items c.put_each.new.replicas c.self.inside.rows rows c.self.invariant.2 (c.put_each.ensures.counts.count ∙ ap length now)
           (λ j r r' e f. (λ u. up j r e, λ u. up_open r (up j r e))) c.args.pair c.in-Ok.row
           (λ other. changes.rows other ∙ ap (λ l. cond (pair_eq c.args.pair other) c.in-Ok.row l) (c.reserve.ensures.rows.rows other))
@@ -283,7 +283,7 @@ returns-in-Ok-clause-fits g c =
           (λ j r r' e f tells.
           let put = each j r r' e f in
           let seen = live_seen (place_in c.in-Ok.row j) (end_of r) put.live in
-          (put.deletable tells, seen_sees g.D.Disk.files r' (place_in c.in-Ok.row j) seen, seen_apart (place_in c.in-Ok.row j) seen, put.apart tells)));
+          (put.deletable tells, seen_sees g.D.Disk.files r' (place_in c.in-Ok.row j) seen, put.whole tells, seen_apart (place_in c.in-Ok.row j) seen, put.apart tells)));
     }
 
 pub returns-in-Ok-clause-still : goal.returns-in-Ok-clause-still

@@ -1,9 +1,9 @@
-use Rattle.std.proofs.Common.{◌∙◌, ap, arith, length, sym}
+use Rattle.std.proofs.Common.{◌∙◌, ◌<◌, ap, arith, length, subst, sym}
 use Rattle.hay_volume.specs.declared.volume.VolumeFile.{VolumeFile}
 use Rattle.hay_physical.specs.Replicas.{all_recorded}
 use Rattle.hay_physical.proofs.RunLaws.{bounded_still, copier_ready_index, next_besides_index, run_kept, settled_still}
 use Rattle.hay_physical.proofs.RunViews.{files_bounded, files_ready, files_settled, run_still}
-use Rattle.hay_physical.proofs.Views.{files_flag, files_going, files_stand, if_ok_so, if_ok_unit, on_err_so, open_deletes, open_stands}
+use Rattle.hay_physical.proofs.Views.{files_flag, files_going, files_stand, if_err_so, if_ok_so, if_ok_unit, on_err_so, open_deletes, open_stands}
 use Rattle.hay_physical.specs.Replicas.{Anywhere}
 use Rattle.hay_physical.proofs.Seeing.{sight_same}
 use Rattle.hay_physical.specs.Copies.{copier_next, phase_bare, phase_next}
@@ -93,3 +93,8 @@ pub returns-clause-place : goal.returns-clause-place
 returns-clause-place g c =
     let was = c.self.inside in
     ap copier_next c.flush.ensures.copier.0 ∙ files_say phase_next c.args.self.now was.sup was.disk was.phase c.in-Open.files c.self.view_is c.in-Open.is
+
+pub returns-clause-tried : goal.returns-clause-tried
+returns-clause-tried g c =
+    let was = c.self.inside in
+    if_err_so c.flush.result _ _ (λ fault tried faults is. subst (λ n. 0 < n) (files_say phase_bare c.args.self.now was.sup was.disk was.phase c.in-Open.files c.self.view_is c.in-Open.is) (tried faults is)) c.flush.ensures.tried

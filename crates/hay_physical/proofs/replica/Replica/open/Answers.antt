@@ -4,6 +4,7 @@ use Rattle.hay_open.specs.Damage.{IsOpeningDamage}
 use Rattle.hay_open.specs.Stored.{IsVoid, fresh_stored}
 use Rattle.hay_physical.specs.Copies.{Copy}
 use Rattle.hay_physical.proofs.Apartness.{found_apart}
+use Rattle.hay_physical.proofs.Whole.{found_whole}
 use Rattle.hay_physical.specs.Draws.{DrewRecorded}
 use Rattle.hay_physical.proofs.Deleting.{found_deletes}
 use Rattle.hay_physical.proofs.Drawing.{opening_draws}
@@ -124,6 +125,11 @@ pub returns-clause-apart : goal.returns-clause-apart
 returns-clause-apart g c = λ tells.
     let done = c.in_ok-head.ensures in
     found_apart g.D.Piece.Piece.Tells c.self.inside.sup (λ n. (g.D.Disk.files c.self.inside.disk n).now) c.in_ok-head.field-0 (done.whole tells) (done.places tells fresh_stored)
+
+pub returns-clause-needles : goal.returns-clause-needles
+returns-clause-needles g c = λ tells.
+    let done = c.in_ok-head.ensures in
+    found_whole g.D.Piece.Piece.Tells c.self.inside.sup (λ n. (g.D.Disk.files c.self.inside.disk n).now) c.in_ok-head.field-0 (done.whole tells) (done.places tells fresh_stored)
 
 pub returns-clause-drawn : goal.returns-clause-drawn
 returns-clause-drawn g c = λ tells.

@@ -4,9 +4,10 @@ use Rattle.hay_disk.specs.Disk.{Files, FileState}
 use Rattle.hay_disk.specs.Gate.{IsGate}
 use Rattle.hay_head.specs.Head.{head_magic, row_place}
 use Rattle.hay_open.specs.Finds.{ArePlacesWithin}
-use Rattle.hay_open.specs.Stored.{volume_file}
+use Rattle.hay_open.specs.Stored.{last_cell, volume_file}
 use Rattle.hay_physical.specs.declared.state.OpenFiles.{OpenFiles}
-use Rattle.hay_physical.specs.Replicas.{FilesReady, FilesStand}
+use Rattle.hay_physical.specs.Replicas.{FilesReady, FilesStand, HasWholeNeedle}
+use Rattle.hay_physical.proofs.Whole.{whole_of}
 use Rattle.hay_physical.proofs.Views.{by_result, if_ok, if_ok_on, if_ok_unit, on_ok_both, on_ok_one}
 use Rattle.hay_physical.proofs.Standing.{on_err}
 use Rattle.hay_physical.proofs.SwapLaws.{made_kept, old_apart, old_index_apart, swap_counts, swap_finds, swap_flags, swap_ready, swap_stands, unfrozen_ready, unfrozen_stands}
@@ -146,3 +147,11 @@ pub returns-in-Ok-clause-within : goal.returns-in-Ok-clause-within
 returns-in-Ok-clause-within g c =
     if_ok_so c.swap.result _ _
     (λ places is. subst (λ (o : OpenFiles). ArePlacesWithin o.volume.end places.items) (sym is.1) (subst (λ x. ArePlacesWithin c.in-Ok.finished.volume.end x.items) (sym is.0) c.in-Ok.ensures.within)) c.swap.ensures.swapped
+
+pub returns-in-Ok-clause-needles : goal.returns-in-Ok-clause-needles
+returns-in-Ok-clause-needles g c = λ tells.
+    let m = c.requires.making tells in
+    let fin = c.in-Ok.ensures.finished tells m.sup m.fresh m.making in
+    if_ok_so c.swap.result _ _
+    (λ places is pair. subst (λ x. HasWholeNeedle g.D.Piece.Piece.Tells (last_place x.items pair place.Gone)) (sym is.0) (whole_of g.D.Piece.Piece.Tells (last_cell m.fresh pair) (last_place c.in-Ok.finished.places.items pair place.Gone) (fin.places pair)))
+    c.swap.ensures.swapped

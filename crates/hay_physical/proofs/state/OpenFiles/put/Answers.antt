@@ -1,7 +1,8 @@
 use Rattle.hay_physical.specs.Runs.{KeepsCopier}
 use Rattle.hay_physical.proofs.RunLaws.{freeze_keeps}
 use Rattle.hay_physical.proofs.Views.{by_result, if_ok_from, on_err_so, refused}
-use Rattle.std.proofs.Common.{◌∙◌, sym, ◌≡◌, Bool, inr, ap, subst}
+use Rattle.std.proofs.Common.{◌∙◌, refl, sym, ◌≡◌, Bool, inr, ap, subst}
+use Rattle.hay_volume.specs.Cells.{live_cell}
 use Rattle.hay_physical.specs.declared.state.OpenFiles.{OpenFiles}
 use Rattle.hay_physical.specs.Replicas.{FilesStand, MayFind, with_cell}
 use Rattle.hay_physical.proofs.Standing.{on_err}
@@ -36,3 +37,6 @@ returns-clause-added g c = λ tells sup s going stand none froze.
     let finds : MayFind sup (files c.add.new.disk) c.args.self.now.index.frozen added added =
     subst (λ (b : Bool). MayFind sup (files c.add.new.disk) b added added) c.in_ok-at.ensures.stuck (stand_finds sup (files c.add.new.disk) c.add.new.self added stands) in
     finds_same sup (files c.add.new.disk) (files c.give.new.disk) c.args.self.now.index.frozen added added (refused c.give.result _ _ none (c.give.ensures.kept tells)) finds
+
+pub returns-clause-whole : goal.returns-clause-whole
+returns-clause-whole g c = λ tells. c.give.ensures.whole tells (live_cell c.in_ok-at.at c.args.pair c.args.cookie c.args.bytes.now) (c.in_ok-at.ensures.stands tells) refl

@@ -1,5 +1,5 @@
 use Rattle.std.proofs.Common.{inl, lit<, arith}
-use Rattle.hay_volume.proofs.Volumes.{volume_kept, volume_grows, volume_stays, length-body, from_nothing, as_many, as_far}
+use Rattle.hay_volume.proofs.Volumes.{appended_stands, volume_kept, volume_grows, volume_stays, length-body, from_nothing, as_many, as_far}
 use Rattle.hay_volume.proofs.volume.VolumeFile.append.Goals as goal
 
 -- nothing was written
@@ -27,6 +27,12 @@ pub returns-clause-added : goal.returns-clause-added
 returns-clause-added g c = λ tells superblock cells is.
     let made = from_nothing c.args.pair c.args.cookie c.args.bytes.now c.new-body.result.items c.encode_rest.new.out.items c.as_slice.result.now c.new-body.ensures.items c.as_slice.ensures.value c.in_ok-encode_rest.ensures.ok in
     volume_grows superblock (g.D.Disk.files c.args.disk.now c.args.self.now.file).now (g.D.Disk.files c.gate_append.new.disk c.args.self.now.file).now cells c.args.self.now.end c.total_of-need.result c.args.pair c.args.cookie c.args.bytes.now c.as_slice.result.now (omega arith) made (c.in_ok-gate_append.ensures.grows tells (lit< tt)) is
+
+pub returns-clause-stands : goal.returns-clause-stands
+returns-clause-stands g c = λ tells.
+    let made = from_nothing c.args.pair c.args.cookie c.args.bytes.now c.new-body.result.items c.encode_rest.new.out.items c.as_slice.result.now c.new-body.ensures.items c.as_slice.ensures.value c.in_ok-encode_rest.ensures.ok in
+    appended_stands (g.D.Disk.files c.args.disk.now c.args.self.now.file).now (g.D.Disk.files c.gate_append.new.disk c.args.self.now.file).now c.args.self.now.end c.args.pair c.args.cookie c.args.bytes.now c.as_slice.result.now made
+    (c.in_ok-gate_append.ensures.grows tells (lit< tt)) (c.requires.gate tells).closed
 
 pub returns-clause-next : goal.returns-clause-next
 returns-clause-next g c = λ tells.
