@@ -135,6 +135,7 @@ impl<D: Disk> Directory<D> {
         ensures damaged { D.Tells → (file at : ℕ) → result ≡ Err (OpenFault.Damaged file at) →
             (file ≡ 0) × (0 < length (D.files self.old.disk 0).now)
             × IsDamagedJournal (journal_super self.old.settings) (D.files self.old.disk 0).now at }
+        ensures file { (file at : ℕ) → result ≡ Err (OpenFault.Damaged file at) → file ≡ 0 }
         ensures undamaged { D.Tells → 0 < length (D.files self.old.disk 0).now →
             OnOk result ((at : ℕ) → IsDamagedJournal (journal_super self.old.settings) (D.files self.old.disk 0).now at → ⊥) }
         ensures undamaged_now { D.Tells → OnOk result ((at : ℕ) → IsDamagedJournal (journal_super self.old.settings) (D.files self.new.disk 0).now at → ⊥) }
@@ -191,6 +192,7 @@ impl<D: Disk> Directory<D> {
         ensures damaged { D.Tells → (file at : ℕ) → result ≡ Err (OpenFault.Damaged file at) →
             (file ≡ 0) × (0 < length (D.files self.old.disk 0).now)
             × IsDamagedJournal (journal_super self.old.settings) (D.files self.old.disk 0).now at }
+        ensures file { (file at : ℕ) → result ≡ Err (OpenFault.Damaged file at) → file ≡ 0 }
         ensures undamaged { D.Tells → 0 < length (D.files self.old.disk 0).now →
             OnOk result ((at : ℕ) → IsDamagedJournal (journal_super self.old.settings) (D.files self.old.disk 0).now at → ⊥) }
         ensures undamaged_now { D.Tells → OnOk result ((at : ℕ) → IsDamagedJournal (journal_super self.old.settings) (D.files self.new.disk 0).now at → ⊥) }
@@ -254,6 +256,7 @@ impl<D: Disk> Directory<D> {
     pub fn is_frozen(&self) -> bool
         ensures frozen { result ≡ is_frozen self.now.mode }
         ensures pending { IsUp self.now → result ≡ is_some (directory_seen self.now).pending }
+        ensures within { IfSome (unsure_of self.now.mode) (λ unsure. unsure.row.volume < self.now.settings.volumes) }
         ensures known { (known : DirKnown) (drained : List Bool) → Stands D.files self.now known drained → result ≡ known.frozen }
     {
         match self.mode {
@@ -431,6 +434,16 @@ impl<D: Disk> Directory<D> {
             result ≡ slice_index_or drained machine false }
     {
         self.drained[machine as usize]
+    }
+
+    /// The drains by machine once more.
+    pub fn copy_drains(&self, alloc: Global) -> Result<Vec<bool>, NoMemory>
+        ensures same { IfOk result (λ drains. drains.items ≡ self.now.drained) }
+        ensures long { length self.now.drained ≡ self.now.settings.machines }
+        ensures known { (known : DirKnown) (drained : List Bool) → Stands D.files self.now known drained → IfOk result (λ drains. drains.items ≡ drained) }
+    {
+        let machines = self.settings.machines as usize;
+        Ok(Vec::from_slice(alloc, &self.drained[..machines])?)
     }
 
     /// How many calls of the disk have failed.

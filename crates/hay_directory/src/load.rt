@@ -54,6 +54,7 @@ pub fn load<D: Disk>(
         (faults ≡ D.fault_count disk.new) × Rose (D.fault_count disk.old) (D.fault_count disk.new) }
     ensures damaged { D.Tells → (file at : ℕ) → result ≡ Err (OpenFault.Damaged file at) →
         (file ≡ 0) × (0 < length (D.files disk.old 0).now) × IsDamagedJournal (journal_super settings.now) (D.files disk.old 0).now at }
+    ensures file { (file at : ℕ) → result ≡ Err (OpenFault.Damaged file at) → file ≡ 0 }
     ensures undamaged { D.Tells → 0 < length (D.files disk.old 0).now → OnOk result ((at : ℕ) → IsDamagedJournal (journal_super settings.now) (D.files disk.old 0).now at → ⊥) }
     ensures undamaged_now { D.Tells → OnOk result ((at : ℕ) → IsDamagedJournal (journal_super settings.now) (D.files disk.new 0).now at → ⊥) }
     ensures nothing { D.Tells → (D.files disk.old 0).now ≡ [] → (image : List ℕ) (rows : List HomeRow) →

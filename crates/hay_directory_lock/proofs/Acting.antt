@@ -112,6 +112,7 @@ module _ {D : Type 0} (Tells : Type 0) (files : D → Files) (faults fuses : D �
                 (m.drains (left row_lock s acts), subst (λ n. LeadsRowFuses (row_did_of act.did) n act.fuses) before.fuses_are m.fused),
                 tt,
               );
+          rises = (let before = (k.of).rises in omega (arith, before, m.later, m.faults_are));
         };
         front_is = ap (λ (w : HomesShown). w.front) m.front_is ∙ k.front_is;
         base = ap (λ (w : HomesShown). w.base) m.front_is ∙ k.base;

@@ -61,6 +61,7 @@ module _ {D : Type 0} (Tells : Type 0) (files : D → Files) (faults fuses : D �
           known = λ s is. is;
           counted = λ s is. is;
           follows = λ s at. tt;
+          rises = omega arith;
         };
         front_is = refl;
         base = refl;

@@ -1,5 +1,5 @@
 -- What stands behind the lock.
-use Rattle.std.specs.Prelude.{◌≡◌, ℕ, Bool, false, List, [], length, map}
+use Rattle.std.specs.Prelude.{◌≡◌, ◌≤◌, ℕ, Bool, false, List, [], length, map}
 use Rattle.hay_needle.specs.declared.needle.Pair.{Pair}
 use Rattle.hay_disk.specs.Disk.{Files}
 use Rattle.hay_front.specs.Entries.{LogEntry}
@@ -56,6 +56,8 @@ module _ {D : Type 0} (Tells : Type 0) (files : D → Files) (faults fuses : D �
     pub known : (s : RowsStanding) → MayBeKnown begun.directory s.directory → MayBeKnown directory (left row_lock s acts).directory
     pub counted : (s : RowsStanding) → IsCounted faults fuses begun.directory s → IsCounted faults fuses directory (left row_lock s acts)
     pub follows : (s : RowsStanding) → StandsAt faults fuses begun.directory s → FollowsRows s (replayed row_lock s acts)
+    -- the count of its disk never fell, whatever it tells
+    pub rises : faults (begun.directory).disk ≤ faults directory.disk
 
   -- and its front has published the rows that they added
   pub record KeptFor (begun : BegunAt D) (acts : List DirAct) (directory : State D) (front : HomeFront) : Type 0 where

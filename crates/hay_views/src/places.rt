@@ -131,7 +131,7 @@ impl<P: Piece, F: Telling<P>> PlaceView<P, F> {
     }
 }
 
-impl<P: Piece + Send + Sync, F: Telling<P>> View for PlaceView<P, F> {
+impl<P: Piece, F: Telling<P>> View for PlaceView<P, F> {
     type Key = Pair;
 
     type Row = Row<P>;

@@ -89,7 +89,7 @@ fn put_did(fault: &LogicalFault, frozen: Option<u32>, entry: &Entry) -> Option<M
     }
 }
 
-impl<D: Disk<Piece = P> + Send + Sync, P: Piece + Send + Sync> VolumeLock<D, P> {
+impl<D: Disk<Piece = P>, P: Piece> VolumeLock<D, P> {
     /// Stores a photo on each replica in order, publishes its places, and answers the position of the change. `Failed` leaves the
     /// put pending and freezes the volume, and so may `NoMemory`.
     pub fn put<R: Wait>(

@@ -113,7 +113,7 @@ fn step_did(examined: &Examined, replica: u32) -> Made
     }
 }
 
-impl<D: Disk<Piece = P> + Send + Sync, P: Piece + Send + Sync> VolumeLock<D, P> {
+impl<D: Disk<Piece = P>, P: Piece> VolumeLock<D, P> {
     /// Examines so many cells, or all that are left, for the compaction of a replica that a line of the lane began. `Idle` comes where
     /// none stands. `Failed` ends it, and `NoMemory` leaves it behind some of the cells.
     pub fn step<R: Wait>(

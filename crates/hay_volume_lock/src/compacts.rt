@@ -79,7 +79,7 @@ fn lost<D: Disk>(
     }
 }
 
-impl<D: Disk<Piece = P> + Send + Sync, P: Piece + Send + Sync> VolumeLock<D, P> {
+impl<D: Disk<Piece = P>, P: Piece> VolumeLock<D, P> {
     /// Ends the compaction of a replica that the line itself began, as `finish` does. Where it has ended, a refusal tells how. There are
     /// no counts of deletes that ended compactions for other lanes than eight.
     pub fn compact<R: Wait>(

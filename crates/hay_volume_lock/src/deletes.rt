@@ -134,7 +134,7 @@ fn note_ended<D: Disk>(
     }
 }
 
-impl<D: Disk<Piece = P> + Send + Sync, P: Piece + Send + Sync> VolumeLock<D, P> {
+impl<D: Disk<Piece = P>, P: Piece> VolumeLock<D, P> {
     /// Deletes a pair's photo from each replica that has it, in order, and from the rows that are published, and answers the position of
     /// the change. Each place that was not looked at yet is seen first, and published; `out` has a needle then. `Failed` may leave the
     /// delete pending and freeze the volume, and so may `NoMemory`.

@@ -52,7 +52,7 @@ pub(crate) fn moved<P: Piece>(replica: u32, cells: Listed<OpenCell<P>>) -> Publi
     }
 }
 
-impl<D: Disk<Piece = P> + Send + Sync, P: Piece + Send + Sync> VolumeLock<D, P> {
+impl<D: Disk<Piece = P>, P: Piece> VolumeLock<D, P> {
     /// Ends the compaction of a replica that a line of the lane began: its files are the current ones then, and where the photos stand
     /// is published. For want of memory to publish it the volume is frozen. `Idle` comes where none stands. Any other refusal but
     /// `ReadOnly` ends the compaction, and `Failed` freezes the volume where the replica may stand before the swap or behind it.

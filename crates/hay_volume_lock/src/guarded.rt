@@ -11,23 +11,23 @@ use hay_needle::Settings;
 use hay_turn::Kept;
 
 /// What stood where the lock was made: the volume, and what was published of its rows. No value is made.
-pub struct Opened<D: Disk<Piece = P> + Send + Sync, P: Piece + Send + Sync> {
+pub struct Opened<D: Disk<Piece = P>, P: Piece> {
     pub volume: Logical<D>,
-    pub view: Seat<Places<D, P>>,
+    pub view: Seat<Places<D>>,
 }
 
 /// A volume with the front of its rows. End the front by its `close`.
-pub struct Guarded<D: Disk<Piece = P> + Send + Sync, P: Piece + Send + Sync> {
+pub struct Guarded<D: Disk<Piece = P>, P: Piece> {
     pub settings: Settings,
     pub logical: Logical<D>,
-    pub front: Front<Places<D, P>>,
+    pub front: Front<Places<D>>,
     /// The line that began the compaction of each replica last.
     pub begun: [CoreTag; 4],
     /// How often disks had failed behind deletes that ended compactions.
     pub ended: Ended,
 }
 
-impl<D: Disk<Piece = P> + Send + Sync, P: Piece + Send + Sync> Kept for Guarded<D, P> {
+impl<D: Disk<Piece = P>, P: Piece> Kept for Guarded<D, P> {
     ghost use Rattle.hay_volume_lock.specs.Keeping.{IsKept};
 
     type Start = Opened<D, P>;

@@ -51,4 +51,4 @@ pub use lock::VolumeLock;
 pub use making::{NewLock, SeatRoom};
 pub use refusals::{Finished, Uncompacted, Unfinished, Unflushed};
 pub use seat::VolumeSeat;
-pub use told::Told;
+pub use told::{Places, Told};

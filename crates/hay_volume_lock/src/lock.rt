@@ -22,11 +22,11 @@ use std::marker::Model;
 use std::sync::Wait;
 
 /// A volume behind its lock. Clauses see which lock it is.
-pub struct VolumeLock<D: Disk<Piece = P> + Send + Sync, P: Piece + Send + Sync> {
+pub struct VolumeLock<D: Disk<Piece = P>, P: Piece> {
     pub(crate) turn: Turn<Guarded<D, P>>,
 }
 
-impl<D: Disk<Piece = P> + Send + Sync, P: Piece + Send + Sync> Model for VolumeLock<D, P> {
+impl<D: Disk<Piece = P>, P: Piece> Model for VolumeLock<D, P> {
     ghost use Rattle.hay_turn.specs.Seats.{TurnId};
 
     ghost Value = { TurnId };
@@ -34,7 +34,7 @@ impl<D: Disk<Piece = P> + Send + Sync, P: Piece + Send + Sync> Model for VolumeL
     ghost view = { λ l. l.turn };
 }
 
-impl<D: Disk<Piece = P> + Send + Sync, P: Piece + Send + Sync> VolumeLock<D, P> {
+impl<D: Disk<Piece = P>, P: Piece> VolumeLock<D, P> {
     /// The machine by which the volume is frozen.
     pub fn frozen<R: Wait>(&self, rt: &R, seat: &mut VolumeSeat<D, P>) -> Option<u32>
         requires rests { Rests self.now seat.old }

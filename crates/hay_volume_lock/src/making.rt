@@ -11,7 +11,7 @@ use crate::ended::Ended;
 use crate::guarded::Guarded;
 use crate::lock::VolumeLock;
 use crate::seat::VolumeSeat;
-use crate::told::{Places, Told};
+use crate::told::Places;
 use hay_base::NoMemory;
 use hay_core::CoreTag;
 use hay_disk::{Disk, Piece};
@@ -19,16 +19,15 @@ use hay_front::{Front, Seat, Tag, View};
 use hay_logical::Logical;
 use hay_needle::Settings;
 use hay_turn::{Turn, TurnSeat};
-use hay_views::PlaceView;
 use std::alloc::Global;
 use std::marker::Model;
 use std::sync::Wait;
 
 /// A lock, its seats in the order of their numbers, and room for when it ends.
-pub struct NewLock<D: Disk<Piece = P> + Send + Sync, P: Piece + Send + Sync> {
+pub struct NewLock<D: Disk<Piece = P>, P: Piece> {
     pub lock: VolumeLock<D, P>,
     pub seats: Vec<VolumeSeat<D, P>>,
-    pub room: SeatRoom<TurnSeat<Guarded<D, P>>, Seat<Places<D, P>>>,
+    pub room: SeatRoom<TurnSeat<Guarded<D, P>>, Seat<Places<D>>>,
 }
 
 /// Room for the parts of all seats, those at the turn and those at the view. Clauses see for how many seats.
@@ -66,22 +65,22 @@ fn views_of<D: Disk>(
     alloc: Global,
     logical: &Logical<D>,
     replicas: u32,
-) -> Result<(PlaceView<D::Piece, Told<D>>, PlaceView<D::Piece, Told<D>>), NoMemory>
+) -> Result<(Places<D>, Places<D>), NoMemory>
     requires { replicas ≡ logical.now.settings.replicas }
     ensures { IfOk result (λ views. IsFirst logical.now views.0 × (views.1 ≡ views.0)) }
 {
     let rows = logical.copy_rows(alloc)?;
-    PlaceView::two(alloc, logical, rows, replicas)
+    Places::two(alloc, logical, rows, replicas)
 }
 
 // The front of the rows of a volume, and so many seats at it.
-fn publish<D: Disk<Piece = P> + Send + Sync, P: Piece + Send + Sync, R: Wait>(
+fn publish<D: Disk<Piece = P>, P: Piece, R: Wait>(
     rt: &R,
     alloc: Global,
     logical: &Logical<D>,
     replicas: u32,
     seats: u32,
-) -> Result<(Front<Places<D, P>>, Vec<Seat<Places<D, P>>>), NoMemory>
+) -> Result<(Front<Places<D>>, Vec<Seat<Places<D>>>), NoMemory>
     requires all { HasAll logical.now }
     requires width { replicas ≡ logical.now.settings.replicas }
     requires some { 0 < seats }
@@ -101,7 +100,7 @@ fn show_each<T: View, R: Wait>(rt: &R, front: &Front<T>, seats: &mut [Seat<T>])
     }
 }
 
-impl<D: Disk<Piece = P> + Send + Sync, P: Piece + Send + Sync> VolumeLock<D, P> {
+impl<D: Disk<Piece = P>, P: Piece> VolumeLock<D, P> {
     /// The lock of an open volume, and a seat for each lane. The rows are published as they stand. `NoMemory` gives the volume back.
     pub fn new<R: Wait>(
         rt: &R,
@@ -175,7 +174,7 @@ impl<D: Disk<Piece = P> + Send + Sync, P: Piece + Send + Sync> VolumeLock<D, P> 
         self,
         rt: &R,
         seats: Vec<VolumeSeat<D, P>>,
-        room: SeatRoom<TurnSeat<Guarded<D, P>>, Seat<Places<D, P>>>,
+        room: SeatRoom<TurnSeat<Guarded<D, P>>, Seat<Places<D>>>,
     ) -> (Logical<D>, Vec<Tag>)
         requires room { length seats.items ≡ room }
         requires seats { (opened : Opened D P) × AreSeated self opened seats.items }

@@ -21,9 +21,9 @@ use std::sync::Wait;
 
 /// A seat at the lock, and one at the published rows, and how many changes stood where the lock was made. Clauses see what its lane knows of the volume.
 #[derive(Drop)]
-pub struct VolumeSeat<D: Disk<Piece = P> + Send + Sync, P: Piece + Send + Sync> {
+pub struct VolumeSeat<D: Disk<Piece = P>, P: Piece> {
     pub(crate) turn: TurnSeat<Guarded<D, P>>,
-    pub(crate) view: Seat<Places<D, P>>,
+    pub(crate) view: Seat<Places<D>>,
     pub(crate) stood: u64,
 }
 
@@ -39,7 +39,7 @@ fn all_changes<R: Wait>(rt: &R, stood: u64, published: u64) -> u64
     changes
 }
 
-impl<D: Disk<Piece = P> + Send + Sync, P: Piece + Send + Sync> Model for VolumeSeat<D, P> {
+impl<D: Disk<Piece = P>, P: Piece> Model for VolumeSeat<D, P> {
     ghost use Rattle.hay_holdings.specs.Holdings.{sight_of};
     ghost use Rattle.hay_views.specs.MapPasts.{entered_by};
     ghost use Rattle.hay_volume_lock.specs.Seats.{IsSeated, Seated};
@@ -51,7 +51,7 @@ impl<D: Disk<Piece = P> + Send + Sync, P: Piece + Send + Sync> Model for VolumeS
     ghost invariant = { λ s. IsSeated s.turn s.stood s.view };
 }
 
-impl<D: Disk<Piece = P> + Send + Sync, P: Piece + Send + Sync> VolumeSeat<D, P> {
+impl<D: Disk<Piece = P>, P: Piece> VolumeSeat<D, P> {
     /// The places of a pair's photo that are published, and how many changes were made since the opening. It takes no memory and no
     /// lock, and shows all that this seat was shown before. A place that was not looked at yet tells nothing.
     pub fn look<R: Wait>(&mut self, rt: &R, pair: Pair) -> Looked<P>

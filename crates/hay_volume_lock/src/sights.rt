@@ -80,7 +80,7 @@ pub(crate) fn freeze_did(before: Option<u32>, frozen: Option<u32>) -> Option<Mad
     Some(Made::Freezes { machine })
 }
 
-impl<D: Disk<Piece = P> + Send + Sync, P: Piece + Send + Sync> VolumeLock<D, P> {
+impl<D: Disk<Piece = P>, P: Piece> VolumeLock<D, P> {
     /// Sees the place of a pair's photo on a replica, where it was not looked at yet, by one read of its needle, which `out` then
     /// has, and publishes it. The seat is shown it. For want of memory to publish it the volume is frozen.
     pub fn see<R: Wait>(

@@ -21,6 +21,12 @@ returns-in_err-journal-clause-damaged g c = λ tells file at is.
     let said = same_fault c.from_residual.result fault.0 c.in_err-journal.field-0.0 (OpenFault.Damaged file at) fault.1 fault.2 is in
     subst (λ (s : Super). (file ≡ 0) × (0 < length old) × IsDamagedJournal s old at) c.super_of-sup.ensures (c.in_err-journal.ensures.damaged tells file at (ap Err said))
 
+pub returns-in_err-journal-clause-file : goal.returns-in_err-journal-clause-file
+returns-in_err-journal-clause-file g c = λ file at is.
+    let fault = err_from_is_err_and c.from_residual.result c.from_residual.ensures.1 in
+    let said = same_fault c.from_residual.result fault.0 c.in_err-journal.field-0.0 (OpenFault.Damaged file at) fault.1 fault.2 is in
+    c.in_err-journal.ensures.file file at (ap Err said)
+
 pub returns-in_err-journal-clause-whole : goal.returns-in_err-journal-clause-whole
 returns-in_err-journal-clause-whole g c = λ tells rows file at has is.
     let old = (g.D.Disk.files c.args.disk.now 0).now in

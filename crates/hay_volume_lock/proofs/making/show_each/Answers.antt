@@ -5,8 +5,8 @@ use Rattle.hay_front.specs.Fronts.{IsBehind, Witness}
 use Rattle.hay_volume_lock.proofs.Counting.{each_at, each_next, next_same, rest_same, take_whole}
 use Rattle.hay_volume_lock.proofs.making.show_each.Goals as goal
 
-pub show_all-requires-after_bounds : goal.show_all-requires-after_bounds
-show_all-requires-after_bounds g c = λ κs within.
+pub show_all-requires : goal.show_all-requires
+show_all-requires g c =
     ap (λ (s : Witness g.row.T-Means.Denot g.row.T-Start.Denot g.row.T-Deed.Denot). s.front)
     (next_same c.loop-i.seats c.args.seats.now c.loop-i.i c.index-seats-i.result c.loop-i.auto.seats c.loop-i-test.true c.loop-i.invariant.rest)
     ∙ each_at (λ s. s.front ≡ c.args.front.now.shown.front) c.args.seats.now c.loop-i.i c.index-seats-i.result c.requires c.loop-i-test.true

@@ -20,6 +20,12 @@ returns-in_err-opened-clause-damaged g c = λ tells file at is.
     let said = same_fault c.from_residual.result fault.0 c.in_err-opened.field-0.0 (OpenFault.Damaged file at) fault.1 fault.2 is in
     c.in_err-opened.ensures.damaged tells file at (ap Err said)
 
+pub returns-in_err-opened-clause-file : goal.returns-in_err-opened-clause-file
+returns-in_err-opened-clause-file g c = λ file at is.
+    let fault = err_from_is_err_and c.from_residual.result c.from_residual.ensures.1 in
+    let said = same_fault c.from_residual.result fault.0 c.in_err-opened.field-0.0 (OpenFault.Damaged file at) fault.1 fault.2 is in
+    c.in_err-opened.ensures.file file at (ap Err said)
+
 pub returns-in_err-opened-clause-whole : goal.returns-in_err-opened-clause-whole
 returns-in_err-opened-clause-whole g c = λ tells rows file at has is.
     let fault = err_from_is_err_and c.from_residual.result c.from_residual.ensures.1 in

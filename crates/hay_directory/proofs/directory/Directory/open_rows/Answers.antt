@@ -27,6 +27,12 @@ returns-in_err-loaded-clause-damaged g c = rw (← c.self.view_is) (λ tells fil
     let said = same_fault c.from_residual.result fault.0 c.in_err-loaded.field-0.0 (OpenFault.Damaged file at) fault.1 fault.2 is in
     c.in_err-loaded.ensures.damaged tells file at (ap Err said))
 
+pub returns-in_err-loaded-clause-file : goal.returns-in_err-loaded-clause-file
+returns-in_err-loaded-clause-file g c = λ file at is.
+    let fault = err_from_is_err_and c.from_residual.result c.from_residual.ensures.1 in
+    let said = same_fault c.from_residual.result fault.0 c.in_err-loaded.field-0.0 (OpenFault.Damaged file at) fault.1 fault.2 is in
+    c.in_err-loaded.ensures.file file at (ap Err said)
+
 pub returns-in_err-loaded-clause-whole : goal.returns-in_err-loaded-clause-whole
 unfolding OpensRows
 returns-in_err-loaded-clause-whole g c = rw (← c.self.view_is) (λ tells rows file at has is.

@@ -55,7 +55,7 @@ pub publish-requires-clause-fact : goal.publish-requires-clause-fact
 publish-requires-clause-fact g c =
     let k = c.requires.kept.2 in
     let below = subst (λ n. c.args.row.volume < n) (sym (k.from).volumes) (subst (λ (s : Settings). c.args.row.volume < s.volumes) (k.of).settings c.requires.volume) in
-    λ κs within m b is. may_publish c.args.self.now.front.shown (k.from).homes (home_row c.args.row) (k.base ∙ (k.from).base) c.show_all.ensures.fact below m b is
+    λ m b is. may_publish c.args.self.now.front.shown (k.from).homes (home_row c.args.row) (k.base ∙ (k.from).base) c.show_all.ensures.fact below m b is
 
 pub returns-in_default-publish-clause-kept : goal.returns-in_default-publish-clause-kept
 returns-in_default-publish-clause-kept g c = λ begun acts k.

@@ -12,8 +12,8 @@ close-directory-requires g c =
     (subst (λ (l : LockState). AreSeated l c.requires.seats.0 c.args.seats.items) (sym c.self.view_is) c.requires.seats.1)
     c.apart-turns.ensures.turns
 
-pub show_each-requires-after_bounds : goal.show_each-requires-after_bounds
-show_each-requires-after_bounds g c = λ κs within.
+pub show_each-requires : goal.show_each-requires
+show_each-requires g c =
     subst (λ (l : List HomesShown). Each (λ v. v.front ≡ c.close-directory.result.front.shown.front) l) (sym c.as_mut_slice.ensures.value)
     (views_of g.D.Disk.Tells g.D.Disk.files g.D.Disk.fault_count g.D.Disk.fuse_count
     (subst (λ (l : LockState). AreSeated l c.requires.seats.0 c.args.seats.items) (sym c.self.view_is) c.requires.seats.1)

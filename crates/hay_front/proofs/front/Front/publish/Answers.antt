@@ -12,7 +12,7 @@ invariant_of-self-in_err-reserve g c = let i = c.self.invariant in
     record { there = (i.there.0, i.there.1, i.there.2, λ e. absurd (cc e)); whole = λ e. absurd (cc e); log_is = ap length c.reserve.ensures.items ∙ i.log_is }
 
 pub show-requires-clause-front : goal.show-requires-clause-front
-show-requires-clause-front g c κs within = let k = g.T.View in let i = c.self.invariant in let d = k.deed c.args.op in
+show-requires-clause-front g c = let k = g.T.View in let i = c.self.invariant in let d = k.deed c.args.op in
     let hist = i.whole (ap (λ f. f.closed) c.self.view_is ∙ c.requires.open) in
     c.front_behind-front.ensures ∙ (ap (λ b. length (logged b c.reserve.new.self.items c.args.tag)) c.counts-is_counted.ensures
     ∙ (length_more k.is_counted c.reserve.new.self.items c.self.inside.shown.deeds c.args.tag d (ap length c.reserve.ensures.items ∙ i.log_is)

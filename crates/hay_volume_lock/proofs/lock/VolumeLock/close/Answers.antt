@@ -30,8 +30,8 @@ close-logical-requires g c =
     all_seats (subst (λ (l : TurnId). AreSeated l c.requires.seats.0 c.args.seats.items) (sym c.self.view_is) c.requires.seats.1)
     (all_turned turn_of c.loop-seat.turns.items (into_iter_items c.loop-seat.seat-iterator) c.args.seats.items c.loop-seat.invariant.turns (sym c.loop-seat.seat-iterator.rest.ok.0 ∙ c.in-None.ensures.steps.0))
 
-pub show_each-requires-after_bounds : goal.show_each-requires-after_bounds
-show_each-requires-after_bounds g c = λ κs within.
+pub show_each-requires : goal.show_each-requires
+show_each-requires g c =
     subst (λ (l : List (View g.row.D.Denot g.row.P.Denot)). Each (λ v. v.front ≡ c.close-logical.result.front.shown.front) l) (sym c.as_mut_slice.ensures.value)
     (kept_front (subst (λ (l : TurnId). AreSeated l c.requires.seats.0 c.args.seats.items) (sym c.self.view_is) c.requires.seats.1)
     (all_turned turn_of c.loop-seat.turns.items (into_iter_items c.loop-seat.seat-iterator) c.args.seats.items c.loop-seat.invariant.turns (sym c.loop-seat.seat-iterator.rest.ok.0 ∙ c.in-None.ensures.steps.0))

@@ -23,8 +23,8 @@ use Rattle.hay_volume_lock.specs.Refusing.{OfOpened, RefusesEnd, RefusesRun}
 use Rattle.hay_volume_lock.proofs.Refusing.{refuses_run, of_opened}
 use Rattle.hay_volume_lock.proofs.lock.VolumeLock.compact.Goals as goal
 
-pub show_all-requires-after_bounds : goal.show_all-requires-after_bounds
-show_all-requires-after_bounds g c = λ κs within.
+pub show_all-requires : goal.show_all-requires
+show_all-requires g c =
     c.seat.invariant.front ∙ sym (is_held g.D.Disk.Tells g.D.Disk.files g.P.Piece.Tells g.D.Disk.fault_count g.D.Disk.fuse_count c.seat.invariant c.hold-kept.ensures).front
 
 pub lost-requires-clause-within : goal.lost-requires-clause-within
@@ -108,10 +108,10 @@ returns-in-Err-clause-held g c =
     (refused_goes g.D.Disk.Tells g.D.Disk.files g.P.Piece.Tells g.D.Disk.fault_count g.D.Disk.fuse_count c.args.tag c.hold-kept.result (record c.hold-kept.result { logical = c.finish_files.new.self }) c.args.replica (within_it g.D.Disk.Tells g.D.Disk.files g.P.Piece.Tells g.D.Disk.fault_count g.D.Disk.fuse_count c.seat.invariant c.hold-kept.ensures c.args.replica (c.requires.within c.seat.invariant.opened (sym (ap (λ (s : Seated g.row.D.Denot g.row.P.Denot). s.start) c.seat.view_is) ∙ c.seat.invariant.is))) (finish_of g.D.Disk.fault_count g.D.Disk.fuse_count c.hold-kept.result (record c.hold-kept.result { logical = c.finish_files.new.self }) refl refl c.in-Err.ensures.same c.in-Err.ensures.open c.in-Err.ensures.counts (λ m is. (c.in-Err.ensures.frozen m is).1) c.in-Err.ensures.kept) c.in-Err.ensures.counts.stay refl refl c.in-Err.ensures.others (ap (λ (t : CoreTag). t.lane) c.in_default.ensures.own) c.in_default.ensures.free c.frozen-frozen.result (sym c.frozen-frozen.ensures.is) c.in-Err.fault c.new-act.result c.in-Err.ensures.refused c.in-Err.ensures.causes (c.new-act.ensures ∙ ap (λ m. act_of g.D.Disk.fault_count g.D.Disk.fuse_count c.args.tag m c.finish_files.new.self.replicas) c.unfinished_did-did.ensures)) c.free-in-Err.ensures)
 
 pub publish-requires-clause-open : goal.publish-requires-clause-open
-publish-requires-clause-open g c = λ κs within. (is_held g.D.Disk.Tells g.D.Disk.files g.P.Piece.Tells g.D.Disk.fault_count g.D.Disk.fuse_count c.seat.invariant c.hold-kept.ensures).serves (none_frozen c.hold-kept.result.logical.frozen (λ m is. let wrong = (c.in-Ok.ensures.frozen m is).0 in cc wrong))
+publish-requires-clause-open g c = (is_held g.D.Disk.Tells g.D.Disk.files g.P.Piece.Tells g.D.Disk.fault_count g.D.Disk.fuse_count c.seat.invariant c.hold-kept.ensures).serves (none_frozen c.hold-kept.result.logical.frozen (λ m is. let wrong = (c.in-Ok.ensures.frozen m is).0 in cc wrong))
 
 pub publish-requires-clause-fact : goal.publish-requires-clause-fact
-publish-requires-clause-fact g c = λ κs within.
+publish-requires-clause-fact g c =
     swap_may g.D.Disk.Tells g.D.Disk.files g.P.Piece.Tells g.D.Disk.fault_count g.D.Disk.fuse_count c.args.tag c.hold-kept.result c.args.replica c.in-Ok.files.generation c.in-Ok.files.end c.in-Ok.files.count (within_it g.D.Disk.Tells g.D.Disk.files g.P.Piece.Tells g.D.Disk.fault_count g.D.Disk.fuse_count c.seat.invariant c.hold-kept.ensures c.args.replica (c.requires.within c.seat.invariant.opened (sym (ap (λ (s : Seated g.row.D.Denot g.row.P.Denot). s.start) c.seat.view_is) ∙ c.seat.invariant.is))) (none_frozen c.hold-kept.result.logical.frozen (λ m is. let wrong = (c.in-Ok.ensures.frozen m is).0 in cc wrong)) c.finish_files.new.self c.in-Ok.files.cells c.moved-op.result c.moved-op.ensures c.in-Ok.ensures.rows (λ tells k s. is_swap g.D.Disk.files g.P.Piece.Tells k c.args.replica c.in-Ok.files.generation c.in-Ok.files.end c.in-Ok.files.count c.hold-kept.result.logical c.finish_files.new.self s (within_it g.D.Disk.Tells g.D.Disk.files g.P.Piece.Tells g.D.Disk.fault_count g.D.Disk.fuse_count c.seat.invariant c.hold-kept.ensures c.args.replica (c.requires.within c.seat.invariant.opened (sym (ap (λ (s : Seated g.row.D.Denot g.row.P.Denot). s.start) c.seat.view_is) ∙ c.seat.invariant.is))) (subst (λ (s : Settings). c.args.replica < s.replicas) (sym c.in-Ok.ensures.same.settings) (within_it g.D.Disk.Tells g.D.Disk.files g.P.Piece.Tells g.D.Disk.fault_count g.D.Disk.fuse_count c.seat.invariant c.hold-kept.ensures c.args.replica (c.requires.within c.seat.invariant.opened (sym (ap (λ (s : Seated g.row.D.Denot g.row.P.Denot). s.start) c.seat.view_is) ∙ c.seat.invariant.is)))) (c.in-Ok.ensures.finished tells k s) (c.in-Ok.ensures.sizes tells)) c.in-Ok.ensures.same c.in-Ok.ensures.open c.in-Ok.ensures.counts c.seat.invariant.opened c.hold-kept.new.seat.seen (is_held g.D.Disk.Tells g.D.Disk.files g.P.Piece.Tells g.D.Disk.fault_count g.D.Disk.fuse_count c.seat.invariant c.hold-kept.ensures) c.show_all.ensures.fact
 
 pub free-requires-in_default-publish-clause-may : goal.free-requires-in_default-publish-clause-may

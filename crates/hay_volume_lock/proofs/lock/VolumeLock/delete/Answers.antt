@@ -34,8 +34,8 @@ use Rattle.hay_volume_lock.specs.Refusing.{OfOpened, RefusesDelete}
 use Rattle.hay_volume_lock.proofs.Refusing.{refuses_delete, refuses_look, of_opened, same_so}
 use Rattle.hay_volume_lock.proofs.lock.VolumeLock.delete.Goals as goal
 
-pub show_all-requires-after_bounds : goal.show_all-requires-after_bounds
-show_all-requires-after_bounds g c = λ κs within.
+pub show_all-requires : goal.show_all-requires
+show_all-requires g c =
     c.seat.invariant.front ∙ sym (is_held g.D.Disk.Tells g.D.Disk.files g.P.Piece.Tells g.D.Disk.fault_count g.D.Disk.fuse_count c.seat.invariant c.hold-kept.ensures).front
 
 pub free-requires-clause-may : goal.free-requires-clause-may
@@ -140,10 +140,10 @@ pub sight_of-op-requires : goal.sight_of-op-requires
 sight_of-op-requires g c = subst (λ (n : ℕ). c.loop-replica.replica < n) (sym (ap length c.in-Ok.ensures.answered.1 ∙ row_long c.args.pair c.loop-replica.replica (place_in c.in-Ok.seen.row c.loop-replica.replica) c.loop-replica.kept.logical.rows c.see.new.self.rows c.in-Ok.ensures.row ∙ ap length (sym c.look-looked.ensures.row) ∙ c.look-looked.ensures.long)) (let same = c.loop-replica.invariant.sees.of.settings in let test = c.loop-replica-test.true in subst (λ (s : Settings). c.loop-replica.replica < s.replicas) (sym (settings_now g.D.Disk.Tells g.D.Disk.files g.P.Piece.Tells g.D.Disk.fault_count g.D.Disk.fuse_count c.args.tag c.loop-replica.kept (since g.D.Disk.Tells g.D.Disk.files g.P.Piece.Tells g.D.Disk.fault_count g.D.Disk.fuse_count c.args.tag c.hold-kept.result c.loop-replica.kept c.seat.invariant.opened c.hold-kept.new.seat.seen (is_held g.D.Disk.Tells g.D.Disk.files g.P.Piece.Tells g.D.Disk.fault_count g.D.Disk.fuse_count c.seat.invariant c.hold-kept.ensures) (sym c.in_default.ensures.is) c.loop-replica.invariant.sees) ∙ same)) test)
 
 pub publish-requires-clause-open : goal.publish-requires-clause-open
-publish-requires-clause-open g c = λ κs within. (serves_now g.D.Disk.Tells g.D.Disk.files g.P.Piece.Tells g.D.Disk.fault_count g.D.Disk.fuse_count c.args.tag c.loop-replica.kept (since g.D.Disk.Tells g.D.Disk.files g.P.Piece.Tells g.D.Disk.fault_count g.D.Disk.fuse_count c.args.tag c.hold-kept.result c.loop-replica.kept c.seat.invariant.opened c.hold-kept.new.seat.seen (is_held g.D.Disk.Tells g.D.Disk.files g.P.Piece.Tells g.D.Disk.fault_count g.D.Disk.fuse_count c.seat.invariant c.hold-kept.ensures) (sym c.in_default.ensures.is) c.loop-replica.invariant.sees))
+publish-requires-clause-open g c = (serves_now g.D.Disk.Tells g.D.Disk.files g.P.Piece.Tells g.D.Disk.fault_count g.D.Disk.fuse_count c.args.tag c.loop-replica.kept (since g.D.Disk.Tells g.D.Disk.files g.P.Piece.Tells g.D.Disk.fault_count g.D.Disk.fuse_count c.args.tag c.hold-kept.result c.loop-replica.kept c.seat.invariant.opened c.hold-kept.new.seat.seen (is_held g.D.Disk.Tells g.D.Disk.files g.P.Piece.Tells g.D.Disk.fault_count g.D.Disk.fuse_count c.seat.invariant c.hold-kept.ensures) (sym c.in_default.ensures.is) c.loop-replica.invariant.sees))
 
 pub publish-requires-clause-fact : goal.publish-requires-clause-fact
-publish-requires-clause-fact g c = λ κs within.
+publish-requires-clause-fact g c =
     seen_may g.D.Disk.Tells g.D.Disk.files g.P.Piece.Tells g.D.Disk.fault_count g.D.Disk.fuse_count c.args.tag c.sight_of-op.result c.seat.invariant.opened c.hold-kept.new.seat.seen c.hold-kept.result c.loop-replica.kept (is_held g.D.Disk.Tells g.D.Disk.files g.P.Piece.Tells g.D.Disk.fault_count g.D.Disk.fuse_count c.seat.invariant c.hold-kept.ensures) c.loop-replica.invariant.sees c.loop-replica.invariant.fact c.args.pair c.loop-replica.replica (place_in c.in-Ok.seen.row c.loop-replica.replica) c.sight_of-op.ensures
     (subst (λ (s : Settings). c.loop-replica.replica < s.replicas) c.loop-replica.invariant.sees.of.same.settings (let same = c.loop-replica.invariant.sees.of.settings in let test = c.loop-replica-test.true in subst (λ (s : Settings). c.loop-replica.replica < s.replicas) (sym (settings_now g.D.Disk.Tells g.D.Disk.files g.P.Piece.Tells g.D.Disk.fault_count g.D.Disk.fuse_count c.args.tag c.loop-replica.kept (since g.D.Disk.Tells g.D.Disk.files g.P.Piece.Tells g.D.Disk.fault_count g.D.Disk.fuse_count c.args.tag c.hold-kept.result c.loop-replica.kept c.seat.invariant.opened c.hold-kept.new.seat.seen (is_held g.D.Disk.Tells g.D.Disk.files g.P.Piece.Tells g.D.Disk.fault_count g.D.Disk.fuse_count c.seat.invariant c.hold-kept.ensures) (sym c.in_default.ensures.is) c.loop-replica.invariant.sees) ∙ same)) test)) (λ tells k s. (c.in-Ok.ensures.known tells k s).1)
 
@@ -297,10 +297,10 @@ returns-in-Err-erase_seen-clause-held g c =
     (λ m at e. c.in-Err-erase_seen.ensures.undamaged m at (ap Err e)) c.hold-kept.result (sym c.in_default.ensures.is) c.loop-replica.invariant.sees c.act_made-made-in-Err-erase_seen.result (record { acts = λ m is. c.act_made-made-in-Err-erase_seen.ensures.did m ((c.delete_did-did.ensures ∙ ap (λ (f : Option ℕ). delete_made f (change.Del c.args.pair) c.in-Err-erase_seen.fault) c.frozen-in-Err-erase_seen.ensures.is) ∙ is); tries = λ none. (subst (λ (l : List ℕ). IsTried g.D.Disk.fault_count g.D.Disk.fuse_count c.args.tag l (record c.loop-replica.kept { logical = c.erase_seen.new.self }).logical.replicas c.act_made-made-in-Err-erase_seen.result) c.faults_of-before.ensures (c.act_made-made-in-Err-erase_seen.ensures.tried ((c.delete_did-did.ensures ∙ ap (λ (f : Option ℕ). delete_made f (change.Del c.args.pair) c.in-Err-erase_seen.fault) c.frozen-in-Err-erase_seen.ensures.is) ∙ none))) })).leaves c.free-in-Err-erase_seen.new.seat c.free-in-Err-erase_seen.ensures)
 
 pub publish-requires-2-clause-open : goal.publish-requires-2-clause-open
-publish-requires-2-clause-open g c = λ κs within. (serves_now g.D.Disk.Tells g.D.Disk.files g.P.Piece.Tells g.D.Disk.fault_count g.D.Disk.fuse_count c.args.tag c.loop-replica.kept (since g.D.Disk.Tells g.D.Disk.files g.P.Piece.Tells g.D.Disk.fault_count g.D.Disk.fuse_count c.args.tag c.hold-kept.result c.loop-replica.kept c.seat.invariant.opened c.hold-kept.new.seat.seen (is_held g.D.Disk.Tells g.D.Disk.files g.P.Piece.Tells g.D.Disk.fault_count g.D.Disk.fuse_count c.seat.invariant c.hold-kept.ensures) (sym c.in_default.ensures.is) c.loop-replica.invariant.sees))
+publish-requires-2-clause-open g c = (serves_now g.D.Disk.Tells g.D.Disk.files g.P.Piece.Tells g.D.Disk.fault_count g.D.Disk.fuse_count c.args.tag c.loop-replica.kept (since g.D.Disk.Tells g.D.Disk.files g.P.Piece.Tells g.D.Disk.fault_count g.D.Disk.fuse_count c.args.tag c.hold-kept.result c.loop-replica.kept c.seat.invariant.opened c.hold-kept.new.seat.seen (is_held g.D.Disk.Tells g.D.Disk.files g.P.Piece.Tells g.D.Disk.fault_count g.D.Disk.fuse_count c.seat.invariant c.hold-kept.ensures) (sym c.in_default.ensures.is) c.loop-replica.invariant.sees))
 
 pub publish-requires-2-clause-fact : goal.publish-requires-2-clause-fact
-publish-requires-2-clause-fact g c = λ κs within. erase_may g.D.Disk.Tells g.D.Disk.files g.P.Piece.Tells g.D.Disk.fault_count g.D.Disk.fuse_count c.args.tag c.loop-replica.kept c.args.pair c.deletion.result c.deletion.ensures.change c.deletion.ensures.entered (since g.D.Disk.Tells g.D.Disk.files g.P.Piece.Tells g.D.Disk.fault_count g.D.Disk.fuse_count c.args.tag c.hold-kept.result c.loop-replica.kept c.seat.invariant.opened c.hold-kept.new.seat.seen (is_held g.D.Disk.Tells g.D.Disk.files g.P.Piece.Tells g.D.Disk.fault_count g.D.Disk.fuse_count c.seat.invariant c.hold-kept.ensures) (sym c.in_default.ensures.is) c.loop-replica.invariant.sees) c.loop-replica.invariant.fact
+publish-requires-2-clause-fact g c = erase_may g.D.Disk.Tells g.D.Disk.files g.P.Piece.Tells g.D.Disk.fault_count g.D.Disk.fuse_count c.args.tag c.loop-replica.kept c.args.pair c.deletion.result c.deletion.ensures.change c.deletion.ensures.entered (since g.D.Disk.Tells g.D.Disk.files g.P.Piece.Tells g.D.Disk.fault_count g.D.Disk.fuse_count c.args.tag c.hold-kept.result c.loop-replica.kept c.seat.invariant.opened c.hold-kept.new.seat.seen (is_held g.D.Disk.Tells g.D.Disk.files g.P.Piece.Tells g.D.Disk.fault_count g.D.Disk.fuse_count c.seat.invariant c.hold-kept.ensures) (sym c.in_default.ensures.is) c.loop-replica.invariant.sees) c.loop-replica.invariant.fact
 
 pub act_made-made-requires-in_default-publish-2-clause-all : goal.act_made-made-requires-in_default-publish-2-clause-all
 act_made-made-requires-in_default-publish-2-clause-all g c = c.give_up.ensures.counts.count ∙ c.erase_seen.ensures.counts.count ∙ c.loop-replica.invariant.sees.of.count ∙ (all_there g.D.Disk.Tells g.D.Disk.files g.P.Piece.Tells g.D.Disk.fault_count g.D.Disk.fuse_count c.seat.invariant c.hold-kept.ensures)

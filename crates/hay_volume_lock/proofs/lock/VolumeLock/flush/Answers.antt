@@ -13,8 +13,8 @@ use Rattle.hay_volume_lock.specs.Refusing.{OfOpened, RefusesFlush}
 use Rattle.hay_volume_lock.proofs.Refusing.{err_refused, flush_refused, refuses_flush, of_opened}
 use Rattle.hay_volume_lock.proofs.lock.VolumeLock.flush.Goals as goal
 
-pub show_all-requires-after_bounds : goal.show_all-requires-after_bounds
-show_all-requires-after_bounds g c = λ κs within. c.seat.invariant.front ∙ sym (is_held g.D.Disk.Tells g.D.Disk.files g.P.Piece.Tells g.D.Disk.fault_count g.D.Disk.fuse_count c.seat.invariant c.hold-kept.ensures).front
+pub show_all-requires : goal.show_all-requires
+show_all-requires g c = c.seat.invariant.front ∙ sym (is_held g.D.Disk.Tells g.D.Disk.files g.P.Piece.Tells g.D.Disk.fault_count g.D.Disk.fuse_count c.seat.invariant c.hold-kept.ensures).front
 
 pub faults_of-before-requires-clause-all : goal.faults_of-before-requires-clause-all
 faults_of-before-requires-clause-all g c = all_there g.D.Disk.Tells g.D.Disk.files g.P.Piece.Tells g.D.Disk.fault_count g.D.Disk.fuse_count c.seat.invariant c.hold-kept.ensures

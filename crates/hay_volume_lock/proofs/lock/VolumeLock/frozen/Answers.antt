@@ -11,8 +11,8 @@ use Rattle.hay_volume_lock.specs.Refusing.{OfOpened}
 use Rattle.hay_volume_lock.proofs.Refusing.{of_opened}
 use Rattle.hay_volume_lock.proofs.lock.VolumeLock.frozen.Goals as goal
 
-pub show_all-requires-after_bounds : goal.show_all-requires-after_bounds
-show_all-requires-after_bounds g c = λ κs within.
+pub show_all-requires : goal.show_all-requires
+show_all-requires g c =
     c.seat.invariant.front ∙ sym (c.hold-kept.ensures.stands_for c.seat.invariant.opened c.seat.invariant.is).front
 
 pub free-requires-clause-may : goal.free-requires-clause-may

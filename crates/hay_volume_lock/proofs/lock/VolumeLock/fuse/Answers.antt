@@ -9,8 +9,8 @@ use Rattle.hay_volume_lock.proofs.Finding.{fuse_goes}
 use Rattle.hay_volume_lock.proofs.Holding.{is_held, made_always, made_free, made_held, made_mine, made_same, made_seated, seat_of, within_it}
 use Rattle.hay_volume_lock.proofs.lock.VolumeLock.fuse.Goals as goal
 
-pub show_all-requires-after_bounds : goal.show_all-requires-after_bounds
-show_all-requires-after_bounds g c = λ κs within. c.seat.invariant.front ∙ sym (is_held g.D.Disk.Tells g.D.Disk.files g.P.Piece.Tells g.D.Disk.fault_count g.D.Disk.fuse_count c.seat.invariant c.hold-kept.ensures).front
+pub show_all-requires : goal.show_all-requires
+show_all-requires g c = c.seat.invariant.front ∙ sym (is_held g.D.Disk.Tells g.D.Disk.files g.P.Piece.Tells g.D.Disk.fault_count g.D.Disk.fuse_count c.seat.invariant c.hold-kept.ensures).front
 
 pub fuse-requires : goal.fuse-requires
 fuse-requires g c =

@@ -18,8 +18,8 @@ use Rattle.hay_volume_lock.specs.Refusing.{OfOpened, RefusesPut}
 use Rattle.hay_volume_lock.proofs.Refusing.{refuses_put, of_opened}
 use Rattle.hay_volume_lock.proofs.lock.VolumeLock.put.Goals as goal
 
-pub show_all-requires-after_bounds : goal.show_all-requires-after_bounds
-show_all-requires-after_bounds g c = λ κs within.
+pub show_all-requires : goal.show_all-requires
+show_all-requires g c =
     c.seat.invariant.front ∙ sym (is_held g.D.Disk.Tells g.D.Disk.files g.P.Piece.Tells g.D.Disk.fault_count g.D.Disk.fuse_count c.seat.invariant c.hold-kept.ensures).front
 
 pub free-requires-clause-may : goal.free-requires-clause-may
@@ -137,10 +137,10 @@ returns-in-Err-clause-held g c =
     c.in-Err.ensures.counts.stay refl refl (sym c.in_default.ensures.is) (λ tells thawed j tight. c.in-Err.ensures.tight tells j tight (settled c.frozen-in-Err.result (c.frozen-in-Err.ensures.is ∙ thawed) c.frozen-in-Err.ensures.settled ∙ sym c.in_default.ensures.settled)) c.in-Err.fault c.in-Err.ensures.refused c.in-Err.ensures.causes c.act_made-made.result (record { acts = λ m is. c.act_made-made.ensures.did m ((c.put_did-did.ensures ∙ ap (λ (e : Entry). put_made c.frozen-in-Err.result e c.in-Err.fault) c.in-Ok.ensures ∙ ap (λ (f : Option ℕ). put_made f (change.Put c.args.pair c.args.cookie c.args.bytes.now) c.in-Err.fault) c.frozen-in-Err.ensures.is) ∙ is); tries = λ none. subst (λ (l : List ℕ). IsTried g.D.Disk.fault_count g.D.Disk.fuse_count c.args.tag l c.write.new.self.replicas c.act_made-made.result) c.faults_of-before.ensures (c.act_made-made.ensures.tried ((c.put_did-did.ensures ∙ ap (λ (e : Entry). put_made c.frozen-in-Err.result e c.in-Err.fault) c.in-Ok.ensures ∙ ap (λ (f : Option ℕ). put_made f (change.Put c.args.pair c.args.cookie c.args.bytes.now) c.in-Err.fault) c.frozen-in-Err.ensures.is) ∙ none)) })).goes c.free-in-Err.ensures)
 
 pub publish-requires-clause-open : goal.publish-requires-clause-open
-publish-requires-clause-open g c = λ κs within. (is_held g.D.Disk.Tells g.D.Disk.files g.P.Piece.Tells g.D.Disk.fault_count g.D.Disk.fuse_count c.seat.invariant c.hold-kept.ensures).serves (sym c.in_default.ensures.is)
+publish-requires-clause-open g c = (is_held g.D.Disk.Tells g.D.Disk.files g.P.Piece.Tells g.D.Disk.fault_count g.D.Disk.fuse_count c.seat.invariant c.hold-kept.ensures).serves (sym c.in_default.ensures.is)
 
 pub publish-requires-clause-fact : goal.publish-requires-clause-fact
-publish-requires-clause-fact g c = λ κs within.
+publish-requires-clause-fact g c =
     put_may g.D.Disk.Tells g.D.Disk.files g.P.Piece.Tells g.D.Disk.fault_count g.D.Disk.fuse_count c.args.tag c.hold-kept.result c.args.pair c.args.cookie c.args.bytes.now c.write.new.self c.in-Ok-write.written c.published-op.result c.in-Ok-write.ensures.of.0 c.in-Ok-write.ensures.of.2 c.in-Ok-write.ensures.written c.published-op.ensures.change (c.published-op.ensures.entered ∙ ap (λ (e : Entry). e ∷ []) c.in-Ok.ensures) c.in-Ok-write.ensures.same c.seat.invariant.opened c.hold-kept.new.seat.seen (is_held g.D.Disk.Tells g.D.Disk.files g.P.Piece.Tells g.D.Disk.fault_count g.D.Disk.fuse_count c.seat.invariant c.hold-kept.ensures) c.show_all.ensures.fact
 
 pub act_made-made-requires-in_default-publish-clause-all : goal.act_made-made-requires-in_default-publish-clause-all

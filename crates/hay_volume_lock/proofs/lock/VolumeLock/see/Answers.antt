@@ -18,8 +18,8 @@ use Rattle.hay_volume_lock.specs.Refusing.{OfOpened, RefusesSight}
 use Rattle.hay_volume_lock.proofs.Refusing.{refuses_sight, of_opened}
 use Rattle.hay_volume_lock.proofs.lock.VolumeLock.see.Goals as goal
 
-pub show_all-requires-after_bounds : goal.show_all-requires-after_bounds
-show_all-requires-after_bounds g c = λ κs within.
+pub show_all-requires : goal.show_all-requires
+show_all-requires g c =
     c.seat.invariant.front ∙ sym (is_held g.D.Disk.Tells g.D.Disk.files g.P.Piece.Tells g.D.Disk.fault_count g.D.Disk.fuse_count c.seat.invariant c.hold-kept.ensures).front
 
 pub is_seen-requires : goal.is_seen-requires
@@ -141,7 +141,7 @@ sight_of-op-requires g c = subst (λ (n : ℕ). c.args.replica < n)
     (sym (ap length c.in-Ok.ensures.answered.1 ∙ row_long c.args.pair c.args.replica (place_in c.in-Ok.seen.row c.args.replica) c.hold-kept.result.logical.rows c.see.new.self.rows c.in-Ok.ensures.row ∙ ap length (sym c.look-looked.ensures.row) ∙ c.look-looked.ensures.long)) (within_it g.D.Disk.Tells g.D.Disk.files g.P.Piece.Tells g.D.Disk.fault_count g.D.Disk.fuse_count c.seat.invariant c.hold-kept.ensures c.args.replica (c.requires.within c.seat.invariant.opened (sym (ap (λ (s : Seated g.row.D.Denot g.row.P.Denot). s.start) c.seat.view_is) ∙ c.seat.invariant.is)))
 
 pub publish-requires-clause-fact : goal.publish-requires-clause-fact
-publish-requires-clause-fact g c = λ κs within.
+publish-requires-clause-fact g c =
     seen_may g.D.Disk.Tells g.D.Disk.files g.P.Piece.Tells g.D.Disk.fault_count g.D.Disk.fuse_count c.args.tag c.sight_of-op.result c.seat.invariant.opened c.hold-kept.new.seat.seen c.hold-kept.result c.hold-kept.result (is_held g.D.Disk.Tells g.D.Disk.files g.P.Piece.Tells g.D.Disk.fault_count g.D.Disk.fuse_count c.seat.invariant c.hold-kept.ensures) (sees_nothing g.D.Disk.Tells g.D.Disk.files g.P.Piece.Tells g.D.Disk.fault_count g.D.Disk.fuse_count c.args.tag c.hold-kept.result (is_held g.D.Disk.Tells g.D.Disk.files g.P.Piece.Tells g.D.Disk.fault_count g.D.Disk.fuse_count c.seat.invariant c.hold-kept.ensures).is_open (is_held g.D.Disk.Tells g.D.Disk.files g.P.Piece.Tells g.D.Disk.fault_count g.D.Disk.fuse_count c.seat.invariant c.hold-kept.ensures).serves)
     c.show_all.ensures.fact c.args.pair c.args.replica (place_in c.in-Ok.seen.row c.args.replica) c.sight_of-op.ensures (within_it g.D.Disk.Tells g.D.Disk.files g.P.Piece.Tells g.D.Disk.fault_count g.D.Disk.fuse_count c.seat.invariant c.hold-kept.ensures c.args.replica (c.requires.within c.seat.invariant.opened (sym (ap (λ (s : Seated g.row.D.Denot g.row.P.Denot). s.start) c.seat.view_is) ∙ c.seat.invariant.is))) (λ tells k s. (c.in-Ok.ensures.known tells k s).1)
 

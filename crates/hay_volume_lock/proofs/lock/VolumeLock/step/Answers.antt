@@ -13,9 +13,9 @@ use Rattle.hay_volume_lock.specs.Refusing.{OfOpened, RefusesRun}
 use Rattle.hay_volume_lock.proofs.Refusing.{refuses_run, of_opened, some_refused}
 use Rattle.hay_volume_lock.proofs.lock.VolumeLock.step.Goals as goal
 
-pub show_all-requires-after_bounds : goal.show_all-requires-after_bounds
-show_all-requires-after_bounds g c =
-    λ κs within. c.seat.invariant.front ∙ sym (c.hold-kept.ensures.stands_for c.seat.invariant.opened c.seat.invariant.is).front
+pub show_all-requires : goal.show_all-requires
+show_all-requires g c =
+    c.seat.invariant.front ∙ sym (c.hold-kept.ensures.stands_for c.seat.invariant.opened c.seat.invariant.is).front
 
 pub barred-requires-clause-within : goal.barred-requires-clause-within
 barred-requires-clause-within g c =
