@@ -46,11 +46,11 @@ use Rattle.hay_block.proofs.Slots.{each_slot, index_back, slots_are}
 use Rattle.hay_block.proofs.Telling.{notes_are}
 
 module _ {V D S T A W F : Type 0} {fits : V → Settings → ℕ → S → Type 0} {fits_rows : D → Settings → ℕ → T → Type 0} {is_at : S → StoreVolume → Type 0} {is_at_rows : T → Start → Type 0}
-    {of : S → LockSight VolumeAct Entry} {of_rows : T → LockSight DirAct HomeRow} {arm_faults : A → ℕ} {stands : W → VolumeKnown → Type 0} {faults fuses : W → ℕ → ℕ}
+    {of : S → LockSight VolumeAct Entry} {of_rows : T → LockSight DirAct HomeRow} {arm_sure : A → Bool} {arm_faults : A → ℕ} {stands : W → VolumeKnown → Type 0} {faults fuses : W → ℕ → ℕ}
     {stands_rows : F → DirKnown → List Bool → Type 0} {row_faults row_fuses : F → ℕ}
     {settings : Settings} {lock : D} {drained : Vec Bool Global} {volumes : List W} {seats : List T} {arms_first : List A} {behind : List W} {tags : List (Vec Tag Global)}
     {seats_behind : List T} {arms_last : List A} {jobs : List (List Job)} {replies : List (List Reply)}
-    (ran : RanAll fits fits_rows is_at is_at_rows of of_rows arm_faults stands faults fuses settings lock drained volumes seats arms_first behind tags seats_behind arms_last jobs replies)
+    (ran : RanAll fits fits_rows is_at is_at_rows of of_rows arm_sure arm_faults stands faults fuses settings lock drained volumes seats arms_first behind tags seats_behind arms_last jobs replies)
     (fit : AreFit settings) (many : length volumes ≡ settings.volumes) (many_behind : length behind ≡ settings.volumes)
     {first last : F} {row_tags : List Tag} (unseen_rows : AreUnseen of_rows seats) (at_rows : AreAtRows is_at_rows stands_rows row_faults row_fuses first seats)
     (left_rows : LeavesDirectory of_rows stands_rows row_faults row_fuses first seats_behind last row_tags)
@@ -65,7 +65,7 @@ module _ {V D S T A W F : Type 0} {fits : V → Settings → ℕ → S → Type 
   shared = shared_by settings ran.locks lock drained
 
   abbrev Took : ℕ → Type 0
-  Took v = VolumeTook fits fits_rows is_at is_at_rows of of_rows arm_faults stands faults fuses settings ran.lanes ran.after v v volumes behind tags
+  Took v = VolumeTook fits fits_rows is_at is_at_rows of of_rows arm_sure arm_faults stands faults fuses settings ran.lanes ran.after v v volumes behind tags
 
   abbrev took : (v : ℕ) → v < n → Took v
   took v below = ran.took v below
@@ -146,7 +146,7 @@ module _ {V D S T A W F : Type 0} {fits : V → Settings → ℕ → S → Type 
       (let within = slice_get_within ran.lanes lane l at in let long = zip_long Here ran.lanes (took v below).seats (took v below).of_lanes in omega (arith, within, long)) in
       s.1 ∙ (sym (zip_at Here ran.lanes (took v below).seats (took v below).of_lanes lane l s.0 at s.1) ∙ at_seat)
 
-  sits : (lane : ℕ) (l : Lane S T A) → slice_get ran.lanes lane ≡ Some l → SitsAt fits fits_rows is_at is_at_rows of of_rows arm_faults shared start lane l
+  sits : (lane : ℕ) (l : Lane S T A) → slice_get ran.lanes lane ≡ Some l → SitsAt fits fits_rows is_at is_at_rows of of_rows arm_sure arm_faults shared start lane l
   sits lane l at = record {
     seated = ran.seated lane l at;
     store = record {
@@ -227,7 +227,7 @@ module _ {V D S T A W F : Type 0} {fits : V → Settings → ℕ → S → Type 
   stood_by_acts : (v : ℕ) (below : v < n) → stood start v ((took v below).left).history ≡ left volume_lock (standing faults fuses (took v below).before (volume_at k v)) ((took v below).left).history
   stood_by_acts v below = ap (λ z. left volume_lock z ((took v below).left).history) (started v below)
 
-  ends_at : (v : ℕ) (c : (v < n) ⊎ (n ≤ v)) → v < n → EndsAt fits fits_rows is_at is_at_rows of of_rows arm_faults settings start ran.after v (acts_by v c)
+  ends_at : (v : ℕ) (c : (v < n) ⊎ (n ≤ v)) → v < n → EndsAt fits fits_rows is_at is_at_rows of of_rows arm_sure arm_faults settings start ran.after v (acts_by v c)
   ends_at v (inr high) below = absurd (omega (arith, high, below))
   ends_at v (inl here) below =
       let t = took v here in record {
@@ -291,7 +291,7 @@ module _ {V D S T A W F : Type 0} {fits : V → Settings → ℕ → S → Type 
   rows_seats : map of_rows seats_behind ≡ map of_rows (map (λ l. l.directory) ran.after)
   rows_seats = ap (map of_rows) (sym ran.seats_behind_are)
 
-  pub lanes_ran : LanesRan fits fits_rows is_at is_at_rows of of_rows arm_faults shared start k ran.lanes ran.after jobs replies h faults_behind fuses_behind arms
+  pub lanes_ran : LanesRan fits fits_rows is_at is_at_rows of of_rows arm_sure arm_faults shared start k ran.lanes ran.after jobs replies h faults_behind fuses_behind arms
   lanes_ran = record {
     opens = opens;
     drained = drained_is;
@@ -335,7 +335,7 @@ module _ {V D S T A W F : Type 0} {fits : V → Settings → ℕ → S → Type 
       → RanLegally stands faults fuses stands_rows row_faults row_fuses arm_faults settings k items (log_notes_of settings k h) (row_note_of k h) behind last arms_last others
   block_ran items are distinct = record {
     after = t;
-    legal = (lanes_are_legal V D S T A fits fits_rows is_at is_at_rows of of_rows arm_faults shared start k ran.lanes ran.after jobs replies h faults_behind fuses_behind arms lanes_ran items are distinct).0;
+    legal = (lanes_are_legal V D S T A fits fits_rows is_at is_at_rows of of_rows arm_sure arm_faults shared start k ran.lanes ran.after jobs replies h faults_behind fuses_behind arms lanes_ran items are distinct).0;
     stands_for = stands_behind;
   }
 

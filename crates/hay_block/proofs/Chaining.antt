@@ -93,15 +93,15 @@ module _ {W L J O : Type 0} (f : W → L) (answers : L → ℕ → J → L → O
   }
 
 module _ {V D S T A : Type 0} (fits : V → Settings → ℕ → S → Type 0) (fits_rows : D → Settings → ℕ → T → Type 0) (is_at : S → StoreVolume → Type 0) (is_at_rows : T → Start → Type 0)
-    (of : S → LockSight VolumeAct Entry) (of_rows : T → LockSight DirAct HomeRow) (arm_faults : A → ℕ) (shared : Shared V D) (start : Start) where
+    (of : S → LockSight VolumeAct Entry) (of_rows : T → LockSight DirAct HomeRow) (arm_sure : A → Bool) (arm_faults : A → ℕ) (shared : Shared V D) (start : Start) where
   abbrev sight_at : Lane S T A → Sight
   sight_at l = sight of of_rows arm_faults l
 
   abbrev gives : Lane S T A → ℕ → Job → Lane S T A → Reply → Type 0
-  gives old lane job new reply = Answers fits fits_rows is_at is_at_rows of of_rows arm_faults shared lane job old new reply
+  gives old lane job new reply = Answers fits fits_rows is_at is_at_rows of of_rows arm_sure arm_faults shared lane job old new reply
 
   abbrev sits_at : ℕ → Lane S T A → Type 0
-  sits_at lane l = SitsAt fits fits_rows is_at is_at_rows of of_rows arm_faults shared start lane l
+  sits_at lane l = SitsAt fits fits_rows is_at is_at_rows of of_rows arm_sure arm_faults shared start lane l
 
   abbrev goes_from : Lane S T A → ℕ → Job → Lane S T A → Reply → Type 0
   goes_from old lane job new reply = GoesOn shared.settings start (shared.drained).items (record { item = answered_line lane job reply; before = sight_at old; after = sight_at new })

@@ -1,5 +1,5 @@
 -- Frames, from those with one lock fewer to those with one more, and back.
-use Rattle.std.proofs.Common.{◌≡◌, ◌<◌, ◌≤◌, ◌+◌, ◌-◌, ◌++◌, ℕ, List, [], ◌∷◌, map, length, refl, sym, ap, subst, ◌∙◌, arith, Some, slice_get, vec_len, vec_capacity, length-append, Vec, Global}
+use Rattle.std.proofs.Common.{◌≡◌, ◌<◌, ◌≤◌, ◌+◌, ◌-◌, ◌++◌, ℕ, List, [], ◌∷◌, map, length, refl, sym, ap, subst, ◌∙◌, arith, Some, slice_get, vec_len, vec_capacity, length-append, Vec, Global, Bool}
 use Rattle.std.specs.List.{AllByRecursion as Each}
 use Rattle.std.specs.Vec.{with_items}
 use Rattle.std.proofs.lemmas.Bool.{eq-eqb}
@@ -156,9 +156,9 @@ module _ {V D S T A W : Type 0} {fits : V → Settings → ℕ → S → Type 0}
   }
 
 module _ {V D S T A W : Type 0} (fits : V → Settings → ℕ → S → Type 0) (fits_rows : D → Settings → ℕ → T → Type 0) (is_at : S → StoreVolume → Type 0) (is_at_rows : T → Start → Type 0)
-    (of : S → LockSight VolumeAct Entry) (of_rows : T → LockSight DirAct HomeRow) (arm_faults : A → ℕ) (stands : W → VolumeKnown → Type 0) (faults fuses : W → ℕ → ℕ) where
+    (of : S → LockSight VolumeAct Entry) (of_rows : T → LockSight DirAct HomeRow) (arm_sure : A → Bool) (arm_faults : A → ℕ) (stands : W → VolumeKnown → Type 0) (faults fuses : W → ℕ → ℕ) where
   abbrev gives : Shared V D → Lane S T A → ℕ → Job → Lane S T A → Reply → Type 0
-  gives shared before lane job behind reply = Answers fits fits_rows is_at is_at_rows of of_rows arm_faults shared lane job before behind reply
+  gives shared before lane job behind reply = Answers fits fits_rows is_at is_at_rows of of_rows arm_sure arm_faults shared lane job before behind reply
 
   -- lanes that answered still sit at the locks
   pub still_seated : (shared : Shared V D) {lanes after : List (Lane S T A)} {jobs : List (List Job)} {replies : List (List Reply)} → length jobs ≡ length lanes
@@ -182,7 +182,7 @@ module _ {V D S T A W : Type 0} (fits : V → Settings → ℕ → S → Type 0)
   pub ran_at_all : (old new : Frame V D S T A W) (jobs : List (List Job)) (replies : List (List Reply)) (is_of : W → Settings → ℕ → Type 0) → IsFrame fits fits_rows is_of old → (old.waiting).items ≡ []
       → length jobs ≡ length (old.lanes).items → AnswersLanes (gives old.shared) (old.lanes).items jobs (new.lanes).items replies
       → new.waiting ≡ old.waiting → new.tags ≡ old.tags
-      → RanFrom fits fits_rows is_at is_at_rows of of_rows arm_faults stands faults fuses old new jobs replies
+      → RanFrom fits fits_rows is_at is_at_rows of of_rows arm_sure arm_faults stands faults fuses old new jobs replies
   ran_at_all old new jobs replies is_of is none given answers waiting tags = record {
     locks = (old.shared).volumes;
     first = λ v less. refl;

@@ -41,6 +41,10 @@ zip_at R (a ∷ xs) (b ∷ ys) all zero x y at_x at_y =
     let one : a ≡ x = cc at_x in let two : b ≡ y = cc at_y in subst (λ z. R z y) one (subst (R a) two all.0)
 zip_at R (a ∷ xs) (b ∷ ys) all (suc n) x y at_x at_y = zip_at R xs ys all.1 n x y at_x at_y
 
+pub zip_same : {A : Type 0} (R : A → A → Type 0) → ((x : A) → R x x) → (xs : List A) → AllZip R xs xs
+zip_same R same [] = tt
+zip_same R same (x ∷ xs) = (same x, zip_same R same xs)
+
 pub zip_long : {A B : Type 0} (R : A → B → Type 0) (xs : List A) (ys : List B) → AllZip R xs ys → length ys ≡ length xs
 zip_long R [] [] all = refl
 zip_long R [] (b ∷ ys) all = absurd all
@@ -52,6 +56,12 @@ zip_unmapped f g R [] [] all = tt
 zip_unmapped f g R [] (y ∷ ys) all = all
 zip_unmapped f g R (x ∷ xs) [] all = all
 zip_unmapped f g R (x ∷ xs) (y ∷ ys) all = (all.0, zip_unmapped f g R xs ys all.1)
+
+pub zip_mapped : {A B X Y : Type 0} (f : A → X) (g : B → Y) (R : X → Y → Type 0) (xs : List A) (ys : List B) → AllZip (λ x y. R (f x) (g y)) xs ys → AllZip R (map f xs) (map g ys)
+zip_mapped f g R [] [] all = tt
+zip_mapped f g R [] (y ∷ ys) all = all
+zip_mapped f g R (x ∷ xs) [] all = all
+zip_mapped f g R (x ∷ xs) (y ∷ ys) all = (all.0, zip_mapped f g R xs ys all.1)
 
 -- the last of a list
 pub last_at : {X : Type 0} (xs ys : List X) (x : X) (n : ℕ) → ys ≡ xs ++ x ∷ [] → n ≡ length ys → slice_get ys (n - 1) ≡ Some x

@@ -1,5 +1,5 @@
 -- From workers to the lanes that they have.
-use Rattle.std.proofs.Common.{◌≡◌, ℕ, List, [], ◌∷◌, map, length, refl, sym, ap, subst, ◌∙◌, Vec, Global, All, Some, slice_get}
+use Rattle.std.proofs.Common.{◌≡◌, ℕ, List, [], ◌∷◌, map, length, refl, sym, ap, subst, ◌∙◌, Vec, Global, All, Some, slice_get, Bool}
 use Rattle.std.specs.List.{AllByRecursion as Each}
 use Rattle.std.proofs.lemmas.List.{length-map}
 use Rattle.std.proofs.lemmas.List.Elements.{All-from_recursion}
@@ -65,13 +65,13 @@ module _ {V D S T A : Type 0} (shared : Shared V D) where
         All-from_recursion (λ job. IsSeated fits fits_rows (w.shared).now lane w.lane × IsServed job.item) js
         (each_weaker (λ (job : Job). IsServed job.item) (λ job. IsSeated fits fits_rows (w.shared).now lane w.lane × IsServed job.item) (λ job serves. (sits, serves)) js each)
 
-    module _ (is_at : S → StoreVolume → Type 0) (is_at_rows : T → Start → Type 0) (of : S → LockSight VolumeAct Entry) (of_rows : T → LockSight DirAct HomeRow) (arm_faults : A → ℕ) where
+    module _ (is_at : S → StoreVolume → Type 0) (is_at_rows : T → Start → Type 0) (of : S → LockSight VolumeAct Entry) (of_rows : T → LockSight DirAct HomeRow) (arm_sure : A → Bool) (arm_faults : A → ℕ) where
       abbrev by_worker : LaneWorker V D S T A → ℕ → Job → LaneWorker V D S T A → Reply → Type 0
       by_worker w lane job after out =
-          ((after.shared).now ≡ (w.shared).now) × Answers fits fits_rows is_at is_at_rows of of_rows arm_faults (w.shared).now lane job w.lane after.lane out
+          ((after.shared).now ≡ (w.shared).now) × Answers fits fits_rows is_at is_at_rows of of_rows arm_sure arm_faults (w.shared).now lane job w.lane after.lane out
 
       abbrev pub by_lane : Lane S T A → ℕ → Job → Lane S T A → Reply → Type 0
-      by_lane old lane job new reply = Answers fits fits_rows is_at is_at_rows of of_rows arm_faults shared lane job old new reply
+      by_lane old lane job new reply = Answers fits fits_rows is_at is_at_rows of of_rows arm_sure arm_faults shared lane job old new reply
 
       abbrev shares : ℕ → LaneWorker V D S T A → Type 0
       shares lane w = (w.shared).now ≡ shared
@@ -79,7 +79,7 @@ module _ {V D S T A : Type 0} (shared : Shared V D) where
       one_shares : (lane : ℕ) (w : LaneWorker V D S T A) (job : Job) (x : LaneWorker V D S T A) (out : Reply) → shares lane w → by_worker w lane job x out
           → shares lane x × by_lane w.lane lane job x.lane out
       one_shares lane w job x out own (same, answered) =
-          (same ∙ own, subst (λ (z : Shared V D). Answers fits fits_rows is_at is_at_rows of of_rows arm_faults z lane job w.lane x.lane out) own answered)
+          (same ∙ own, subst (λ (z : Shared V D). Answers fits fits_rows is_at is_at_rows of of_rows arm_sure arm_faults z lane job w.lane x.lane out) own answered)
 
       -- what workers answer, their lanes do
       pub lanes_answer : (workers after : List (LaneWorker V D S T A)) (lanes : List (Lane S T A)) (jobs : List (List Job)) (outs : List (List Reply))

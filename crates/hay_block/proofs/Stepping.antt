@@ -1,5 +1,5 @@
 -- What a frame ran, from the one with a lock more.
-use Rattle.std.proofs.Common.{◌≡◌, ◌<◌, ◌≤◌, ◌+◌, ◌-◌, ◌++◌, ℕ, List, [], ◌∷◌, length, sym, ap, subst, ◌∙◌, arith, Some, Result, slice_get, vec_len, length-append, Vec, Global}
+use Rattle.std.proofs.Common.{◌≡◌, ◌<◌, ◌≤◌, ◌+◌, ◌-◌, ◌++◌, ℕ, List, [], ◌∷◌, length, sym, ap, subst, ◌∙◌, arith, Some, Result, slice_get, vec_len, length-append, Vec, Global, Bool}
 use Rattle.std.specs.Prelude.{IfOk, OnErr}
 use Rattle.std.proofs.lemmas.Option.{slice_get_within}
 use mathlib.Core.Logic.{dite}
@@ -38,13 +38,13 @@ back_here {V} {D} {S} {T} {A} {W} {stands} {faults} {fuses} frame lanes waiting 
     }
 
 module _ {V D S T A W : Type 0} {fits : V → Settings → ℕ → S → Type 0} {fits_rows : D → Settings → ℕ → T → Type 0} {is_of : W → Settings → ℕ → Type 0} {is_at : S → StoreVolume → Type 0} {is_at_rows : T → Start → Type 0}
-    {of : S → LockSight VolumeAct Entry} {of_rows : T → LockSight DirAct HomeRow} {arm_faults : A → ℕ} {stands : W → VolumeKnown → Type 0} {faults fuses : W → ℕ → ℕ}
+    {of : S → LockSight VolumeAct Entry} {of_rows : T → LockSight DirAct HomeRow} {arm_sure : A → Bool} {arm_faults : A → ℕ} {stands : W → VolumeKnown → Type 0} {faults fuses : W → ℕ → ℕ}
     (old : Frame V D S T A W) (locks : Vec V Global) (lanes : Vec (Lane S T A) Global) (waiting : Vec W Global) (lock : V) {mid new : Frame V D S T A W} {volume : W} {seats : List S}
     (is_old : IsFrame fits fits_rows is_of old) (is_mid : IsFrame fits fits_rows is_of mid) (is_new : IsFrame fits fits_rows is_of new)
     (locks_are : locks.items ≡ ((old.shared).volumes).items ++ lock ∷ []) (waiting_are : (old.waiting).items ≡ waiting.items ++ volume ∷ [])
     (more : HaveMore (old.lanes).items seats lanes.items) (as_many : length seats ≡ length (old.lanes).items)
     (unseen : AreUnseen of seats) (same : AreSameLocks (with_locks old.shared locks) mid.shared)
-    (ends : EndsLast fits fits_rows is_at is_at_rows of of_rows arm_faults stands faults fuses (length ((old.shared).volumes).items) volume mid new) where
+    (ends : EndsLast fits fits_rows is_at is_at_rows of of_rows arm_sure arm_faults stands faults fuses (length ((old.shared).volumes).items) volume mid new) where
   abbrev next : Frame V D S T A W
   next = framed old locks lanes waiting
 
@@ -128,7 +128,7 @@ module _ {V D S T A W : Type 0} {fits : V → Settings → ℕ → S → Type 0}
   -- WHERE THE LINES WERE ANSWERED
 
   module _ (at : AreAt is_at stands faults fuses (old.shared).settings i volume seats) (regular : (known : VolumeKnown) → stands volume known → IsRegularVolume (old.shared).settings known)
-      {jobs : List (List Job)} {replies : List (List Reply)} (ran : RanFrom fits fits_rows is_at is_at_rows of of_rows arm_faults stands faults fuses next mid jobs replies) where
+      {jobs : List (List Job)} {replies : List (List Reply)} (ran : RanFrom fits fits_rows is_at is_at_rows of of_rows arm_sure arm_faults stands faults fuses next mid jobs replies) where
     abbrev last : ℕ
     last = ((old.shared).settings).volumes - 1 - i
 
@@ -152,7 +152,7 @@ module _ {V D S T A W : Type 0} {fits : V → Settings → ℕ → S → Type 0}
     ran_behind : HaveFirst (i + 1) ran.after (mid.lanes).items
     ran_behind = subst (λ n. HaveFirst n ran.after (mid.lanes).items) many_next ran.behind
 
-    took_next : VolumeTook fits fits_rows is_at is_at_rows of of_rows arm_faults stands faults fuses (old.shared).settings ran.lanes ran.after i last (old.waiting).items (new.waiting).items (new.tags).items
+    took_next : VolumeTook fits fits_rows is_at is_at_rows of of_rows arm_sure arm_faults stands faults fuses (old.shared).settings ran.lanes ran.after i last (old.waiting).items (new.waiting).items (new.tags).items
     took_next = record {
       before = volume;
       was = subst (λ z. slice_get z last ≡ Some volume) (sym waiting_are) (subst (λ n. slice_get ((next.waiting).items ++ volume ∷ []) n ≡ Some volume) waits_next (added_at (next.waiting).items volume));
@@ -173,8 +173,8 @@ module _ {V D S T A W : Type 0} {fits : V → Settings → ℕ → S → Type 0}
     }
 
     took_later : (v : ℕ) (j : ℕ)
-        → VolumeTook fits fits_rows is_at is_at_rows of of_rows arm_faults stands faults fuses (next.shared).settings ran.lanes ran.after v j (next.waiting).items (mid.waiting).items (mid.tags).items
-        → VolumeTook fits fits_rows is_at is_at_rows of of_rows arm_faults stands faults fuses (old.shared).settings ran.lanes ran.after v j (old.waiting).items (new.waiting).items (new.tags).items
+        → VolumeTook fits fits_rows is_at is_at_rows of of_rows arm_sure arm_faults stands faults fuses (next.shared).settings ran.lanes ran.after v j (next.waiting).items (mid.waiting).items (mid.tags).items
+        → VolumeTook fits fits_rows is_at is_at_rows of of_rows arm_sure arm_faults stands faults fuses (old.shared).settings ran.lanes ran.after v j (old.waiting).items (new.waiting).items (new.tags).items
     took_later v j took = record {
       before = took.before;
       was = ap (λ z. slice_get z j) waiting_are ∙ (before_added (next.waiting).items volume j (slice_get_within (next.waiting).items j took.before took.was) ∙ took.was);
@@ -193,16 +193,16 @@ module _ {V D S T A W : Type 0} {fits : V → Settings → ℕ → S → Type 0}
     }
 
     took : (v : ℕ) → i ≤ v → v < ((old.shared).settings).volumes
-        → VolumeTook fits fits_rows is_at is_at_rows of of_rows arm_faults stands faults fuses (old.shared).settings ran.lanes ran.after v (((old.shared).settings).volumes - 1 - v)
+        → VolumeTook fits fits_rows is_at is_at_rows of of_rows arm_sure arm_faults stands faults fuses (old.shared).settings ran.lanes ran.after v (((old.shared).settings).volumes - 1 - v)
         (old.waiting).items (new.waiting).items (new.tags).items
     took v low high = dite (ℕ_discrete v i)
-        (λ here. subst (λ n. VolumeTook fits fits_rows is_at is_at_rows of of_rows arm_faults stands faults fuses (old.shared).settings ran.lanes ran.after n (((old.shared).settings).volumes - 1 - n)
+        (λ here. subst (λ n. VolumeTook fits fits_rows is_at is_at_rows of of_rows arm_sure arm_faults stands faults fuses (old.shared).settings ran.lanes ran.after n (((old.shared).settings).volumes - 1 - n)
         (old.waiting).items (new.waiting).items (new.tags).items) (sym here) took_next)
         (λ differs.
         let many = many_next in
         took_later v (((old.shared).settings).volumes - 1 - v) (ran.volumes v (omega (arith, low, differs, many)) high))
 
-    pub ran_one_more : RanFrom fits fits_rows is_at is_at_rows of of_rows arm_faults stands faults fuses old new jobs replies
+    pub ran_one_more : RanFrom fits fits_rows is_at is_at_rows of of_rows arm_sure arm_faults stands faults fuses old new jobs replies
     ran_one_more = record {
       locks = ran.locks;
       first = λ v less.
@@ -226,31 +226,31 @@ module _ {V D S T A W : Type 0} {fits : V → Settings → ℕ → S → Type 0}
 
 -- what a frame ran, or where it is, from the one with a lock more
 pub run_step : {V D S T A W X E : Type 0} {fits : V → Settings → ℕ → S → Type 0} {fits_rows : D → Settings → ℕ → T → Type 0} {is_of : W → Settings → ℕ → Type 0} {is_at : S → StoreVolume → Type 0} {is_at_rows : T → Start → Type 0}
-    {of : S → LockSight VolumeAct Entry} {of_rows : T → LockSight DirAct HomeRow} {arm_faults : A → ℕ} {stands : W → VolumeKnown → Type 0} {faults fuses : W → ℕ → ℕ}
+    {of : S → LockSight VolumeAct Entry} {of_rows : T → LockSight DirAct HomeRow} {arm_sure : A → Bool} {arm_faults : A → ℕ} {stands : W → VolumeKnown → Type 0} {faults fuses : W → ℕ → ℕ}
     (old : Frame V D S T A W) (locks : Vec V Global) (lanes : Vec (Lane S T A) Global) (waiting : Vec W Global) (lock : V) {mid new : Frame V D S T A W} {volume : W} {seats : List S}
     → IsFrame fits fits_rows is_of old → IsFrame fits fits_rows is_of mid → IsFrame fits fits_rows is_of new
     → locks.items ≡ ((old.shared).volumes).items ++ lock ∷ [] → (old.waiting).items ≡ waiting.items ++ volume ∷ []
     → HaveMore (old.lanes).items seats lanes.items → length seats ≡ length (old.lanes).items
     → AreUnseen of seats → AreSameLocks (with_locks old.shared locks) mid.shared
-    → EndsLast fits fits_rows is_at is_at_rows of of_rows arm_faults stands faults fuses (vec_len (mid.shared).volumes - 1) volume mid new
+    → EndsLast fits fits_rows is_at is_at_rows of of_rows arm_sure arm_faults stands faults fuses (vec_len (mid.shared).volumes - 1) volume mid new
     → AreAt is_at stands faults fuses (old.shared).settings (length ((old.shared).volumes).items) volume seats → ((known : VolumeKnown) → stands volume known → IsRegularVolume (old.shared).settings known)
     → (jobs : List (List Job)) (answer : Result X E) (replies : X → List (List Reply))
     → AreSameLocks old.shared new.shared
-    × (IfOk answer (λ r. RanFrom fits fits_rows is_at is_at_rows of of_rows arm_faults stands faults fuses (framed old locks lanes waiting) mid jobs (replies r))
-    → IfOk answer (λ r. RanFrom fits fits_rows is_at is_at_rows of of_rows arm_faults stands faults fuses old new jobs (replies r)))
+    × (IfOk answer (λ r. RanFrom fits fits_rows is_at is_at_rows of of_rows arm_sure arm_faults stands faults fuses (framed old locks lanes waiting) mid jobs (replies r))
+    → IfOk answer (λ r. RanFrom fits fits_rows is_at is_at_rows of of_rows arm_sure arm_faults stands faults fuses old new jobs (replies r)))
     × (OnErr answer (IsBack stands faults fuses (framed old locks lanes waiting) mid) → OnErr answer (IsBack stands faults fuses old new))
-run_step {V} {D} {S} {T} {A} {W} {X} {E} {fits} {fits_rows} {is_of} {is_at} {is_at_rows} {of} {of_rows} {arm_faults} {stands} {faults} {fuses} old locks lanes waiting lock {mid} {new} {volume} {seats}
+run_step {V} {D} {S} {T} {A} {W} {X} {E} {fits} {fits_rows} {is_of} {is_at} {is_at_rows} {of} {of_rows} {arm_sure} {arm_faults} {stands} {faults} {fuses} old locks lanes waiting lock {mid} {new} {volume} {seats}
     is_old is_mid is_new locks_are waiting_are more as_many unseen same ends at regular jobs answer replies =
     let number : vec_len (mid.shared).volumes - 1 ≡ length ((old.shared).volumes).items =
     let c = ((mid.shared).volumes).ok.0 in
     let k = ap length (same.volumes ∙ locks_are) in
     let m = length-append ((old.shared).volumes).items (lock ∷ []) in
     omega (arith, c, k, m) in
-    let ended : EndsLast fits fits_rows is_at is_at_rows of of_rows arm_faults stands faults fuses (length ((old.shared).volumes).items) volume mid new =
-    subst (λ v. EndsLast fits fits_rows is_at is_at_rows of of_rows arm_faults stands faults fuses v volume mid new) number ends in (
+    let ended : EndsLast fits fits_rows is_at is_at_rows of of_rows arm_sure arm_faults stands faults fuses (length ((old.shared).volumes).items) volume mid new =
+    subst (λ v. EndsLast fits fits_rows is_at is_at_rows of of_rows arm_sure arm_faults stands faults fuses v volume mid new) number ends in (
       same_behind old locks lanes waiting lock is_old is_mid is_new locks_are waiting_are more as_many unseen same ended,
-      ok_weaker (λ r. RanFrom fits fits_rows is_at is_at_rows of of_rows arm_faults stands faults fuses (framed old locks lanes waiting) mid jobs (replies r))
-          (λ r. RanFrom fits fits_rows is_at is_at_rows of of_rows arm_faults stands faults fuses old new jobs (replies r))
+      ok_weaker (λ r. RanFrom fits fits_rows is_at is_at_rows of of_rows arm_sure arm_faults stands faults fuses (framed old locks lanes waiting) mid jobs (replies r))
+          (λ r. RanFrom fits fits_rows is_at is_at_rows of of_rows arm_sure arm_faults stands faults fuses old new jobs (replies r))
           (λ r ran. ran_one_more old locks lanes waiting lock is_old is_mid is_new locks_are waiting_are more as_many unseen same ended at regular ran) answer,
       err_weaker (IsBack stands faults fuses (framed old locks lanes waiting) mid) (IsBack stands faults fuses old new)
           (back_one_more old locks lanes waiting lock is_old is_mid is_new locks_are waiting_are more as_many unseen same ended) answer,

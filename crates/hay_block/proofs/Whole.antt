@@ -1,5 +1,5 @@
 -- What a block leaves, from what was run at all its locks.
-use Rattle.std.proofs.Common.{◌≡◌, ◌<◌, ◌≤◌, ℕ, List, [], ◌∷◌, length, refl, sym, ap, subst, ◌∙◌, arith, Some, slice_get, Vec, Global}
+use Rattle.std.proofs.Common.{◌≡◌, ◌<◌, ◌≤◌, ℕ, List, [], ◌∷◌, map, length, refl, sym, ap, subst, ◌∙◌, arith, Some, slice_get, Vec, Global}
 use Rattle.std.specs.Prelude.{Bool}
 use Rattle.std.specs.List.{AllByRecursion as Each, AllZip}
 use Rattle.std.proofs.lemmas.List.{length-map}
@@ -19,14 +19,16 @@ use Rattle.hay_meeting.specs.Acts.{Start, row_lock}
 use Rattle.hay_meeting.specs.Locks.{LockSight}
 use Rattle.hay_meeting.proofs.Closing.{there}
 use Rattle.hay_lane.specs.declared.lane.Lane.{Lane}
+use Rattle.hay_lane.specs.Lanes.{IsLaterArm}
 use Rattle.hay_lane.specs.Tellings.{StoreVolume}
+use Rattle.hay_lane.proofs.Arms.{later_on, later_same}
 use Rattle.hay_block.specs.declared.worker.Job.{Job}
 use Rattle.hay_block.specs.Frames.{RanAll, shared_by}
-use Rattle.hay_block.specs.Lines.{Answers}
+use Rattle.hay_block.specs.Lines.{Answers, AnswersBad}
 use Rattle.hay_block.specs.Making.{AreSeated, AreUnseen, LeavesDirectory}
 use Rattle.hay_block.specs.Stores.{AreStill, CountsRise}
 use Rattle.hay_block.proofs.Framing.{nothing_made}
-use Rattle.hay_block.proofs.Lists.{each_by, same_item, zip_by}
+use Rattle.hay_block.proofs.Lists.{each_by, same_item, zip_by, zip_mapped, zip_same}
 
 -- REPLIES, whatever the disks tell
 
@@ -64,15 +66,48 @@ module _ {W J O : Type 0} (gives : W → ℕ → J → W → O → Type 0) where
       let r = all.each lane w.0 js.0 w.1 js.1 in
       subst (Each P) (same_item outs lane r.3 at_rs) (each_out P fits lane w.0 js.0 r.0 r.1 r.4))
 
+  zip_out : (R : J → O → Type 0) → ((w : W) (lane : ℕ) (job : J) (x : W) (out : O) → gives w lane job x out → R job out)
+      → (lane : ℕ) (w : W) (jobs : List J) (after : W) (outs : List O) → AnswersAll gives lane w jobs after outs → AllZip R jobs outs
+  zip_out R is lane w [] after outs (same, none) = subst (AllZip R []) (sym none) tt
+  zip_out R is lane w (job ∷ jobs) after outs (x, out, rest, outs_are, answered, more) =
+      subst (AllZip R (job ∷ jobs)) (sym outs_are) (is w lane job x out answered, zip_out R is lane x jobs after rest more)
+
+  -- and each is such for its line
+  pub replies_so : (R : J → O → Type 0) → ((w : W) (lane : ℕ) (job : J) (x : W) (out : O) → gives w lane job x out → R job out)
+      → {workers after : List W} {jobs : List (List J)} {outs : List (List O)} → length jobs ≡ length workers → AnswersLanes gives workers jobs after outs → AllZip (AllZip R) jobs outs
+  replies_so R is {workers} {after} {jobs} {outs} given all = zip_by (AllZip R) jobs outs (sym all.lanes_stay)
+      (λ lane js rs at_js at_rs.
+      let w = there workers lane (let within = slice_get_within jobs lane js at_js in omega (arith, within, given)) in
+      let r = all.each lane w.0 js w.1 at_js in
+      subst (AllZip R js) (same_item outs lane r.3 at_rs) (zip_out R is lane w.0 js r.0 r.1 r.4))
+
+  -- WORKERS
+
+  left_by : (R : W → W → Type 0) → ((w : W) → R w w) → ((a b c : W) → R a b → R b c → R a c) → ((w : W) (lane : ℕ) (job : J) (x : W) (out : O) → gives w lane job x out → R w x)
+      → (lane : ℕ) (w : W) (jobs : List J) (after : W) (outs : List O) → AnswersAll gives lane w jobs after outs → R w after
+  left_by R same on step lane w [] after outs (is, none) = subst (R w) (sym is) (same w)
+  left_by R same on step lane w (job ∷ jobs) after outs (x, out, rest, outs_are, answered, more) =
+      on w x after (step w lane job x out answered) (left_by R same on step lane x jobs after rest more)
+
+  -- what each answer leaves of a worker is left of it by all
+  pub workers_left : (R : W → W → Type 0) → ((w : W) → R w w) → ((a b c : W) → R a b → R b c → R a c) → ((w : W) (lane : ℕ) (job : J) (x : W) (out : O) → gives w lane job x out → R w x)
+      → {workers after : List W} {jobs : List (List J)} {outs : List (List O)} → length jobs ≡ length workers → AnswersLanes gives workers jobs after outs → AllZip R workers after
+  workers_left R same on step {workers} {after} {jobs} {outs} given all = zip_by R workers after (sym all.workers_stay)
+      (λ lane w x at_w at_x.
+      let within = slice_get_within workers lane w at_w in
+      let js = there jobs lane (omega (arith, within, given)) in
+      let r = all.each lane w js.0 at_w js.1 in
+      subst (R w) (same_item after lane r.2 at_x) (left_by R same on step lane w js.0 r.0 r.1 r.4))
+
 -- COUNTS, whatever the disks tell
 
 module _ {V D S T A W : Type 0} {fits : V → Settings → ℕ → S → Type 0} {fits_rows : D → Settings → ℕ → T → Type 0} {is_at : S → StoreVolume → Type 0} {is_at_rows : T → Start → Type 0}
-    {of : S → LockSight VolumeAct Entry} {of_rows : T → LockSight DirAct HomeRow} {arm_faults : A → ℕ} {stands : W → VolumeKnown → Type 0} {faults fuses : W → ℕ → ℕ}
+    {of : S → LockSight VolumeAct Entry} {of_rows : T → LockSight DirAct HomeRow} {arm_sure : A → Bool} {arm_faults : A → ℕ} {stands : W → VolumeKnown → Type 0} {faults fuses : W → ℕ → ℕ}
     {settings : Settings} {lock : D} {drained : Vec Bool Global} {volumes : List W} {seats : List T} {arms : List A} {behind : List W} {tags : List (Vec Tag Global)} {seats_behind : List T} {arms_behind : List A}
     {jobs : List (List Job)} {replies : List (List Reply)}
-    (all : RanAll fits fits_rows is_at is_at_rows of of_rows arm_faults stands faults fuses settings lock drained volumes seats arms behind tags seats_behind arms_behind jobs replies) where
+    (all : RanAll fits fits_rows is_at is_at_rows of of_rows arm_sure arm_faults stands faults fuses settings lock drained volumes seats arms behind tags seats_behind arms_behind jobs replies) where
   abbrev Gives : Lane S T A → ℕ → Job → Lane S T A → Reply → Type 0
-  Gives before lane job after reply = Answers fits fits_rows is_at is_at_rows of of_rows arm_faults (shared_by settings all.locks lock drained) lane job before after reply
+  Gives before lane job after reply = Answers fits fits_rows is_at is_at_rows of of_rows arm_sure arm_faults (shared_by settings all.locks lock drained) lane job before after reply
 
   -- no count of a disk fell
   pub counts_rise : length volumes ≡ settings.volumes → (v j : ℕ) (a b : W) → slice_get volumes v ≡ Some a → slice_get behind v ≡ Some b → j < settings.replicas → faults a j ≤ faults b j
@@ -83,9 +118,21 @@ module _ {V D S T A W : Type 0} {fits : V → Settings → ℕ → S → Type 0}
   given_lanes : length jobs ≡ length arms → length jobs ≡ length all.lanes
   given_lanes given = given ∙ (sym (ap length all.arms_are) ∙ length-map all.lanes (λ l. l.arm))
 
+  -- no count of an arm fell, and sure ones are so still
+  pub all_later : length jobs ≡ length arms → AllZip (IsLaterArm arm_sure arm_faults) arms arms_behind
+  all_later given =
+      subst (λ z. AllZip (IsLaterArm arm_sure arm_faults) z arms_behind) all.arms_are
+      (subst (λ z. AllZip (IsLaterArm arm_sure arm_faults) (map (λ l. l.arm) all.lanes) z) all.arms_behind_are
+      (zip_mapped (λ l. l.arm) (λ l. l.arm) (IsLaterArm arm_sure arm_faults) all.lanes all.after
+      (workers_left Gives (λ l m. IsLaterArm arm_sure arm_faults l.arm m.arm) (λ l. later_same refl) (λ a b c x y. later_on x y) (λ before lane job after reply gives. gives.arm)
+      (given_lanes given) all.answers)))
+
   -- each line has its reply, which there is
   pub all_replied : length jobs ≡ length arms → AllZip (λ js rs. length js ≡ length rs) jobs replies
   all_replied given = replies_long Gives (given_lanes given) all.answers
+
+  pub all_bad : length jobs ≡ length arms → AllZip (AllZip AnswersBad) jobs replies
+  all_bad given = replies_so Gives AnswersBad (λ before lane job after reply gives. gives.bad) (given_lanes given) all.answers
 
   pub all_fit : length jobs ≡ length arms → Each (Each FitsReply) replies
   all_fit given = replies_are Gives FitsReply (λ before lane job after reply gives. gives.fits_reply) (given_lanes given) all.answers
@@ -96,6 +143,10 @@ module _ {V D S T A W : Type 0} {fits : V → Settings → ℕ → S → Type 0}
 pub directory_same : {T F : Type 0} {of_rows : T → LockSight DirAct HomeRow} {stands : F → DirKnown → List Bool → Type 0} {faults fuses : F → ℕ} {directory after : F} {seats : List T} {tags : List Tag}
     → LeavesDirectory of_rows stands faults fuses directory seats after tags → AreUnseen of_rows seats → after ≡ directory
 directory_same {T} {F} {of_rows} {stands} {faults} {fuses} {directory} {after} {seats} leaves new = leaves.untouched (nothing_made row_lock of_rows seats leaves.history leaves.ended new)
+
+-- arms that are as they were
+pub same_arms : {A : Type 0} (arm_sure : A → Bool) (arm_faults : A → ℕ) {old new : List A} → new ≡ old → AllZip (IsLaterArm arm_sure arm_faults) old new
+same_arms arm_sure arm_faults {old} {new} same = subst (λ z. AllZip (IsLaterArm arm_sure arm_faults) old z) (sym same) (zip_same (IsLaterArm arm_sure arm_faults) (λ arm. later_same refl) old)
 
 -- volumes that stand as they stood have the counts that they had
 pub still_counts : {W F : Type 0} {stands : W → VolumeKnown → Type 0} {faults fuses : W → ℕ → ℕ} {row_faults : F → ℕ} {settings : Settings} {old new : List W} {before after : F}

@@ -33,9 +33,9 @@ use Rattle.hay_block.proofs.Lists.{each_by, each_mapped}
 use Rattle.hay_block.proofs.Knowing.{known, known_at, new_lane, rows_known, unknown_past}
 
 module _ {V D S T A : Type 0} {fits : V → Settings → ℕ → S → Type 0} {fits_rows : D → Settings → ℕ → T → Type 0} {is_at : S → StoreVolume → Type 0} {is_at_rows : T → Start → Type 0}
-    {of : S → LockSight VolumeAct Entry} {of_rows : T → LockSight DirAct HomeRow} {arm_faults : A → ℕ}
+    {of : S → LockSight VolumeAct Entry} {of_rows : T → LockSight DirAct HomeRow} {arm_sure : A → Bool} {arm_faults : A → ℕ}
     {shared : Shared V D} {start : Start} {k : Known} {lanes after : List (Lane S T A)} {jobs : List (List Job)} {replies : List (List Reply)} {h : Happened} {faults fuses arms : List ℕ}
-    (ran : LanesRan fits fits_rows is_at is_at_rows of of_rows arm_faults shared start k lanes after jobs replies h faults fuses arms) where
+    (ran : LanesRan fits fits_rows is_at is_at_rows of of_rows arm_sure arm_faults shared start k lanes after jobs replies h faults fuses arms) where
   abbrev sights : List (Lane S T A) → List Sight
   sights ls = map (known of of_rows arm_faults) ls
 
@@ -51,7 +51,7 @@ module _ {V D S T A : Type 0} {fits : V → Settings → ℕ → S → Type 0} {
   -- WHERE ALL LOCKS ENDED
 
   long : (lane : ℕ) (l : Lane S T A) → slice_get after lane ≡ Some l → length (l.volumes).items ≡ (shared.settings).volumes
-  long lane l at = ((still_sit fits fits_rows is_at is_at_rows of of_rows arm_faults shared start ran.given ran.sits ran.answers lane l at).seated).seats
+  long lane l at = ((still_sit fits fits_rows is_at is_at_rows of of_rows arm_sure arm_faults shared start ran.given ran.sits ran.answers lane l at).seated).seats
 
   ended : LocksEnded shared.settings start (sights after) h
   ended = record {
@@ -69,7 +69,7 @@ module _ {V D S T A : Type 0} {fits : V → Settings → ℕ → S → Type 0} {
   lines items are =
       subst (λ (z : List Bool). AreLanes shared.settings start z (length (sights lanes)) (sights lanes) (sights after) items) ran.drained
       (subst (λ n. AreLanes shared.settings start (shared.drained).items n (sights lanes) (sights after) items) (sym (many lanes))
-      (lanes_answered fits fits_rows is_at is_at_rows of of_rows arm_faults shared start ran.given ran.sits ran.answers items are))
+      (lanes_answered fits fits_rows is_at is_at_rows of of_rows arm_sure arm_faults shared start ran.given ran.sits ran.answers items are))
 
   block : (items : List LaneItem) → AreItems jobs replies items → EachPair (λ a b. a.line ≢ b.line) items
       → BlockRan shared.settings start k (sights lanes) (sights after) items h faults fuses arms
@@ -89,5 +89,5 @@ module _ {V D S T A : Type 0} {fits : V → Settings → ℕ → S → Type 0} {
   }
 
 pub lanes_are_legal : LanesAreLegal
-lanes_are_legal V D S T A fits fits_rows is_at is_at_rows of of_rows arm_faults shared start k lanes after jobs replies h faults fuses arms ran items are distinct =
+lanes_are_legal V D S T A fits fits_rows is_at is_at_rows of of_rows arm_sure arm_faults shared start k lanes after jobs replies h faults fuses arms ran items are distinct =
     blocks_are_legal shared.settings start k (sights ran lanes) (sights ran after) items h faults fuses arms (block ran items are distinct)

@@ -99,7 +99,7 @@ pub record IsBack {V D S T A W : Type 0} (stands : W → VolumeKnown → Type 0)
 -- WHERE THE LINES WERE ANSWERED
 
 module _ {V D S T A W : Type 0} (fits : V → Settings → ℕ → S → Type 0) (fits_rows : D → Settings → ℕ → T → Type 0) (is_at : S → StoreVolume → Type 0) (is_at_rows : T → Start → Type 0)
-    (of : S → LockSight VolumeAct Entry) (of_rows : T → LockSight DirAct HomeRow) (arm_faults : A → ℕ) (stands : W → VolumeKnown → Type 0) (faults fuses : W → ℕ → ℕ) where
+    (of : S → LockSight VolumeAct Entry) (of_rows : T → LockSight DirAct HomeRow) (arm_sure : A → Bool) (arm_faults : A → ℕ) (stands : W → VolumeKnown → Type 0) (faults fuses : W → ℕ → ℕ) where
   -- Volume v, which waits at place i, got a lock and new seats, at which the lanes answered, and is back behind it.
   pub record VolumeTook (settings : Settings) (lanes after : List (Lane S T A)) (v i : ℕ) (old new : List W) (told : List (Vec Tag Global)) : Type 0 where
     pub before : W
@@ -141,7 +141,7 @@ module _ {V D S T A W : Type 0} (fits : V → Settings → ℕ → S → Type 0)
     pub before : HaveFirst (length ((old.shared).volumes).items) lanes (old.lanes).items
     pub seated : (lane : ℕ) (l : Lane S T A) → slice_get lanes lane ≡ Some l → IsSeated fits fits_rows (with_locks old.shared locks) lane l
     pub after : List (Lane S T A)
-    pub answers : AnswersLanes (λ before lane job behind reply. Answers fits fits_rows is_at is_at_rows of of_rows arm_faults (with_locks old.shared locks) lane job before behind reply) lanes jobs after replies
+    pub answers : AnswersLanes (λ before lane job behind reply. Answers fits fits_rows is_at is_at_rows of of_rows arm_sure arm_faults (with_locks old.shared locks) lane job before behind reply) lanes jobs after replies
     pub behind : HaveFirst (length ((old.shared).volumes).items) after (new.lanes).items
     pub volumes : (v : ℕ) → length ((old.shared).volumes).items ≤ v → v < ((old.shared).settings).volumes
         → VolumeTook (old.shared).settings lanes after v (((old.shared).settings).volumes - 1 - v) (old.waiting).items (new.waiting).items (new.tags).items
@@ -161,7 +161,7 @@ module _ {V D S T A W : Type 0} (fits : V → Settings → ℕ → S → Type 0)
     pub after : List (Lane S T A)
     pub seats_behind_are : map (λ l. l.directory) after ≡ seats_behind
     pub arms_behind_are : map (λ l. l.arm) after ≡ arms_behind
-    pub answers : AnswersLanes (λ before lane job behind reply. Answers fits fits_rows is_at is_at_rows of of_rows arm_faults (shared_by settings locks lock drained) lane job before behind reply)
+    pub answers : AnswersLanes (λ before lane job behind reply. Answers fits fits_rows is_at is_at_rows of of_rows arm_sure arm_faults (shared_by settings locks lock drained) lane job before behind reply)
         lanes jobs after replies
     pub took : (v : ℕ) → v < settings.volumes → VolumeTook settings lanes after v v volumes behind tags
     pub many_told : length tags ≡ settings.volumes

@@ -1,10 +1,11 @@
 -- The lines of a lane, and what it answers.
-use Rattle.std.specs.Prelude.{◌≡◌, ℕ, ◌<◌, ◌==◌, List, [], ◌∷◌, length, filter, slice_get, Some}
+use Rattle.std.specs.Prelude.{◌≡◌, ℕ, ◌<◌, ◌==◌, List, [], ◌∷◌, length, filter, slice_get, Some, Bool}
 use Rattle.std.specs.List.{AllByRecursion as Each}
 use Rattle.hay_needle.specs.declared.settings.Settings.{Settings}
 use Rattle.hay_core.specs.declared.entry.Entry.{Entry}
 use Rattle.hay_script.specs.Script.{IsWithin}
 use Rattle.hay_reply.specs.declared.Reply.{Reply}
+use Rattle.hay_reply.specs.declared.Reply.TheVariants.{BadLine}
 use Rattle.hay_reply.specs.Fits.{FitsReply}
 use Rattle.hay_legal.specs.declared.known.HomeRow.{HomeRow}
 use Rattle.hay_legal.specs.declared.turn.Item.{Item}
@@ -18,7 +19,7 @@ use Rattle.hay_meeting.specs.Locks.{LockSight}
 use Rattle.hay_meeting.specs.Replies.{AnsweredHere}
 use Rattle.hay_lane.specs.declared.lane.Lane.{Lane}
 use Rattle.hay_lane.specs.declared.lane.Shared.{Shared}
-use Rattle.hay_lane.specs.Lanes.{IsOf, IsSeated, sight}
+use Rattle.hay_lane.specs.Lanes.{IsLaterArm, IsOf, IsSeated, sight}
 use Rattle.hay_lane.specs.Tellings.{StoreVolume}
 use Rattle.hay_block.specs.declared.worker.Job.{Job}
 
@@ -27,12 +28,16 @@ abbrev pub IsServed : Item → Type 0
 IsServed (asks.Command command) = IsWithin command × MayStandInLane (asks.Command command)
 IsServed asks.Bad = Unit {0}
 
+-- a line that is no command is answered so
+abbrev pub AnswersBad : Job → Reply → Type 0
+AnswersBad job reply = job.item ≡ asks.Bad → reply ≡ BadLine
+
 -- a line of the lane with its reply
 abbrev pub answered_line : ℕ → Job → Reply → LaneItem
 answered_line lane job reply = record { line = job.line; lane = lane; item = job.item; reply = reply }
 
 module _ {V D S T A : Type 0} (fits : V → Settings → ℕ → S → Type 0) (fits_rows : D → Settings → ℕ → T → Type 0) (is_at : S → StoreVolume → Type 0) (is_at_rows : T → Start → Type 0)
-    (of : S → LockSight VolumeAct Entry) (of_rows : T → LockSight DirAct HomeRow) (arm_faults : A → ℕ) (shared : Shared V D) where
+    (of : S → LockSight VolumeAct Entry) (of_rows : T → LockSight DirAct HomeRow) (arm_sure : A → Bool) (arm_faults : A → ℕ) (shared : Shared V D) where
   -- The lane of this number sits at these locks, which were made round this store.
   pub record SitsAt (start : Start) (number : ℕ) (lane : Lane S T A) : Type 0 where
     pub seated : IsSeated fits fits_rows shared number lane
@@ -45,6 +50,9 @@ module _ {V D S T A : Type 0} (fits : V → Settings → ℕ → S → Type 0) (
     pub answered : (start : Start) → IsOf is_at is_at_rows shared.settings start old
         → AnsweredHere shared.settings start (shared.drained).items (answered_line number job reply) (sight of of_rows arm_faults old) (sight of of_rows arm_faults new)
     pub fits_reply : FitsReply reply
+    -- whatever the disks tell
+    pub bad : AnswersBad job reply
+    pub arm : IsLaterArm arm_sure arm_faults old.arm new.arm
 
 -- a lane's lines with their replies
 abbrev pub answered_lines : ℕ → List Job → List Reply → List LaneItem

@@ -166,7 +166,7 @@ where
     ensures volumes { AreVolumes V.is_of settings result.0.volumes.items }
     ensures seats { AreSeated D.fits locked.lock settings (length jobs.now) result.0.seats.items }
     ensures arms { length result.0.arms.items ≡ length jobs.now }
-    ensures answered { IfOk result.2 (λ replies. RanAll V.fits D.fits V.is_at D.is_at V.sight D.sight A.fault_count V.stands V.faults V.fuses
+    ensures answered { IfOk result.2 (λ replies. RanAll V.fits D.fits V.is_at D.is_at V.sight D.sight A.is_sure A.fault_count V.stands V.faults V.fuses
         settings locked.lock drained locked.volumes.items locked.seats.items locked.arms.items
         result.0.volumes.items result.1.items result.0.seats.items result.0.arms.items (map (λ js. js.items) jobs.now) (map (λ rs. rs.items) replies.items)) }
     ensures refused { OnErr result.2 (IsSameStore V.stands V.faults V.fuses settings locked result.0) }

@@ -54,7 +54,7 @@ where
     ensures frame { IsFrame V.fits D.fits V.is_of result.0 }
     ensures shared { result.0.shared ≡ frame.shared }
     ensures lanes { vec_len result.0.lanes ≡ vec_len frame.lanes }
-    ensures answered { IfOk result.1 (λ replies. RanFrom V.fits D.fits V.is_at D.is_at V.sight D.sight A.fault_count V.stands V.faults V.fuses
+    ensures answered { IfOk result.1 (λ replies. RanFrom V.fits D.fits V.is_at D.is_at V.sight D.sight A.is_sure A.fault_count V.stands V.faults V.fuses
         frame result.0 (map (λ js. js.items) jobs.now) (map (λ rs. rs.items) replies.items)) }
     ensures refused { OnErr result.1 (IsBack V.stands V.faults V.fuses frame result.0) }
 {
@@ -112,7 +112,7 @@ where
     ensures lanes { vec_len result.lanes ≡ vec_len frame.lanes }
     ensures ends { (before : W) (lock : V) → slice_get frame.shared.volumes.items (vec_len frame.shared.volumes - 1) ≡ Some lock →
         V.is_made lock room before frame.shared.settings (vec_len frame.shared.volumes - 1) (vec_len frame.lanes) →
-        EndsLast V.fits D.fits V.is_at D.is_at V.sight D.sight A.fault_count V.stands V.faults V.fuses (vec_len frame.shared.volumes - 1) before frame result }
+        EndsLast V.fits D.fits V.is_at D.is_at V.sight D.sight A.is_sure A.fault_count V.stands V.faults V.fuses (vec_len frame.shared.volumes - 1) before frame result }
 {
     let Some(lock) = frame.shared.volumes.pop() else {
         unreachable!()
@@ -154,7 +154,7 @@ where
     ensures frame { IsFrame V.fits D.fits V.is_of result.0 }
     ensures shared { AreSameLocks frame.shared result.0.shared }
     ensures lanes { vec_len result.0.lanes ≡ vec_len frame.lanes }
-    ensures answered { IfOk result.1 (λ replies. RanFrom V.fits D.fits V.is_at D.is_at V.sight D.sight A.fault_count V.stands V.faults V.fuses
+    ensures answered { IfOk result.1 (λ replies. RanFrom V.fits D.fits V.is_at D.is_at V.sight D.sight A.is_sure A.fault_count V.stands V.faults V.fuses
         frame result.0 (map (λ js. js.items) jobs.now) (map (λ rs. rs.items) replies.items)) }
     ensures refused { OnErr result.1 (IsBack V.stands V.faults V.fuses frame result.0) }
 {

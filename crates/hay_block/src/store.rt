@@ -9,8 +9,9 @@ ghost use Rattle.hay_legal.specs.declared.turn.LogNote.{LogNote};
 ghost use Rattle.hay_legal.specs.declared.turn.RowNote.{RowNote};
 ghost use Rattle.hay_reply.specs.Fits.{FitsReply};
 ghost use Rattle.hay_legal.specs.Known.{EachPair};
+ghost use Rattle.hay_lane.specs.Lanes.{IsLaterArm};
 ghost use Rattle.hay_block.specs.Frames.{AreFit, HasRoom};
-ghost use Rattle.hay_block.specs.Lines.{AreItems, IsServed};
+ghost use Rattle.hay_block.specs.Lines.{AnswersBad, AreItems, IsServed};
 ghost use Rattle.hay_block.specs.Making.{AreSeated, LeavesDirectory};
 ghost use Rattle.hay_block.specs.Stores.{AreVolumes, CountsRise, RanLegally, StoreStands, line_of_tag, notes_from};
 ghost use Rattle.hay_block.specs.Parts.{IsSameParts, NotesTell};
@@ -194,9 +195,12 @@ where
     ensures directory { D.is_of result.0.directory settings }
     ensures arms { length result.0.arms.items ≡ length jobs.now }
     ensures refused { OnErr result.1 (IsSameParts V.stands V.faults V.fuses settings parts result.0) }
-    // Whatever the disks tell, each line is answered, by a reply that there is, and no count of a disk falls.
+    // Whatever the disks tell, each line is answered, by a reply that there is, and no count of a disk or of an arm falls. An arm that
+    // was sure is so still, with the same count.
     ensures replies { IfOk result.1 (λ answers. AllZip (λ js rs. length js.items ≡ length rs.items) jobs.now answers.replies.items) }
+    ensures bad { IfOk result.1 (λ answers. AllZip (λ js rs. AllZip AnswersBad js.items rs.items) jobs.now answers.replies.items) }
     ensures fits { IfOk result.1 (λ answers. AllByRecursion (λ rs. AllByRecursion FitsReply rs.items) answers.replies.items) }
+    ensures arms_rise { AllZip (IsLaterArm A.is_sure A.fault_count) parts.arms.items result.0.arms.items }
     ensures rises { CountsRise settings V.faults D.faults parts.volumes.items parts.directory result.0.volumes.items result.0.directory }
     // Where the disks tell, the lines are a legal block of what was known, in any order that keeps each lane's own, with these notes, and
     // the parts stand for what is known behind it.

@@ -41,7 +41,7 @@ where
 
     ghost may_answer = { λ w lane job. IsSeated V.fits D.fits w.shared.now lane w.lane × IsServed job.item };
 
-    ghost answers = { λ w lane job after out. (after.shared.now ≡ w.shared.now) × Answers V.fits D.fits V.is_at D.is_at V.sight D.sight A.fault_count w.shared.now lane job w.lane after.lane out };
+    ghost answers = { λ w lane job after out. (after.shared.now ≡ w.shared.now) × Answers V.fits D.fits V.is_at D.is_at V.sight D.sight A.is_sure A.fault_count w.shared.now lane job w.lane after.lane out };
 
     fn line(job: &Job) -> u64 {
         job.line

@@ -1,3 +1,4 @@
+pub mod Arms
 pub mod Lists
 pub mod Stepping
 pub mod Finds

@@ -1,5 +1,6 @@
 -- A lane at the locks that are shared, and what it knows of them.
-use Rattle.std.specs.Prelude.{◌≡◌, ℕ, ◌<◌, ◌≤◌, [], length, slice_get, Option, Some, None}
+use Rattle.std.specs.Prelude.{◌≡◌, ℕ, ◌<◌, ◌≤◌, Bool, [], length, slice_get, Option, Some, None}
+use Rattle.hay_disk.specs.Counts.{StaysSure}
 use Rattle.hay_needle.specs.declared.settings.Settings.{Settings}
 use Rattle.hay_core.specs.declared.entry.Entry.{Entry}
 use Rattle.hay_legal.specs.declared.known.HomeRow.{HomeRow}
@@ -25,6 +26,13 @@ sight of of_rows faults lane = record {
   directory = of_rows lane.directory;
   arm = faults lane.arm;
 }
+
+-- HOW ITS ARM STANDS
+
+-- the count of an arm did not fall, and where the arm was sure it stayed so, with the same count
+pub record IsLaterArm {A : Type 0} (is_sure : A → Bool) (faults : A → ℕ) (old new : A) : Type 0 where
+  pub rises : faults old ≤ faults new
+  pub sure : StaysSure (is_sure old) (is_sure new) (faults old) (faults new)
 
 -- WHERE IT HAS ITS SEATS
 

@@ -34,6 +34,7 @@ impl<V: VolumeCalls, D: DirectoryCalls> Shared<V, D> {
         requires seated { IsSeated V.fits D.fits self.now tag.lane lane.old }
         ensures seated { IsSeated V.fits D.fits self.now tag.lane lane.new }
         ensures same { (start : Start) → IsOf V.is_at D.is_at self.now.settings start lane.old → IsOf V.is_at D.is_at self.now.settings start lane.new }
+        ensures arm { lane.new.arm ≡ lane.old.arm }
         ensures answered { (start : Start) → IsOf V.is_at D.is_at self.now.settings start lane.old →
             IsAnswered self.now.settings start self.now.drained.items tag (asks.Url pair) result (sight V.sight D.sight A.fault_count lane.old) (sight V.sight D.sight A.fault_count lane.new) }
         ensures fits { FitsReply result }
@@ -66,6 +67,7 @@ impl<V: VolumeCalls, D: DirectoryCalls> Shared<V, D> {
         requires seated { IsSeated V.fits D.fits self.now tag.lane lane.old }
         ensures seated { IsSeated V.fits D.fits self.now tag.lane lane.new }
         ensures same { (start : Start) → IsOf V.is_at D.is_at self.now.settings start lane.old → IsOf V.is_at D.is_at self.now.settings start lane.new }
+        ensures arm { lane.new.arm ≡ lane.old.arm }
         ensures answered { (start : Start) → IsOf V.is_at D.is_at self.now.settings start lane.old →
             IsAnswered self.now.settings start self.now.drained.items tag (asks.Del pair) result (sight V.sight D.sight A.fault_count lane.old) (sight V.sight D.sight A.fault_count lane.new) }
         ensures fits { FitsReply result }
@@ -92,6 +94,7 @@ impl<V: VolumeCalls, D: DirectoryCalls> Shared<V, D> {
         requires volume { volume < self.now.settings.volumes }
         ensures seated { IsSeated V.fits D.fits self.now tag.lane lane.new }
         ensures same { (start : Start) → IsOf V.is_at D.is_at self.now.settings start lane.old → IsOf V.is_at D.is_at self.now.settings start lane.new }
+        ensures arm { lane.new.arm ≡ lane.old.arm }
         ensures answered { (start : Start) (a : Sight) → IsOf V.is_at D.is_at self.now.settings start lane.old →
             Sees self.now.settings start self.now.drained.items tag pair rows (Some volume) a (sight V.sight D.sight A.fault_count lane.old) →
             IsAnswered self.now.settings start self.now.drained.items tag (asks.Del pair) result a (sight V.sight D.sight A.fault_count lane.new) }
@@ -119,6 +122,7 @@ impl<V: VolumeCalls, D: DirectoryCalls> Shared<V, D> {
         requires drained { drained_in self.now.settings self.now.drained.items volume ≡ Some machine }
         ensures seated { IsSeated V.fits D.fits self.now tag.lane lane.new }
         ensures same { (start : Start) → IsOf V.is_at D.is_at self.now.settings start lane.old → IsOf V.is_at D.is_at self.now.settings start lane.new }
+        ensures arm { lane.new.arm ≡ lane.old.arm }
         ensures tells { (start : Start) → IsOf V.is_at D.is_at self.now.settings start lane.old →
             AtVolume volume (Closes self.now.settings start self.now.drained.items volume tag result) (sight V.sight D.sight A.fault_count lane.old) (sight V.sight D.sight A.fault_count lane.new) }
     {

@@ -32,6 +32,7 @@ impl<V: VolumeCalls, D: DirectoryCalls> Shared<V, D> {
         requires seated { IsSeated V.fits D.fits self.now tag.lane lane.old }
         ensures seated { IsSeated V.fits D.fits self.now tag.lane lane.new }
         ensures same { (start : Start) → IsOf V.is_at D.is_at self.now.settings start lane.old → IsOf V.is_at D.is_at self.now.settings start lane.new }
+        ensures arm { lane.new.arm ≡ lane.old.arm }
         ensures answered { (start : Start) → IsOf V.is_at D.is_at self.now.settings start lane.old →
             IsAnswered self.now.settings start self.now.drained.items tag (asks.Compact volume machine) result
             (sight V.sight D.sight A.fault_count lane.old) (sight V.sight D.sight A.fault_count lane.new) }
@@ -61,6 +62,7 @@ impl<V: VolumeCalls, D: DirectoryCalls> Shared<V, D> {
         requires on { known.machine_of self.now.settings volume replica ≡ machine }
         ensures seated { IsSeated V.fits D.fits self.now tag.lane lane.new }
         ensures same { (start : Start) → IsOf V.is_at D.is_at self.now.settings start lane.old → IsOf V.is_at D.is_at self.now.settings start lane.new }
+        ensures arm { lane.new.arm ≡ lane.old.arm }
         ensures answered { (start : Start) → IsOf V.is_at D.is_at self.now.settings start lane.old →
             IsAnswered self.now.settings start self.now.drained.items tag (asks.Compact volume machine) result
             (sight V.sight D.sight A.fault_count lane.old) (sight V.sight D.sight A.fault_count lane.new) }

@@ -4,7 +4,7 @@ ghost use Rattle.hay_script.specs.declared.Command.TheVariants as asks;
 ghost use Rattle.hay_script.specs.Script.{IsWithin};
 ghost use Rattle.hay_meeting.specs.Acts.{Start};
 ghost use Rattle.hay_holdings.specs.Lines.{IsAnswered};
-ghost use Rattle.hay_lane.specs.Lanes.{IsOf, IsSeated, sight};
+ghost use Rattle.hay_lane.specs.Lanes.{IsLaterArm, IsOf, IsSeated, sight};
 ghost use Rattle.hay_reply.specs.Fits.{FitsReply};
 
 use crate::calls::{DirectoryCalls, VolumeCalls};
@@ -31,6 +31,7 @@ impl<V: VolumeCalls, D: DirectoryCalls> Shared<V, D> {
         requires no_restart { (pick : ℕ) → command.now ≢ asks.Restart pick }
         ensures seated { IsSeated V.fits D.fits self.now tag.lane lane.new }
         ensures same { (start : Start) → IsOf V.is_at D.is_at self.now.settings start lane.old → IsOf V.is_at D.is_at self.now.settings start lane.new }
+        ensures arm { IsLaterArm A.is_sure A.fault_count lane.old.arm lane.new.arm }
         ensures answered { (start : Start) → IsOf V.is_at D.is_at self.now.settings start lane.old →
             IsAnswered self.now.settings start self.now.drained.items tag command.now result (sight V.sight D.sight A.fault_count lane.old) (sight V.sight D.sight A.fault_count lane.new) }
         ensures fits { FitsReply result }

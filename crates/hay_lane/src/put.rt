@@ -50,6 +50,7 @@ impl<V: VolumeCalls, D: DirectoryCalls> Shared<V, D> {
         requires size { length bytes.now ≤ MAX_PHOTO }
         ensures seated { IsSeated V.fits D.fits self.now tag.lane lane.new }
         ensures same { (start : Start) → IsOf V.is_at D.is_at self.now.settings start lane.old → IsOf V.is_at D.is_at self.now.settings start lane.new }
+        ensures arm { lane.new.arm ≡ lane.old.arm }
         ensures answered { (start : Start) → IsOf V.is_at D.is_at self.now.settings start lane.old →
             IsAnswered self.now.settings start self.now.drained.items tag (asks.Put pair bytes.now) result
             (sight V.sight D.sight A.fault_count lane.old) (sight V.sight D.sight A.fault_count lane.new) }
@@ -76,6 +77,7 @@ impl<V: VolumeCalls, D: DirectoryCalls> Shared<V, D> {
         requires size { length bytes.now ≤ MAX_PHOTO }
         ensures seated { IsSeated V.fits D.fits self.now tag.lane lane.new }
         ensures same { (start : Start) → IsOf V.is_at D.is_at self.now.settings start lane.old → IsOf V.is_at D.is_at self.now.settings start lane.new }
+        ensures arm { lane.new.arm ≡ lane.old.arm }
         ensures answered { (start : Start) (d : ℕ) (a : Sight) → IsOf V.is_at D.is_at self.now.settings start lane.old →
             Sees self.now.settings start self.now.drained.items tag pair d None a (sight V.sight D.sight A.fault_count lane.old) →
             IsAnswered self.now.settings start self.now.drained.items tag (asks.Put pair bytes.now) result a (sight V.sight D.sight A.fault_count lane.new) }
@@ -102,6 +104,7 @@ impl<V: VolumeCalls, D: DirectoryCalls> Shared<V, D> {
         requires size { size ≤ MAX_PHOTO }
         ensures seated { IsSeated V.fits D.fits self.now tag.lane lane.new }
         ensures same { (start : Start) → IsOf V.is_at D.is_at self.now.settings start lane.old → IsOf V.is_at D.is_at self.now.settings start lane.new }
+        ensures arm { lane.new.arm ≡ lane.old.arm }
         ensures within { (volume : ℕ) → result ≡ Tries.Taker volume → volume < self.now.settings.volumes }
         ensures fits { (refused : List Refused) → result ≡ Tries.Nobody refused → AllByRecursion FitsRefused refused }
         ensures tried { (start : Start) (d : ℕ) (a : Sight) → IsOf V.is_at D.is_at self.now.settings start lane.old →
@@ -136,6 +139,7 @@ impl<V: VolumeCalls, D: DirectoryCalls> Shared<V, D> {
         requires size { size ≤ MAX_PHOTO }
         ensures seated { IsSeated V.fits D.fits self.now tag.lane lane.new }
         ensures same { (start : Start) → IsOf V.is_at D.is_at self.now.settings start lane.old → IsOf V.is_at D.is_at self.now.settings start lane.new }
+        ensures arm { lane.new.arm ≡ lane.old.arm }
         ensures tells { (start : Start) → IsOf V.is_at D.is_at self.now.settings start lane.old →
             TryTells self.now.settings start self.now.drained.items tag volume size result (sight V.sight D.sight A.fault_count lane.old) (sight V.sight D.sight A.fault_count lane.new) }
         ensures fits { IfSome result FitsRefused }
@@ -164,6 +168,7 @@ impl<V: VolumeCalls, D: DirectoryCalls> Shared<V, D> {
         requires size { length bytes.now ≤ MAX_PHOTO }
         ensures seated { IsSeated V.fits D.fits self.now tag.lane lane.new }
         ensures same { (start : Start) → IsOf V.is_at D.is_at self.now.settings start lane.old → IsOf V.is_at D.is_at self.now.settings start lane.new }
+        ensures arm { lane.new.arm ≡ lane.old.arm }
         ensures answered { (start : Start) (a : Sight) → IsOf V.is_at D.is_at self.now.settings start lane.old →
             HasTaker self.now.settings start self.now.drained.items tag pair (length bytes.now) volume a (sight V.sight D.sight A.fault_count lane.old) →
             IsAnswered self.now.settings start self.now.drained.items tag (asks.Put pair bytes.now) result a (sight V.sight D.sight A.fault_count lane.new) }
@@ -192,6 +197,7 @@ impl<V: VolumeCalls, D: DirectoryCalls> Shared<V, D> {
         requires size { length bytes.now ≤ MAX_PHOTO }
         ensures seated { IsSeated V.fits D.fits self.now tag.lane lane.new }
         ensures same { (start : Start) → IsOf V.is_at D.is_at self.now.settings start lane.old → IsOf V.is_at D.is_at self.now.settings start lane.new }
+        ensures arm { lane.new.arm ≡ lane.old.arm }
         ensures answered { (start : Start) (a : Sight) → IsOf V.is_at D.is_at self.now.settings start lane.old →
             Settled self.now.settings start self.now.drained.items tag pair (length bytes.now) rows volume a (sight V.sight D.sight A.fault_count lane.old) →
             IsAnswered self.now.settings start self.now.drained.items tag (asks.Put pair bytes.now) result a (sight V.sight D.sight A.fault_count lane.new) }

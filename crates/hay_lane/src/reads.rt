@@ -7,12 +7,13 @@ ghost use Rattle.hay_legal.specs.Known as known;
 ghost use Rattle.hay_meeting.specs.Acts.{Start};
 ghost use Rattle.hay_meeting.specs.Sights.{Sight};
 ghost use Rattle.hay_holdings.specs.Lines.{IsAnswered, Sees};
+ghost use Rattle.hay_disk.specs.Counts.{StaysSure};
 ghost use Rattle.hay_map.specs.Places.{place_in};
 ghost use Rattle.hay_reader.specs.Causes.{ComeFirst};
 ghost use Rattle.hay_reader.specs.Shown.{HasBytes, ReadsRow};
 ghost use Rattle.hay_reader.specs.Tried.{CanShow, HasItsPhoto};
 ghost use Rattle.hay_reader.specs.declared.causes.PassedReplica.{PassedReplica};
-ghost use Rattle.hay_lane.specs.Lanes.{IsOf, IsSeated, sight};
+ghost use Rattle.hay_lane.specs.Lanes.{IsLaterArm, IsOf, IsSeated, sight};
 ghost use Rattle.hay_lane.specs.Reads.{FrozeBehind, HasFound, HasRead, IsFoundAs, IsFoundReply, IsNext, IsSightCause, ShowTells, StopsBehind, WasSeen, passed_at};
 ghost use Rattle.hay_reply.specs.Fits.{FitsPassed, FitsReply};
 
@@ -56,6 +57,7 @@ impl<V: VolumeCalls, D: DirectoryCalls> Shared<V, D> {
         requires seated { IsSeated V.fits D.fits self.now tag.lane lane.old }
         ensures seated { IsSeated V.fits D.fits self.now tag.lane lane.new }
         ensures same { (start : Start) → IsOf V.is_at D.is_at self.now.settings start lane.old → IsOf V.is_at D.is_at self.now.settings start lane.new }
+        ensures arm { IsLaterArm A.is_sure A.fault_count lane.old.arm lane.new.arm }
         ensures answered { (start : Start) → IsOf V.is_at D.is_at self.now.settings start lane.old →
             IsAnswered self.now.settings start self.now.drained.items tag (asks.Read pair cookie) result
             (sight V.sight D.sight A.fault_count lane.old) (sight V.sight D.sight A.fault_count lane.new) }
@@ -81,6 +83,7 @@ impl<V: VolumeCalls, D: DirectoryCalls> Shared<V, D> {
         requires seated { IsSeated V.fits D.fits self.now tag.lane lane.old }
         ensures seated { IsSeated V.fits D.fits self.now tag.lane lane.new }
         ensures same { (start : Start) → IsOf V.is_at D.is_at self.now.settings start lane.old → IsOf V.is_at D.is_at self.now.settings start lane.new }
+        ensures arm { IsLaterArm A.is_sure A.fault_count lane.old.arm lane.new.arm }
         ensures answered { (start : Start) → IsOf V.is_at D.is_at self.now.settings start lane.old →
             IsAnswered self.now.settings start self.now.drained.items tag (asks.Get url.now) result (sight V.sight D.sight A.fault_count lane.old) (sight V.sight D.sight A.fault_count lane.new) }
         ensures fits { FitsReply result }
@@ -118,6 +121,7 @@ impl<V: VolumeCalls, D: DirectoryCalls> Shared<V, D> {
         requires first { first < self.now.settings.replicas }
         ensures seated { IsSeated V.fits D.fits self.now tag.lane lane.new }
         ensures same { (start : Start) → IsOf V.is_at D.is_at self.now.settings start lane.old → IsOf V.is_at D.is_at self.now.settings start lane.new }
+        ensures arm { IsLaterArm A.is_sure A.fault_count lane.old.arm lane.new.arm }
         ensures tells { (start : Start) (a : Sight) → IsOf V.is_at D.is_at self.now.settings start lane.old →
             Sees self.now.settings start self.now.drained.items tag pair rows (Some volume) a (sight V.sight D.sight A.fault_count lane.old) →
             ShowTells self.now.settings start self.now.drained.items tag pair cookie rows volume first result a (sight V.sight D.sight A.fault_count lane.new) }
@@ -157,6 +161,7 @@ impl<V: VolumeCalls, D: DirectoryCalls> Shared<V, D> {
         requires room { MAX_PHOTO ≤ vec_capacity photo.old }
         ensures seated { IsSeated V.fits D.fits self.now tag.lane lane.new }
         ensures same { (start : Start) → IsOf V.is_at D.is_at self.now.settings start lane.old → IsOf V.is_at D.is_at self.now.settings start lane.new }
+        ensures arm { IsLaterArm A.is_sure A.fault_count lane.old.arm lane.new.arm }
         ensures found { (start : Start) (d : ℕ) (a : Sight) → IsOf V.is_at D.is_at self.now.settings start lane.old →
             Sees self.now.settings start self.now.drained.items tag pair d (Some volume) a (sight V.sight D.sight A.fault_count lane.old) →
             IfOk result (λ answer. HasFound self.now.settings start self.now.drained.items tag pair d volume first cookie answer.0 photo.new.items answer.1
@@ -198,6 +203,7 @@ impl<V: VolumeCalls, D: DirectoryCalls> Shared<V, D> {
         requires room { MAX_PHOTO ≤ vec_capacity photo.old }
         ensures seated { IsSeated V.fits D.fits self.now tag.lane lane.new }
         ensures same { (start : Start) → IsOf V.is_at D.is_at self.now.settings start lane.old → IsOf V.is_at D.is_at self.now.settings start lane.new }
+        ensures arm { IsLaterArm A.is_sure A.fault_count lane.old.arm lane.new.arm }
         ensures long { length result.0.row ≡ self.now.settings.replicas }
         ensures stops { StopsBehind first self.now.settings.replicas 0 result.1 }
         ensures bytes { HasBytes photo.new.items result.1 }
@@ -237,6 +243,7 @@ impl<V: VolumeCalls, D: DirectoryCalls> Shared<V, D> {
         requires room { MAX_PHOTO ≤ vec_capacity photo.old }
         ensures seated { IsSeated V.fits D.fits self.now tag.lane lane.new }
         ensures same { (start : Start) → IsOf V.is_at D.is_at self.now.settings start lane.old → IsOf V.is_at D.is_at self.now.settings start lane.new }
+        ensures arm { IsLaterArm A.is_sure A.fault_count lane.old.arm lane.new.arm }
         ensures long { IfOk result (λ on. length on.0.row ≡ self.now.settings.replicas) }
         ensures stops { IfOk result (λ on. StopsBehind first self.now.settings.replicas (length causes + 1) on.1) }
         ensures bytes { IfOk result (λ on. HasBytes photo.new.items on.1) }
@@ -298,6 +305,7 @@ fn read_seen<P: Piece, A: Arm<P>>(
     ensures reads { (needle.now ≡ []) ⊎ HasItsPhoto needle.now (place_in row.now ((first + length passed) % length row.now)) →
         ReadsRow P.Tells (record { sure = A.is_sure arm.old; before = A.fault_count arm.old; after = A.fault_count arm.new }) first row.now cookie passed photo.new.items result }
     ensures stops { StopsBehind first (length row.now) (length passed + 1) result }
+    ensures stays_sure { StaysSure (A.is_sure arm.old) (A.is_sure arm.new) (A.fault_count arm.old) (A.fault_count arm.new) }
     ensures later { A.fault_count arm.old ≤ A.fault_count arm.new }
     ensures most { (A.fault_count arm.new ≡ A.fault_count arm.old) ⊎ (A.fault_count arm.new < 2 ^ 64) }
     ensures bytes { HasBytes photo.new.items result }

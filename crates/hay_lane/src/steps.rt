@@ -35,6 +35,7 @@ impl<V: VolumeCalls, D: DirectoryCalls> Shared<V, D> {
         requires volume { volume < self.now.settings.volumes }
         ensures seated { IsSeated V.fits D.fits self.now tag.lane lane.new }
         ensures same { (start : Start) → IsOf V.is_at D.is_at self.now.settings start lane.old → IsOf V.is_at D.is_at self.now.settings start lane.new }
+        ensures arm { lane.new.arm ≡ lane.old.arm }
         ensures long { length result.row ≡ self.now.settings.replicas }
         ensures tells { (start : Start) → IsOf V.is_at D.is_at self.now.settings start lane.old →
             AtVolume volume (LookTells V.Piece.Tells (record { settings = self.now.settings; start = start; number = volume }) pair result)
@@ -61,6 +62,7 @@ impl<V: VolumeCalls, D: DirectoryCalls> Shared<V, D> {
         requires empty { out.old.items ≡ [] }
         ensures seated { IsSeated V.fits D.fits self.now tag.lane lane.new }
         ensures same { (start : Start) → IsOf V.is_at D.is_at self.now.settings start lane.old → IsOf V.is_at D.is_at self.now.settings start lane.new }
+        ensures arm { lane.new.arm ≡ lane.old.arm }
         ensures long { IfOk result (λ looked. length looked.row ≡ self.now.settings.replicas) }
         ensures seen { IfOk result (λ looked. WasSeen (place_in looked.row replica)) }
         ensures needle { IfOk result (λ looked. (out.new.items ≡ []) ⊎ CanShow out.new.items (place_in looked.row replica)) }
@@ -84,6 +86,7 @@ impl<V: VolumeCalls, D: DirectoryCalls> Shared<V, D> {
         requires volume { volume < self.now.settings.volumes }
         ensures seated { IsSeated V.fits D.fits self.now tag.lane lane.new }
         ensures same { (start : Start) → IsOf V.is_at D.is_at self.now.settings start lane.old → IsOf V.is_at D.is_at self.now.settings start lane.new }
+        ensures arm { lane.new.arm ≡ lane.old.arm }
         ensures tells { (start : Start) → IsOf V.is_at D.is_at self.now.settings start lane.old →
             AtVolume volume (FrozenTells (record { settings = self.now.settings; start = start; number = volume }) tag result)
             (sight V.sight D.sight A.fault_count lane.old) (sight V.sight D.sight A.fault_count lane.new) }
@@ -106,6 +109,7 @@ impl<V: VolumeCalls, D: DirectoryCalls> Shared<V, D> {
         requires size { size ≤ MAX_PHOTO }
         ensures seated { IsSeated V.fits D.fits self.now tag.lane lane.new }
         ensures same { (start : Start) → IsOf V.is_at D.is_at self.now.settings start lane.old → IsOf V.is_at D.is_at self.now.settings start lane.new }
+        ensures arm { lane.new.arm ≡ lane.old.arm }
         ensures tells { (start : Start) → IsOf V.is_at D.is_at self.now.settings start lane.old →
             AtVolume volume (RoomTells (record { settings = self.now.settings; start = start; number = volume }) tag size result)
             (sight V.sight D.sight A.fault_count lane.old) (sight V.sight D.sight A.fault_count lane.new) }
@@ -131,6 +135,7 @@ impl<V: VolumeCalls, D: DirectoryCalls> Shared<V, D> {
         requires size { length bytes.now ≤ MAX_PHOTO }
         ensures seated { IsSeated V.fits D.fits self.now tag.lane lane.new }
         ensures same { (start : Start) → IsOf V.is_at D.is_at self.now.settings start lane.old → IsOf V.is_at D.is_at self.now.settings start lane.new }
+        ensures arm { lane.new.arm ≡ lane.old.arm }
         ensures tells { (start : Start) → IsOf V.is_at D.is_at self.now.settings start lane.old →
             AtVolume volume (PutTells (record { settings = self.now.settings; start = start; number = volume }) tag pair cookie bytes.now result)
             (sight V.sight D.sight A.fault_count lane.old) (sight V.sight D.sight A.fault_count lane.new) }
@@ -153,6 +158,7 @@ impl<V: VolumeCalls, D: DirectoryCalls> Shared<V, D> {
         requires volume { volume < self.now.settings.volumes }
         ensures seated { IsSeated V.fits D.fits self.now tag.lane lane.new }
         ensures same { (start : Start) → IsOf V.is_at D.is_at self.now.settings start lane.old → IsOf V.is_at D.is_at self.now.settings start lane.new }
+        ensures arm { lane.new.arm ≡ lane.old.arm }
         ensures tells { (start : Start) → IsOf V.is_at D.is_at self.now.settings start lane.old →
             AtVolume volume (DeleteTells (record { settings = self.now.settings; start = start; number = volume }) tag pair result)
             (sight V.sight D.sight A.fault_count lane.old) (sight V.sight D.sight A.fault_count lane.new) }
@@ -175,6 +181,7 @@ impl<V: VolumeCalls, D: DirectoryCalls> Shared<V, D> {
         requires replica { replica < self.now.settings.replicas }
         ensures seated { IsSeated V.fits D.fits self.now tag.lane lane.new }
         ensures same { (start : Start) → IsOf V.is_at D.is_at self.now.settings start lane.old → IsOf V.is_at D.is_at self.now.settings start lane.new }
+        ensures arm { lane.new.arm ≡ lane.old.arm }
         ensures tells { (start : Start) → IsOf V.is_at D.is_at self.now.settings start lane.old →
             AtVolume volume (FlushTells (record { settings = self.now.settings; start = start; number = volume }) tag replica result)
             (sight V.sight D.sight A.fault_count lane.old) (sight V.sight D.sight A.fault_count lane.new) }
@@ -198,6 +205,7 @@ impl<V: VolumeCalls, D: DirectoryCalls> Shared<V, D> {
         requires replica { replica < self.now.settings.replicas }
         ensures seated { IsSeated V.fits D.fits self.now tag.lane lane.new }
         ensures same { (start : Start) → IsOf V.is_at D.is_at self.now.settings start lane.old → IsOf V.is_at D.is_at self.now.settings start lane.new }
+        ensures arm { lane.new.arm ≡ lane.old.arm }
         ensures tells { (start : Start) → IsOf V.is_at D.is_at self.now.settings start lane.old →
             AtVolume volume (FuseTells (record { settings = self.now.settings; start = start; number = volume }) tag replica)
             (sight V.sight D.sight A.fault_count lane.old) (sight V.sight D.sight A.fault_count lane.new) }
@@ -221,6 +229,7 @@ impl<V: VolumeCalls, D: DirectoryCalls> Shared<V, D> {
         requires replica { replica < self.now.settings.replicas }
         ensures seated { IsSeated V.fits D.fits self.now tag.lane lane.new }
         ensures same { (start : Start) → IsOf V.is_at D.is_at self.now.settings start lane.old → IsOf V.is_at D.is_at self.now.settings start lane.new }
+        ensures arm { lane.new.arm ≡ lane.old.arm }
         ensures tells { (start : Start) → IsOf V.is_at D.is_at self.now.settings start lane.old →
             AtVolume volume (BeginTells (record { settings = self.now.settings; start = start; number = volume }) tag replica result)
             (sight V.sight D.sight A.fault_count lane.old) (sight V.sight D.sight A.fault_count lane.new) }
@@ -244,6 +253,7 @@ impl<V: VolumeCalls, D: DirectoryCalls> Shared<V, D> {
         requires replica { replica < self.now.settings.replicas }
         ensures seated { IsSeated V.fits D.fits self.now tag.lane lane.new }
         ensures same { (start : Start) → IsOf V.is_at D.is_at self.now.settings start lane.old → IsOf V.is_at D.is_at self.now.settings start lane.new }
+        ensures arm { lane.new.arm ≡ lane.old.arm }
         ensures tells { (start : Start) → IsOf V.is_at D.is_at self.now.settings start lane.old →
             AtVolume volume (StepTells (record { settings = self.now.settings; start = start; number = volume }) tag replica cells result)
             (sight V.sight D.sight A.fault_count lane.old) (sight V.sight D.sight A.fault_count lane.new) }
@@ -266,6 +276,7 @@ impl<V: VolumeCalls, D: DirectoryCalls> Shared<V, D> {
         requires replica { replica < self.now.settings.replicas }
         ensures seated { IsSeated V.fits D.fits self.now tag.lane lane.new }
         ensures same { (start : Start) → IsOf V.is_at D.is_at self.now.settings start lane.old → IsOf V.is_at D.is_at self.now.settings start lane.new }
+        ensures arm { lane.new.arm ≡ lane.old.arm }
         ensures tells { (start : Start) → IsOf V.is_at D.is_at self.now.settings start lane.old →
             AtVolume volume (FinishTells (record { settings = self.now.settings; start = start; number = volume }) tag replica result)
             (sight V.sight D.sight A.fault_count lane.old) (sight V.sight D.sight A.fault_count lane.new) }
@@ -288,6 +299,7 @@ impl<V: VolumeCalls, D: DirectoryCalls> Shared<V, D> {
         requires replica { replica < self.now.settings.replicas }
         ensures seated { IsSeated V.fits D.fits self.now tag.lane lane.new }
         ensures same { (start : Start) → IsOf V.is_at D.is_at self.now.settings start lane.old → IsOf V.is_at D.is_at self.now.settings start lane.new }
+        ensures arm { lane.new.arm ≡ lane.old.arm }
         ensures tells { (start : Start) → IsOf V.is_at D.is_at self.now.settings start lane.old →
             AtVolume volume (CompactionTells (record { settings = self.now.settings; start = start; number = volume }) tag replica result)
             (sight V.sight D.sight A.fault_count lane.old) (sight V.sight D.sight A.fault_count lane.new) }
@@ -307,6 +319,7 @@ impl<V: VolumeCalls, D: DirectoryCalls> Shared<V, D> {
         requires seated { IsSeated V.fits D.fits self.now tag.lane lane.old }
         ensures seated { IsSeated V.fits D.fits self.now tag.lane lane.new }
         ensures same { (start : Start) → IsOf V.is_at D.is_at self.now.settings start lane.old → IsOf V.is_at D.is_at self.now.settings start lane.new }
+        ensures arm { lane.new.arm ≡ lane.old.arm }
         ensures below { IfSome result.1 (λ home. home < self.now.settings.volumes) }
         ensures tells { (start : Start) → IsOf V.is_at D.is_at self.now.settings start lane.old →
             AtDirectory (HomeShown start pair result.0 result.1) (sight V.sight D.sight A.fault_count lane.old) (sight V.sight D.sight A.fault_count lane.new) }
@@ -327,6 +340,7 @@ impl<V: VolumeCalls, D: DirectoryCalls> Shared<V, D> {
         requires volume { volume < self.now.settings.volumes }
         ensures seated { IsSeated V.fits D.fits self.now tag.lane lane.new }
         ensures same { (start : Start) → IsOf V.is_at D.is_at self.now.settings start lane.old → IsOf V.is_at D.is_at self.now.settings start lane.new }
+        ensures arm { lane.new.arm ≡ lane.old.arm }
         ensures below { IfOk result (λ answer. answer.0 < self.now.settings.volumes) }
         ensures tells { (start : Start) → IsOf V.is_at D.is_at self.now.settings start lane.old →
             AtDirectory (SettleTells start tag (record { pair = pair; volume = volume }) result) (sight V.sight D.sight A.fault_count lane.old) (sight V.sight D.sight A.fault_count lane.new) }
@@ -347,6 +361,7 @@ impl<V: VolumeCalls, D: DirectoryCalls> Shared<V, D> {
         requires machine { machine < self.now.settings.machines }
         ensures seated { IsSeated V.fits D.fits self.now tag.lane lane.new }
         ensures same { (start : Start) → IsOf V.is_at D.is_at self.now.settings start lane.old → IsOf V.is_at D.is_at self.now.settings start lane.new }
+        ensures arm { lane.new.arm ≡ lane.old.arm }
         ensures tells { (start : Start) → IsOf V.is_at D.is_at self.now.settings start lane.old →
             AtDirectory (Drained start tag machine true) (sight V.sight D.sight A.fault_count lane.old) (sight V.sight D.sight A.fault_count lane.new) }
     {
@@ -365,6 +380,7 @@ impl<V: VolumeCalls, D: DirectoryCalls> Shared<V, D> {
         requires machine { machine < self.now.settings.machines }
         ensures seated { IsSeated V.fits D.fits self.now tag.lane lane.new }
         ensures same { (start : Start) → IsOf V.is_at D.is_at self.now.settings start lane.old → IsOf V.is_at D.is_at self.now.settings start lane.new }
+        ensures arm { lane.new.arm ≡ lane.old.arm }
         ensures tells { (start : Start) → IsOf V.is_at D.is_at self.now.settings start lane.old →
             AtDirectory (Drained start tag machine false) (sight V.sight D.sight A.fault_count lane.old) (sight V.sight D.sight A.fault_count lane.new) }
     {
@@ -383,6 +399,7 @@ impl<V: VolumeCalls, D: DirectoryCalls> Shared<V, D> {
         requires seated { IsSeated V.fits D.fits self.now tag.lane lane.old }
         ensures seated { IsSeated V.fits D.fits self.now tag.lane lane.new }
         ensures same { (start : Start) → IsOf V.is_at D.is_at self.now.settings start lane.old → IsOf V.is_at D.is_at self.now.settings start lane.new }
+        ensures arm { lane.new.arm ≡ lane.old.arm }
         ensures tells { (start : Start) → IsOf V.is_at D.is_at self.now.settings start lane.old →
             AtDirectory (FusedDir start tag) (sight V.sight D.sight A.fault_count lane.old) (sight V.sight D.sight A.fault_count lane.new) }
     {

@@ -1,4 +1,5 @@
 //! Flushes, compactions step by step, fuses and drains.
+ghost use Rattle.std.specs.Prelude.{◌≡◌};
 ghost use Rattle.hay_script.specs.declared.Command.TheVariants as asks;
 ghost use Rattle.hay_meeting.specs.Acts.{Start};
 ghost use Rattle.hay_holdings.specs.Lines.{IsAnswered};
@@ -29,6 +30,7 @@ impl<V: VolumeCalls, D: DirectoryCalls> Shared<V, D> {
         requires seated { IsSeated V.fits D.fits self.now tag.lane lane.old }
         ensures seated { IsSeated V.fits D.fits self.now tag.lane lane.new }
         ensures same { (start : Start) → IsOf V.is_at D.is_at self.now.settings start lane.old → IsOf V.is_at D.is_at self.now.settings start lane.new }
+        ensures arm { lane.new.arm ≡ lane.old.arm }
         ensures answered { (start : Start) → IsOf V.is_at D.is_at self.now.settings start lane.old →
             IsAnswered self.now.settings start self.now.drained.items tag (asks.Flush volume machine) result
             (sight V.sight D.sight A.fault_count lane.old) (sight V.sight D.sight A.fault_count lane.new) }
@@ -54,6 +56,7 @@ impl<V: VolumeCalls, D: DirectoryCalls> Shared<V, D> {
         requires seated { IsSeated V.fits D.fits self.now tag.lane lane.old }
         ensures seated { IsSeated V.fits D.fits self.now tag.lane lane.new }
         ensures same { (start : Start) → IsOf V.is_at D.is_at self.now.settings start lane.old → IsOf V.is_at D.is_at self.now.settings start lane.new }
+        ensures arm { lane.new.arm ≡ lane.old.arm }
         ensures answered { (start : Start) → IsOf V.is_at D.is_at self.now.settings start lane.old →
             IsAnswered self.now.settings start self.now.drained.items tag (asks.Begin volume machine) result
             (sight V.sight D.sight A.fault_count lane.old) (sight V.sight D.sight A.fault_count lane.new) }
@@ -80,6 +83,7 @@ impl<V: VolumeCalls, D: DirectoryCalls> Shared<V, D> {
         requires seated { IsSeated V.fits D.fits self.now tag.lane lane.old }
         ensures seated { IsSeated V.fits D.fits self.now tag.lane lane.new }
         ensures same { (start : Start) → IsOf V.is_at D.is_at self.now.settings start lane.old → IsOf V.is_at D.is_at self.now.settings start lane.new }
+        ensures arm { lane.new.arm ≡ lane.old.arm }
         ensures answered { (start : Start) → IsOf V.is_at D.is_at self.now.settings start lane.old →
             IsAnswered self.now.settings start self.now.drained.items tag (asks.Step volume machine cells) result
             (sight V.sight D.sight A.fault_count lane.old) (sight V.sight D.sight A.fault_count lane.new) }
@@ -105,6 +109,7 @@ impl<V: VolumeCalls, D: DirectoryCalls> Shared<V, D> {
         requires seated { IsSeated V.fits D.fits self.now tag.lane lane.old }
         ensures seated { IsSeated V.fits D.fits self.now tag.lane lane.new }
         ensures same { (start : Start) → IsOf V.is_at D.is_at self.now.settings start lane.old → IsOf V.is_at D.is_at self.now.settings start lane.new }
+        ensures arm { lane.new.arm ≡ lane.old.arm }
         ensures answered { (start : Start) → IsOf V.is_at D.is_at self.now.settings start lane.old →
             IsAnswered self.now.settings start self.now.drained.items tag (asks.Finish volume machine) result
             (sight V.sight D.sight A.fault_count lane.old) (sight V.sight D.sight A.fault_count lane.new) }
@@ -130,6 +135,7 @@ impl<V: VolumeCalls, D: DirectoryCalls> Shared<V, D> {
         requires seated { IsSeated V.fits D.fits self.now tag.lane lane.old }
         ensures seated { IsSeated V.fits D.fits self.now tag.lane lane.new }
         ensures same { (start : Start) → IsOf V.is_at D.is_at self.now.settings start lane.old → IsOf V.is_at D.is_at self.now.settings start lane.new }
+        ensures arm { lane.new.arm ≡ lane.old.arm }
         ensures answered { (start : Start) → IsOf V.is_at D.is_at self.now.settings start lane.old →
             IsAnswered self.now.settings start self.now.drained.items tag (asks.Fuse volume machine calls) result
             (sight V.sight D.sight A.fault_count lane.old) (sight V.sight D.sight A.fault_count lane.new) }
@@ -157,6 +163,7 @@ impl<V: VolumeCalls, D: DirectoryCalls> Shared<V, D> {
         requires seated { IsSeated V.fits D.fits self.now tag.lane lane.old }
         ensures seated { IsSeated V.fits D.fits self.now tag.lane lane.new }
         ensures same { (start : Start) → IsOf V.is_at D.is_at self.now.settings start lane.old → IsOf V.is_at D.is_at self.now.settings start lane.new }
+        ensures arm { lane.new.arm ≡ lane.old.arm }
         ensures answered { (start : Start) → IsOf V.is_at D.is_at self.now.settings start lane.old →
             IsAnswered self.now.settings start self.now.drained.items tag (asks.FuseDir calls) result (sight V.sight D.sight A.fault_count lane.old) (sight V.sight D.sight A.fault_count lane.new) }
         ensures fits { FitsReply result }
@@ -176,6 +183,7 @@ impl<V: VolumeCalls, D: DirectoryCalls> Shared<V, D> {
         requires seated { IsSeated V.fits D.fits self.now tag.lane lane.old }
         ensures seated { IsSeated V.fits D.fits self.now tag.lane lane.new }
         ensures same { (start : Start) → IsOf V.is_at D.is_at self.now.settings start lane.old → IsOf V.is_at D.is_at self.now.settings start lane.new }
+        ensures arm { lane.new.arm ≡ lane.old.arm }
         ensures answered { (start : Start) → IsOf V.is_at D.is_at self.now.settings start lane.old →
             IsAnswered self.now.settings start self.now.drained.items tag (asks.Drain machine) result (sight V.sight D.sight A.fault_count lane.old) (sight V.sight D.sight A.fault_count lane.new) }
         ensures fits { FitsReply result }
@@ -198,6 +206,7 @@ impl<V: VolumeCalls, D: DirectoryCalls> Shared<V, D> {
         requires seated { IsSeated V.fits D.fits self.now tag.lane lane.old }
         ensures seated { IsSeated V.fits D.fits self.now tag.lane lane.new }
         ensures same { (start : Start) → IsOf V.is_at D.is_at self.now.settings start lane.old → IsOf V.is_at D.is_at self.now.settings start lane.new }
+        ensures arm { lane.new.arm ≡ lane.old.arm }
         ensures answered { (start : Start) → IsOf V.is_at D.is_at self.now.settings start lane.old →
             IsAnswered self.now.settings start self.now.drained.items tag (asks.Undrain machine) result
             (sight V.sight D.sight A.fault_count lane.old) (sight V.sight D.sight A.fault_count lane.new) }

@@ -47,7 +47,7 @@ returns-clause-seats g c =
 pub returns-clause-answered : goal.returns-clause-answered
 returns-clause-answered g c =
     let lanes_are = c.frame_of-frame.ensures.lanes in
-    ran_whole g.V.VolumeCalls.fits g.D.DirectoryCalls.fits g.V.VolumeLocks.is_of g.V.VolumeCalls.is_at g.D.DirectoryCalls.is_at g.V.VolumeCalls.sight g.D.DirectoryCalls.sight g.A.Arm.fault_count
+    ran_whole g.V.VolumeCalls.fits g.D.DirectoryCalls.fits g.V.VolumeLocks.is_of g.V.VolumeCalls.is_at g.D.DirectoryCalls.is_at g.V.VolumeCalls.sight g.D.DirectoryCalls.sight g.A.Arm.is_sure g.A.Arm.fault_count
     g.V.VolumeLocks.stands g.V.VolumeLocks.faults g.V.VolumeLocks.fuses c.frame_of-frame.result c.run_from-frame.result.0 c.args.locked.volumes.items
     (record { settings = c.args.settings; volumes = c.args.rooms.locks; directory = c.args.locked.lock; drained = c.args.drained })
     c.args.locked.seats.items c.args.locked.arms.items c.locked_of-locked.result.0.volumes.items c.locked_of-locked.result.1.items c.locked_of-locked.result.0.seats.items c.locked_of-locked.result.0.arms.items

@@ -12,7 +12,7 @@ pub returns-in-Ok-clause-frame : goal.returns-in-Ok-clause-frame
 returns-in-Ok-clause-frame g c =
     let given : length (map (λ (v : Vec Job Global). v.items) c.args.jobs.now) ≡ length c.args.frame.lanes.items =
     omega (arith, length-map c.args.jobs.now (λ (v : Vec Job Global). v.items), c.requires.lanes, c.args.frame.lanes.ok.0) in
-    answered_frame g.V.VolumeCalls.fits g.D.DirectoryCalls.fits g.V.VolumeCalls.is_at g.D.DirectoryCalls.is_at g.V.VolumeCalls.sight g.D.DirectoryCalls.sight g.A.Arm.fault_count
+    answered_frame g.V.VolumeCalls.fits g.D.DirectoryCalls.fits g.V.VolumeCalls.is_at g.D.DirectoryCalls.is_at g.V.VolumeCalls.sight g.D.DirectoryCalls.sight g.A.Arm.is_sure g.A.Arm.fault_count
     g.V.VolumeLocks.stands g.V.VolumeLocks.faults g.V.VolumeLocks.fuses c.args.frame g.V.VolumeLocks.is_of c.requires.frame c.requires.none c.in-Ok.lanes given c.in-Ok.ensures.answered
 
 pub returns-in-Ok-clause-lanes : goal.returns-in-Ok-clause-lanes
@@ -22,7 +22,7 @@ pub returns-in-Ok-clause-answered : goal.returns-in-Ok-clause-answered
 returns-in-Ok-clause-answered g c =
     let given : length (map (λ (v : Vec Job Global). v.items) c.args.jobs.now) ≡ length c.args.frame.lanes.items =
     omega (arith, length-map c.args.jobs.now (λ (v : Vec Job Global). v.items), c.requires.lanes, c.args.frame.lanes.ok.0) in
-    ran_at_all g.V.VolumeCalls.fits g.D.DirectoryCalls.fits g.V.VolumeCalls.is_at g.D.DirectoryCalls.is_at g.V.VolumeCalls.sight g.D.DirectoryCalls.sight g.A.Arm.fault_count
+    ran_at_all g.V.VolumeCalls.fits g.D.DirectoryCalls.fits g.V.VolumeCalls.is_at g.D.DirectoryCalls.is_at g.V.VolumeCalls.sight g.D.DirectoryCalls.sight g.A.Arm.is_sure g.A.Arm.fault_count
     g.V.VolumeLocks.stands g.V.VolumeLocks.faults g.V.VolumeLocks.fuses c.args.frame (record c.args.frame { lanes = c.in-Ok.lanes }) _ _ g.V.VolumeLocks.is_of c.requires.frame c.requires.none
     given c.in-Ok.ensures.answered refl refl
 

@@ -34,9 +34,9 @@ returns-in-Ok-run_lanes-clause-answered g c =
     let given : length jobs ≡ length workers = omega (arith, many, length-map c.args.jobs.now (λ (v : Vec Job Global). v.items), c.requires.lanes, c.args.lanes.ok.0) in
     subst (λ (ls : List (Lane g.row.S.Denot g.row.T.Denot g.row.A.Denot)).
     AnswersLanes (by_lane c.args.shared.now g.V.VolumeCalls.fits g.D.DirectoryCalls.fits g.V.VolumeCalls.is_at g.D.DirectoryCalls.is_at
-    g.V.VolumeCalls.sight g.D.DirectoryCalls.sight g.A.Arm.fault_count)
+    g.V.VolumeCalls.sight g.D.DirectoryCalls.sight g.A.Arm.is_sure g.A.Arm.fault_count)
     c.args.lanes.items jobs ls replies) (sym c.lanes_of.ensures)
-    (lanes_answer c.args.shared.now g.V.VolumeCalls.fits g.D.DirectoryCalls.fits g.V.VolumeCalls.is_at g.D.DirectoryCalls.is_at g.V.VolumeCalls.sight g.D.DirectoryCalls.sight g.A.Arm.fault_count
+    (lanes_answer c.args.shared.now g.V.VolumeCalls.fits g.D.DirectoryCalls.fits g.V.VolumeCalls.is_at g.D.DirectoryCalls.is_at g.V.VolumeCalls.sight g.D.DirectoryCalls.sight g.A.Arm.is_sure g.A.Arm.fault_count
     workers c.in-Ok-run_lanes.workers.items c.args.lanes.items jobs replies c.workers_of-workers.ensures given c.in-Ok-run_lanes.ensures.answered)
 
 pub returns-in-Err-clause-refused : goal.returns-in-Err-clause-refused

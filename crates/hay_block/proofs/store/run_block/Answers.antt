@@ -1,5 +1,5 @@
-use Rattle.std.proofs.Common.{◌≡◌, ◌≤◌, ◌-◌, ◌^◌, ℕ, List, Vec, Global, length, map, sym, ap, subst, ◌∙◌, arith}
-use Rattle.std.specs.List.{AllByRecursion}
+use Rattle.std.proofs.Common.{◌≡◌, ◌≤◌, ◌-◌, ◌^◌, ℕ, List, Vec, Global, length, map, refl, sym, ap, subst, ◌∙◌, arith}
+use Rattle.std.specs.List.{AllByRecursion, AllZip}
 use Rattle.std.proofs.lemmas.List.{length-map}
 use Rattle.hay_front.specs.declared.front.Tag.{Tag}
 use Rattle.hay_reply.specs.declared.Reply.{Reply}
@@ -8,12 +8,13 @@ use Rattle.hay_legal.specs.declared.known.VolumeKnown.{VolumeKnown}
 use Rattle.hay_block.specs.declared.store.BlockNotes.{BlockNotes}
 use Rattle.hay_block.specs.declared.worker.Job.{Job}
 use Rattle.hay_block.specs.Frames.{IsSameStore, RanAll}
-use Rattle.hay_block.specs.Lines.{IsServed}
+use Rattle.hay_block.specs.Lines.{AnswersBad, IsServed}
 use Rattle.hay_block.specs.Making.{AreUnseen}
 use Rattle.hay_block.specs.Stores.{AreStill, AreVolumes, line_of_tag, notes_from}
 use Rattle.hay_block.proofs.Blocks.{block_told}
 use Rattle.hay_block.proofs.Lists.{each_mapped, each_unmapped, err_at, ok_at, ok_weaker, zip_long, zip_unmapped}
-use Rattle.hay_block.proofs.Whole.{all_fit, all_replied, counts_rise, directory_same, made_rows, seated_rows, still_counts}
+use Rattle.hay_block.proofs.Whole.{all_bad, all_fit, all_later, all_replied, counts_rise, directory_same, made_rows, same_arms, seated_rows, still_counts}
+use Rattle.hay_block.proofs.Staying.{still_self}
 use Rattle.hay_block.proofs.store.run_block.Goals as goal
 
 pub notes_of-notes-requires-clause-many : goal.notes_of-notes-requires-clause-many
@@ -22,7 +23,7 @@ notes_of-notes-requires-clause-many g c =
 
 pub notes_of-notes-requires-clause-as_many : goal.notes_of-notes-requires-clause-as_many
 notes_of-notes-requires-clause-as_many g c =
-    let ran = ok_at (λ (replies : Vec (Vec Reply Global) Global). RanAll g.V.VolumeCalls.fits g.D.DirectoryCalls.fits g.V.VolumeCalls.is_at g.D.DirectoryCalls.is_at g.V.VolumeCalls.sight g.D.DirectoryCalls.sight g.A.Arm.fault_count g.V.VolumeLocks.stands g.V.VolumeLocks.faults g.V.VolumeLocks.fuses
+    let ran = ok_at (λ (replies : Vec (Vec Reply Global) Global). RanAll g.V.VolumeCalls.fits g.D.DirectoryCalls.fits g.V.VolumeCalls.is_at g.D.DirectoryCalls.is_at g.V.VolumeCalls.sight g.D.DirectoryCalls.sight g.A.Arm.is_sure g.A.Arm.fault_count g.V.VolumeLocks.stands g.V.VolumeLocks.faults g.V.VolumeLocks.fuses
     c.args.settings c.in-Ok-new.lock c.in-Ok.ready.drained c.args.parts.volumes.items c.in-Ok-new.seats.items c.args.parts.arms.items c.run_locked-locked.result.0.volumes.items c.run_locked-locked.result.1.items c.run_locked-locked.result.0.seats.items c.run_locked-locked.result.0.arms.items (map (λ (js : Vec Job Global). js.items) c.args.jobs.now)
     (map (λ (rs : Vec Reply Global). rs.items) replies.items)) c.run_locked-locked.result.2 c.in-Ok-answer.replies c.in-Ok-answer.is c.run_locked-locked.ensures.answered in
     ap length c.as_slice-in-Ok-answer-2.ensures.value ∙ ran.many_told
@@ -34,13 +35,13 @@ returns-in-Ok-answer g c =
     let left = c.unlocked-parts.ensures.left c.args.parts.directory c.args.settings made seated in
     let long = length-map c.args.jobs.now (λ (js : Vec Job Global). js.items) in
     let given : length c.args.parts.arms.items ≡ length (map (λ (js : Vec Job Global). js.items) c.args.jobs.now) = omega (arith, c.requires.arms, long) in
-    let Ran : List g.row.W.Denot → List g.row.A.Denot → Type 0 = λ volumes arms. RanAll g.V.VolumeCalls.fits g.D.DirectoryCalls.fits g.V.VolumeCalls.is_at g.D.DirectoryCalls.is_at g.V.VolumeCalls.sight g.D.DirectoryCalls.sight g.A.Arm.fault_count g.V.VolumeLocks.stands g.V.VolumeLocks.faults g.V.VolumeLocks.fuses
+    let Ran : List g.row.W.Denot → List g.row.A.Denot → Type 0 = λ volumes arms. RanAll g.V.VolumeCalls.fits g.D.DirectoryCalls.fits g.V.VolumeCalls.is_at g.D.DirectoryCalls.is_at g.V.VolumeCalls.sight g.D.DirectoryCalls.sight g.A.Arm.is_sure g.A.Arm.fault_count g.V.VolumeLocks.stands g.V.VolumeLocks.faults g.V.VolumeLocks.fuses
     c.args.settings c.in-Ok-new.lock c.in-Ok.ready.drained c.args.parts.volumes.items c.in-Ok-new.seats.items c.args.parts.arms.items volumes c.run_locked-locked.result.1.items c.run_locked-locked.result.0.seats.items arms (map (λ (js : Vec Job Global). js.items) c.args.jobs.now)
     (map (λ (rs : Vec Reply Global). rs.items) c.in-Ok-answer.replies.items) in
     let ran : Ran c.unlocked-parts.result.0.volumes.items c.unlocked-parts.result.0.arms.items =
     subst (λ (z : Vec g.row.W.Denot Global). Ran z.items c.unlocked-parts.result.0.arms.items) (sym c.unlocked-parts.ensures.volumes)
     (subst (λ z. Ran c.run_locked-locked.result.0.volumes.items z) (sym (ap (λ (z : Vec g.row.A.Denot Global). z.items) c.unlocked-parts.ensures.arms))
-    (ok_at (λ (replies : Vec (Vec Reply Global) Global). RanAll g.V.VolumeCalls.fits g.D.DirectoryCalls.fits g.V.VolumeCalls.is_at g.D.DirectoryCalls.is_at g.V.VolumeCalls.sight g.D.DirectoryCalls.sight g.A.Arm.fault_count g.V.VolumeLocks.stands g.V.VolumeLocks.faults g.V.VolumeLocks.fuses
+    (ok_at (λ (replies : Vec (Vec Reply Global) Global). RanAll g.V.VolumeCalls.fits g.D.DirectoryCalls.fits g.V.VolumeCalls.is_at g.D.DirectoryCalls.is_at g.V.VolumeCalls.sight g.D.DirectoryCalls.sight g.A.Arm.is_sure g.A.Arm.fault_count g.V.VolumeLocks.stands g.V.VolumeLocks.faults g.V.VolumeLocks.fuses
     c.args.settings c.in-Ok-new.lock c.in-Ok.ready.drained c.args.parts.volumes.items c.in-Ok-new.seats.items c.args.parts.arms.items c.run_locked-locked.result.0.volumes.items c.run_locked-locked.result.1.items c.run_locked-locked.result.0.seats.items c.run_locked-locked.result.0.arms.items (map (λ (js : Vec Job Global). js.items) c.args.jobs.now)
     (map (λ (rs : Vec Reply Global). rs.items) replies.items)) c.run_locked-locked.result.2 c.in-Ok-answer.replies c.in-Ok-answer.is c.run_locked-locked.ensures.answered)) in
     let many : length c.args.parts.volumes.items ≡ c.args.settings.volumes = c.requires.volumes.many in
@@ -62,7 +63,9 @@ returns-in-Ok-answer g c =
       arms = ap (λ (z : Vec g.row.A.Denot Global). length z.items) c.unlocked-parts.ensures.arms ∙ c.run_locked-locked.ensures.arms;
       refused = tt;
       replies = zip_unmapped (λ (js : Vec Job Global). js.items) (λ (rs : Vec Reply Global). rs.items) (λ js rs. length js ≡ length rs) c.args.jobs.now c.in-Ok-answer.replies.items (all_replied ran (sym given));
+      bad = zip_unmapped (λ (js : Vec Job Global). js.items) (λ (rs : Vec Reply Global). rs.items) (AllZip AnswersBad) c.args.jobs.now c.in-Ok-answer.replies.items (all_bad ran (sym given));
       fits = each_unmapped (λ (rs : Vec Reply Global). rs.items) (AllByRecursion FitsReply) c.in-Ok-answer.replies.items (all_fit ran (sym given));
+      arms_rise = all_later ran (sym given);
       rises = record { volumes = counts_rise ran many; rows = left.0.rises };
       legal = λ k others stood others_end items are distinct.
           let rows = ok_weaker (λ (n : BlockNotes). n.rows ≡ c.in-Ok.ready.rows) (λ n. n.rows ≡ length k.directory.rows)
@@ -83,13 +86,29 @@ returns-in-Ok-new g c =
     let directory : c.unlocked-parts.result.0.directory ≡ c.args.parts.directory = directory_same left.0 unseen in
     let still : AreStill g.V.VolumeLocks.stands g.V.VolumeLocks.faults g.V.VolumeLocks.fuses c.args.settings c.args.parts.volumes.items c.unlocked-parts.result.0.volumes.items =
     subst (λ (z : Vec g.row.W.Denot Global). AreStill g.V.VolumeLocks.stands g.V.VolumeLocks.faults g.V.VolumeLocks.fuses c.args.settings c.args.parts.volumes.items z.items) (sym c.unlocked-parts.ensures.volumes) back.volumes in
+    let same : c.unlocked-parts.result.0.arms.items ≡ c.args.parts.arms.items = ap (λ (z : Vec g.row.A.Denot Global). z.items) c.unlocked-parts.ensures.arms ∙ back.arms in
     record {
       volumes = subst (λ (z : Vec g.row.W.Denot Global). AreVolumes g.V.VolumeLocks.is_of c.args.settings z.items) (sym c.unlocked-parts.ensures.volumes) c.run_locked-locked.ensures.volumes;
       directory = left.1;
       arms = ap (λ (z : Vec g.row.A.Denot Global). length z.items) c.unlocked-parts.ensures.arms ∙ c.run_locked-locked.ensures.arms;
-      refused = record { volumes = still; directory = directory; arms = ap (λ (z : Vec g.row.A.Denot Global). z.items) c.unlocked-parts.ensures.arms ∙ back.arms };
+      refused = record { volumes = still; directory = directory; arms = same };
       replies = tt;
+      bad = tt;
       fits = tt;
+      arms_rise = same_arms g.A.Arm.is_sure g.A.Arm.fault_count same;
       rises = still_counts still directory;
       legal = tt;
     }
+
+pub returns-in_default-clause-arms_rise : goal.returns-in_default-clause-arms_rise
+returns-in_default-clause-arms_rise g c = same_arms g.A.Arm.is_sure g.A.Arm.fault_count refl
+
+pub returns-clause-refused : goal.returns-clause-refused
+returns-clause-refused g c = record {
+  volumes = still_self c.args.parts.volumes.items;
+  directory = c.in-Err.ensures.refused;
+  arms = refl;
+}
+
+pub returns-clause-arms_rise : goal.returns-clause-arms_rise
+returns-clause-arms_rise g c = same_arms g.A.Arm.is_sure g.A.Arm.fault_count refl

@@ -1,4 +1,5 @@
 use Rattle.std.proofs.Common.{refl}
+use Rattle.hay_lane.proofs.Arms.{later_same}
 use Rattle.hay_block.proofs.Chaining.{bad_answered}
 use Rattle.hay_block.proofs.worker.LaneWorkerWork.answer.Goals as goal
 
@@ -10,5 +11,7 @@ returns-in-Bad-clause-answered g c = (
     same = λ start of. of;
     answered = λ start of. bad_answered _ start _ _ _ _ _ c.in-Bad.is;
     fits_reply = tt;
+    bad = λ is. refl;
+    arm = later_same refl;
   },
 )

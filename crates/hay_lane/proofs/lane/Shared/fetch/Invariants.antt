@@ -5,7 +5,7 @@ use Rattle.hay_meeting.specs.Acts.{Start}
 use Rattle.hay_meeting.specs.Sights.{Sight}
 use Rattle.hay_holdings.specs.Lines.{Sees}
 use Rattle.hay_reader.specs.Shown.{HasBytes}
-use Rattle.hay_lane.specs.Lanes.{IsOf, IsSeated, sight}
+use Rattle.hay_lane.specs.Lanes.{IsLaterArm, IsOf, IsSeated, sight}
 use Rattle.hay_lane.specs.Reads.{HasRead, StopsBehind}
 use Rattle.hay_lane.proofs.lane.Shared.fetch.Given as goal
 
@@ -13,6 +13,7 @@ abbrev pub invariant-loop : goal.invariant-loop
 invariant-loop g l = record {
   seated : IsSeated g.V.VolumeCalls.fits g.D.DirectoryCalls.fits l.self l.tag.lane l.lane;
   same : (start : Start) → IsOf g.V.VolumeCalls.is_at g.D.DirectoryCalls.is_at l.self.settings start l.fn.lane → IsOf g.V.VolumeCalls.is_at g.D.DirectoryCalls.is_at l.self.settings start l.lane;
+  arm : IsLaterArm g.A.Arm.is_sure g.A.Arm.fault_count l.fn.lane.arm l.lane.arm;
   long : length l.looked.row ≡ l.self.settings.replicas;
   stops : StopsBehind l.first l.self.settings.replicas l.counter l.read;
   bytes : HasBytes l.photo.items l.read;

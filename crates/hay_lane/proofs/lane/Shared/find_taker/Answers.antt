@@ -1,4 +1,4 @@
-use Rattle.std.proofs.Common.{◌≡◌, ◌+◌, [], ◌∷◌, refl, sym, subst, arith}
+use Rattle.std.proofs.Common.{◌≡◌, ◌+◌, [], ◌∷◌, refl, sym, subst, ◌∙◌, arith}
 use Rattle.std.specs.List.{AllByRecursion}
 use Rattle.hay_reply.specs.Fits.{FitsRefused}
 use Rattle.hay_legal.proofs.Subject.Effects.{each_append}
@@ -14,6 +14,7 @@ loop-turn-init g c = record {
   fits = subst (λ l. AllByRecursion FitsRefused l) (sym c.new-refused.ensures) tt;
   seated = c.requires.seated;
   same = λ start of. of;
+  arm = refl;
   tried = λ start d a of sees. subst (λ refused. Tried c.args.self.now.settings start c.args.self.now.drained.items c.args.tag c.args.pair c.args.size [] refused a (sight g.V.VolumeCalls.sight g.D.DirectoryCalls.sight g.A.Arm.fault_count c.args.lane.now))
       (sym c.new-refused.ensures) (tries c.args.self.now.settings start c.args.self.now.drained.items c.args.tag sees);
 }
@@ -45,6 +46,7 @@ loop-turn-preserved g c = record {
   fits = subst (λ l. AllByRecursion FitsRefused l) (sym c.in-Ok.ensures.ok) (each_append FitsRefused c.loop-turn.refused (c.in-Some.refusal ∷ []) c.loop-turn.invariant.fits (c.in-Some.ensures.fits, tt));
   seated = c.refusal.ensures.seated;
   same = λ start of. c.refusal.ensures.same start (c.loop-turn.invariant.same start of);
+  arm = c.refusal.ensures.arm ∙ c.loop-turn.invariant.arm;
   tried = λ start d a of sees. subst (λ refused. Tried c.args.self.now.settings start c.args.self.now.drained.items c.args.tag c.args.pair c.args.size
       (first_tries c.args.self.now.settings c.args.pair (c.loop-turn.turn + 1)) refused a (sight g.V.VolumeCalls.sight g.D.DirectoryCalls.sight g.A.Arm.fault_count c.refusal.new.lane)) (sym c.in-Ok.ensures.ok)
       (one_more c.args.self.now.settings start c.args.self.now.drained.items c.args.tag c.loop-turn.turn (c.loop-turn.invariant.tried start d a of sees) c.tries-volume.result

@@ -1,4 +1,4 @@
-use Rattle.std.proofs.Common.{ℕ, None}
+use Rattle.std.proofs.Common.{◌≡◌, ℕ, None}
 use Rattle.std.specs.List.{AllByRecursion}
 use Rattle.hay_reply.specs.Fits.{FitsRefused}
 use Rattle.hay_meeting.specs.Acts.{Start}
@@ -13,6 +13,7 @@ invariant-loop-turn g l = record {
   fits : AllByRecursion FitsRefused l.refused;
   seated : IsSeated g.V.VolumeCalls.fits g.D.DirectoryCalls.fits l.fn.self l.fn.tag.lane l.lane;
   same : (start : Start) → IsOf g.V.VolumeCalls.is_at g.D.DirectoryCalls.is_at l.fn.self.settings start l.fn.lane → IsOf g.V.VolumeCalls.is_at g.D.DirectoryCalls.is_at l.fn.self.settings start l.lane;
+  arm : l.lane.arm ≡ l.fn.lane.arm;
   tried : (start : Start) (d : ℕ) (a : Sight) → IsOf g.V.VolumeCalls.is_at g.D.DirectoryCalls.is_at l.fn.self.settings start l.fn.lane
       → Sees l.fn.self.settings start l.fn.self.drained.items l.fn.tag l.pair d None a (sight g.V.VolumeCalls.sight g.D.DirectoryCalls.sight g.A.Arm.fault_count l.fn.lane)
       → Tried l.fn.self.settings start l.fn.self.drained.items l.fn.tag l.pair l.size (first_tries l.fn.self.settings l.pair l.turn) l.refused a (sight g.V.VolumeCalls.sight g.D.DirectoryCalls.sight g.A.Arm.fault_count l.lane);

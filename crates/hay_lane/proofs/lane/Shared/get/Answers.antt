@@ -1,9 +1,10 @@
-use Rattle.std.proofs.Common.{◌<◌, subst, sym}
+use Rattle.std.proofs.Common.{◌<◌, refl, subst, sym}
 use Rattle.std.specs.Prelude.{IfSome}
 use Rattle.hay_holdings.proofs.Going.{idle_same}
 use Rattle.hay_holdings.proofs.ReadAnswers.{get_moved, get_unknown, shows_unknown}
 use Rattle.hay_holdings.proofs.Unchanged.{get_nowhere, idle_unchanged}
 use Rattle.hay_lane.specs.Lanes.{sight}
+use Rattle.hay_lane.proofs.Arms.{later_on, later_same}
 use Rattle.hay_lane.proofs.Changed.{saw}
 use Rattle.hay_lane.proofs.Showing.{get_shown}
 use Rattle.hay_lane.proofs.lane.Shared.get.Goals as goal
@@ -36,3 +37,15 @@ returns-clause-answered g c start of =
     (sym c.in-Some.ensures.is) (subst (λ o. IfSome o (λ home. home < c.args.self.now.settings.volumes)) c.in-Some-home.is c.home_in_view-rows.ensures.below) c.requires.seated.fewer a b c.show.result
     (c.show.ensures.tells start a (c.home_in_view-rows.ensures.same start of)
     (saw c.args.self.now.settings start c.args.self.now.drained.items c.args.tag c.in-Some-home.is (c.home_in_view-rows.ensures.tells start of)))
+
+pub returns-in_default-clause-arm : goal.returns-in_default-clause-arm
+returns-in_default-clause-arm g c = later_same refl
+
+pub returns-in_default-home-clause-arm : goal.returns-in_default-home-clause-arm
+returns-in_default-home-clause-arm g c = later_same c.home_in_view-rows.ensures.arm
+
+pub returns-then-volume-url-clause-arm : goal.returns-then-volume-url-clause-arm
+returns-then-volume-url-clause-arm g c = later_same c.home_in_view-rows.ensures.arm
+
+pub returns-clause-arm : goal.returns-clause-arm
+returns-clause-arm g c = later_on (later_same c.home_in_view-rows.ensures.arm) c.show.ensures.arm

@@ -3,6 +3,7 @@ use Rattle.std.specs.Prelude.{IfSome}
 use Rattle.hay_holdings.proofs.ReadAnswers.{read_answered, shows_unknown}
 use Rattle.hay_lane.specs.Lanes.{sight}
 use Rattle.hay_lane.specs.Reads.{ShowTells}
+use Rattle.hay_lane.proofs.Arms.{later_on, later_same}
 use Rattle.hay_lane.proofs.Changed.{saw}
 use Rattle.hay_lane.proofs.Showing.{read_shown}
 use Rattle.hay_lane.proofs.lane.Shared.read.Goals as goal
@@ -22,3 +23,9 @@ returns-clause-answered g c start of =
     (subst (λ n. ShowTells c.args.self.now.settings start c.args.self.now.drained.items c.args.tag c.args.pair c.args.cookie rows c.in-Some.volume n c.show.result a b) c.start_of-first.ensures.is
     (c.show.ensures.tells start a (c.home_in_view-rows.ensures.same start of)
     (saw c.args.self.now.settings start c.args.self.now.drained.items c.args.tag c.in-Some.is (c.home_in_view-rows.ensures.tells start of))))
+
+pub returns-in_default-clause-arm : goal.returns-in_default-clause-arm
+returns-in_default-clause-arm g c = later_same c.home_in_view-rows.ensures.arm
+
+pub returns-clause-arm : goal.returns-clause-arm
+returns-clause-arm g c = later_on (later_same c.home_in_view-rows.ensures.arm) c.show.ensures.arm

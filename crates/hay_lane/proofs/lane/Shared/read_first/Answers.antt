@@ -1,5 +1,6 @@
 use Rattle.std.proofs.Common.{[]}
 use Rattle.hay_lane.specs.Lanes.{sight}
+use Rattle.hay_lane.proofs.Arms.{later_on, later_same}
 use Rattle.hay_lane.proofs.Reading.{looked_first, row_tells, shown_by}
 use Rattle.hay_lane.proofs.Stepping.{fetched}
 use Rattle.hay_lane.proofs.lane.Shared.read_first.Goals as goal
@@ -19,3 +20,6 @@ returns-clause-tells g c start d a of sees =
           c.look_at-looked.ensures.long c.requires.seated.replicas what ((there.is).1).means c.args.cookie c.look_at-looked.result.front arm []
           (looked_first settings start drained c.args.tag c.args.pair d c.args.volume c.args.first sees there) c.show-read.new.out.items c.show-read.result c.show-read.ensures.reads;
     }
+
+pub returns-clause-arm : goal.returns-clause-arm
+returns-clause-arm g c = later_on (later_same c.look_at-looked.ensures.arm) (record { rises = c.show-read.ensures.later; sure = c.show-read.ensures.stays_sure })

@@ -4,6 +4,7 @@ use Rattle.hay_reader.specs.Causes.{ComeFirst}
 use Rattle.hay_reader.proofs.Passing.{first_more}
 use Rattle.hay_lane.specs.Lanes.{sight}
 use Rattle.hay_lane.specs.Reads.{PassedFirst}
+use Rattle.hay_lane.proofs.Arms.{later_on, later_same}
 use Rattle.hay_lane.proofs.Maintained.{call_as}
 use Rattle.hay_lane.proofs.Reading.{looked_again, row_tells, same_bytes, shown_by, sight_passed}
 use Rattle.hay_lane.proofs.Stepping.{fetched}
@@ -51,3 +52,12 @@ returns-in_ok-cause-in-Err-clause-tells g c start d a of has =
           (subst (λ l. PassedFirst settings start drained c.args.tag c.args.pair d c.args.volume c.args.first c.args.looked.front has.what l a m) (sym c.push.ensures) passed)
           c.show_more-read.new.out.items c.show_more-read.result c.show_more-read.ensures.reads;
     }
+
+pub returns-in-Ok-clause-arm : goal.returns-in-Ok-clause-arm
+returns-in-Ok-clause-arm g c = later_on (later_same c.see_at.ensures.arm) (record { rises = c.read_seen-read.ensures.later; sure = c.read_seen-read.ensures.stays_sure })
+
+pub returns-in_ok-cause-in-Err-clause-arm : goal.returns-in_ok-cause-in-Err-clause-arm
+returns-in_ok-cause-in-Err-clause-arm g c = later_on (later_same c.see_at.ensures.arm) (record { rises = c.show_more-read.ensures.later; sure = c.show_more-read.ensures.stays_sure })
+
+pub returns-in_err-cause-in-Err-clause-arm : goal.returns-in_err-cause-in-Err-clause-arm
+returns-in_err-cause-in-Err-clause-arm g c = later_same c.see_at.ensures.arm
