@@ -1,0 +1,4 @@
+pub mod Answers
+pub mod Directories
+pub mod Making
+pub mod Seats
