@@ -27,6 +27,7 @@ pub mod OpeningTaken
 pub mod OpeningVoid
 pub mod OpeningVolumes
 pub mod Passing
+pub mod Placing
 pub mod Puts
 pub mod ReadSights
 pub mod Refusals

@@ -139,13 +139,13 @@ module _ (settings : Settings) (v at : ℕ) (old new : VolumeSeen) where
   begin_longer refusal.NoMemory h = same_longer old new (h.0).1
   begin_longer _ h = absurd h
 
-  step_longer : (fault : LogicalFault) → StepRefusedSeen settings v at old new fault → IsLonger old new
-  step_longer (refusal.ReadOnly m) h = same_longer old new h.0
-  step_longer refusal.Idle h = same_longer old new (h.0).1
-  step_longer (refusal.Failed m faults) h = changes_longer at EndsAlone old new ends_alone h.2
-  step_longer (refusal.Damaged m place) h = changes_longer at EndsAlone old new ends_alone (h.0).2
-  step_longer refusal.NoMemory h = changes_longer at StepsPartly old new (λ r r' partly. ap (λ (x : ReplicaSeen). x.end) partly.1) h.1
-  step_longer _ h = absurd h
+  step_longer : (cells : ℕ) (fault : LogicalFault) → StepRefusedSeen settings v at cells old new fault → IsLonger old new
+  step_longer cells (refusal.ReadOnly m) h = same_longer old new h.0
+  step_longer cells refusal.Idle h = same_longer old new (h.0).1
+  step_longer cells (refusal.Failed m faults) h = changes_longer at EndsAlone old new ends_alone h.2
+  step_longer cells (refusal.Damaged m place) h = changes_longer at EndsAlone old new ends_alone (h.0).2
+  step_longer cells refusal.NoMemory h = changes_longer at StepsPartly old new (λ r r' partly. ap (λ (x : ReplicaSeen). x.end) partly.1) h.1
+  step_longer cells _ h = absurd h
 
   finish_longer : (fault : LogicalFault) → FinishRefusedSeen settings v at old new fault → IsLonger old new
   finish_longer (refusal.ReadOnly m) h = same_longer old new h.0
@@ -169,7 +169,7 @@ module _ (settings : Settings) (v at : ℕ) (old new : VolumeSeen) where
   refused_longer : (work : Maintenance) (fault : LogicalFault) → WorkRefusedSeen settings work v at fault old new → IsLonger old new
   refused_longer Flush fault h = flush_longer fault h
   refused_longer Begin fault h = begin_longer fault h
-  refused_longer (Step cells) fault h = step_longer fault h
+  refused_longer (Step cells) fault h = step_longer cells fault h
   refused_longer Finish fault h = finish_longer fault h
   refused_longer Compact fault h = compact_longer fault h
 

@@ -146,7 +146,7 @@ TellsSlot NoMemory slot = ⊥
 told_within : (settings : Settings) (before after : List ℕ) (fault : ClusterFault) (slot : ℕ) → HasFaultCause settings before after fault → TellsSlot fault slot → slot < disk_count settings
 told_within settings before after (Shelf count) slot cause told = absurd told
 told_within settings before after (Failed there count) slot cause told = subst (λ n. n < disk_count settings) told cause.0
-told_within settings before after (Damaged there file at) slot cause told = subst (λ n. n < disk_count settings) told cause
+told_within settings before after (Damaged there file at) slot cause told = subst (λ n. n < disk_count settings) told cause.0
 told_within settings before after NoMemory slot cause told = absurd told
 
 told_here : (told slot : ℕ) (f : OpenFault) → TellsSlot (not_opened told f) slot → told ≡ slot
@@ -205,11 +205,11 @@ module _ {D P A : Type 0} (DiskTells : Type 0) (files : D → Files) (Tells : Ty
   Names store slot file at = NamesDamage store.settings slot file at (contents_in files store slot)
 
   directory_named : DiskTells → (old new : Open D P A) → IsShaped old → (slot file at : ℕ) → RefusesDirectory DiskTells files faults old.directory new.directory (Damaged slot file at) → Names old slot file at
-  directory_named tells old new shape slot file at (zeroth, damage) =
+  directory_named tells old new shape slot file at (zeroth, first, damage) =
       let d = damage tells in
       subst (λ n. Names old n file at) (sym zeroth)
       (subst (λ (contents : Contents). NamesDamage old.settings 0 file at contents) (sym (contents_at files old 0 (old.directory).disk refl))
-      (directory_damaged old.settings (old.directory).settings file at (λ n. (files (old.directory).disk n).now) shape.directory d.0 d.1 d.2))
+      (directory_damaged old.settings (old.directory).settings file at (λ n. (files (old.directory).disk n).now) shape.directory first d.0 d.1))
 
   volume_named : DiskTells → (old : Open D P A) → IsShaped old → (v j slot file at : ℕ) (x : Volume D P) (r r' : Copy D) (f : OpenFault) → At old.volumes v x → At x.replicas j r
       → IsOpenFault DiskTells files faults r r' f → not_opened (slot_of old.settings v j) f ≡ Damaged slot file at → Names old slot file at

@@ -22,18 +22,20 @@ module _ {D : Type 0} (DiskTells : Type 0) (files : D → Files) (faults : D →
   refused_by : (f : OpenFault)
       → ((n : ℕ) → f ≡ opening.Failed n → (n ≡ faults new.disk) × Rose (faults old.disk) (faults new.disk))
       → (DiskTells → (file at : ℕ) → f ≡ opening.Damaged file at → (file ≡ 0) × (0 < length (files old.disk 0).now) × IsDamagedJournal (journal_super old.settings) (files old.disk 0).now at)
+      → ((file at : ℕ) → f ≡ opening.Damaged file at → file ≡ 0)
       → (DiskTells → (rows : List HomeRow) (file at : ℕ) → OpensRows old.settings (λ n. (files old.disk n).now) rows → f ≡ opening.Damaged file at → ⊥)
       → RefusesDirectory DiskTells files faults old new (no_directory f)
-  refused_by (opening.Failed n) failed damaged whole = let h = failed n refl in (refl, h.1, h.0)
-  refused_by (opening.Damaged file at) failed damaged whole = (refl, λ tells. let h = damaged tells file at refl in (h.0, h.2, λ rows opens. whole tells rows file at opens refl))
-  refused_by opening.NoMemory failed damaged whole = tt
+  refused_by (opening.Failed n) failed damaged zeroth whole = let h = failed n refl in (refl, h.1, h.0)
+  refused_by (opening.Damaged file at) failed damaged zeroth whole = (refl, zeroth file at refl, λ tells. ((damaged tells file at refl).2, λ rows opens. whole tells rows file at opens refl))
+  refused_by opening.NoMemory failed damaged zeroth whole = tt
 
   pub directory_refused : (f : OpenFault) (r : ClusterFault) → r ≡ no_directory f
       → ((n : ℕ) → f ≡ opening.Failed n → (n ≡ faults new.disk) × Rose (faults old.disk) (faults new.disk))
       → (DiskTells → (file at : ℕ) → f ≡ opening.Damaged file at → (file ≡ 0) × (0 < length (files old.disk 0).now) × IsDamagedJournal (journal_super old.settings) (files old.disk 0).now at)
+      → ((file at : ℕ) → f ≡ opening.Damaged file at → file ≡ 0)
       → (DiskTells → (rows : List HomeRow) (file at : ℕ) → OpensRows old.settings (λ n. (files old.disk n).now) rows → f ≡ opening.Damaged file at → ⊥)
       → RefusesDirectory DiskTells files faults old new r
-  directory_refused f r is failed damaged whole = subst (λ x. RefusesDirectory DiskTells files faults old new x) (sym is) (refused_by f failed damaged whole)
+  directory_refused f r is failed damaged zeroth whole = subst (λ x. RefusesDirectory DiskTells files faults old new x) (sym is) (refused_by f failed damaged zeroth whole)
 
 -- what a stopped Directory has can be opened
 module _ {D : Type 0} (files : D → Files) where

@@ -148,7 +148,7 @@ module _ {D P : Type 0} (DiskTells : Type 0) (files : D → Files) (Tells : Type
   stops_idle tells (x ∷ xs) [] all = absurd all
   stops_idle tells (x ∷ xs) (y ∷ ys) all = (all.0.idle tells, stops_idle tells xs ys all.1)
 
-slot_below : (settings : Settings) (v j : ℕ) → v < settings.volumes → j < settings.replicas → slot_of settings v j < disk_count settings
+pub slot_below : (settings : Settings) (v j : ℕ) → v < settings.volumes → j < settings.replicas → slot_of settings v j < disk_count settings
 slot_below settings v j volume replica =
     let up : v + 1 ≤ settings.volumes = omega (arith, volume) in
     omega (arith, mul-le-mul_left settings.replicas up, replica)
@@ -158,7 +158,7 @@ module _ {D : Type 0} (DiskTells : Type 0) (files : D → Files) (faults : D →
       → (slot file at : ℕ) → fault ≡ Damaged slot file at → ⊥
   directory_whole old new known (Shelf n) tells stopped refused slot file at is = refused
   directory_whole old new known (Failed s n) tells stopped refused slot file at is = absurd cc
-  directory_whole old new known (Damaged s f a) tells stopped refused slot file at is = let rows = stopped_rows files old known stopped in (refused.1 tells).2 rows.0 rows.1
+  directory_whole old new known (Damaged s f a) tells stopped refused slot file at is = let rows = stopped_rows files old known stopped in (refused.2 tells).1 rows.0 rows.1
   directory_whole old new known NoMemory tells stopped refused slot file at is = absurd cc
 
 -- A STORE WAS STOPPED, OR OPENED
@@ -243,8 +243,10 @@ module _ {D P A : Type 0} (DiskTells : Type 0) (files : D → Files) (Tells : Ty
       )
   by_volume mid new v before after (opening.Damaged file at) j shape shape' same was is b a there here cause =
       let of_v = volume_of mid v before shape was in
-      let many : length before.replicas ≡ (mid.settings).replicas = of_v.all ∙ ap (λ (t : Settings). t.replicas) of_v.settings_are in
-      slot_below mid.settings v j (subst (λ n. v < n) shape.many (slice_get_within mid.volumes v before was)) (subst (λ n. j < n) many (slice_get_within before.replicas j b there))
+      let many : length before.replicas ≡ (mid.settings).replicas = of_v.all ∙ ap (λ (t : Settings). t.replicas) of_v.settings_are in (
+        slot_below mid.settings v j (subst (λ n. v < n) shape.many (slice_get_within mid.volumes v before was)) (subst (λ n. j < n) many (slice_get_within before.replicas j b there)),
+        λ zeroth. absurd (let none : slot_of mid.settings v j ≡ 0 = zeroth in omega (arith, none)),
+      )
   by_volume mid new v before after opening.NoMemory j shape shape' same was is b a there here cause = tt
 
   by_directory : (mid new : Open D P A) (fault : ClusterFault) → RefusesDirectory DiskTells files faults mid.directory new.directory fault → HasFaultCause mid.settings (map faults (disks_of mid)) (map faults (disks_of new)) fault
@@ -254,7 +256,7 @@ module _ {D P A : Type 0} (DiskTells : Type 0) (files : D → Files) (Tells : Ty
     subst (λ s. Rose (slice_index (map faults (disks_of mid)) s) (slice_index (map faults (disks_of new)) s)) (sym refused.0) refused.1,
     refused.2 ∙ ap (λ s. slice_index (map faults (disks_of new)) s) (sym refused.0),
   )
-  by_directory mid new (Damaged slot file at) refused = let zeroth : slot ≡ 0 = refused.0 in omega (arith, zeroth)
+  by_directory mid new (Damaged slot file at) refused = ((let zeroth : slot ≡ 0 = refused.0 in omega (arith, zeroth)), λ first. refused.1)
   by_directory mid new NoMemory refused = tt
 
   pub opening_cause : (mid new : Open D P A) (fault : ClusterFault) → IsShaped mid → MovedParts mid new → RefusesParts DiskTells files faults mid.settings mid.directory new.directory mid.volumes new.volumes fault

@@ -16,7 +16,7 @@ use Rattle.hay_logical.specs.Stands.{IsIdleVolume}
 use Rattle.hay_logical.specs.Volumes.{IsClosed, Volume}
 use Rattle.hay_cluster.specs.declared.fault.ClusterFault.{ClusterFault}
 use Rattle.hay_cluster.specs.declared.fault.ClusterFault.TheVariants.{Shelf, Failed, Damaged, NoMemory}
-use Rattle.hay_cluster.specs.Causes.{HasFaultCause}
+use Rattle.hay_cluster.specs.Causes.{HasFaultCause, HasFile}
 use Rattle.hay_cluster.specs.Opening.{IsResting, LeavesDirectory, LeavesVolume, RefusesParts}
 use Rattle.hay_cluster.specs.Outside.{CountsOn, read_of}
 use Rattle.hay_cluster.specs.Store.{IsShaped, Open, contents_in, disk_of, disks_of, volume_disks}
@@ -230,7 +230,7 @@ module _ {D P A : Type 0} (DiskTells : Type 0) (files : D → Files) (Tells : Ty
         )
 
     pub back_damaged : (old new : Open D P A) (fault : ClusterFault) → IsTaken old → MovedParts DiskTells files Tells faults fuses arm_faults old new
-        → RefusesParts DiskTells files faults old.settings old.directory new.directory old.volumes new.volumes fault → (slot file at : ℕ) → fault ≡ Damaged slot file at → slot < disk_count old.settings
+        → RefusesParts DiskTells files faults old.settings old.directory new.directory old.volumes new.volumes fault → (slot file at : ℕ) → fault ≡ Damaged slot file at → HasFile old.settings slot file
     back_damaged old new fault t m refused slot file at is =
         subst (λ f. HasFaultCause old.settings (map faults (disks_of old)) (map faults (disks_of new)) f) is (opening_cause DiskTells files Tells faults fuses arm_faults old new fault t.shape m refused)
 

@@ -1,5 +1,5 @@
 -- What a read sees of the photo of a pair.
-use Rattle.std.proofs.Common.{◌≡◌, Bool, ℕ, ◌+◌, ◌%◌, ◌<◌, List, [], ◌∷◌, ◌++◌, length, map, refl, sym, ap, subst, ◌∙◌, arith}
+use Rattle.std.proofs.Common.{◌≡◌, Bool, ℕ, ◌+◌, ◌%◌, ◌<◌, List, [], ◌∷◌, Some, length, map, refl, sym, ap, subst, ◌∙◌, arith}
 use Rattle.std.specs.Prelude.{Ok}
 use Rattle.std.specs.List.{AllByRecursion}
 use Rattle.std.proofs.Math.Nat.{mod-lt}
@@ -19,8 +19,7 @@ use Rattle.hay_reader.specs.declared.seat.ReadReply.{ReadReply}
 use Rattle.hay_reader.specs.declared.seat.ReadReply.TheVariants as read
 use Rattle.hay_reader.specs.declared.trial.Shown.{Shown}
 use Rattle.hay_reader.specs.declared.trial.Shown.TheVariants as shown
-use Rattle.hay_reader.proofs.Passing.{all_weaken}
-use Rattle.hay_logical.specs.Sights.{AwaitsLook, AwaitsLookAt, IsLiveSight, SeesPair, Sight, Sights, sight}
+use Rattle.hay_logical.specs.Sights.{AwaitsLook, AwaitsLookAt, IsLiveSight, Sight, sight}
 use Rattle.hay_logical.specs.Sights.Sight.{Gone, Live, Never, Unseen}
 use Rattle.hay_logical.specs.declared.fault.LogicalFault.{LogicalFault}
 use Rattle.hay_logical.specs.declared.fault.LogicalFault.TheVariants as refusal
@@ -30,10 +29,10 @@ use Rattle.hay_cluster.specs.Passing.{StandsFor}
 use Rattle.hay_cluster.specs.declared.reading.Found.{Found}
 use Rattle.hay_cluster.specs.Reads.{AwaitsFor, FoundSees, IsFoundAs, IsSightCause, MayHave, ReadSees, passed_at}
 use Rattle.hay_cluster.specs.Seen.{StoreSeen}
-use Rattle.hay_cluster.specs.Sights.{IsAbsent, MayStand, SeesOn}
+use Rattle.hay_cluster.specs.Sights.{IsAbsent, SeesOn}
 use Rattle.hay_cluster.specs.Store.{IsBuilt}
 use Rattle.hay_cluster.proofs.Machines.{replica_found, same_machine}
-use Rattle.hay_cluster.proofs.Showing.{all_append, all_tried}
+use Rattle.hay_cluster.proofs.Showing.{all_tried}
 
 -- PLACES
 
@@ -102,37 +101,15 @@ sees_in {P} row now seen reply is same sees = go reply sees
 
 -- REPLICAS THAT WERE PASSED OVER
 
-pub may_stand_as : (seen now : ℕ → Sight) (causes : List PassedReplica) → ((j : ℕ) → now j ≡ seen j) → MayHave seen causes → MayHave now causes
-may_stand_as seen now causes same all =
-    all_weaken (λ over. StandsFor over.cause (seen over.replica)) (λ over. StandsFor over.cause (now over.replica))
-    (λ over may. subst (StandsFor over.cause) (sym (same over.replica)) may) causes all
-
--- the place of another replica was looked at
-pub may_stand_still : (pair : Pair) (replica : ℕ) (old new : Sights) (causes : List PassedReplica) → SeesPair pair replica old new → AllByRecursion (λ over. over.replica ≡ replica → ⊥) causes
-    → MayHave (old pair) causes → MayHave (new pair) causes
-may_stand_still pair replica old new [] sees apart all = tt
-may_stand_still pair replica old new (over ∷ causes) sees apart all =
-    (subst (StandsFor over.cause) (sym (sees.others over.replica apart.0)) all.0, may_stand_still pair replica old new causes sees apart.1 all.1)
-
--- one more, which was not seen
-pub may_stand_more : (seen : ℕ → Sight) (causes : List PassedReplica) (over : PassedReplica) → StandsFor over.cause (seen over.replica) → MayHave seen causes → MayHave seen (causes ++ over ∷ [])
-may_stand_more seen causes over stands all = all_append (λ p. StandsFor p.cause (seen p.replica)) causes (over ∷ []) all (stands, tt)
-
-awaits_stands : (seen : Sight) → AwaitsLook seen → MayStand seen
-awaits_stands Never awaits = awaits
-awaits_stands (Live at) awaits = absurd awaits
-awaits_stands Gone awaits = awaits
-awaits_stands (Unseen at size) awaits = tt
-
 damage_stands : (place : ℕ) (seen : Sight) → AwaitsLookAt place seen → StandsFor (Damage place) seen
 damage_stands place Never awaits = awaits
 damage_stands place (Live at) awaits = absurd awaits
 damage_stands place Gone awaits = awaits
 damage_stands place (Unseen at size) awaits = awaits
 
--- what awaits a look that was refused may stand
+-- what awaits a look stands for why it was refused
 pub awaits_for : (fault : LogicalFault) (cause : Cause) (seen : Sight) → IsSightCause fault cause → AwaitsFor fault seen → StandsFor cause seen
-awaits_for (refusal.Failed m count) cause seen is awaits = subst (λ (c : Cause). StandsFor c seen) (sym is) (awaits_stands seen awaits)
+awaits_for (refusal.Failed m count) cause seen is awaits = subst (λ (c : Cause). StandsFor c seen) (sym is) awaits
 awaits_for (refusal.Damaged m place) cause seen is awaits = subst (λ (c : Cause). StandsFor c seen) (sym is) (damage_stands place seen awaits)
 awaits_for refusal.NoMemory cause seen is awaits = absurd is
 awaits_for (refusal.ReadOnly m) cause seen is awaits = absurd is
@@ -142,12 +119,15 @@ awaits_for (refusal.Busy m generation) cause seen is awaits = absurd is
 awaits_for (refusal.Worn m) cause seen is awaits = absurd is
 awaits_for refusal.Idle cause seen is awaits = absurd is
 
--- the next replica is none of those before it
+-- those before the next replica are others than it, and the volume has each
 pub next_apart : (settings : Settings) (start : ℕ) (causes : List PassedReplica) (replica : ℕ) → ComeFirst start settings.replicas causes → length causes < settings.replicas
-    → replica ≡ (start + length causes) % settings.replicas → AllByRecursion (λ over. over.replica ≡ replica → ⊥) causes
+    → replica ≡ (start + length causes) % settings.replicas → AllByRecursion (λ over. (over.replica < settings.replicas) × (over.replica ≡ replica → ⊥)) causes
 next_apart settings start causes replica order fewer next =
-    all_tried (λ j. j ≡ replica → ⊥) (λ i. (start + i) % settings.replicas) (length causes) 0
-    (λ i low high eq. let e : i ≡ length causes = same_machine settings.replicas start i (length causes) (omega (arith, high, fewer)) fewer (eq ∙ next) in omega (arith, e, high)) causes order
+    all_tried (λ j. (j < settings.replicas) × (j ≡ replica → ⊥)) (λ i. (start + i) % settings.replicas) (length causes) 0
+    (λ i low high. (
+      mod-lt (start + i) (omega (arith, fewer)),
+      λ eq. let e : i ≡ length causes = same_machine settings.replicas start i (length causes) (omega (arith, high, fewer)) fewer (eq ∙ next) in omega (arith, e, high),
+    )) causes order
 
 -- WHAT IS TOLD
 
@@ -162,13 +142,16 @@ module _ (settings : Settings) (v : ℕ) (pair : Pair) (seen : StoreSeen) (built
   pub sees_on : (Is : Sight → Type 0) (j m : ℕ) → j < settings.replicas → m ≡ machine_of settings v j → Is (seen.places v pair j) → SeesOn settings v pair Is seen m
   sees_on Is j m below machine is = (j, ap (λ n. replica_on settings v n) machine ∙ replica_found settings v j volume below built.no_more_replicas, is)
 
-  told_each : (over : List PassedReplica) → AllByRecursion (λ p. p.replica < settings.replicas) over → MayHave (seen.places v pair) over
-      → AllByRecursion (λ (passed : Passed). SeesOn settings v pair (StandsFor passed.cause) seen passed.machine) (map (passed_at settings v) over)
-  told_each [] below all = tt
-  told_each (p ∷ over) below all = (sees_on (StandsFor p.cause) p.replica (machine_of settings v p.replica) below.0 refl all.0, told_each over below.1 all.1)
+  told_each : (Is : ℕ → Cause → Type 0) (over : List PassedReplica) → AllByRecursion (λ p. p.replica < settings.replicas) over → MayHave Is over
+      → AllByRecursion (λ (passed : Passed). (j : ℕ) × (replica_on settings v passed.machine ≡ Some j) × Is j passed.cause) (map (passed_at settings v) over)
+  told_each Is [] below all = tt
+  told_each Is (p ∷ over) below all = (
+    (p.replica, replica_found settings v p.replica volume below.0 built.no_more_replicas, all.0),
+    told_each Is over below.1 all.1,
+  )
 
   -- each that was passed over, by its machine
-  pub told_over : (start : ℕ) (over : List PassedReplica) → ComeFirst start settings.replicas over → MayHave (seen.places v pair) over
-      → AllByRecursion (λ (passed : Passed). SeesOn settings v pair (StandsFor passed.cause) seen passed.machine) (map (passed_at settings v) over)
-  told_over start over order all =
-      told_each over (all_tried (λ j. j < settings.replicas) (λ i. (start + i) % settings.replicas) (length over) 0 (λ i low high. let some = built.some_replicas in mod-lt (start + i) (omega (arith, some))) over order) all
+  pub told_over : (Is : ℕ → Cause → Type 0) (start : ℕ) (over : List PassedReplica) → ComeFirst start settings.replicas over → MayHave Is over
+      → AllByRecursion (λ (passed : Passed). (j : ℕ) × (replica_on settings v passed.machine ≡ Some j) × Is j passed.cause) (map (passed_at settings v) over)
+  told_over Is start over order all =
+      told_each Is over (all_tried (λ j. j < settings.replicas) (λ i. (start + i) % settings.replicas) (length over) 0 (λ i low high. let some = built.some_replicas in mod-lt (start + i) (omega (arith, some))) over order) all

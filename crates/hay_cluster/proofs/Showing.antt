@@ -262,18 +262,18 @@ module _ (W W' : Cause → Type 0) (settings : Settings) (lane v start : ℕ) (b
       assoc (x ∷ xs) ys zs = ap (λ (l : List PassedReplica). x ∷ l) (assoc xs ys zs)
 
 -- a read that goes on from passed replicas
-pub read_on : (W W' : Cause → Type 0) (settings : Settings) (lane v start : ℕ) (before mid after : Counts) (seen : ℕ → Sight) (passed causes : List PassedReplica) (reply : ReadReply)
+pub read_on : (W W' : Cause → Type 0) (settings : Settings) (lane v start : ℕ) (before mid after : Counts) (Had : ℕ → Cause → Type 0) (passed causes : List PassedReplica) (reply : ReadReply)
     → ((cause : Cause) → W cause → W' cause) → GoesOn settings lane v before mid after causes → PassesFrom W settings lane v start before mid passed causes
-    → ReadPasses W' settings lane v start mid after seen causes reply → ReadPasses W settings lane v start before after seen passed reply
-read_on W W' settings lane v start before mid after seen passed causes reply whole on first reads = go reply reads
+    → ReadPasses W' settings lane v start mid after Had causes reply → ReadPasses W settings lane v start before after Had passed reply
+read_on W W' settings lane v start before mid after Had passed causes reply whole on first reads = go reply reads
   where
     from : (more : List PassedReplica) → PassesFrom W' settings lane v start mid after causes more → PassesFrom W settings lane v start before after passed more
     from more h = passes_on W W' settings lane v start before mid after passed causes more whole on first h
 
-    to : (more : List PassedReplica) (j : ℕ) → PassesTo W' settings lane v start mid after seen causes more j → PassesTo W settings lane v start before after seen passed more j
+    to : (more : List PassedReplica) (j : ℕ) → PassesTo W' settings lane v start mid after Had causes more j → PassesTo W settings lane v start before after Had passed more j
     to more j h = record { passes = from more h.passes; stood = h.stood; fewer = h.fewer; next = h.next }
 
-    go : (r : ReadReply) → ReadPasses W' settings lane v start mid after seen causes r → ReadPasses W settings lane v start before after seen passed r
+    go : (r : ReadReply) → ReadPasses W' settings lane v start mid after Had causes r → ReadPasses W settings lane v start before after Had passed r
     go (read.Photo j) h = (h.0, to h.0 j h.1)
     go (read.Gone j) h = (h.0, to h.0 j h.1)
     go (read.WrongCookie j) h = (h.0, to h.0 j h.1)
@@ -373,10 +373,10 @@ split_tries f (suc tries) (suc n) at few =
     let e : at + 1 + tries ≡ at + suc tries = omega arith in
     (rest.0, ap (λ (xs : List ℕ). f at ∷ xs) rest.1 ∙ ap (λ i. f at ∷ (map f (range_with_len (at + 1) tries) ++ f i ∷ rest.0)) e)
 
-pub tried : (W : Cause → Type 0) (settings : Settings) (lane v start : ℕ) (before after : Counts) (seen : ℕ → Sight) (causes : List PassedReplica) (j : ℕ) → ((at : ℕ) → W (Damage at)) → slice_index before.arms lane ≤ slice_index after.arms lane
-    → PassesTo W settings lane v start before after seen [] causes j
+pub tried : (W : Cause → Type 0) (settings : Settings) (lane v start : ℕ) (before after : Counts) (Had : ℕ → Cause → Type 0) (causes : List PassedReplica) (j : ℕ) → ((at : ℕ) → W (Damage at)) → slice_index before.arms lane ≤ slice_index after.arms lane
+    → PassesTo W settings lane v start before after Had [] causes j
     → Reaches (slice_index before.arms lane) (count_by (λ i. not (rose_in settings v before.disks after.disks i)) (take_while (λ i. not (i == j)) (order_from settings start))) (slice_index after.arms lane)
-tried W settings lane v start before after seen causes j whole later passes =
+tried W settings lane v start before after Had causes j whole later passes =
     let q : ℕ → Bool = λ i. not (rose_in settings v before.disks after.disks i) in
     let f : ℕ → ℕ = λ i. (start + i) % settings.replicas in
     let split = split_tries f (length causes) settings.replicas 0 passes.fewer in
@@ -427,10 +427,10 @@ mean_at R (x ∷ xs) [] j none all = absurd all
 mean_at R (x ∷ xs) (y ∷ ys) zero none all = (y, all.0)
 mean_at R (x ∷ xs) (y ∷ ys) (suc j) none all = mean_at R xs ys j none all.1
 
--- a replica that is passed over may have the photo
-gives_cause : {P : Type 0} (Tells : Type 0) (sure : Bool) (cookie : Cookie) (put : List ℕ) (there : Place P) (cause : Cause) → PlaceGives Tells sure cookie put there (Err cause) → StandsFor cause (sight there)
+-- why a place is passed over is of what is seen there
+pub gives_cause : {P : Type 0} (Tells : Type 0) (sure : Bool) (cookie : Cookie) (put : List ℕ) (there : Place P) (cause : Cause) → PlaceGives Tells sure cookie put there (Err cause) → StandsFor cause (sight there)
 gives_cause Tells sure cookie put (place.Live needle) (Arm f) gives = tt
-gives_cause Tells sure cookie put (place.Live needle) (Disk f) gives = tt
+gives_cause Tells sure cookie put (place.Live needle) (Disk f) gives = absurd gives
 gives_cause Tells sure cookie put (place.Live needle) (Damage at) gives = gives.0
 gives_cause Tells sure cookie put place.None cause gives = absurd cc
 gives_cause Tells sure cookie put place.Gone cause gives = absurd cc
@@ -438,7 +438,7 @@ gives_cause Tells sure cookie put (place.Unseen at size) cause gives = absurd cc
 
 module _ {P : Type 0} (W : Cause → Type 0) (Tells : Type 0) (sure : Bool) (settings : Settings) (lane v start : ℕ) (before after : Counts) (row : List (Place P)) (pair : Pair) (cookie : Cookie) (long : length row ≡ settings.replicas)
     (means : (at : ℕ) → W (Damage at) → (outcomes : List Outcome) × AllZip (MayMean Tells pair) row outcomes) (surely : (f : ℕ) → W (Arm f) → sure ≡ true)
-    (seen : ℕ → Sight) (same : (j : ℕ) → sight (place_in row j) ≡ seen j) (passed : List PassedReplica) (stood : MayHave seen passed) where
+    (Had : ℕ → Cause → Type 0) (had : (j : ℕ) (cause : Cause) → PlaceGives Tells sure cookie [] (place_in row j) (Err cause) → Had j cause) (passed : List PassedReplica) (stood : MayHave Had passed) where
   abbrev TheArm : ArmUse
   TheArm = record { sure = sure; before = slice_index before.arms lane; after = slice_index after.arms lane }
 
@@ -454,17 +454,17 @@ module _ {P : Type 0} (W : Cause → Type 0) (Tells : Type 0) (sure : Bool) (set
     rises = h.passes.rises;
   }
 
-  row_stood : (causes : List PassedReplica) → PassesRow Tells TheArm start row cookie passed causes → MayHave seen causes
+  row_stood : (causes : List PassedReplica) → PassesRow Tells TheArm start row cookie passed causes → MayHave Had causes
   row_stood causes h =
       let fresh : List PassedReplica = passed_now passed causes in
       let parts : causes ≡ passed ++ fresh = sym (take-append-drop (length passed) causes) ∙ ap (λ (xs : List PassedReplica). xs ++ fresh) (h.passes).begins in
-      subst (λ (xs : List PassedReplica). MayHave seen xs) (sym parts)
-      (all_append (λ over. StandsFor over.cause (seen over.replica)) passed fresh stood
-      (all_weaken (λ over. PlaceGives Tells sure cookie [] (place_in row over.replica) (Err over.cause)) (λ over. StandsFor over.cause (seen over.replica))
-      (λ over gives. subst (StandsFor over.cause) (same over.replica) (gives_cause Tells sure cookie [] (place_in row over.replica) over.cause gives)) fresh h.places))
+      subst (λ (xs : List PassedReplica). MayHave Had xs) (sym parts)
+      (all_append (λ over. Had over.replica over.cause) passed fresh stood
+      (all_weaken (λ over. PlaceGives Tells sure cookie [] (place_in row over.replica) (Err over.cause)) (λ over. Had over.replica over.cause)
+      (λ over gives. had over.replica over.cause gives) fresh h.places))
 
   row_to : (causes : List PassedReplica) (put : List ℕ) (j : ℕ) (what : Shown) → ShowsPlace Tells TheArm start row cookie passed causes put j what
-      → PassesTo W settings lane v start before after seen passed causes j
+      → PassesTo W settings lane v start before after Had passed causes j
   row_to causes put j what h = record {
     passes = row_passes causes h.before;
     stood = row_stood causes h.before;
@@ -472,7 +472,7 @@ module _ {P : Type 0} (W : Cause → Type 0) (Tells : Type 0) (sure : Bool) (set
     next = h.next ∙ ap (λ n. (start + length causes) % n) long;
   }
 
-  pub row_read : (put : List ℕ) (reply : ReadReply) → ReadsRow Tells TheArm start row cookie passed put reply → ReadPasses W settings lane v start before after seen passed reply
+  pub row_read : (put : List ℕ) (reply : ReadReply) → ReadsRow Tells TheArm start row cookie passed put reply → ReadPasses W settings lane v start before after Had passed reply
   row_read put (read.Photo j) h = (h.0, row_to h.0 put j shown.Photo h.1)
   row_read put (read.Gone j) h = (h.0, row_to h.0 put j shown.Gone h.1)
   row_read put (read.WrongCookie j) h = (h.0, row_to h.0 put j shown.WrongCookie h.1)
@@ -549,8 +549,8 @@ machines_told settings v [] = refl
 machines_told settings v (p ∷ over) = ap (λ (ms : List ℕ). machine_of settings v p.replica ∷ ms) (machines_told settings v over)
 
 -- the replica that showed the photo is one of the volume's
-pub to_below : (W : Cause → Type 0) (settings : Settings) (lane v start : ℕ) (before after : Counts) (seen : ℕ → Sight) (passed causes : List PassedReplica) (j : ℕ) → PassesTo W settings lane v start before after seen passed causes j → j < settings.replicas
-to_below W settings lane v start before after seen passed causes j to =
+pub to_below : (W : Cause → Type 0) (settings : Settings) (lane v start : ℕ) (before after : Counts) (Had : ℕ → Cause → Type 0) (passed causes : List PassedReplica) (j : ℕ) → PassesTo W settings lane v start before after Had passed causes j → j < settings.replicas
+to_below W settings lane v start before after Had passed causes j to =
     let fewer = to.fewer in
     let some : 0 < settings.replicas = omega (arith, fewer) in
     let low = mod-lt (start + length causes) some in
@@ -570,24 +570,24 @@ module _ {D P A : Type 0} (DiskTells : Type 0) (files : D → Files) (Tells : Ty
   abbrev Never : Open D P A → ℕ → Cause → Type 0
   Never store lane cause = NeverIn DiskTells files Tells faults fuses arm_faults is_sure store lane cause
 
-  pub read_shown : (old new : Open D P A) (settings : Settings) (k : Known) (tag : CoreTag) (start : ℕ) (pair : Pair) (v j m p d : ℕ) (what : Outcome) (seen : ℕ → Sight) (causes : List PassedReplica) → IsBuilt settings → v < settings.volumes → home_of k pair ≡ Some v
+  pub read_shown : (old new : Open D P A) (settings : Settings) (k : Known) (tag : CoreTag) (start : ℕ) (pair : Pair) (v j m p d : ℕ) (what : Outcome) (Had : ℕ → Cause → Type 0) (causes : List PassedReplica) → IsBuilt settings → v < settings.volumes → home_of k pair ≡ Some v
       → p ≡ length (volume_at k v).log → d ≡ length k.directory.rows → m ≡ machine_of settings v j → Whole old → Stands files Tells faults fuses arm_faults old k → (came : Comes files Tells faults fuses arm_faults k k new)
       → slice_get (outcomes_of settings (volume_at k v) pair) j ≡ Some what
-      → PassesTo (Never old tag.lane) settings tag.lane v start (counts_of faults arm_faults old) (counts_of faults arm_faults new) seen [] causes j
+      → PassesTo (Never old tag.lane) settings tag.lane v start (counts_of faults arm_faults old) (counts_of faults arm_faults new) Had [] causes j
       → IsShown settings k tag start pair v m p d what came.known
-  read_shown old new settings k tag start pair v j m p d what seen causes built volume home front rows machine whole stood came says passes =
+  read_shown old new settings k tag start pair v j m p d what Had causes built volume home front rows machine whole stood came says passes =
       let got = range_get (λ i. outcome_at (now (volume_at k v) (replica_at (volume_at k v) i)) pair) settings.replicas 0 j what says in
       let zero_j : 0 + j ≡ j = omega arith in
-      let known : PassesTo (Never old tag.lane) settings tag.lane v start (known_counts k) (known_counts came.known) seen [] causes j =
-      subst (λ (c : Counts). PassesTo (Never old tag.lane) settings tag.lane v start c (known_counts came.known) seen [] causes j) (counts_known old k stood)
-      (subst (λ (c : Counts). PassesTo (Never old tag.lane) settings tag.lane v start (counts_of faults arm_faults old) c seen [] causes j) (counts_known new came.known came.stands) passes) in
+      let known : PassesTo (Never old tag.lane) settings tag.lane v start (known_counts k) (known_counts came.known) Had [] causes j =
+      subst (λ (c : Counts). PassesTo (Never old tag.lane) settings tag.lane v start c (known_counts came.known) Had [] causes j) (counts_known old k stood)
+      (subst (λ (c : Counts). PassesTo (Never old tag.lane) settings tag.lane v start (counts_of faults arm_faults old) c Had [] causes j) (counts_known new came.known came.stands) passes) in
       subst (λ n. IsShown settings k tag start pair v n p d what came.known) (sym machine)
       (record {
         seen = record { home = home; front = front; rows = rows };
         replica = j;
         there = replica_found settings v j volume got.0 built.no_more_replicas;
         stands = ap (λ i. outcome_at (now (volume_at k v) (replica_at (volume_at k v) i)) pair) (sym zero_j) ∙ got.1;
-        passed = tried (Never old tag.lane) settings tag.lane v start (known_counts k) (known_counts came.known) seen causes j (λ at. whole) (falls_at k.arms (came.known).arms tag.lane (came.leaves).arms) known;
+        passed = tried (Never old tag.lane) settings tag.lane v start (known_counts k) (known_counts came.known) Had causes j (λ at. whole) (falls_at k.arms (came.known).arms tag.lane (came.leaves).arms) known;
         leaves = came.leaves;
       })
 
@@ -743,14 +743,14 @@ its_photo DiskTells Tells bytes place.Gone tells by = tt
 its_photo DiskTells Tells bytes (place.Unseen at size) tells by = tt
 
 -- a read that the next replica showed passes none over
-pub shown_passes : (W : Cause → Type 0) (settings : Settings) (lane v start : ℕ) (before after : Counts) (seen : ℕ → Sight) (passed : List PassedReplica) (reply : ReadReply) → ComeFirst start settings.replicas passed
-    → length passed < settings.replicas → MayHave seen passed → ShowsAt ((start + length passed) % settings.replicas) reply → ReadPasses W settings lane v start before after seen passed reply
-shown_passes W settings lane v start before after seen passed reply order fewer stood shows = go reply shows
+pub shown_passes : (W : Cause → Type 0) (settings : Settings) (lane v start : ℕ) (before after : Counts) (Had : ℕ → Cause → Type 0) (passed : List PassedReplica) (reply : ReadReply) → ComeFirst start settings.replicas passed
+    → length passed < settings.replicas → MayHave Had passed → ShowsAt ((start + length passed) % settings.replicas) reply → ReadPasses W settings lane v start before after Had passed reply
+shown_passes W settings lane v start before after Had passed reply order fewer stood shows = go reply shows
   where
-    to : (j : ℕ) → j ≡ (start + length passed) % settings.replicas → (causes : List PassedReplica) × PassesTo W settings lane v start before after seen passed causes j
+    to : (j : ℕ) → j ≡ (start + length passed) % settings.replicas → (causes : List PassedReplica) × PassesTo W settings lane v start before after Had passed causes j
     to j next = (passed, record { passes = passes_none W settings lane v start before after passed order; stood = stood; fewer = fewer; next = next })
 
-    go : (r : ReadReply) → ShowsAt ((start + length passed) % settings.replicas) r → ReadPasses W settings lane v start before after seen passed r
+    go : (r : ReadReply) → ShowsAt ((start + length passed) % settings.replicas) r → ReadPasses W settings lane v start before after Had passed r
     go (read.Photo j) next = to j next
     go (read.Gone j) next = to j next
     go (read.WrongCookie j) next = to j next
@@ -807,11 +807,11 @@ arm_goes_on settings lane v before mid after causes arms later disks most same =
     everywhere (p ∷ ps) = (ap (λ ns. slice_index ns (slot_of settings v p.replica)) same, everywhere ps)
 
 -- a read that goes on stops behind the replica at which it stopped
-pub stops_further : {D P A : Type 0} (W : Cause → Type 0) (settings : Settings) (lane v start : ℕ) (before after : Counts) (seen : ℕ → Sight) (store : Open D P A) (pair : Pair) (replica : ℕ) (causes passed : List PassedReplica) (reply : ReadReply) (j : ℕ) (more : List PassedReplica)
+pub stops_further : {D P A : Type 0} (W : Cause → Type 0) (settings : Settings) (lane v start : ℕ) (before after : Counts) (Had : ℕ → Cause → Type 0) (store : Open D P A) (pair : Pair) (replica : ℕ) (causes passed : List PassedReplica) (reply : ReadReply) (j : ℕ) (more : List PassedReplica)
     → replica ≡ (start + length causes) % settings.replicas → (length passed ≡ length causes + 1) ⊎ ((length passed ≡ length causes) × IsSeenAt store v pair replica)
-    → ReadPasses W settings lane v start before after seen passed reply → StopsUnseen store v pair reply → reply ≡ read.Unseen j more → length causes + 1 ≤ length more
-stops_further W settings lane v start before after seen store pair replica causes passed reply j more next on passes stops is =
-    let to : PassesTo W settings lane v start before after seen passed more j = subst (λ (r : ReadReply). ReadPasses W settings lane v start before after seen passed r) is passes in
+    → ReadPasses W settings lane v start before after Had passed reply → StopsUnseen store v pair reply → reply ≡ read.Unseen j more → length causes + 1 ≤ length more
+stops_further W settings lane v start before after Had store pair replica causes passed reply j more next on passes stops is =
+    let to : PassesTo W settings lane v start before after Had passed more j = subst (λ (r : ReadReply). ReadPasses W settings lane v start before after Had passed r) is passes in
     let unseen : IsSeenAt store v pair j → ⊥ = subst (λ (r : ReadReply). StopsUnseen store v pair r) is stops in
     let longer = no_shorter passed more to.passes.begins in
     elim on [
@@ -855,12 +855,12 @@ found_says cookie outcomes bytes (read.WrongCookie j) f is h = subst (λ (x : Fo
 found_says cookie outcomes bytes (read.Unreadable causes) f is h = subst (λ (x : Found). FoundSays cookie outcomes bytes x) (sym is) tt
 found_says cookie outcomes bytes (read.Unseen j causes) f is h = absurd is
 
-pub found_passes : (W : Cause → Type 0) (settings : Settings) (lane v start : ℕ) (before after : Counts) (seen : ℕ → Sight) (r : ReadReply) (f : Found) → IsFoundAs r f → ReadPasses W settings lane v start before after seen [] r → FoundPasses W settings lane v start before after seen f
-found_passes W settings lane v start before after seen (read.Photo j) f is h = subst (λ (x : Found). FoundPasses W settings lane v start before after seen x) (sym is) h
-found_passes W settings lane v start before after seen (read.Gone j) f is h = subst (λ (x : Found). FoundPasses W settings lane v start before after seen x) (sym is) h
-found_passes W settings lane v start before after seen (read.WrongCookie j) f is h = subst (λ (x : Found). FoundPasses W settings lane v start before after seen x) (sym is) h
-found_passes W settings lane v start before after seen (read.Unreadable causes) f is h = subst (λ (x : Found). FoundPasses W settings lane v start before after seen x) (sym is) h
-found_passes W settings lane v start before after seen (read.Unseen j causes) f is h = absurd is
+pub found_passes : (W : Cause → Type 0) (settings : Settings) (lane v start : ℕ) (before after : Counts) (Had : ℕ → Cause → Type 0) (r : ReadReply) (f : Found) → IsFoundAs r f → ReadPasses W settings lane v start before after Had [] r → FoundPasses W settings lane v start before after Had f
+found_passes W settings lane v start before after Had (read.Photo j) f is h = subst (λ (x : Found). FoundPasses W settings lane v start before after Had x) (sym is) h
+found_passes W settings lane v start before after Had (read.Gone j) f is h = subst (λ (x : Found). FoundPasses W settings lane v start before after Had x) (sym is) h
+found_passes W settings lane v start before after Had (read.WrongCookie j) f is h = subst (λ (x : Found). FoundPasses W settings lane v start before after Had x) (sym is) h
+found_passes W settings lane v start before after Had (read.Unreadable causes) f is h = subst (λ (x : Found). FoundPasses W settings lane v start before after Had x) (sym is) h
+found_passes W settings lane v start before after Had (read.Unseen j causes) f is h = absurd is
 
 -- a photo has at most as many bytes as the largest
 pub found_bytes : (bytes : List ℕ) (r : ReadReply) (f : Found) → IsFoundAs r f → HasBytes bytes r → (j : ℕ) → f ≡ found.Photo j → length bytes ≤ MAX_PHOTO

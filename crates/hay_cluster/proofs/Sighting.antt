@@ -23,7 +23,7 @@ use Rattle.hay_logical.specs.Steps.{KeepsRuns}
 use Rattle.hay_physical.specs.Copies.{Copy}
 use Rattle.hay_logical.specs.Volumes.{Volume}
 use Rattle.hay_logical.proofs.Lists.{at_set_other}
-use Rattle.hay_logical.specs.Sights.{AwaitsLook, BecomesSeen, DeleteRefusedSights, FindsPhoto, KeepsSights, Looks, LooksAtPair, LooksInVain, Sight, Sights, StoresSights, sights_of}
+use Rattle.hay_logical.specs.Sights.{AwaitsLook, BecomesSeen, DeleteRefusedSights, FindsPhoto, IsLiveSight, IsSeenOn, KeepsSights, Looks, LooksAtPair, LooksInVain, Sight, Sights, StoresSights, sights_of}
 use Rattle.hay_logical.specs.Sights.Sight.{Gone, Live, Never, Unseen}
 use Rattle.hay_cluster.specs.declared.maintenance.Maintenance.{Maintenance}
 use Rattle.hay_cluster.specs.declared.maintenance.Maintenance.TheVariants.{Flush, Begin, Step, Finish, Compact}
@@ -52,19 +52,19 @@ keeps_sights_on old mid new first second pair j = second pair j ∙ first pair j
 pub kept_looks : (pair : Pair) (old new : Sights) → KeepsSights old new → LooksAtPair pair old new
 kept_looks pair old new kept = record { each = λ j. inl (kept pair j); others = λ other j apart. kept other j }
 
+-- what was looked at awaits no look
+pub seen_once : (a b c : Sight) → BecomesSeen a b → BecomesSeen b c → ⊥
+seen_once Never b c shown again = shown
+seen_once (Live at) b c shown again = shown
+seen_once Gone b c shown again = shown
+seen_once (Unseen at size) b c (inl live) again = subst (λ x. BecomesSeen x c) live again
+seen_once (Unseen at size) b c (inr gone) again = subst (λ x. BecomesSeen x c) gone again
+
 looks_on : (a b c : Sight) → Looks a b → Looks b c → Looks a c
 looks_on a b c (inl same) (inl again) = inl (again ∙ same)
 looks_on a b c (inl same) (inr shown) = inr (subst (λ x. BecomesSeen x c) same shown)
 looks_on a b c (inr shown) (inl again) = inr (subst (λ x. BecomesSeen a x) (sym again) shown)
 looks_on a b c (inr shown) (inr again) = absurd (seen_once a b c shown again)
-  where
-    -- what was looked at awaits no look
-    seen_once : (a b c : Sight) → BecomesSeen a b → BecomesSeen b c → ⊥
-    seen_once Never b c shown again = shown
-    seen_once (Live at) b c shown again = shown
-    seen_once Gone b c shown again = shown
-    seen_once (Unseen at size) b c (inl live) again = subst (λ x. BecomesSeen x c) live again
-    seen_once (Unseen at size) b c (inr gone) again = subst (λ x. BecomesSeen x c) gone again
 
 pub looks_at_on : (pair : Pair) (old mid new : Sights) → LooksAtPair pair old mid → LooksAtPair pair mid new → LooksAtPair pair old new
 looks_at_on pair old mid new first second = record {
@@ -130,7 +130,7 @@ module _ {D P A : Type 0} (old store : Open D P A) (is : store ≡ old) where
       ap (λ (st : Open D P A). places_of st.volumes v) (sym is) ∙ ap (λ (o : Option (Volume D P)). option_map_or (λ (volume : Volume D P). sights_of volume.rows) o no_sights) at
 
   module _ (v : ℕ) (before after : Volume D P) (at : At store.volumes v before) where
-    photos_now : (store_seen (with_one store v after)).places v ≡ sights_of after.rows
+    pub photos_now : (store_seen (with_one store v after)).places v ≡ sights_of after.rows
     photos_now = ap (λ (o : Option (Volume D P)). option_map_or (λ (volume : Volume D P). sights_of volume.rows) o no_sights) (slice_get-set store.volumes v before after at)
 
     photos_beside : (w : ℕ) → w ≢ v → KeepsSights ((store_seen old).places w) ((store_seen (with_one store v after)).places w)
@@ -235,9 +235,9 @@ module _ (settings : Settings) (pair : Pair) (v : ℕ) (old new : StoreSeen) whe
     failed_sights : (m count : ℕ) → ChangesPhotos v (λ before after. DeleteRefusedSights settings v pair volume.frozen before after (refusal.Failed m count)) old new → DeleteSights settings pair (Failed v m) old new
     failed_sights m count c = by c.changes
       where
-        by : ((volume.frozen ≡ Some m) × FindsPhoto pair settings.replicas (old.places v) (new.places v))
+        by : ((volume.frozen ≡ Some m) × FindsPhoto pair settings.replicas (old.places v) (new.places v) × IsSeenOn settings v pair m IsLiveSight (new.places v))
             ⊎ ((volume.frozen ≡ None) × LooksInVain settings v pair m AwaitsLook (old.places v) (new.places v)) → DeleteSights settings pair (Failed v m) old new
-        by (inl (frozen, finds)) = inl ((volume, at, frozen), record { changes = finds; others = c.others })
+        by (inl (frozen, finds, live)) = inl ((volume, at, frozen), record { changes = finds; others = c.others }, live)
         by (inr (thawed, looks)) = inr ((volume, at, thawed), record { changes = looks; others = c.others })
 
     pub undeleted_sights : (fault : LogicalFault) → IsDeleteReply v rows fault said → ChangesPhotos v (λ before after. DeleteRefusedSights settings v pair volume.frozen before after fault) old new

@@ -69,12 +69,16 @@ IsCaused settings before after reply.BadLine = Unit {0}
 IsCaused settings before after reply.Unbuilt = Unit {0}
 IsCaused settings before after reply.NoMem = Unit {0}
 
+-- a disk of the store has this file: of the Directory's it is file 0
+abbrev pub HasFile : Settings → ℕ → ℕ → Type 0
+HasFile settings slot file = (slot < disk_count settings) × (slot ≡ 0 → file ≡ 0)
+
 -- So does an opening. The shelf has no part in what is done to disks.
 abbrev pub HasFaultCause : Settings → List ℕ → List ℕ → ClusterFault → Type 0
 HasFaultCause settings before after (fault.Shelf count) = ⊥
 HasFaultCause settings before after (fault.Failed slot count) =
     (slot < disk_count settings) × Rose (slice_index before slot) (slice_index after slot) × (count ≡ slice_index after slot)
-HasFaultCause settings before after (fault.Damaged slot file at) = slot < disk_count settings
+HasFaultCause settings before after (fault.Damaged slot file at) = HasFile settings slot file
 HasFaultCause settings before after fault.NoMemory = Unit {0}
 
 -- A compaction of volume v ended only where the count of its replica's disk rose.

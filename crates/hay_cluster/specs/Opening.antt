@@ -182,8 +182,8 @@ pub record OpensDirectory {D : Type 0} (DiskTells : Type 0) (files : D → Files
 abbrev pub RefusesDirectory : {D : Type 0} → Type 0 → (D → Files) → (D → ℕ) → State D → State D → ClusterFault → Type 0
 RefusesDirectory DiskTells files faults old new (Shelf count) = ⊥
 RefusesDirectory DiskTells files faults old new (Failed slot count) = (slot ≡ 0) × Rose (faults old.disk) (faults new.disk) × (count ≡ faults new.disk)
-RefusesDirectory DiskTells files faults old new (Damaged slot file at) = (slot ≡ 0) × (DiskTells → (file ≡ 0)
-    × IsDamagedJournal (journal_super old.settings) (files old.disk 0).now at
+RefusesDirectory DiskTells files faults old new (Damaged slot file at) = (slot ≡ 0) × (file ≡ 0) × (DiskTells →
+    IsDamagedJournal (journal_super old.settings) (files old.disk 0).now at
     × ((rows : List HomeRow) → OpensRows old.settings (λ n. (files old.disk n).now) rows → ⊥))
 RefusesDirectory DiskTells files faults old new NoMemory = Unit {0}
 

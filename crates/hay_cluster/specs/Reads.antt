@@ -33,7 +33,7 @@ use Rattle.hay_reader.specs.declared.seat.ReadReply.TheVariants as read
 use Rattle.hay_cluster.specs.declared.reading.Found.{Found}
 use Rattle.hay_cluster.specs.declared.reading.Found.TheVariants as found
 use Rattle.hay_cluster.specs.Causes.{Counts, RoseIn}
-use Rattle.hay_cluster.specs.Passing.{IsSureArm, StandsFor}
+use Rattle.hay_cluster.specs.Passing.{IsSureArm}
 use Rattle.hay_logical.specs.Sights.{AwaitsLook, AwaitsLookAt, IsLiveSight, Sight}
 use Rattle.hay_cluster.specs.Sights.{IsAbsent}
 use Rattle.hay_cluster.specs.State.{Stands}
@@ -79,43 +79,43 @@ pub record PassesFrom (Never : Cause → Type 0) (settings : Settings) (lane v s
   pub each : AllByRecursion (λ over. IsPassedFor Never (slot_of settings v over.replica) (slice_index before.arms lane) (slice_index after.arms lane) before.disks after.disks over.cause) (passed_now passed causes)
   pub rises : EachPair (λ a b. ArmRises a.cause b.cause) (passed_now passed causes)
 
--- each replica that was passed over may have the photo of a pair that is seen so
-abbrev pub MayHave : (ℕ → Sight) → List PassedReplica → Type 0
-MayHave seen causes = AllByRecursion (λ over. StandsFor over.cause (seen over.replica)) causes
+-- each replica was passed over for a cause that it may have had
+abbrev pub MayHave : (ℕ → Cause → Type 0) → List PassedReplica → Type 0
+MayHave Had causes = AllByRecursion (λ over. Had over.replica over.cause) causes
 
 -- Those that come before this replica were passed over, and no others.
-pub record PassesTo (Never : Cause → Type 0) (settings : Settings) (lane v start : ℕ) (before after : Counts) (seen : ℕ → Sight) (passed causes : List PassedReplica) (j : ℕ) : Type 0 where
+pub record PassesTo (Never : Cause → Type 0) (settings : Settings) (lane v start : ℕ) (before after : Counts) (Had : ℕ → Cause → Type 0) (passed causes : List PassedReplica) (j : ℕ) : Type 0 where
   pub passes : PassesFrom Never settings lane v start before after passed causes
-  pub stood : MayHave seen causes
+  pub stood : MayHave Had causes
   pub fewer : length causes < settings.replicas
   pub next : j ≡ (start + length causes) % settings.replicas
 
 -- every replica was
-pub record PassesAll (Never : Cause → Type 0) (settings : Settings) (lane v start : ℕ) (before after : Counts) (seen : ℕ → Sight) (passed causes : List PassedReplica) : Type 0 where
+pub record PassesAll (Never : Cause → Type 0) (settings : Settings) (lane v start : ℕ) (before after : Counts) (Had : ℕ → Cause → Type 0) (passed causes : List PassedReplica) : Type 0 where
   pub passes : PassesFrom Never settings lane v start before after passed causes
-  pub stood : MayHave seen causes
+  pub stood : MayHave Had causes
   pub all : length causes ≡ settings.replicas
 
--- what a read of a pair that is seen so has passed over, some of them before
-abbrev pub ReadPasses : (Cause → Type 0) → Settings → ℕ → ℕ → ℕ → Counts → Counts → (ℕ → Sight) → List PassedReplica → ReadReply → Type 0
-ReadPasses Never settings lane v start before after seen passed (read.Photo j) =
-    (causes : List PassedReplica) × PassesTo Never settings lane v start before after seen passed causes j
-ReadPasses Never settings lane v start before after seen passed (read.Gone j) =
-    (causes : List PassedReplica) × PassesTo Never settings lane v start before after seen passed causes j
-ReadPasses Never settings lane v start before after seen passed (read.WrongCookie j) =
-    (causes : List PassedReplica) × PassesTo Never settings lane v start before after seen passed causes j
-ReadPasses Never settings lane v start before after seen passed (read.Unseen j causes) = PassesTo Never settings lane v start before after seen passed causes j
-ReadPasses Never settings lane v start before after seen passed (read.Unreadable causes) = PassesAll Never settings lane v start before after seen passed causes
+-- what a read has passed over, some of them before
+abbrev pub ReadPasses : (Cause → Type 0) → Settings → ℕ → ℕ → ℕ → Counts → Counts → (ℕ → Cause → Type 0) → List PassedReplica → ReadReply → Type 0
+ReadPasses Never settings lane v start before after Had passed (read.Photo j) =
+    (causes : List PassedReplica) × PassesTo Never settings lane v start before after Had passed causes j
+ReadPasses Never settings lane v start before after Had passed (read.Gone j) =
+    (causes : List PassedReplica) × PassesTo Never settings lane v start before after Had passed causes j
+ReadPasses Never settings lane v start before after Had passed (read.WrongCookie j) =
+    (causes : List PassedReplica) × PassesTo Never settings lane v start before after Had passed causes j
+ReadPasses Never settings lane v start before after Had passed (read.Unseen j causes) = PassesTo Never settings lane v start before after Had passed causes j
+ReadPasses Never settings lane v start before after Had passed (read.Unreadable causes) = PassesAll Never settings lane v start before after Had passed causes
 
-abbrev pub FoundPasses : (Cause → Type 0) → Settings → ℕ → ℕ → ℕ → Counts → Counts → (ℕ → Sight) → Found → Type 0
-FoundPasses Never settings lane v start before after seen (found.Photo j) =
-    (causes : List PassedReplica) × PassesTo Never settings lane v start before after seen [] causes j
-FoundPasses Never settings lane v start before after seen (found.Gone j) =
-    (causes : List PassedReplica) × PassesTo Never settings lane v start before after seen [] causes j
-FoundPasses Never settings lane v start before after seen (found.WrongCookie j) =
-    (causes : List PassedReplica) × PassesTo Never settings lane v start before after seen [] causes j
-FoundPasses Never settings lane v start before after seen (found.Unreadable causes) = PassesAll Never settings lane v start before after seen [] causes
-FoundPasses Never settings lane v start before after seen found.NoMemory = Unit {0}
+abbrev pub FoundPasses : (Cause → Type 0) → Settings → ℕ → ℕ → ℕ → Counts → Counts → (ℕ → Cause → Type 0) → Found → Type 0
+FoundPasses Never settings lane v start before after Had (found.Photo j) =
+    (causes : List PassedReplica) × PassesTo Never settings lane v start before after Had [] causes j
+FoundPasses Never settings lane v start before after Had (found.Gone j) =
+    (causes : List PassedReplica) × PassesTo Never settings lane v start before after Had [] causes j
+FoundPasses Never settings lane v start before after Had (found.WrongCookie j) =
+    (causes : List PassedReplica) × PassesTo Never settings lane v start before after Had [] causes j
+FoundPasses Never settings lane v start before after Had (found.Unreadable causes) = PassesAll Never settings lane v start before after Had [] causes
+FoundPasses Never settings lane v start before after Had found.NoMemory = Unit {0}
 
 -- PLACES THAT ARE SEEN
 

@@ -296,7 +296,7 @@ WorkSeen work.Compact at number old new = (end : ℕ) × CompactSeen at number e
 abbrev pub WorkRefusedSeen : Settings → Maintenance → ℕ → ℕ → LogicalFault → VolumeSeen → VolumeSeen → Type 0
 WorkRefusedSeen settings work.Flush v at fault old new = FlushRefusedSeen settings v at old new fault
 WorkRefusedSeen settings work.Begin v at fault old new = BeginRefusedSeen settings v at old new fault
-WorkRefusedSeen settings (work.Step cells) v at fault old new = StepRefusedSeen settings v at old new fault
+WorkRefusedSeen settings (work.Step cells) v at fault old new = StepRefusedSeen settings v at cells old new fault
 WorkRefusedSeen settings work.Finish v at fault old new = FinishRefusedSeen settings v at old new fault
 WorkRefusedSeen settings work.Compact v at fault old new = CompactRefusedSeen settings v at old new fault
 

@@ -9,7 +9,7 @@ use Rattle.hay_reply.specs.declared.Reply.{Reply}
 use Rattle.hay_reply.specs.declared.Reply.TheVariants as reply
 use Rattle.hay_legal.specs.Known.{replica_on}
 use Rattle.hay_logical.specs.Seen.{VolumeSeen}
-use Rattle.hay_logical.specs.Sights.{AwaitsLook, AwaitsLookAt, DeletesSights, FindsNone, FindsPhoto, IsLiveSight, KeepsSights, LooksAtPair, LooksInVain, Sight, Sights, StoresSights, SwapsSights}
+use Rattle.hay_logical.specs.Sights.{AwaitsLook, AwaitsLookAt, DeletesSights, FindsNone, FindsPhoto, IsLiveSight, IsSeenOn, KeepsSights, LooksAtPair, LooksInVain, Sight, Sights, StoresSights, SwapsSights}
 use Rattle.hay_logical.specs.Sights.Sight.{Gone, Live, Never, Unseen}
 use Rattle.hay_cluster.specs.declared.maintenance.Maintenance.{Maintenance}
 use Rattle.hay_cluster.specs.declared.maintenance.Maintenance.TheVariants as work
@@ -35,13 +35,6 @@ IsAbsent Never = Unit {0}
 IsAbsent (Live at) = ⊥
 IsAbsent Gone = Unit {0}
 IsAbsent (Unseen at size) = ⊥
-
--- one is there, for all that was seen
-abbrev pub MayStand : Sight → Type 0
-MayStand Never = ⊥
-MayStand (Live at) = Unit {0}
-MayStand Gone = ⊥
-MayStand (Unseen at size) = Unit {0}
 
 -- a pair is seen so on the volume's replica on this machine
 abbrev pub SeesOn : Settings → ℕ → Pair → (Sight → Type 0) → StoreSeen → ℕ → Type 0
@@ -111,12 +104,12 @@ PutSights settings pair (Missing v m) old new = ⊥
 PutSights settings pair (Unreadable v causes) old new = ⊥
 PutSights settings pair (Swapped v m) old new = ⊥
 
--- A delete looks at each replica of its pair. It fails behind that, and freezes the volume, or at a look.
+-- A delete looks at each replica of its pair. It fails behind that at one that has the photo, and freezes the volume, or at a look.
 abbrev pub DeleteSights : Settings → Pair → Told → StoreSeen → StoreSeen → Type 0
 DeleteSights settings pair (Deleted v) old new = ChangesPhotos v (DeletesSights pair settings.replicas) old new
 DeleteSights settings pair (Absent v) old new = ChangesPhotos v (FindsNone pair settings.replicas) old new
 DeleteSights settings pair (Failed v m) old new =
-    (VolumeAt v (λ volume. volume.frozen ≡ Some m) new × ChangesPhotos v (FindsPhoto pair settings.replicas) old new)
+    (VolumeAt v (λ volume. volume.frozen ≡ Some m) new × ChangesPhotos v (FindsPhoto pair settings.replicas) old new × IsSeenOn settings v pair m IsLiveSight (new.places v))
     ⊎ (VolumeAt v (λ volume. volume.frozen ≡ None) new × ChangesPhotos v (LooksInVain settings v pair m AwaitsLook) old new)
 DeleteSights settings pair (Damaged v m at) old new = ChangesPhotos v (LooksInVain settings v pair m (AwaitsLookAt at)) old new
 DeleteSights settings pair Wanting old new = LooksAtHome (home_seen old pair) pair old new

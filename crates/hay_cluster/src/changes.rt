@@ -8,7 +8,7 @@ ghost use Rattle.hay_legal.specs.Known.{NoneFalls};
 ghost use Rattle.hay_cluster.specs.Causes.{EndsRuns, IsCaused, RefusesDelete, SetsFuse, SetsFuseOn};
 ghost use Rattle.hay_cluster.specs.Changes.{IsDeleteReply, IsReadOnly};
 ghost use Rattle.hay_cluster.specs.Leaving.{AnySlot, KeepsIn, LeavesByDelete};
-ghost use Rattle.hay_cluster.specs.Needles.{IsDamagedLookOn};
+ghost use Rattle.hay_cluster.specs.Needles.{IsDamagedLookOn, LooksTold};
 ghost use Rattle.hay_cluster.specs.Seen.{AnswersDelete, AnswersDrain, AnswersRead, Keeps, store_seen};
 ghost use Rattle.hay_cluster.specs.Sights.{DeleteSights, KeepsPhotos, told_by};
 ghost use Rattle.hay_cluster.specs.State.{Answered, Stands};
@@ -44,6 +44,7 @@ impl<D: Disk, A: Arm<D::Piece>> Cluster<D, A> {
         ensures seen { AnswersDelete self.old.settings tag pair result (store_seen self.old) (store_seen self.new) }
         ensures sights { DeleteSights self.old.settings pair (told_by result) (store_seen self.old) (store_seen self.new) }
         ensures damaged { D.Tells → (v m place : ℕ) → result ≡ Reply.Damaged v m place → IsDamagedLookOn self.old.settings (contents_in D.files self.old) (store_seen self.old) v pair m place }
+        ensures told { D.Tells → LooksTold self.old.settings (contents_in D.files self.old) (store_seen self.old) (store_seen self.new) pair (told_by result) }
         ensures ended { EndsRuns self.old.settings result (store_seen self.old) (store_seen self.new) (map D.fault_count (disks_of self.old)) (map D.fault_count (disks_of self.new)) }
         ensures settings { self.new.settings ≡ self.old.settings }
         ensures up { IsUp self.new }

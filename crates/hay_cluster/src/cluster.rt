@@ -6,7 +6,7 @@ ghost use Rattle.hay_script.specs.Script.{IsWithin};
 ghost use Rattle.hay_reply.specs.Fits.{FitsReply};
 ghost use Rattle.hay_cluster.specs.Causes.{EndsRuns, IsCaused, LeavesFuses, StaySure};
 ghost use Rattle.hay_cluster.specs.Leaving.{LeavesContents};
-ghost use Rattle.hay_cluster.specs.Needles.{TellsDamage};
+ghost use Rattle.hay_cluster.specs.Needles.{MeetsNeedles, TellsDamage};
 ghost use Rattle.hay_cluster.specs.Passing.{IsSureArm, PassesBefore};
 ghost use Rattle.hay_cluster.specs.Reads.{counts_of};
 ghost use Rattle.hay_cluster.specs.Seen.{Answers, store_seen};
@@ -85,10 +85,12 @@ impl<D: Disk, A: Arm<D::Piece>> Cluster<D, A> {
         // So it is with the photos.
         ensures sights { LeavesSights self.old.settings command.now result (store_seen self.old) (store_seen self.new) }
         // The replicas that a read tries before the one that answers were passed over, each for its cause.
-        ensures passes { PassesBefore self.old.settings (IsSureArm A.is_sure self.old.arms tag.lane) tag command.now
+        ensures passes { PassesBefore D.Tells self.old.settings (IsSureArm A.is_sure self.old.arms tag.lane) (contents_in D.files self.new) tag command.now
             (counts_of D.fault_count A.fault_count self.old) (counts_of D.fault_count A.fault_count self.new) (store_seen self.new) result }
         // Where the disks tell, damage that a delete or a compaction tells stands there.
         ensures damaged { D.Tells → TellsDamage self.old.settings (contents_in D.files self.old) (store_seen self.old) command.now result }
+        // What looks and steps made of places and cells is so by the needles that stand there: no damage is met without being told.
+        ensures told { D.Tells → MeetsNeedles self.old.settings (contents_in D.files self.old) (store_seen self.old) (store_seen self.new) command.now result }
         // A delete ends a compaction only where the count of its replica's disk rose in this call.
         ensures ended { EndsRuns self.old.settings result (store_seen self.old) (store_seen self.new) (map D.fault_count (disks_of self.old)) (map D.fault_count (disks_of self.new)) }
         ensures settings { self.new.settings ≡ self.old.settings }

@@ -5,17 +5,17 @@ ghost use Rattle.hay_reply.specs.Fits.{FitsReply};
 ghost use Rattle.hay_legal.specs.declared.known.Known.{Known};
 ghost use Rattle.hay_legal.specs.declared.known.VolumeKnown.{VolumeKnown};
 ghost use Rattle.hay_legal.specs.Known.{NoneFalls};
-ghost use Rattle.hay_physical.specs.Copies.{Copy};
+ghost use Rattle.hay_physical.specs.Copies.{Copy, volume_bytes};
 ghost use Rattle.hay_logical.specs.Fits.{At};
 ghost use Rattle.hay_logical.specs.Needles.{IsDamagedCell};
 ghost use Rattle.hay_logical.specs.Refusals.{IsUntouchedBy};
-ghost use Rattle.hay_logical.specs.Seen.{volume_seen};
+ghost use Rattle.hay_logical.specs.Seen.{replica_seen, volume_seen};
 ghost use Rattle.hay_logical.specs.Stands as logical;
 ghost use Rattle.hay_logical.specs.Volumes.{IsOpenVolume, IsSame, KeepsCounts};
 ghost use Rattle.hay_cluster.specs.Causes.{IsCaused, RefusesWork};
 ghost use Rattle.hay_cluster.specs.Leaving.{LeavesByWork};
 ghost use Rattle.hay_cluster.specs.Maintenance.{IsDone, IsRefused, IsRefusedAs, IsReplicaFault, command_of, done_as};
-ghost use Rattle.hay_cluster.specs.Needles.{RunsIntoDamage};
+ghost use Rattle.hay_cluster.specs.Needles.{LacksWork, LeadsWork, RunsIntoDamage, WorkTold};
 ghost use Rattle.hay_cluster.specs.Seen.{AnswersWork, WorkRefusedSeen, WorkSeen, store_seen};
 ghost use Rattle.hay_logical.specs.Sights.{KeepsSights, sights_of};
 ghost use Rattle.hay_cluster.specs.Sights.{DoneSights, WorkSights, told_by};
@@ -68,7 +68,8 @@ impl<D: Disk, A: Arm<D::Piece>> Cluster<D, A> {
         ensures arms { self.new.arms ≡ self.old.arms }
         ensures seen { AnswersWork self.old.settings work volume machine result (store_seen self.old) (store_seen self.new) }
         ensures sights { WorkSights self.old.settings (told_by result) (store_seen self.old) (store_seen self.new) }
-        ensures damaged { D.Tells → RunsIntoDamage self.old.settings (contents_in D.files self.old) (store_seen self.old) volume machine result }
+        ensures damaged { D.Tells → RunsIntoDamage self.old.settings (contents_in D.files self.old) (store_seen self.old) work volume machine result }
+        ensures told { D.Tells → WorkTold self.old.settings (contents_in D.files self.old) (store_seen self.old) (store_seen self.new) work volume machine result }
         ensures settings { self.new.settings ≡ self.old.settings }
         ensures up { IsUp self.new }
     {
@@ -101,8 +102,10 @@ pub(crate) fn maintain<D: Disk>(
     ensures refused_seen { IfErr result (λ fault. WorkRefusedSeen volume.old.settings work volume.old.number replica fault (volume_seen volume.old) (volume_seen volume.new)) }
     ensures sights { OnOk result (DoneSights work replica (volume_seen volume.new) (sights_of volume.old.rows) (sights_of volume.new.rows)) }
     ensures refused_sights { OnErr result (KeepsSights (sights_of volume.old.rows) (sights_of volume.new.rows)) }
-    // Where the disk tells, no needle that ends before the cells do begins where damage is told.
-    ensures damaged { D.Tells → (m place : ℕ) → result ≡ Err (LogicalFault.Damaged m place) → IsDamagedCell D.files volume.old.replicas replica place }
+    // Where the disk tells, whole heads lead to where damage is told, and no cell is there; and so far as work that was done came.
+    ensures damaged { D.Tells → (m place : ℕ) → result ≡ Err (LogicalFault.Damaged m place) → IsDamagedCell D.files volume.old.replicas replica (LacksWork work place) }
+    ensures lead { D.Tells → (r r' : Copy D) → At volume.old.replicas replica r → At volume.new.replicas replica r' →
+        IfOk result (λ number. LeadsWork work number (replica_seen r) (replica_seen r') (volume_bytes D.files r)) }
     // A volume that is frozen refuses, and of the others a flush alone, where the replica's index takes no records.
     ensures frozen { (m : ℕ) → volume.old.frozen ≡ Some m → result ≡ Err (LogicalFault.ReadOnly m) }
     ensures untouched { IfErr result (λ fault. IsUntouchedBy fault → volume.new ≡ volume.old) }

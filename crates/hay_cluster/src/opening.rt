@@ -15,7 +15,7 @@ ghost use Rattle.hay_directory.specs.State as directory;
 ghost use Rattle.hay_logical.specs.Fits.{IsReplica};
 ghost use Rattle.hay_logical.specs.Stands.{IsIdleVolume};
 ghost use Rattle.hay_logical.specs.Volumes.{IsClosed};
-ghost use Rattle.hay_cluster.specs.Causes.{HasFaultCause};
+ghost use Rattle.hay_cluster.specs.Causes.{HasFaultCause, HasFile};
 ghost use Rattle.hay_cluster.specs.Draws.{DrawsVolume, EachDrewLittle, FlushedDrewLittle, StopsDrawing, drawn_in, looked_in, no_look, none_drawn};
 ghost use Rattle.hay_cluster.specs.Outside.{AreSoundBelow, CountsOn, FormatsVoid, IsDamagedDisk, IsKept, IsUndamaged, IsUndamagedBelow, IsVoid, KeepsContents, outside_of, read_of};
 ghost use Rattle.hay_cluster.specs.Opening.{FillsVolume, Gathers, IsResting, IsEmptyVolume, LeavesDirectory, LeavesVolume, OpensDirectory, OpensParts, OpensVolume, RefusesDirectory, RefusesParts, RefusesVolume, RefusesVolumes, StopsDirectory, StopsVolume};
@@ -95,7 +95,7 @@ impl<D: Disk, A: Arm<D::Piece>> Cluster<D, A> {
             AreSoundBelow settings slot (λ slot. read_of (H.disks shelf.new slot)) }
         ensures damaged_first { D.Tells → (slot file at : ℕ) → result ≡ Err (ClusterFault.Damaged slot file at) →
             AreSoundBelow settings slot (λ slot. read_of (H.disks shelf.new slot)) }
-        ensures damaged_within { (slot file at : ℕ) → result ≡ Err (ClusterFault.Damaged slot file at) → slot < disk_count settings }
+        ensures damaged_within { (slot file at : ℕ) → result ≡ Err (ClusterFault.Damaged slot file at) → HasFile settings slot file }
         ensures damaged { D.Tells → (slot file at : ℕ) → result ≡ Err (ClusterFault.Damaged slot file at) →
             IsDamagedDisk settings (λ slot. read_of (H.disks shelf.old slot)) slot file at × IsDamagedDisk settings (λ slot. read_of (H.disks shelf.new slot)) slot file at }
 

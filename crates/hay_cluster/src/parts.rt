@@ -7,13 +7,13 @@ ghost use Rattle.hay_legal.specs.declared.known.Known.{Known};
 ghost use Rattle.hay_legal.specs.Known.{NoneFalls, fuse_count, slot_of, volume_at, with_home};
 ghost use Rattle.hay_legal.specs.Plain.{row_pending, with_drain, with_fuses};
 ghost use Rattle.hay_logical.specs.Answers.{BreaksPutOff, DeleteRefused, IsDeleted, IsPut, PutRefused};
-ghost use Rattle.hay_logical.specs.Seen.{DeleteRefusedSeen, HideSeen, PutRefusedSeen, PutSeen};
+ghost use Rattle.hay_logical.specs.Seen.{DeleteRefusedSeen, HideSeen, PutRefusedSeen, PutSeen, SeesAt};
 ghost use Rattle.hay_directory.specs.Seen.{DrainSeen, SettleRefusedSeen, SettleSeen};
 ghost use Rattle.hay_directory.specs.State as directory;
 ghost use Rattle.hay_cluster.specs.Causes.{EndsByFaults, IsDeleteCause, IsPutCause, IsReplicaCause, RoseIn, SetsFuse};
 ghost use Rattle.hay_cluster.specs.Leaving.{AddsRow, AnySlot, DeleteKeeps, IsApart, IsBeside, IsReplicaSlot, KeepsIn, LeavesIn, PutKeeps, WorkKeeps};
 ghost use Rattle.hay_cluster.specs.Maintenance.{IsDone, IsRefused};
-ghost use Rattle.hay_cluster.specs.Needles.{IsDamagedCellAt, IsDamagedLookOn};
+ghost use Rattle.hay_cluster.specs.Needles.{AreToldAs, DeletesAsTold, FileAt, IsDamagedLookOn, LacksWork, LeadsWork};
 ghost use Rattle.hay_cluster.specs.Parts.{Comes, InVolume};
 ghost use Rattle.hay_cluster.specs.Puts.{TakesPhoto};
 ghost use Rattle.hay_cluster.specs.Seen.{Keeps, MovesDirectory, MovesVolume, WorkRefusedSeen, VolumeAt, WorkSeen, store_seen};
@@ -93,6 +93,8 @@ impl<D: Disk, A: Arm<D::Piece>> Cluster<D, A> {
         ensures sights { OnOk result (ChangesPhotos volume (DeletesSights pair self.old.settings.replicas) (store_seen self.old) (store_seen self.new)) }
         ensures damaged { D.Tells → (m place : ℕ) → result ≡ Err (LogicalFault.Damaged m place) →
             IsDamagedLookOn self.old.settings (contents_in D.files self.old) (store_seen self.old) volume pair m place }
+        ensures told { D.Tells → OnOk result (DeletesAsTold self.old.settings (contents_in D.files self.old) (store_seen self.old) volume pair ((store_seen self.new).places volume)) }
+        ensures refused_told { D.Tells → OnErr result (AreToldAs self.old.settings (contents_in D.files self.old) (store_seen self.old) volume pair ((store_seen self.new).places volume)) }
         ensures refused_sights { IfErr result (λ fault. VolumeAt volume
             (λ seen. ChangesPhotos volume (λ before after. DeleteRefusedSights self.old.settings volume pair seen.frozen before after fault) (store_seen self.old) (store_seen self.new)) (store_seen self.new)) }
         ensures ended { OnOk result (EndsByFaults self.old.settings volume (store_seen self.old) (store_seen self.new) (map D.fault_count (disks_of self.old)) (map D.fault_count (disks_of self.new))) }
@@ -126,7 +128,9 @@ impl<D: Disk, A: Arm<D::Piece>> Cluster<D, A> {
         ensures refused_seen { IfErr result (λ fault. MovesVolume volume (WorkRefusedSeen self.old.settings work volume replica fault) (store_seen self.old) (store_seen self.new)) }
         ensures kept { D.Tells → IfErr result (WorkKeeps self.old.settings (contents_in D.files self.old) (contents_in D.files self.new)) }
         ensures damaged { D.Tells → (m place : ℕ) → result ≡ Err (LogicalFault.Damaged m place) →
-            IsDamagedCellAt self.old.settings (contents_in D.files self.old) (store_seen self.old) volume replica place }
+            FileAt self.old.settings (contents_in D.files self.old) (store_seen self.old) volume replica (LacksWork work place) }
+        ensures lead { D.Tells → IfOk result (λ number. FileAt self.old.settings (contents_in D.files self.old) (store_seen self.old) volume replica
+            (λ r file. VolumeAt volume (SeesAt replica (λ r'. LeadsWork work number r r' file)) (store_seen self.new))) }
         ensures sights { OnOk result (VolumeAt volume (λ seen. ChangesPhotos volume (DoneSights work replica seen) (store_seen self.old) (store_seen self.new)) (store_seen self.new)) }
         ensures refused_sights { OnErr result (KeepsPhotos (store_seen self.old) (store_seen self.new)) }
         ensures settings { self.new.settings ≡ self.old.settings }

@@ -12,12 +12,14 @@ ghost use Rattle.hay_legal.specs.Known.{NoneFalls, home_of, slot_of, volume_at};
 ghost use Rattle.hay_legal.specs.Known as known;
 ghost use Rattle.hay_legal.specs.Plain.{start_of};
 ghost use Rattle.hay_cluster.specs.Causes.{IsCaused, StaySure};
-ghost use Rattle.hay_cluster.specs.Passing.{IsSureArm, TriesBefore};
+ghost use Rattle.hay_cluster.specs.Needles.{AreToldAs, FileAt, LooksTold};
+ghost use Rattle.hay_cluster.specs.Passing.{IsOfPlace, IsSureArm, TriesBefore};
 ghost use Rattle.hay_cluster.specs.Reads.{AwaitsFor, CannotSee, FoundPasses, FoundSays, FoundSees, IsFoundAs, IsSeenAt, IsSeenByAt, IsSightCause, IsSightFault, IsWhole, MayHave, NeverIn, PassesFrom, ReadPasses, ReadSays, ReadSees, ShownAs, StopsUnseen, counts_of, outcomes_of, passed_at};
 ghost use Rattle.hay_cluster.specs.Leaving.{AnySlot, KeepsIn};
 ghost use Rattle.hay_cluster.specs.Parts.{Comes};
 ghost use Rattle.hay_cluster.specs.Seen.{Keeps, Shows, VolumeAt, home_seen, store_seen};
 ghost use Rattle.hay_cluster.specs.Sights.{ChangesPhotos, KeepsPhotos, ReadSights, told_by};
+ghost use Rattle.hay_logical.specs.Needles.{LacksSeen};
 ghost use Rattle.hay_logical.specs.Sights.{LooksAtPair, SeesPair};
 ghost use Rattle.hay_cluster.specs.State.{Answered, Stands};
 ghost use Rattle.hay_cluster.specs.Store.{IsBuilt, IsUp, contents_in, disks_of};
@@ -73,7 +75,8 @@ impl<D: Disk, A: Arm<D::Piece>> Cluster<D, A> {
         ensures arm_counts { NoneFalls (map A.fault_count self.old.arms) (map A.fault_count self.new.arms) }
         ensures seen { Keeps (store_seen self.old) (store_seen self.new) }
         ensures sights { ReadSights self.old.settings pair (told_by result) (store_seen self.old) (store_seen self.new) }
-        ensures passes { TriesBefore self.old.settings (IsSureArm A.is_sure self.old.arms tag.lane) tag.lane (start_at self.old.settings tag.line) pair
+        ensures told { D.Tells → LooksTold self.old.settings (contents_in D.files self.old) (store_seen self.old) (store_seen self.new) pair (told_by result) }
+        ensures passes { TriesBefore D.Tells self.old.settings (IsSureArm A.is_sure self.old.arms tag.lane) (contents_in D.files self.new) tag.lane (start_at self.old.settings tag.line) pair
             (counts_of D.fault_count A.fault_count self.old) (counts_of D.fault_count A.fault_count self.new) (store_seen self.new) (told_by result) }
         ensures shows { Shows (store_seen self.old) pair result }
         ensures settings { self.new.settings ≡ self.old.settings }
@@ -102,7 +105,8 @@ impl<D: Disk, A: Arm<D::Piece>> Cluster<D, A> {
         ensures arm_counts { NoneFalls (map A.fault_count self.old.arms) (map A.fault_count self.new.arms) }
         ensures seen { Keeps (store_seen self.old) (store_seen self.new) }
         ensures sights { ReadSights self.old.settings url.now.pair (told_by result) (store_seen self.old) (store_seen self.new) }
-        ensures passes { (start : ℕ) → known.replica_on self.old.settings url.now.volume url.now.machine ≡ Some start → TriesBefore self.old.settings (IsSureArm A.is_sure self.old.arms tag.lane) tag.lane start url.now.pair
+        ensures told { D.Tells → LooksTold self.old.settings (contents_in D.files self.old) (store_seen self.old) (store_seen self.new) url.now.pair (told_by result) }
+        ensures passes { (start : ℕ) → known.replica_on self.old.settings url.now.volume url.now.machine ≡ Some start → TriesBefore D.Tells self.old.settings (IsSureArm A.is_sure self.old.arms tag.lane) (contents_in D.files self.new) tag.lane start url.now.pair
             (counts_of D.fault_count A.fault_count self.old) (counts_of D.fault_count A.fault_count self.new) (store_seen self.new) (told_by result) }
         ensures shows { Shows (store_seen self.old) url.now.pair result }
         ensures settings { self.new.settings ≡ self.old.settings }
@@ -150,7 +154,8 @@ impl<D: Disk, A: Arm<D::Piece>> Cluster<D, A> {
         ensures arm_counts { NoneFalls (map A.fault_count self.old.arms) (map A.fault_count self.new.arms) }
         ensures seen { Keeps (store_seen self.old) (store_seen self.new) }
         ensures sights { ReadSights self.old.settings pair (told_by result) (store_seen self.old) (store_seen self.new) }
-        ensures passes { TriesBefore self.old.settings (IsSureArm A.is_sure self.old.arms tag.lane) tag.lane start pair
+        ensures told { D.Tells → LooksTold self.old.settings (contents_in D.files self.old) (store_seen self.old) (store_seen self.new) pair (told_by result) }
+        ensures passes { TriesBefore D.Tells self.old.settings (IsSureArm A.is_sure self.old.arms tag.lane) (contents_in D.files self.new) tag.lane start pair
             (counts_of D.fault_count A.fault_count self.old) (counts_of D.fault_count A.fault_count self.new) (store_seen self.new) (told_by result) }
         ensures shows { Shows (store_seen self.old) pair result }
         ensures settings { self.new.settings ≡ self.old.settings }
@@ -219,7 +224,7 @@ impl<D: Disk, A: Arm<D::Piece>> Cluster<D, A> {
             × FoundSays cookie (outcomes_of self.old.settings (volume_at k volume) pair) photo.new.items result.1
             × Comes D.files D.Piece.Tells D.fault_count D.fuse_count A.fault_count k k self.new }
         ensures passes { FoundPasses (NeverIn D.Tells D.files D.Piece.Tells D.fault_count D.fuse_count A.fault_count A.is_sure self.old lane) self.old.settings lane volume start
-            (counts_of D.fault_count A.fault_count self.old) (counts_of D.fault_count A.fault_count self.new) ((store_seen self.new).places volume pair) result.1 }
+            (counts_of D.fault_count A.fault_count self.old) (counts_of D.fault_count A.fault_count self.new) (IsOfPlace D.Tells self.old.settings (contents_in D.files self.new) (store_seen self.new) volume pair) result.1 }
         ensures bytes { (replica : ℕ) → result.1 ≡ Found.Photo replica → length photo.new.items ≤ MAX_PHOTO }
         ensures sure_arms { StaySure A.is_sure A.fault_count self.old.arms self.new.arms }
         ensures counts { NoneFalls (map D.fault_count (disks_of self.old)) (map D.fault_count (disks_of self.new)) }
@@ -229,6 +234,7 @@ impl<D: Disk, A: Arm<D::Piece>> Cluster<D, A> {
         ensures seen { Keeps (store_seen self.old) (store_seen self.new) }
         ensures looks { ChangesPhotos volume (LooksAtPair pair) (store_seen self.old) (store_seen self.new) }
         ensures sees { FoundSees ((store_seen self.new).places volume pair) result.1 }
+        ensures told { D.Tells → AreToldAs self.old.settings (contents_in D.files self.old) (store_seen self.old) volume pair ((store_seen self.new).places volume) }
         ensures front { VolumeAt volume (λ seen. result.0 ≡ seen.front) (store_seen self.old) }
         ensures settings { self.new.settings ≡ self.old.settings }
         ensures up { IsUp self.new }
@@ -267,7 +273,7 @@ impl<D: Disk, A: Arm<D::Piece>> Cluster<D, A> {
             × ReadSays cookie (outcomes_of self.old.settings (volume_at k volume) pair) photo.new.items result.1
             × Comes D.files D.Piece.Tells D.fault_count D.fuse_count A.fault_count k k self.new }
         ensures passes { ReadPasses (NeverIn D.Tells D.files D.Piece.Tells D.fault_count D.fuse_count A.fault_count A.is_sure self.old lane) self.old.settings lane volume start
-            (counts_of D.fault_count A.fault_count self.old) (counts_of D.fault_count A.fault_count self.new) ((store_seen self.new).places volume pair) [] result.1 }
+            (counts_of D.fault_count A.fault_count self.old) (counts_of D.fault_count A.fault_count self.new) (IsOfPlace D.Tells self.old.settings (contents_in D.files self.new) (store_seen self.new) volume pair) [] result.1 }
         ensures stops { StopsUnseen self.old volume pair result.1 }
         ensures sees { ReadSees ((store_seen self.new).places volume pair) result.1 }
         ensures bytes { HasBytes photo.new.items result.1 }
@@ -308,7 +314,7 @@ impl<D: Disk, A: Arm<D::Piece>> Cluster<D, A> {
         requires start { start < self.old.settings.replicas }
         requires first { ComeFirst start self.old.settings.replicas passed }
         requires fewer { length passed ≤ self.old.settings.replicas }
-        requires may_stand { MayHave ((store_seen self.old).places volume pair) passed }
+        requires may_stand { MayHave (IsOfPlace D.Tells self.old.settings (contents_in D.files self.old) (store_seen self.old) volume pair) passed }
         requires needle { ForSome needle (λ bytes. (length passed < self.old.settings.replicas)
             × IsSeenByAt D.Tells D.Piece.Tells self.old volume pair ((start + length passed) % self.old.settings.replicas) bytes.items) }
         requires empty { photo.old.items ≡ [] }
@@ -318,7 +324,7 @@ impl<D: Disk, A: Arm<D::Piece>> Cluster<D, A> {
             ReadSays cookie (outcomes_of self.old.settings (volume_at k volume) pair) photo.new.items result
             × Comes D.files D.Piece.Tells D.fault_count D.fuse_count A.fault_count k k self.new }
         ensures passes { ReadPasses (NeverIn D.Tells D.files D.Piece.Tells D.fault_count D.fuse_count A.fault_count A.is_sure self.old lane) self.old.settings lane volume start
-            (counts_of D.fault_count A.fault_count self.old) (counts_of D.fault_count A.fault_count self.new) ((store_seen self.new).places volume pair) passed result }
+            (counts_of D.fault_count A.fault_count self.old) (counts_of D.fault_count A.fault_count self.new) (IsOfPlace D.Tells self.old.settings (contents_in D.files self.new) (store_seen self.new) volume pair) passed result }
         ensures stops { StopsUnseen self.old volume pair result }
         ensures sees { ReadSees ((store_seen self.new).places volume pair) result }
         ensures most { (slice_index (map A.fault_count self.new.arms) lane ≡ slice_index (map A.fault_count self.old.arms) lane)
@@ -392,7 +398,7 @@ impl<D: Disk, A: Arm<D::Piece>> Cluster<D, A> {
         requires start { start < self.old.settings.replicas }
         requires first { ComeFirst start self.old.settings.replicas passed }
         requires fewer { length passed ≤ self.old.settings.replicas }
-        requires may_stand { MayHave ((store_seen self.old).places volume pair) passed }
+        requires may_stand { MayHave (IsOfPlace D.Tells self.old.settings (contents_in D.files self.old) (store_seen self.old) volume pair) passed }
         requires empty { photo.old.items ≡ [] }
         requires room { MAX_PHOTO ≤ vec_capacity photo.old }
         requires up { IsUp self.old }
@@ -400,7 +406,7 @@ impl<D: Disk, A: Arm<D::Piece>> Cluster<D, A> {
             ReadSays cookie (outcomes_of self.old.settings (volume_at k volume) pair) photo.new.items result
             × Comes D.files D.Piece.Tells D.fault_count D.fuse_count A.fault_count k k self.new }
         ensures passes { ReadPasses (NeverIn D.Tells D.files D.Piece.Tells D.fault_count D.fuse_count A.fault_count A.is_sure self.old lane) self.old.settings lane volume start
-            (counts_of D.fault_count A.fault_count self.old) (counts_of D.fault_count A.fault_count self.new) ((store_seen self.new).places volume pair) passed result }
+            (counts_of D.fault_count A.fault_count self.old) (counts_of D.fault_count A.fault_count self.new) (IsOfPlace D.Tells self.old.settings (contents_in D.files self.new) (store_seen self.new) volume pair) passed result }
         ensures stops { StopsUnseen self.old volume pair result }
         ensures sees { ReadSees ((store_seen self.new).places volume pair) result }
         ensures most { (slice_index (map A.fault_count self.new.arms) lane ≡ slice_index (map A.fault_count self.old.arms) lane)
@@ -438,8 +444,8 @@ impl<D: Disk, A: Arm<D::Piece>> Cluster<D, A> {
         requires volume { volume < self.old.settings.volumes }
         requires replica { replica < self.old.settings.replicas }
         requires few { length causes < 4 }
-        requires apart { AllByRecursion (λ over. over.replica ≡ replica → ⊥) causes }
-        requires may_stand { MayHave ((store_seen self.old).places volume pair) causes }
+        requires apart { AllByRecursion (λ over. (over.replica < self.old.settings.replicas) × (over.replica ≡ replica → ⊥)) causes }
+        requires may_stand { MayHave (IsOfPlace D.Tells self.old.settings (contents_in D.files self.old) (store_seen self.old) volume pair) causes }
         requires up { IsUp self.old }
         ensures stands { D.Tells → (k : Known) → Stands D.files D.Piece.Tells D.fault_count D.fuse_count A.fault_count self.old k →
             Comes D.files D.Piece.Tells D.fault_count D.fuse_count A.fault_count k k self.new }
@@ -458,7 +464,8 @@ impl<D: Disk, A: Arm<D::Piece>> Cluster<D, A> {
         ensures arms { self.new.arms ≡ self.old.arms }
         ensures seen { Keeps (store_seen self.old) (store_seen self.new) }
         ensures looks { ChangesPhotos volume (LooksAtPair pair) (store_seen self.old) (store_seen self.new) }
-        ensures may_stand { IfOk result (λ sight. MayHave ((store_seen self.new).places volume pair) sight.0) }
+        ensures told { D.Tells → AreToldAs self.old.settings (contents_in D.files self.old) (store_seen self.old) volume pair ((store_seen self.new).places volume) }
+        ensures may_stand { IfOk result (λ sight. MayHave (IsOfPlace D.Tells self.old.settings (contents_in D.files self.new) (store_seen self.new) volume pair) sight.0) }
         ensures settings { self.new.settings ≡ self.old.settings }
         ensures up { IsUp self.new }
     {
@@ -499,6 +506,9 @@ impl<D: Disk, A: Arm<D::Piece>> Cluster<D, A> {
         ensures arms { self.new.arms ≡ self.old.arms }
         ensures unchanged { Keeps (store_seen self.old) (store_seen self.new) }
         ensures sights { OnOk result (ChangesPhotos volume (SeesPair pair replica) (store_seen self.old) (store_seen self.new)) }
+        ensures told { D.Tells → AreToldAs self.old.settings (contents_in D.files self.old) (store_seen self.old) volume pair ((store_seen self.new).places volume) }
+        ensures lacks { D.Tells → (m place : ℕ) → result ≡ Err (LogicalFault.Damaged m place) →
+            FileAt self.old.settings (contents_in D.files self.old) (store_seen self.old) volume replica (λ r file. LacksSeen file place ((store_seen self.old).places volume pair replica)) }
         ensures refused_sights { IfErr result (λ fault. KeepsPhotos (store_seen self.old) (store_seen self.new) × AwaitsFor fault ((store_seen self.old).places volume pair replica)) }
         ensures settings { self.new.settings ≡ self.old.settings }
         ensures up { IsUp self.new }

@@ -152,7 +152,17 @@ acknowledged reply = changed (told reply)
   where
     changed : Told → Option (ℕ × ℕ)
     changed (Changed v p d) = Some (v, p)
-    changed _ = None
+    changed (Shown v m p d) = None
+    changed (ShownByNone v p d causes) = None
+    changed (ShownNothing v p d) = None
+    changed (ShownRows d) = None
+    changed (Blamed v m f) = None
+    changed (BlamedRows f) = None
+    changed (Recorded v m n) = None
+    changed (Made v m g) = None
+    changed Wanted = None
+    changed RefusedIt = None
+    changed NotInBlocks = None
 
 -- the entry at this position is this line's
 pub record IsEntryOf (settings : Settings) (item : LaneItem) (logged : Logged) : Type 0 where
@@ -349,7 +359,14 @@ volume_print v reply = prints (told reply)
     prints (Shown v' m p d) = cond (v' == v) (printed p false ∷ []) []
     prints (ShownByNone v' p d causes) = cond (v' == v) (printed p false ∷ []) []
     prints (ShownNothing v' p d) = cond (v' == v) (printed p false ∷ []) []
-    prints _ = []
+    prints (ShownRows d) = []
+    prints (Blamed v m f) = []
+    prints (BlamedRows f) = []
+    prints (Recorded v m n) = []
+    prints (Made v m g) = []
+    prints Wanted = []
+    prints RefusedIt = []
+    prints NotInBlocks = []
 
 -- what it prints of the Directory
 abbrev pub row_print : Reply → List Printed
@@ -361,7 +378,13 @@ row_print reply = prints (told reply)
     prints (ShownByNone v p d causes) = printed d false ∷ []
     prints (ShownNothing v p d) = printed d false ∷ []
     prints (ShownRows d) = printed d false ∷ []
-    prints _ = []
+    prints (Blamed v m f) = []
+    prints (BlamedRows f) = []
+    prints (Recorded v m n) = []
+    prints (Made v m g) = []
+    prints Wanted = []
+    prints RefusedIt = []
+    prints NotInBlocks = []
 
 -- the position of the row that a line added, if it added one
 abbrev pub row_added : RowNote → LaneItem → List Printed
@@ -677,14 +700,33 @@ disk_prints v m reply = prints (told reply)
     prints : Told → List ℕ
     prints (Blamed v' m' f) = cond ((v' == v) && (m' == m)) (f ∷ []) []
     prints (ShownByNone v' p d causes) = cond (v' == v) (filter_map (cause_of_disk m) causes) []
-    prints _ = []
+    prints (Changed v p d) = []
+    prints (Shown v m p d) = []
+    prints (ShownNothing v p d) = []
+    prints (ShownRows d) = []
+    prints (BlamedRows f) = []
+    prints (Recorded v m n) = []
+    prints (Made v m g) = []
+    prints Wanted = []
+    prints RefusedIt = []
+    prints NotInBlocks = []
 
 abbrev pub row_faults : Reply → List ℕ
 row_faults reply = prints (told reply)
   where
     prints : Told → List ℕ
     prints (BlamedRows f) = f ∷ []
-    prints _ = []
+    prints (Changed v p d) = []
+    prints (Shown v m p d) = []
+    prints (ShownByNone v p d causes) = []
+    prints (ShownNothing v p d) = []
+    prints (ShownRows d) = []
+    prints (Blamed v m f) = []
+    prints (Recorded v m n) = []
+    prints (Made v m g) = []
+    prints Wanted = []
+    prints RefusedIt = []
+    prints NotInBlocks = []
 
 abbrev pub cause_of_arm : Passed → Option ℕ
 cause_of_arm passed = at_arm passed.cause
@@ -699,7 +741,17 @@ arm_prints reply = prints (told reply)
   where
     prints : Told → List ℕ
     prints (ShownByNone v p d causes) = filter_map cause_of_arm causes
-    prints _ = []
+    prints (Changed v p d) = []
+    prints (Shown v m p d) = []
+    prints (ShownNothing v p d) = []
+    prints (ShownRows d) = []
+    prints (Blamed v m f) = []
+    prints (BlamedRows f) = []
+    prints (Recorded v m n) = []
+    prints (Made v m g) = []
+    prints Wanted = []
+    prints RefusedIt = []
+    prints NotInBlocks = []
 
 abbrev pub Differ : ℕ → ℕ → Type 0
 Differ f g = (f ≢ g) ⊎ (g ≡ 2 ^ 64 - 1)
@@ -717,7 +769,21 @@ start_by settings item = start_at item.item
   where
     start_at : Item → ℕ
     start_at (asks.Command (command.Get url)) = unwrap_or (replica_on settings url.volume url.machine) 0
-    start_at _ = start_of settings (tag_of item)
+    start_at (asks.Command (command.Put pair bytes)) = start_of settings (tag_of item)
+    start_at (asks.Command (command.Read pair cookie)) = start_of settings (tag_of item)
+    start_at (asks.Command (command.Del pair)) = start_of settings (tag_of item)
+    start_at (asks.Command (command.Url pair)) = start_of settings (tag_of item)
+    start_at (asks.Command (command.Flush v m)) = start_of settings (tag_of item)
+    start_at (asks.Command (command.Compact v m)) = start_of settings (tag_of item)
+    start_at (asks.Command (command.Begin v m)) = start_of settings (tag_of item)
+    start_at (asks.Command (command.Step v m cells)) = start_of settings (tag_of item)
+    start_at (asks.Command (command.Finish v m)) = start_of settings (tag_of item)
+    start_at (asks.Command (command.Drain m)) = start_of settings (tag_of item)
+    start_at (asks.Command (command.Undrain m)) = start_of settings (tag_of item)
+    start_at (asks.Command (command.Fuse v m calls)) = start_of settings (tag_of item)
+    start_at (asks.Command (command.FuseDir calls)) = start_of settings (tag_of item)
+    start_at (asks.Command (command.Restart pick)) = start_of settings (tag_of item)
+    start_at asks.Bad = start_of settings (tag_of item)
 
 abbrev pub before_machine : Settings → ℕ → ℕ → ℕ → List ℕ
 before_machine settings start v m = take_while (λ j. not (machine_of settings v j == m)) (order_from settings start)
@@ -728,7 +794,16 @@ passed_over settings start v reply = passed (told reply)
     passed : Told → List ℕ
     passed (Shown v' m p d) = cond (v' == v) (before_machine settings start v m) []
     passed (ShownByNone v' p d causes) = cond (v' == v) (order_from settings start) []
-    passed _ = []
+    passed (Changed v p d) = []
+    passed (ShownNothing v p d) = []
+    passed (ShownRows d) = []
+    passed (Blamed v m f) = []
+    passed (BlamedRows f) = []
+    passed (Recorded v m n) = []
+    passed (Made v m g) = []
+    passed Wanted = []
+    passed RefusedIt = []
+    passed NotInBlocks = []
 
 -- Which replicas, by line and number, are laid to the lane's arm. The others are laid to their disks.
 abbrev pub Laying : Type 0
@@ -760,7 +835,17 @@ failed_on v m reply = failed (told reply)
   where
     failed : Told → ℕ
     failed (Blamed v' m' f) = cond ((v' == v) && (m' == m)) 1 0
-    failed _ = 0
+    failed (Changed v p d) = 0
+    failed (Shown v m p d) = 0
+    failed (ShownByNone v p d causes) = 0
+    failed (ShownNothing v p d) = 0
+    failed (ShownRows d) = 0
+    failed (BlamedRows f) = 0
+    failed (Recorded v m n) = 0
+    failed (Made v m g) = 0
+    failed Wanted = 0
+    failed RefusedIt = 0
+    failed NotInBlocks = 0
 
 abbrev pub DiskIsLegal : Settings → Known → List LaneItem → Known → Laying → ℕ → ℕ → Type 0
 DiskIsLegal settings k items t to_arm v j =
@@ -800,14 +885,34 @@ made_on v m item = made (told item.reply)
   where
     made : Told → List ℕ
     made (Made v' m' g) = cond ((v' == v) && (m' == m)) (g ∷ []) []
-    made _ = []
+    made (Changed v p d) = []
+    made (Shown v m p d) = []
+    made (ShownByNone v p d causes) = []
+    made (ShownNothing v p d) = []
+    made (ShownRows d) = []
+    made (Blamed v m f) = []
+    made (BlamedRows f) = []
+    made (Recorded v m n) = []
+    made Wanted = []
+    made RefusedIt = []
+    made NotInBlocks = []
 
 abbrev pub flushed_on : ℕ → ℕ → LaneItem → List ℕ
 flushed_on v m item = flushed (told item.reply)
   where
     flushed : Told → List ℕ
     flushed (Recorded v' m' n) = cond ((v' == v) && (m' == m)) (n ∷ []) []
-    flushed _ = []
+    flushed (Changed v p d) = []
+    flushed (Shown v m p d) = []
+    flushed (ShownByNone v p d causes) = []
+    flushed (ShownNothing v p d) = []
+    flushed (ShownRows d) = []
+    flushed (Blamed v m f) = []
+    flushed (BlamedRows f) = []
+    flushed (Made v m g) = []
+    flushed Wanted = []
+    flushed RefusedIt = []
+    flushed NotInBlocks = []
 
 -- what a reply tells of the generation of the replica on m: one that it made, the one before that which another line makes, or the last one
 abbrev pub generation_print : ℕ → ℕ → LaneItem → List Printed
@@ -852,14 +957,34 @@ is_failed reply = failed (told reply)
   where
     failed : Told → Bool
     failed (Blamed v m f) = true
-    failed _ = false
+    failed (Changed v p d) = false
+    failed (Shown v m p d) = false
+    failed (ShownByNone v p d causes) = false
+    failed (ShownNothing v p d) = false
+    failed (ShownRows d) = false
+    failed (BlamedRows f) = false
+    failed (Recorded v m n) = false
+    failed (Made v m g) = false
+    failed Wanted = false
+    failed RefusedIt = false
+    failed NotInBlocks = false
 
 abbrev pub is_wanting : Reply → Bool
 is_wanting reply = wanting (told reply)
   where
     wanting : Told → Bool
     wanting Wanted = true
-    wanting _ = false
+    wanting (Changed v p d) = false
+    wanting (Shown v m p d) = false
+    wanting (ShownByNone v p d causes) = false
+    wanting (ShownNothing v p d) = false
+    wanting (ShownRows d) = false
+    wanting (Blamed v m f) = false
+    wanting (BlamedRows f) = false
+    wanting (Recorded v m n) = false
+    wanting (Made v m g) = false
+    wanting RefusedIt = false
+    wanting NotInBlocks = false
 
 -- the line that froze the volume is a compact of the replica on m, with such a reply
 abbrev pub froze_at_compact : ℕ → ℕ → (Reply → Bool) → Option LaneItem → Bool
@@ -957,9 +1082,36 @@ MetLoose v m item = Met item.item item.reply
 abbrev pub sticks_on : ℕ → ℕ → LaneItem → ℕ
 sticks_on v m item = sticks item.item item.reply
   where
+    failing : Bool → Told → ℕ
+    failing here (Changed v p d) = 0
+    failing here (Shown v m p d) = 0
+    failing here (ShownByNone v p d causes) = 0
+    failing here (ShownNothing v p d) = 0
+    failing here (ShownRows d) = 0
+    failing here (Blamed v m f) = cond here 1 0
+    failing here (BlamedRows f) = 0
+    failing here (Recorded v m n) = 0
+    failing here (Made v m g) = 0
+    failing here Wanted = 0
+    failing here RefusedIt = 0
+    failing here NotInBlocks = 0
+
     sticks_as : Command → Reply → ℕ
-    sticks_as (command.Flush v' m') (Failed v'' m'' f) = cond ((v' == v) && (m' == m)) 1 0
-    sticks_as _ _ = 0
+    sticks_as (command.Flush v' m') reply = failing ((v' == v) && (m' == m)) (told reply)
+    sticks_as (command.Put pair bytes) reply = 0
+    sticks_as (command.Read pair cookie) reply = 0
+    sticks_as (command.Get url) reply = 0
+    sticks_as (command.Del pair) reply = 0
+    sticks_as (command.Url pair) reply = 0
+    sticks_as (command.Compact v m) reply = 0
+    sticks_as (command.Begin v m) reply = 0
+    sticks_as (command.Step v m cells) reply = 0
+    sticks_as (command.Finish v m) reply = 0
+    sticks_as (command.Drain m) reply = 0
+    sticks_as (command.Undrain m) reply = 0
+    sticks_as (command.Fuse v m calls) reply = 0
+    sticks_as (command.FuseDir calls) reply = 0
+    sticks_as (command.Restart pick) reply = 0
 
     sticks : Item → Reply → ℕ
     sticks (asks.Command command) reply = sticks_as command reply

@@ -156,7 +156,8 @@ pending_notes settings v (Some pending) kept = replica_notes settings v (pending
 
 abbrev pub volume_notes : Settings → ℕ → List VolumeKnown → List (List Bool) → List Note
 volume_notes settings v (volume ∷ volumes) (kept ∷ kepts) = pending_notes settings v volume.pending kept ++ volume_notes settings (v + 1) volumes kepts
-volume_notes settings v _ _ = []
+volume_notes settings v [] kepts = []
+volume_notes settings v (volume ∷ volumes) [] = []
 
 abbrev pub row_note : ℕ → Bool → Note
 row_note line true = KeptDir line

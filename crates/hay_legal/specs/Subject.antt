@@ -170,9 +170,27 @@ LogsGrow =
 
 -- the pair whose change a plain turn acknowledges, if it does
 abbrev pub changed_pair : Item → Reply → Option Pair
-changed_pair (item.Command (command.Put pair bytes)) (Stored v p d c) = Some pair
-changed_pair (item.Command (command.Del pair)) (Deleted v p d) = Some pair
-changed_pair _ _ = None
+changed_pair item.Bad reply = None
+changed_pair (item.Command asked) reply = changed_by asked (acknowledged reply)
+  where
+    changed_by : Command → Option (ℕ × ℕ) → Option Pair
+    changed_by (command.Put pair bytes) (Some at) = Some pair
+    changed_by (command.Put pair bytes) None = None
+    changed_by (command.Del pair) (Some at) = Some pair
+    changed_by (command.Del pair) None = None
+    changed_by (command.Read pair cookie) at = None
+    changed_by (command.Get url) at = None
+    changed_by (command.Url pair) at = None
+    changed_by (command.Flush v m) at = None
+    changed_by (command.Compact v m) at = None
+    changed_by (command.Begin v m) at = None
+    changed_by (command.Step v m cells) at = None
+    changed_by (command.Finish v m) at = None
+    changed_by (command.Drain m) at = None
+    changed_by (command.Undrain m) at = None
+    changed_by (command.Fuse v m calls) at = None
+    changed_by (command.FuseDir calls) at = None
+    changed_by (command.Restart pick) at = None
 
 -- a plain turn that acknowledges no change of the pair
 abbrev pub LeavesAlone : Pair → Turn → Type 0

@@ -10,6 +10,10 @@ use Rattle.hay_cluster.specs.Seen.{WorkRefusedSeen, WorkSeen}
 use Rattle.hay_cluster.proofs.SeenWork.{frozen_cause, frozen_refused, frozen_refused_seen}
 use Rattle.hay_logical.specs.Sights.{sights_of}
 use Rattle.hay_cluster.specs.Sights.{DoneSights}
+use Rattle.hay_physical.specs.Copies.{volume_bytes}
+use Rattle.hay_logical.specs.Needles.{HeadsLeadOn, IsDamagedCell}
+use Rattle.hay_logical.specs.Seen.{begun, replica_seen}
+use Rattle.hay_cluster.specs.Needles.{LacksWork, LeadsWork}
 use Rattle.hay_cluster.proofs.maintenance.maintain.Goals as goal
 
 some_none : {X : Type 0} {x : X} → Some x ≡ None → ⊥
@@ -25,6 +29,14 @@ on_ok (Err e) Q q = tt
 on_err : {T E : Type 0} (r : Result T E) (Q : Type 0) → Q → OnErr r Q
 on_err (Ok x) Q q = tt
 on_err (Err e) Q q = q
+
+if_ok : {T E : Type 0} (r : Result T E) → IfOk r (λ x. Unit {0})
+if_ok (Ok x) = tt
+if_ok (Err e) = tt
+
+if_ok_by : {T E : Type 0} (r : Result T E) (Q : Type 0) (P : T → Type 0) → (Q → (x : T) → P x) → OnOk r Q → IfOk r P
+if_ok_by (Ok x) Q P makes q = makes q x
+if_ok_by (Err e) Q P makes q = tt
 
 pub returns-in-Finish-clause-others : goal.returns-in-Finish-clause-others
 returns-in-Finish-clause-others g c = λ j apart r r' was now. (c.finish.ensures.beside j apart r r' was now).disk
@@ -164,11 +176,37 @@ returns-in-Flush-clause-damaged g c = λ tells m place is. absurd (IfErr-at_err 
 pub returns-in-Begin-clause-damaged : goal.returns-in-Begin-clause-damaged
 returns-in-Begin-clause-damaged g c = λ tells m place is. absurd (IfErr-at_err _ is c.begin.ensures.causes)
 
+pub returns-in-Flush-clause-lead : goal.returns-in-Flush-clause-lead
+returns-in-Flush-clause-lead g c = λ tells r r' was now.
+    subst (λ (work : Maintenance). IfOk c.flush.result (λ number. LeadsWork work number (replica_seen r) (replica_seen r') (volume_bytes g.D.Disk.files r))) (sym c.in-Flush.is) (if_ok c.flush.result)
+
+pub returns-in-Begin-clause-lead : goal.returns-in-Begin-clause-lead
+returns-in-Begin-clause-lead g c = λ tells r r' was now.
+    subst (λ (work : Maintenance). IfOk c.begin.result (λ number. LeadsWork work number (replica_seen r) (replica_seen r') (volume_bytes g.D.Disk.files r))) (sym c.in-Begin.is) (if_ok c.begin.result)
+
 pub returns-in-Step-clause-damaged : goal.returns-in-Step-clause-damaged
-returns-in-Step-clause-damaged g c = c.step.ensures.damaged
+returns-in-Step-clause-damaged g c = λ tells m place is.
+    subst (λ (work : Maintenance). IsDamagedCell g.D.Disk.files (c.args.volume.now).replicas c.args.replica (LacksWork work place)) (sym c.in-Step.is) (c.step.ensures.damaged tells m place is)
+
+pub returns-in-Step-clause-lead : goal.returns-in-Step-clause-lead
+returns-in-Step-clause-lead g c = λ tells r r' was now.
+    subst (λ (work : Maintenance). IfOk c.step.result (λ number. LeadsWork work number (replica_seen r) (replica_seen r') (volume_bytes g.D.Disk.files r))) (sym c.in-Step.is)
+    (c.step.ensures.lead tells r r' was now)
 
 pub returns-in-Finish-clause-damaged : goal.returns-in-Finish-clause-damaged
-returns-in-Finish-clause-damaged g c = c.finish.ensures.damaged
+returns-in-Finish-clause-damaged g c = λ tells m place is.
+    subst (λ (work : Maintenance). IsDamagedCell g.D.Disk.files (c.args.volume.now).replicas c.args.replica (LacksWork work place)) (sym c.in-Finish.is) (c.finish.ensures.damaged tells m place is)
+
+pub returns-in-Finish-clause-lead : goal.returns-in-Finish-clause-lead
+returns-in-Finish-clause-lead g c = λ tells r r' was now.
+    subst (λ (work : Maintenance). IfOk c.finish.result (λ number. LeadsWork work number (replica_seen r) (replica_seen r') (volume_bytes g.D.Disk.files r))) (sym c.in-Finish.is)
+    (if_ok_by c.finish.result _ (λ number. HeadsLeadOn (replica_seen r) (volume_bytes g.D.Disk.files r)) (λ leads number. leads r was) (c.finish.ensures.lead tells))
 
 pub returns-in-Compact-clause-damaged : goal.returns-in-Compact-clause-damaged
-returns-in-Compact-clause-damaged g c = c.compact.ensures.damaged
+returns-in-Compact-clause-damaged g c = λ tells m place is.
+    subst (λ (work : Maintenance). IsDamagedCell g.D.Disk.files (c.args.volume.now).replicas c.args.replica (LacksWork work place)) (sym c.in-Compact.is) (c.compact.ensures.damaged tells m place is)
+
+pub returns-in-Compact-clause-lead : goal.returns-in-Compact-clause-lead
+returns-in-Compact-clause-lead g c = λ tells r r' was now.
+    subst (λ (work : Maintenance). IfOk c.compact.result (λ number. LeadsWork work number (replica_seen r) (replica_seen r') (volume_bytes g.D.Disk.files r))) (sym c.in-Compact.is)
+    (if_ok_by c.compact.result _ (λ number. HeadsLeadOn (begun (replica_seen r)) (volume_bytes g.D.Disk.files r)) (λ leads number. leads r was) (c.compact.ensures.lead tells))

@@ -4,7 +4,7 @@ use Rattle.hay_cluster.specs.Suiting.{Suits}
 use Rattle.hay_cluster.proofs.Answering.{same_falls}
 use Rattle.hay_cluster.proofs.Sure.{same_sure}
 use Rattle.hay_cluster.specs.Leaving.{LeavesContents}
-use Rattle.hay_cluster.specs.Needles.{TellsDamage}
+use Rattle.hay_cluster.specs.Needles.{MeetsNeedles, TellsDamage}
 use Rattle.hay_cluster.specs.Passing.{IsSureArm, PassesBefore}
 use Rattle.hay_cluster.specs.Reads.{counts_of}
 use Rattle.hay_cluster.specs.Store.{contents_in}
@@ -365,72 +365,72 @@ returns-in-FuseDir-clause-ended g c = λ v p d is. absurd (let same : FusedDir c
 
 pub returns-in-Put-clause-passes : goal.returns-in-Put-clause-passes
 returns-in-Put-clause-passes g c =
-    subst (λ (asked : Command). PassesBefore (c.args.self.now).settings (IsSureArm g.A.Arm.is_sure (c.args.self.now).arms c.args.tag.lane) c.args.tag asked
+    subst (λ (asked : Command). PassesBefore g.D.Disk.Tells (c.args.self.now).settings (IsSureArm g.A.Arm.is_sure (c.args.self.now).arms c.args.tag.lane) (contents_in g.D.Disk.files c.put.new.self) c.args.tag asked
     (counts_of g.D.Disk.fault_count g.A.Arm.fault_count c.args.self.now) (counts_of g.D.Disk.fault_count g.A.Arm.fault_count c.put.new.self) (store_seen c.put.new.self) c.put.result) (sym c.in-Put.is) tt
 
 pub returns-in-Read-clause-passes : goal.returns-in-Read-clause-passes
 returns-in-Read-clause-passes g c =
-    subst (λ (asked : Command). PassesBefore (c.args.self.now).settings (IsSureArm g.A.Arm.is_sure (c.args.self.now).arms c.args.tag.lane) c.args.tag asked
+    subst (λ (asked : Command). PassesBefore g.D.Disk.Tells (c.args.self.now).settings (IsSureArm g.A.Arm.is_sure (c.args.self.now).arms c.args.tag.lane) (contents_in g.D.Disk.files c.read.new.self) c.args.tag asked
     (counts_of g.D.Disk.fault_count g.A.Arm.fault_count c.args.self.now) (counts_of g.D.Disk.fault_count g.A.Arm.fault_count c.read.new.self) (store_seen c.read.new.self) c.read.result) (sym c.in-Read.is) c.read.ensures.passes
 
 pub returns-in-Get-clause-passes : goal.returns-in-Get-clause-passes
 returns-in-Get-clause-passes g c =
-    subst (λ (asked : Command). PassesBefore (c.args.self.now).settings (IsSureArm g.A.Arm.is_sure (c.args.self.now).arms c.args.tag.lane) c.args.tag asked
+    subst (λ (asked : Command). PassesBefore g.D.Disk.Tells (c.args.self.now).settings (IsSureArm g.A.Arm.is_sure (c.args.self.now).arms c.args.tag.lane) (contents_in g.D.Disk.files c.get.new.self) c.args.tag asked
     (counts_of g.D.Disk.fault_count g.A.Arm.fault_count c.args.self.now) (counts_of g.D.Disk.fault_count g.A.Arm.fault_count c.get.new.self) (store_seen c.get.new.self) c.get.result) (sym c.in-Get.is) c.get.ensures.passes
 
 pub returns-in-Del-clause-passes : goal.returns-in-Del-clause-passes
 returns-in-Del-clause-passes g c =
-    subst (λ (asked : Command). PassesBefore (c.args.self.now).settings (IsSureArm g.A.Arm.is_sure (c.args.self.now).arms c.args.tag.lane) c.args.tag asked
+    subst (λ (asked : Command). PassesBefore g.D.Disk.Tells (c.args.self.now).settings (IsSureArm g.A.Arm.is_sure (c.args.self.now).arms c.args.tag.lane) (contents_in g.D.Disk.files c.delete.new.self) c.args.tag asked
     (counts_of g.D.Disk.fault_count g.A.Arm.fault_count c.args.self.now) (counts_of g.D.Disk.fault_count g.A.Arm.fault_count c.delete.new.self) (store_seen c.delete.new.self) c.delete.result) (sym c.in-Del.is) tt
 
 pub returns-in-Url-clause-passes : goal.returns-in-Url-clause-passes
 returns-in-Url-clause-passes g c =
-    subst (λ (asked : Command). PassesBefore (c.args.self.now).settings (IsSureArm g.A.Arm.is_sure (c.args.self.now).arms c.args.tag.lane) c.args.tag asked
+    subst (λ (asked : Command). PassesBefore g.D.Disk.Tells (c.args.self.now).settings (IsSureArm g.A.Arm.is_sure (c.args.self.now).arms c.args.tag.lane) (contents_in g.D.Disk.files c.url.new.self) c.args.tag asked
     (counts_of g.D.Disk.fault_count g.A.Arm.fault_count c.args.self.now) (counts_of g.D.Disk.fault_count g.A.Arm.fault_count c.url.new.self) (store_seen c.url.new.self) c.url.result) (sym c.in-Url.is) tt
 
 pub returns-in-Flush-clause-passes : goal.returns-in-Flush-clause-passes
 returns-in-Flush-clause-passes g c =
-    subst (λ (asked : Command). PassesBefore (c.args.self.now).settings (IsSureArm g.A.Arm.is_sure (c.args.self.now).arms c.args.tag.lane) c.args.tag asked
+    subst (λ (asked : Command). PassesBefore g.D.Disk.Tells (c.args.self.now).settings (IsSureArm g.A.Arm.is_sure (c.args.self.now).arms c.args.tag.lane) (contents_in g.D.Disk.files c.maintain.new.self) c.args.tag asked
     (counts_of g.D.Disk.fault_count g.A.Arm.fault_count c.args.self.now) (counts_of g.D.Disk.fault_count g.A.Arm.fault_count c.maintain.new.self) (store_seen c.maintain.new.self) c.maintain.result) (sym c.in-Flush.is) tt
 
 pub returns-in-Drain-clause-passes : goal.returns-in-Drain-clause-passes
 returns-in-Drain-clause-passes g c =
-    subst (λ (asked : Command). PassesBefore (c.args.self.now).settings (IsSureArm g.A.Arm.is_sure (c.args.self.now).arms c.args.tag.lane) c.args.tag asked
+    subst (λ (asked : Command). PassesBefore g.D.Disk.Tells (c.args.self.now).settings (IsSureArm g.A.Arm.is_sure (c.args.self.now).arms c.args.tag.lane) (contents_in g.D.Disk.files c.drain.new.self) c.args.tag asked
     (counts_of g.D.Disk.fault_count g.A.Arm.fault_count c.args.self.now) (counts_of g.D.Disk.fault_count g.A.Arm.fault_count c.drain.new.self) (store_seen c.drain.new.self) c.drain.result) (sym c.in-Drain.is) tt
 
 pub returns-in-Undrain-clause-passes : goal.returns-in-Undrain-clause-passes
 returns-in-Undrain-clause-passes g c =
-    subst (λ (asked : Command). PassesBefore (c.args.self.now).settings (IsSureArm g.A.Arm.is_sure (c.args.self.now).arms c.args.tag.lane) c.args.tag asked
+    subst (λ (asked : Command). PassesBefore g.D.Disk.Tells (c.args.self.now).settings (IsSureArm g.A.Arm.is_sure (c.args.self.now).arms c.args.tag.lane) (contents_in g.D.Disk.files c.undrain.new.self) c.args.tag asked
     (counts_of g.D.Disk.fault_count g.A.Arm.fault_count c.args.self.now) (counts_of g.D.Disk.fault_count g.A.Arm.fault_count c.undrain.new.self) (store_seen c.undrain.new.self) c.undrain.result) (sym c.in-Undrain.is) tt
 
 pub returns-in-Fuse-clause-passes : goal.returns-in-Fuse-clause-passes
 returns-in-Fuse-clause-passes g c =
-    subst (λ (asked : Command). PassesBefore (c.args.self.now).settings (IsSureArm g.A.Arm.is_sure (c.args.self.now).arms c.args.tag.lane) c.args.tag asked
+    subst (λ (asked : Command). PassesBefore g.D.Disk.Tells (c.args.self.now).settings (IsSureArm g.A.Arm.is_sure (c.args.self.now).arms c.args.tag.lane) (contents_in g.D.Disk.files c.fuse.new.self) c.args.tag asked
     (counts_of g.D.Disk.fault_count g.A.Arm.fault_count c.args.self.now) (counts_of g.D.Disk.fault_count g.A.Arm.fault_count c.fuse.new.self) (store_seen c.fuse.new.self) c.fuse.result) (sym c.in-Fuse.is) tt
 
 pub returns-in-FuseDir-clause-passes : goal.returns-in-FuseDir-clause-passes
 returns-in-FuseDir-clause-passes g c =
-    subst (λ (asked : Command). PassesBefore (c.args.self.now).settings (IsSureArm g.A.Arm.is_sure (c.args.self.now).arms c.args.tag.lane) c.args.tag asked
+    subst (λ (asked : Command). PassesBefore g.D.Disk.Tells (c.args.self.now).settings (IsSureArm g.A.Arm.is_sure (c.args.self.now).arms c.args.tag.lane) (contents_in g.D.Disk.files c.fuse_dir.new.self) c.args.tag asked
     (counts_of g.D.Disk.fault_count g.A.Arm.fault_count c.args.self.now) (counts_of g.D.Disk.fault_count g.A.Arm.fault_count c.fuse_dir.new.self) (store_seen c.fuse_dir.new.self) c.fuse_dir.result) (sym c.in-FuseDir.is) tt
 
 pub returns-in-Compact-clause-passes : goal.returns-in-Compact-clause-passes
 returns-in-Compact-clause-passes g c =
-    subst (λ (asked : Command). PassesBefore (c.args.self.now).settings (IsSureArm g.A.Arm.is_sure (c.args.self.now).arms c.args.tag.lane) c.args.tag asked
+    subst (λ (asked : Command). PassesBefore g.D.Disk.Tells (c.args.self.now).settings (IsSureArm g.A.Arm.is_sure (c.args.self.now).arms c.args.tag.lane) (contents_in g.D.Disk.files c.maintain-in-Compact.new.self) c.args.tag asked
     (counts_of g.D.Disk.fault_count g.A.Arm.fault_count c.args.self.now) (counts_of g.D.Disk.fault_count g.A.Arm.fault_count c.maintain-in-Compact.new.self) (store_seen c.maintain-in-Compact.new.self) c.maintain-in-Compact.result) (sym c.in-Compact.is) tt
 
 pub returns-in-Begin-clause-passes : goal.returns-in-Begin-clause-passes
 returns-in-Begin-clause-passes g c =
-    subst (λ (asked : Command). PassesBefore (c.args.self.now).settings (IsSureArm g.A.Arm.is_sure (c.args.self.now).arms c.args.tag.lane) c.args.tag asked
+    subst (λ (asked : Command). PassesBefore g.D.Disk.Tells (c.args.self.now).settings (IsSureArm g.A.Arm.is_sure (c.args.self.now).arms c.args.tag.lane) (contents_in g.D.Disk.files c.maintain-in-Begin.new.self) c.args.tag asked
     (counts_of g.D.Disk.fault_count g.A.Arm.fault_count c.args.self.now) (counts_of g.D.Disk.fault_count g.A.Arm.fault_count c.maintain-in-Begin.new.self) (store_seen c.maintain-in-Begin.new.self) c.maintain-in-Begin.result) (sym c.in-Begin.is) tt
 
 pub returns-in-Step-clause-passes : goal.returns-in-Step-clause-passes
 returns-in-Step-clause-passes g c =
-    subst (λ (asked : Command). PassesBefore (c.args.self.now).settings (IsSureArm g.A.Arm.is_sure (c.args.self.now).arms c.args.tag.lane) c.args.tag asked
+    subst (λ (asked : Command). PassesBefore g.D.Disk.Tells (c.args.self.now).settings (IsSureArm g.A.Arm.is_sure (c.args.self.now).arms c.args.tag.lane) (contents_in g.D.Disk.files c.maintain-in-Step.new.self) c.args.tag asked
     (counts_of g.D.Disk.fault_count g.A.Arm.fault_count c.args.self.now) (counts_of g.D.Disk.fault_count g.A.Arm.fault_count c.maintain-in-Step.new.self) (store_seen c.maintain-in-Step.new.self) c.maintain-in-Step.result) (sym c.in-Step.is) tt
 
 pub returns-in-Finish-clause-passes : goal.returns-in-Finish-clause-passes
 returns-in-Finish-clause-passes g c =
-    subst (λ (asked : Command). PassesBefore (c.args.self.now).settings (IsSureArm g.A.Arm.is_sure (c.args.self.now).arms c.args.tag.lane) c.args.tag asked
+    subst (λ (asked : Command). PassesBefore g.D.Disk.Tells (c.args.self.now).settings (IsSureArm g.A.Arm.is_sure (c.args.self.now).arms c.args.tag.lane) (contents_in g.D.Disk.files c.maintain-in-Finish.new.self) c.args.tag asked
     (counts_of g.D.Disk.fault_count g.A.Arm.fault_count c.args.self.now) (counts_of g.D.Disk.fault_count g.A.Arm.fault_count c.maintain-in-Finish.new.self) (store_seen c.maintain-in-Finish.new.self) c.maintain-in-Finish.result) (sym c.in-Finish.is) tt
 
 pub returns-in-Put-clause-damaged : goal.returns-in-Put-clause-damaged
@@ -488,3 +488,59 @@ returns-in-Step-clause-damaged g c = λ tells.
 pub returns-in-Finish-clause-damaged : goal.returns-in-Finish-clause-damaged
 returns-in-Finish-clause-damaged g c = λ tells.
     subst (λ (asked : Command). TellsDamage (c.args.self.now).settings (contents_in g.D.Disk.files c.args.self.now) (store_seen c.args.self.now) asked c.maintain-in-Finish.result) (sym c.in-Finish.is) (c.maintain-in-Finish.ensures.damaged tells)
+
+pub returns-in-Put-clause-told : goal.returns-in-Put-clause-told
+returns-in-Put-clause-told g c = λ tells.
+    subst (λ (asked : Command). MeetsNeedles (c.args.self.now).settings (contents_in g.D.Disk.files c.args.self.now) (store_seen c.args.self.now) (store_seen c.put.new.self) asked c.put.result) (sym c.in-Put.is) tt
+
+pub returns-in-Read-clause-told : goal.returns-in-Read-clause-told
+returns-in-Read-clause-told g c = λ tells.
+    subst (λ (asked : Command). MeetsNeedles (c.args.self.now).settings (contents_in g.D.Disk.files c.args.self.now) (store_seen c.args.self.now) (store_seen c.read.new.self) asked c.read.result) (sym c.in-Read.is) (c.read.ensures.told tells)
+
+pub returns-in-Get-clause-told : goal.returns-in-Get-clause-told
+returns-in-Get-clause-told g c = λ tells.
+    subst (λ (asked : Command). MeetsNeedles (c.args.self.now).settings (contents_in g.D.Disk.files c.args.self.now) (store_seen c.args.self.now) (store_seen c.get.new.self) asked c.get.result) (sym c.in-Get.is) (c.get.ensures.told tells)
+
+pub returns-in-Del-clause-told : goal.returns-in-Del-clause-told
+returns-in-Del-clause-told g c = λ tells.
+    subst (λ (asked : Command). MeetsNeedles (c.args.self.now).settings (contents_in g.D.Disk.files c.args.self.now) (store_seen c.args.self.now) (store_seen c.delete.new.self) asked c.delete.result) (sym c.in-Del.is) (c.delete.ensures.told tells)
+
+pub returns-in-Url-clause-told : goal.returns-in-Url-clause-told
+returns-in-Url-clause-told g c = λ tells.
+    subst (λ (asked : Command). MeetsNeedles (c.args.self.now).settings (contents_in g.D.Disk.files c.args.self.now) (store_seen c.args.self.now) (store_seen c.url.new.self) asked c.url.result) (sym c.in-Url.is) tt
+
+pub returns-in-Flush-clause-told : goal.returns-in-Flush-clause-told
+returns-in-Flush-clause-told g c = λ tells.
+    subst (λ (asked : Command). MeetsNeedles (c.args.self.now).settings (contents_in g.D.Disk.files c.args.self.now) (store_seen c.args.self.now) (store_seen c.maintain.new.self) asked c.maintain.result) (sym c.in-Flush.is) tt
+
+pub returns-in-Drain-clause-told : goal.returns-in-Drain-clause-told
+returns-in-Drain-clause-told g c = λ tells.
+    subst (λ (asked : Command). MeetsNeedles (c.args.self.now).settings (contents_in g.D.Disk.files c.args.self.now) (store_seen c.args.self.now) (store_seen c.drain.new.self) asked c.drain.result) (sym c.in-Drain.is) tt
+
+pub returns-in-Undrain-clause-told : goal.returns-in-Undrain-clause-told
+returns-in-Undrain-clause-told g c = λ tells.
+    subst (λ (asked : Command). MeetsNeedles (c.args.self.now).settings (contents_in g.D.Disk.files c.args.self.now) (store_seen c.args.self.now) (store_seen c.undrain.new.self) asked c.undrain.result) (sym c.in-Undrain.is) tt
+
+pub returns-in-Fuse-clause-told : goal.returns-in-Fuse-clause-told
+returns-in-Fuse-clause-told g c = λ tells.
+    subst (λ (asked : Command). MeetsNeedles (c.args.self.now).settings (contents_in g.D.Disk.files c.args.self.now) (store_seen c.args.self.now) (store_seen c.fuse.new.self) asked c.fuse.result) (sym c.in-Fuse.is) tt
+
+pub returns-in-FuseDir-clause-told : goal.returns-in-FuseDir-clause-told
+returns-in-FuseDir-clause-told g c = λ tells.
+    subst (λ (asked : Command). MeetsNeedles (c.args.self.now).settings (contents_in g.D.Disk.files c.args.self.now) (store_seen c.args.self.now) (store_seen c.fuse_dir.new.self) asked c.fuse_dir.result) (sym c.in-FuseDir.is) tt
+
+pub returns-in-Compact-clause-told : goal.returns-in-Compact-clause-told
+returns-in-Compact-clause-told g c = λ tells.
+    subst (λ (asked : Command). MeetsNeedles (c.args.self.now).settings (contents_in g.D.Disk.files c.args.self.now) (store_seen c.args.self.now) (store_seen c.maintain-in-Compact.new.self) asked c.maintain-in-Compact.result) (sym c.in-Compact.is) (c.maintain-in-Compact.ensures.told tells)
+
+pub returns-in-Begin-clause-told : goal.returns-in-Begin-clause-told
+returns-in-Begin-clause-told g c = λ tells.
+    subst (λ (asked : Command). MeetsNeedles (c.args.self.now).settings (contents_in g.D.Disk.files c.args.self.now) (store_seen c.args.self.now) (store_seen c.maintain-in-Begin.new.self) asked c.maintain-in-Begin.result) (sym c.in-Begin.is) tt
+
+pub returns-in-Step-clause-told : goal.returns-in-Step-clause-told
+returns-in-Step-clause-told g c = λ tells.
+    subst (λ (asked : Command). MeetsNeedles (c.args.self.now).settings (contents_in g.D.Disk.files c.args.self.now) (store_seen c.args.self.now) (store_seen c.maintain-in-Step.new.self) asked c.maintain-in-Step.result) (sym c.in-Step.is) (c.maintain-in-Step.ensures.told tells)
+
+pub returns-in-Finish-clause-told : goal.returns-in-Finish-clause-told
+returns-in-Finish-clause-told g c = λ tells.
+    subst (λ (asked : Command). MeetsNeedles (c.args.self.now).settings (contents_in g.D.Disk.files c.args.self.now) (store_seen c.args.self.now) (store_seen c.maintain-in-Finish.new.self) asked c.maintain-in-Finish.result) (sym c.in-Finish.is) (c.maintain-in-Finish.ensures.told tells)

@@ -2,7 +2,7 @@ use Rattle.std.proofs.Common.{◌≡◌, None, Some, ap, sym, ◌∙◌, inl, in
 use Rattle.std.specs.Prelude.{Err}
 use Rattle.std.proofs.lemmas.Result.{IfErr-at_err, IfOk-at_ok}
 use Rattle.hay_cluster.specs.Needles.{IsDamagedLookOn}
-use Rattle.hay_cluster.proofs.Needling.{closed_undamaged, delete_damage}
+use Rattle.hay_cluster.proofs.Needling.{closed_told, closed_undamaged, delete_damage, undeleted_told}
 use Rattle.hay_legal.specs.Known.{closed, home_of, volume_at}
 use Rattle.hay_legal.specs.Plain.{with_del}
 use Rattle.hay_cluster.proofs.Changing.{deleted, not_deleted}
@@ -129,3 +129,18 @@ returns-clause-damaged g c = λ tells v m place is.
     let told = delete_damage c.in-Some.volume c.delete_refusal.result v m place is c.rows-in-Err.result c.in-Err.fault c.delete_refusal.ensures.is in
     subst (λ u. IsDamagedLookOn (c.args.self.now).settings (contents_in g.D.Disk.files c.args.self.now) (store_seen c.args.self.now) u c.args.pair m place) told.1
     (c.delete_in.ensures.damaged tells m place (c.in-Err.is ∙ ap Err told.0))
+
+pub returns-in_default-clause-told : goal.returns-in_default-clause-told
+returns-in_default-clause-told g c = λ tells. tt
+
+pub returns-in-Some-closed_by-clause-told : goal.returns-in-Some-closed_by-clause-told
+returns-in-Some-closed_by-clause-told g c = λ tells.
+    closed_told (c.args.self.now).settings (contents_in g.D.Disk.files c.args.self.now) (store_seen c.args.self.now) (store_seen c.args.self.now) c.args.pair c.in-Some.volume c.in-Some-closed_by.machine c.read_only.result c.read_only.ensures.is (keeps_photos (store_seen c.args.self.now))
+
+pub returns-in-Ok-clause-told : goal.returns-in-Ok-clause-told
+returns-in-Ok-clause-told g c = λ tells. c.in-Ok.ensures.told tells
+
+pub returns-clause-told : goal.returns-clause-told
+returns-clause-told g c = λ tells.
+    undeleted_told (c.args.self.now).settings (contents_in g.D.Disk.files c.args.self.now) (store_seen c.args.self.now) (store_seen c.delete_in.new.self) c.args.pair c.in-Some.volume (sym c.home.ensures.seen ∙ c.in-Some.is) (c.in-Err.ensures.refused_told tells)
+    c.rows-in-Err.result c.in-Err.fault c.delete_refusal.result c.delete_refusal.ensures.is

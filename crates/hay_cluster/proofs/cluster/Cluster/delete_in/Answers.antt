@@ -1,7 +1,7 @@
 use Rattle.std.proofs.Common.{◌≡◌, ℕ, Some, ◌<◌, List, ap, length, sym, subst, ◌∙◌, arith}
-use Rattle.std.specs.Prelude.{Result, Ok, Err, IfErr, OnErr, slice_index_or, slice_set}
+use Rattle.std.specs.Prelude.{Result, Ok, Err, IfErr, OnErr, OnOk, slice_index_or, slice_set}
 use Rattle.std.proofs.lemmas.List.{with_items_is}
-use Rattle.std.proofs.lemmas.Result.{IfErr-weaker, IfOk-weaker, on_ok_weaker}
+use Rattle.std.proofs.lemmas.Result.{IfErr-weaker, IfOk-weaker, on_ok_weaker, on_err_weaker}
 use borrow.Author.Rules.{scaled_Fits}
 use Rattle.hay_core.specs.declared.entry.CoreTag.{CoreTag}
 use Rattle.hay_needle.specs.declared.needle.Pair.{Pair}
@@ -21,11 +21,13 @@ use Rattle.hay_cluster.proofs.Moves.{Called, called_fuses, called_later, called_
 use Rattle.hay_cluster.specs.Leaving.{AnySlot, DeleteKeeps, IsBeside, KeepsIn, LeavesIn, ComesToPend, KeepsBehind}
 use Rattle.hay_cluster.proofs.Leaving.{called_keeps, called_leaves, delete_keeps, called_behind, comes_to_pend}
 use Rattle.hay_logical.specs.Seen.{FreezesSeen, DeleteRefusedSeen, HideSeen, VolumeSeen, volume_seen}
-use Rattle.hay_cluster.proofs.Needling.{damaged_look}
+use Rattle.hay_logical.specs.Needles.{DeletesTold}
+use Rattle.hay_cluster.specs.Needles.{AreToldAs}
+use Rattle.hay_cluster.proofs.Needling.{damaged_look, deletes_as, told_as}
 use Rattle.hay_cluster.proofs.Seeing.{volume_moves}
 use Rattle.hay_cluster.specs.Seen.{store_seen}
-use Rattle.hay_cluster.proofs.Sighting.{runs_end, volume_photos}
-use Rattle.hay_logical.specs.Sights.{DeletesSights, DeleteRefusedSights, sights_of}
+use Rattle.hay_cluster.proofs.Sighting.{photos_now, runs_end, volume_photos}
+use Rattle.hay_logical.specs.Sights.{DeletesSights, DeleteRefusedSights, Sights, sights_of}
 use Rattle.hay_cluster.proofs.cluster.Cluster.delete_in.Goals as goal
 
 refused_keeps : {T : Type 0} (settings : Settings) (v : ℕ) (pending pending' : List VolumeSeen) (old new : ℕ → Contents) (tag : CoreTag) (before after : VolumeSeen) (pair : Pair) (Kept : Type 0)
@@ -235,3 +237,35 @@ returns-clause-damaged g c = λ tells m place is.
     let at : At store.volumes c.args.volume volume = subst (λ (vs : List (Volume g.row.D.Denot g.row.D-Piece.Denot)). At vs c.args.volume volume) c.as_mut_slice.ensures.value
     (at_read c.as_mut_slice.result.now c.args.volume c.index-as_mut_slice-volume.result (let long = ap length c.as_mut_slice.ensures.value in omega (arith, within, long))) in
     damaged_look g.D.Disk.files c.args.self.now store c.self.view_is c.self.invariant c.args.volume volume at c.args.pair m place c.requires.volume (c.delete.ensures.damaged tells m place is)
+
+pub returns-clause-told : goal.returns-clause-told
+returns-clause-told g c = λ tells.
+    let store : Open g.row.D.Denot g.row.D-Piece.Denot g.row.A.Denot = record { settings = c.self.inside.settings; directory = c.self.inside.directory; volumes = c.self.inside.volumes.items; arms = c.self.inside.seats.items } in
+    let within : c.args.volume < length c.self.inside.volumes.items = let same = ap (λ (st : Open g.row.D.Denot g.row.D-Piece.Denot g.row.A.Denot). (st.settings).volumes) c.self.view_is in omega (arith, c.requires.volume, c.self.invariant.many, same) in
+    let volume : Volume g.row.D.Denot g.row.D-Piece.Denot = slice_index_or c.as_mut_slice.result.now c.args.volume c.index-as_mut_slice-volume.result in
+    let at : At store.volumes c.args.volume volume = subst (λ (vs : List (Volume g.row.D.Denot g.row.D-Piece.Denot)). At vs c.args.volume volume) c.as_mut_slice.ensures.value
+    (at_read c.as_mut_slice.result.now c.args.volume c.index-as_mut_slice-volume.result (let long = ap length c.as_mut_slice.ensures.value in omega (arith, within, long))) in
+    let items = with_items_is c.self.inside.volumes (slice_set c.as_mut_slice.result.now c.args.volume c.delete.new.self) (length-set c.as_mut_slice.result.now c.args.volume c.delete.new.self ∙ c.as_mut_slice.ensures.len)
+    ∙ ap (λ (vs : List (Volume g.row.D.Denot g.row.D-Piece.Denot)). slice_set vs c.args.volume c.delete.new.self) c.as_mut_slice.ensures.value in
+    let was = volume_of store c.args.volume volume c.self.invariant at in
+    let same = was.settings_are ∙ ap (λ (st : Open g.row.D.Denot g.row.D-Piece.Denot g.row.A.Denot). st.settings) c.self.view_is in
+    rw items
+    (on_ok_weaker c.delete.result
+    (deletes_as g.D.Disk.files c.args.self.now store c.self.view_is c.self.invariant c.args.volume volume at c.args.pair (sights_of (c.delete.new.self).rows) ((store_seen (with_one store c.args.volume c.delete.new.self)).places c.args.volume)
+    (photos_now c.args.self.now store c.self.view_is c.args.volume volume c.delete.new.self at))
+    (subst (λ (s : Settings). OnOk c.delete.result (DeletesTold g.D.Disk.files volume.replicas c.args.pair s.replicas (sights_of volume.rows) (sights_of (c.delete.new.self).rows))) same (c.delete.ensures.told tells)))
+
+pub returns-clause-refused_told : goal.returns-clause-refused_told
+returns-clause-refused_told g c = λ tells.
+    let store : Open g.row.D.Denot g.row.D-Piece.Denot g.row.A.Denot = record { settings = c.self.inside.settings; directory = c.self.inside.directory; volumes = c.self.inside.volumes.items; arms = c.self.inside.seats.items } in
+    let within : c.args.volume < length c.self.inside.volumes.items = let same = ap (λ (st : Open g.row.D.Denot g.row.D-Piece.Denot g.row.A.Denot). (st.settings).volumes) c.self.view_is in omega (arith, c.requires.volume, c.self.invariant.many, same) in
+    let volume : Volume g.row.D.Denot g.row.D-Piece.Denot = slice_index_or c.as_mut_slice.result.now c.args.volume c.index-as_mut_slice-volume.result in
+    let at : At store.volumes c.args.volume volume = subst (λ (vs : List (Volume g.row.D.Denot g.row.D-Piece.Denot)). At vs c.args.volume volume) c.as_mut_slice.ensures.value
+    (at_read c.as_mut_slice.result.now c.args.volume c.index-as_mut_slice-volume.result (let long = ap length c.as_mut_slice.ensures.value in omega (arith, within, long))) in
+    let items = with_items_is c.self.inside.volumes (slice_set c.as_mut_slice.result.now c.args.volume c.delete.new.self) (length-set c.as_mut_slice.result.now c.args.volume c.delete.new.self ∙ c.as_mut_slice.ensures.len)
+    ∙ ap (λ (vs : List (Volume g.row.D.Denot g.row.D-Piece.Denot)). slice_set vs c.args.volume c.delete.new.self) c.as_mut_slice.ensures.value in
+    rw items
+    (on_err_weaker c.delete.result
+    (λ told. subst (λ (seen : Sights). AreToldAs (c.args.self.now).settings (contents_in g.D.Disk.files c.args.self.now) (store_seen c.args.self.now) c.args.volume c.args.pair seen)
+    (sym (photos_now c.args.self.now store c.self.view_is c.args.volume volume c.delete.new.self at))
+    (told_as g.D.Disk.files c.args.self.now store c.self.view_is c.self.invariant c.args.volume volume at c.args.pair (sights_of (c.delete.new.self).rows) told)) (c.delete.ensures.refused_told tells))

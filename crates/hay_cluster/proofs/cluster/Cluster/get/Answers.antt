@@ -4,7 +4,7 @@ use Rattle.hay_needle.specs.declared.settings.Settings.{Settings}
 use Rattle.hay_reply.specs.declared.Reply.TheVariants as reply
 use Rattle.hay_legal.specs.Known.{home_of, replica_on}
 use Rattle.hay_legal.specs.Plain.{LegalGetAt}
-use Rattle.hay_cluster.specs.Store.{Open, disks_of}
+use Rattle.hay_cluster.specs.Store.{Open, contents_in, disks_of}
 use Rattle.hay_cluster.proofs.Answering.{answered, stays}
 use Rattle.hay_cluster.proofs.Moves.{none_falls}
 use Rattle.hay_cluster.proofs.Showing.{get_command}
@@ -164,5 +164,5 @@ returns-clause-passes g c = λ start there.
     let same = ap (λ (st : Open g.row.D.Denot g.row.D-Piece.Denot g.row.A.Denot). st.settings) c.self.view_is in
     let here : replica_on (c.args.self.now).settings (c.args.url.now).volume (c.args.url.now).machine ≡ Some c.in-Some.start = ap (λ (s : Settings). replica_on s (c.args.url.now).volume (c.args.url.now).machine) (sym same) ∙ sym c.replica_on.ensures.is ∙ c.in-Some.is in
     let first : c.in-Some.start ≡ start = same_Some c.in-Some.start start (sym here ∙ there) in
-    subst (λ s. TriesBefore (c.args.self.now).settings (IsSureArm g.A.Arm.is_sure (c.args.self.now).arms c.args.tag.lane) c.args.tag.lane s (c.args.url.now).pair
+    subst (λ s. TriesBefore g.D.Disk.Tells (c.args.self.now).settings (IsSureArm g.A.Arm.is_sure (c.args.self.now).arms c.args.tag.lane) (contents_in g.D.Disk.files c.show.new.self) c.args.tag.lane s (c.args.url.now).pair
     (counts_of g.D.Disk.fault_count g.A.Arm.fault_count c.args.self.now) (counts_of g.D.Disk.fault_count g.A.Arm.fault_count c.show.new.self) (store_seen c.show.new.self) (told_by c.show.result)) first c.show.ensures.passes

@@ -5,6 +5,7 @@ use Rattle.hay_needle.specs.declared.settings.Settings.{Settings}
 use Rattle.hay_disk.specs.Counts.{Rose}
 use Rattle.hay_mount.specs.Mounts.{IsPutBack}
 use Rattle.hay_legal.specs.Known.{disk_count}
+use Rattle.hay_cluster.specs.Causes.{HasFile}
 use Rattle.hay_cluster.specs.declared.fault.ClusterFault.TheVariants.{Shelf, Failed, Damaged, NoMemory}
 use Rattle.hay_cluster.specs.Store.{disks_of}
 use Rattle.hay_cluster.proofs.ClosingStore.{disks_many}
@@ -298,7 +299,7 @@ returns-in-Err-clause-damaged_within g c =
     let moved : MovedParts g.D.Disk.Tells g.D.Disk.files g.D.Piece.Piece.Tells g.D.Disk.fault_count g.D.Disk.fuse_count g.A.Arm.fault_count c.assemble-cluster.result c.open_parts.new.self = record { settings = c.open_parts.ensures.settings; arms = c.open_parts.ensures.arms; directory = c.open_parts.ensures.directory; volumes = c.open_parts.ensures.volumes } in
     λ slot file at is.
     let told : c.in-Err.fault ≡ Damaged slot file at = cc in
-    subst (λ (s : Settings). slot < disk_count s) c.assemble-cluster.ensures.settings
+    subst (λ (s : Settings). HasFile s slot file) c.assemble-cluster.ensures.settings
     (back_damaged g.D.Disk.Tells g.D.Disk.files g.D.Piece.Piece.Tells g.D.Disk.fault_count g.D.Disk.fuse_count g.A.Arm.fault_count g.D.Disk.drawn g.A.Arm.is_sure (g.H.Shelf.disks c.args.shelf.now) (g.H.Shelf.arms c.args.shelf.now) c.assemble-cluster.result c.open_parts.new.self c.in-Err.fault taken moved c.in-Err.ensures.refused slot file at told)
 
 pub returns-in-Ok-clause-formatted : goal.returns-in-Ok-clause-formatted

@@ -9,6 +9,7 @@ use Rattle.hay_cluster.specs.Sights.{told_by}
 use Rattle.hay_cluster.proofs.Sighting.{keeps_photos}
 use Rattle.hay_cluster.proofs.Seeing.{keeps_all}
 use Rattle.hay_cluster.specs.Seen.{store_seen}
+use Rattle.hay_cluster.specs.Store.{contents_in}
 use Rattle.hay_cluster.proofs.cluster.Cluster.read.Goals as goal
 
 pub returns-clause-legal : goal.returns-clause-legal
@@ -47,6 +48,6 @@ returns-in_default-clause-sights g c =
 
 pub returns-clause-passes : goal.returns-clause-passes
 returns-clause-passes g c =
-    subst (λ start. TriesBefore (c.args.self.now).settings (IsSureArm g.A.Arm.is_sure (c.args.self.now).arms c.args.tag.lane) c.args.tag.lane start c.args.pair
+    subst (λ start. TriesBefore g.D.Disk.Tells (c.args.self.now).settings (IsSureArm g.A.Arm.is_sure (c.args.self.now).arms c.args.tag.lane) (contents_in g.D.Disk.files c.show.new.self) c.args.tag.lane start c.args.pair
     (counts_of g.D.Disk.fault_count g.A.Arm.fault_count c.args.self.now) (counts_of g.D.Disk.fault_count g.A.Arm.fault_count c.show.new.self) (store_seen c.show.new.self) (told_by c.show.result)) c.start_of-start.ensures.is
     c.show.ensures.passes

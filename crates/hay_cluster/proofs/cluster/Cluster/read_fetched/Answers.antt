@@ -13,7 +13,7 @@ use Rattle.hay_reader.proofs.Outcomes.{answers_row}
 use Rattle.hay_cluster.specs.Causes.{Counts}
 use Rattle.hay_cluster.specs.Reads.{MayHave, NeverIn, counts_of, outcomes_of}
 use Rattle.hay_cluster.specs.State.{Stands}
-use Rattle.hay_cluster.specs.Store.{Open, disks_of}
+use Rattle.hay_cluster.specs.Store.{Open, contents_in, disks_of}
 use Rattle.hay_cluster.proofs.Lists.{length-set}
 use Rattle.hay_cluster.proofs.Moves.{volume_of, volume_stood}
 use Rattle.hay_cluster.proofs.Showing.{answers_say, counts_at, later_set, row_may_mean, row_read, row_stops, seat_comes}
@@ -25,6 +25,9 @@ use Rattle.hay_logical.specs.Sights.{Sights, sight}
 use Rattle.hay_map.specs.Rows.{row_at}
 use Rattle.hay_map.specs.Places.{place_in}
 use Rattle.hay_map.specs.declared.place.Place.{Place}
+use Rattle.hay_cluster.specs.Passing.{IsOfPlace}
+use Rattle.hay_cluster.proofs.Calls.{called_open}
+use Rattle.hay_cluster.proofs.Placing.{open_whole, row_had}
 use Rattle.hay_cluster.proofs.cluster.Cluster.read_fetched.Goals as goal
 
 pub offset_bounds-as_slice-volume : goal.offset_bounds-as_slice-volume
@@ -110,7 +113,11 @@ returns-clause-passes g c =
       outcomes_of (c.args.self.now).settings (volume_at whole.1 c.args.volume) c.args.pair,
       row_may_mean g.D.Disk.files g.D.Piece.Piece.Tells volume.replicas c.look-row.result.row (c.args.self.now).settings (volume_at whole.1 c.args.volume) c.args.pair long (was.all ∙ ap (λ (s : Settings). s.replicas) same) known.1,
     )) (λ f sure. arm_at g.A.Arm.is_sure g.A.Arm.fault_count (c.args.self.now).arms store.arms c.args.lane arm (ap (λ (st : Open g.row.D.Denot g.row.D-Piece.Denot g.row.A.Denot). st.arms) c.self.view_is) seat sure)
-    ((store_seen store).places c.args.volume c.args.pair) (λ j. ap (λ (l : List (Place g.row.D-Piece.Denot)). sight (place_in l j)) c.look-row.ensures.row ∙ sym (ap (λ (seen : Sights). seen c.args.pair j) (photos_at store store refl c.args.volume volume at))) c.args.passed (subst (λ (st : Open g.row.D.Denot g.row.D-Piece.Denot g.row.A.Denot). MayHave ((store_seen st).places c.args.volume c.args.pair) c.args.passed) (sym c.self.view_is) c.requires.may_stand) c.show_more.new.out.items c.show_more.result reads)
+    (IsOfPlace g.D.Disk.Tells (c.args.self.now).settings (contents_in g.D.Disk.files store) (store_seen store) c.args.volume c.args.pair)
+    (row_had g.D.Disk.Tells g.D.Piece.Piece.Tells (g.A.Arm.is_sure arm) (c.args.self.now).settings (contents_in g.D.Disk.files store) (store_seen store) c.args.volume c.args.pair c.args.cookie c.look-row.result.row
+    (λ j. ap (λ (l : List (Place g.row.D-Piece.Denot)). sight (place_in l j)) c.look-row.ensures.row ∙ sym (ap (λ (seen : Sights). seen c.args.pair j) (photos_at store store refl c.args.volume volume at)))
+    (λ tells. open_whole g.D.Piece.Piece.Tells c.look-row.result.row volume.replicas (c.look-row.ensures.long ∙ sym was.all) (called_open c.args.self.now store c.args.volume volume c.self.view_is at c.requires.up).each (c.look-row.ensures.whole tells)))
+    c.args.passed (subst (λ (st : Open g.row.D.Denot g.row.D-Piece.Denot g.row.A.Denot). MayHave (IsOfPlace g.D.Disk.Tells (c.args.self.now).settings (contents_in g.D.Disk.files st) (store_seen st) c.args.volume c.args.pair) c.args.passed) (sym c.self.view_is) c.requires.may_stand) c.show_more.new.out.items c.show_more.result reads)
 
 pub returns-clause-arm_counts : goal.returns-clause-arm_counts
 returns-clause-arm_counts g c =

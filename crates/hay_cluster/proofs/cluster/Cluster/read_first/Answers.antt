@@ -12,7 +12,7 @@ use Rattle.hay_reader.proofs.Outcomes.{answers_row}
 use Rattle.hay_cluster.specs.Causes.{Counts}
 use Rattle.hay_cluster.specs.Reads.{NeverIn, counts_of, outcomes_of}
 use Rattle.hay_cluster.specs.State.{Stands}
-use Rattle.hay_cluster.specs.Store.{IsUp, Open, disks_of}
+use Rattle.hay_cluster.specs.Store.{IsUp, Open, contents_in, disks_of}
 use Rattle.hay_cluster.proofs.Lists.{length-set}
 use Rattle.hay_cluster.proofs.Moves.{volume_of, volume_stood}
 use Rattle.hay_cluster.proofs.Showing.{answers_say, counts_at, later_set, row_may_mean, row_read, row_stops, seat_comes}
@@ -26,6 +26,9 @@ use Rattle.hay_logical.specs.Sights.{Sights, sight}
 use Rattle.hay_map.specs.Places.{place_in}
 use Rattle.hay_map.specs.declared.place.Place.{Place}
 use Rattle.hay_map.specs.Rows.{row_at}
+use Rattle.hay_cluster.specs.Passing.{IsOfPlace}
+use Rattle.hay_cluster.proofs.Calls.{called_open}
+use Rattle.hay_cluster.proofs.Placing.{open_whole, row_had}
 use Rattle.hay_cluster.proofs.cluster.Cluster.read_first.Goals as goal
 
 pub offset_bounds-as_slice-volume : goal.offset_bounds-as_slice-volume
@@ -108,7 +111,11 @@ returns-clause-passes g c =
       outcomes_of (c.args.self.now).settings (volume_at whole.1 c.args.volume) c.args.pair,
       row_may_mean g.D.Disk.files g.D.Piece.Piece.Tells volume.replicas c.look-front.result.row (c.args.self.now).settings (volume_at whole.1 c.args.volume) c.args.pair long (was.all ∙ ap (λ (s : Settings). s.replicas) same) known.1,
     )) (λ f sure. arm_at g.A.Arm.is_sure g.A.Arm.fault_count (c.args.self.now).arms store.arms c.args.lane arm (ap (λ (st : Open g.row.D.Denot g.row.D-Piece.Denot g.row.A.Denot). st.arms) c.self.view_is) seat sure)
-    ((store_seen store).places c.args.volume c.args.pair) (λ j. ap (λ (l : List (Place g.row.D-Piece.Denot)). sight (place_in l j)) c.look-front.ensures.row ∙ sym (ap (λ (seen : Sights). seen c.args.pair j) (photos_at store store refl c.args.volume volume at))) [] tt c.show-read.new.out.items c.show-read.result reads)
+    (IsOfPlace g.D.Disk.Tells (c.args.self.now).settings (contents_in g.D.Disk.files store) (store_seen store) c.args.volume c.args.pair)
+    (row_had g.D.Disk.Tells g.D.Piece.Piece.Tells (g.A.Arm.is_sure arm) (c.args.self.now).settings (contents_in g.D.Disk.files store) (store_seen store) c.args.volume c.args.pair c.args.cookie c.look-front.result.row
+    (λ j. ap (λ (l : List (Place g.row.D-Piece.Denot)). sight (place_in l j)) c.look-front.ensures.row ∙ sym (ap (λ (seen : Sights). seen c.args.pair j) (photos_at store store refl c.args.volume volume at)))
+    (λ tells. open_whole g.D.Piece.Piece.Tells c.look-front.result.row volume.replicas (c.look-front.ensures.long ∙ sym was.all) (called_open c.args.self.now store c.args.volume volume c.self.view_is at c.requires.up).each (c.look-front.ensures.whole tells)))
+    [] tt c.show-read.new.out.items c.show-read.result reads)
 
 pub returns-clause-arm_counts : goal.returns-clause-arm_counts
 returns-clause-arm_counts g c =

@@ -19,14 +19,16 @@ use Rattle.hay_cluster.specs.State.{Stands}
 use Rattle.hay_cluster.specs.Store.{Open, contents_in}
 use Rattle.hay_cluster.proofs.Calls.{called_open, called_up}
 use Rattle.hay_cluster.proofs.Lists.{length-set}
-use Rattle.hay_cluster.proofs.Moves.{Called, called_fuses, called_later, called_shape, volume_of, volume_stood}
+use Rattle.hay_cluster.proofs.Moves.{Called, called_fuses, called_later, called_shape, volume_of, volume_stood, with_one}
 use Rattle.hay_cluster.proofs.Showing.{seen_by_in, seen_in, seen_there, sight_comes, sight_fault, sight_others}
 use Rattle.hay_cluster.specs.Leaving.{AnySlot, KeepsIn}
 use Rattle.hay_cluster.specs.Reads.{AwaitsFor}
 use Rattle.hay_cluster.proofs.Leaving.{called_keeps}
 use Rattle.hay_cluster.proofs.Seeing.{moves_none, volume_moves}
-use Rattle.hay_cluster.proofs.Sighting.{photos_at, volume_kept_photos, volume_photos}
+use Rattle.hay_cluster.proofs.Sighting.{photos_at, photos_now, volume_kept_photos, volume_photos}
 use Rattle.hay_logical.specs.Sights.{KeepsSights, SeeRefusedSights, SeesPair, Sights, sights_of}
+use Rattle.hay_cluster.proofs.Needling.{lacks_on, told_as, told_kept}
+use Rattle.hay_cluster.specs.Seen.{store_seen}
 use Rattle.hay_cluster.proofs.cluster.Cluster.see_in.Goals as goal
 use Rattle.hay_cluster.proofs.cluster.Cluster.see_in.Goals.{in-Ok, in-Err}
 
@@ -264,4 +266,31 @@ returns-clause-refused_sights g c =
             subst (λ (seen : Sights). AwaitsFor w.in-Err.fault (seen c.args.pair c.args.replica)) (sym (photos_at c.args.self.now store c.self.view_is c.args.volume volume at))
                 (refused_awaits c.args.pair c.args.replica (sights_of volume.rows) (sights_of (c.see.new.self).rows) w.in-Err.fault w.in-Err.ensures.refused_sights),
           ))
+    ]
+
+pub returns-clause-told : goal.returns-clause-told
+returns-clause-told g c = λ tells.
+    let store : Open g.row.D.Denot g.row.D-Piece.Denot g.row.A.Denot = record { settings = c.self.inside.settings; directory = c.self.inside.directory; volumes = c.self.inside.volumes.items; arms = c.self.inside.seats.items } in
+    let within : c.args.volume < length c.self.inside.volumes.items = let same = ap (λ (st : Open g.row.D.Denot g.row.D-Piece.Denot g.row.A.Denot). (st.settings).volumes) c.self.view_is in omega (arith, c.requires.volume, c.self.invariant.many, same) in
+    let volume : Volume g.row.D.Denot g.row.D-Piece.Denot = slice_index_or c.as_mut_slice.result.now c.args.volume c.index-as_mut_slice-volume.result in
+    let at : At store.volumes c.args.volume volume = subst (λ (vs : List (Volume g.row.D.Denot g.row.D-Piece.Denot)). At vs c.args.volume volume) c.as_mut_slice.ensures.value
+    (at_read c.as_mut_slice.result.now c.args.volume c.index-as_mut_slice-volume.result (let long = ap length c.as_mut_slice.ensures.value in omega (arith, within, long))) in
+    let items = with_items_is c.self.inside.volumes (slice_set c.as_mut_slice.result.now c.args.volume c.see.new.self) (length-set c.as_mut_slice.result.now c.args.volume c.see.new.self ∙ c.as_mut_slice.ensures.len)
+    ∙ ap (λ (vs : List (Volume g.row.D.Denot g.row.D-Piece.Denot)). slice_set vs c.args.volume c.see.new.self) c.as_mut_slice.ensures.value in
+    let told = told_as g.D.Disk.files c.args.self.now store c.self.view_is c.self.invariant c.args.volume volume at c.args.pair (sights_of (c.see.new.self).rows) (c.see.ensures.told tells) in
+    rw items (told_kept (c.args.self.now).settings (contents_in g.D.Disk.files c.args.self.now) (store_seen c.args.self.now) c.args.volume c.args.pair (sights_of (c.see.new.self).rows)
+    ((store_seen (with_one store c.args.volume c.see.new.self)).places c.args.volume)
+    (λ j. ap (λ (seen : Sights). seen c.args.pair j) (photos_now c.args.self.now store c.self.view_is c.args.volume volume c.see.new.self at)) told)
+
+pub returns-clause-lacks : goal.returns-clause-lacks
+returns-clause-lacks g c = λ tells m place is.
+    let store : Open g.row.D.Denot g.row.D-Piece.Denot g.row.A.Denot = record { settings = c.self.inside.settings; directory = c.self.inside.directory; volumes = c.self.inside.volumes.items; arms = c.self.inside.seats.items } in
+    let within : c.args.volume < length c.self.inside.volumes.items = let same = ap (λ (st : Open g.row.D.Denot g.row.D-Piece.Denot g.row.A.Denot). (st.settings).volumes) c.self.view_is in omega (arith, c.requires.volume, c.self.invariant.many, same) in
+    let volume : Volume g.row.D.Denot g.row.D-Piece.Denot = slice_index_or c.as_mut_slice.result.now c.args.volume c.index-as_mut_slice-volume.result in
+    let at : At store.volumes c.args.volume volume = subst (λ (vs : List (Volume g.row.D.Denot g.row.D-Piece.Denot)). At vs c.args.volume volume) c.as_mut_slice.ensures.value
+    (at_read c.as_mut_slice.result.now c.args.volume c.index-as_mut_slice-volume.result (let long = ap length c.as_mut_slice.ensures.value in omega (arith, within, long))) in
+    let lacks = lacks_on g.D.Disk.files c.args.self.now store c.self.view_is c.self.invariant c.args.volume volume at c.args.pair c.args.replica place c.requires.replica in
+    elim c.match-see.branch [
+      | in-Ok w ↦ let wrong = sym w.result-is ∙ is in cc
+      | in-Err w ↦ lacks (c.see.ensures.lacks tells m place (let was = w.in-Err.is in let told = w.result-is in cc))
     ]
