@@ -38,7 +38,7 @@ replica_there store v j shape below within =
     (r.0, (w.0, w.1, r.1))
 
 -- and the settings say of each that is there
-within_settings : {D : Type 0} (store : LoadStore D) (v j : ℕ) (r : LoadReplica D) → IsShaped store → ReplicaAt store v j r → (v < store.settings.volumes) × (j < store.settings.replicas)
+pub within_settings : {D : Type 0} (store : LoadStore D) (v j : ℕ) (r : LoadReplica D) → IsShaped store → ReplicaAt store v j r → (v < store.settings.volumes) × (j < store.settings.replicas)
 within_settings store v j r shape there =
     let first = at_below store.volumes.items v there.0 there.1 in
     let second = at_below there.0.replicas.items j r there.2 in

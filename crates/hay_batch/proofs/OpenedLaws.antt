@@ -12,7 +12,6 @@ use Rattle.hay_dirfile.specs.Journal.{IsDamagedJournal}
 use Rattle.hay_dirfile.specs.declared.fault.OpenFault.{OpenFault as JournalFault}
 use Rattle.hay_dirfile.specs.declared.fault.OpenFault.TheVariants as journal
 use Rattle.hay_dirfile.specs.declared.journal.Journal.{Journal}
-use Rattle.hay_dirfile.specs.declared.row.DirRow.{DirRow}
 use Rattle.hay_open.specs.declared.fault.OpenFault.{OpenFault}
 use Rattle.hay_open.specs.declared.fault.OpenFault.TheVariants as opening
 use Rattle.hay_open.specs.Damage.{IsOpeningDamage}
@@ -27,11 +26,10 @@ use Rattle.hay_batch.specs.declared.replica.LoadReplica.{LoadReplica}
 use Rattle.hay_batch.specs.declared.store.LoadStore.{LoadStore}
 use Rattle.hay_batch.specs.Directories.{HoldsRows}
 use Rattle.hay_batch.specs.Directories as directories
-use Rattle.hay_batch.specs.Homes.{AreHomes}
 use Rattle.hay_batch.specs.Faults.{not_opened, of_journal}
 use Rattle.hay_batch.specs.Openings.{directory_of, journal_super}
 use Rattle.hay_batch.specs.Replicas.{At, Holds, IsReady}
-use Rattle.hay_batch.specs.Shelves.{AreSoundBelow, EachDisk, IsDamagedDisk, IsLeft, IsLimited, IsOpenAs, IsUndamagedBelow, OpensRows, OpensSlot, OpensStore, StandsAs, StoredStore, contents_of, disk_count, place_super, reads_of, replica_super, slot_of}
+use Rattle.hay_batch.specs.Shelves.{AreSoundBelow, EachDisk, IsDamagedDisk, IsLeft, IsLimited, IsOpenAs, IsUndamagedBelow, OpensRows, OpensSlot, OpensStore, RecallsEnd, RecallsRows, StandsAs, StoredStore, contents_of, disk_count, place_super, reads_of, replica_super, slot_of}
 use Rattle.hay_batch.specs.Slots.{IsAtRest, IsSound, IsSoundJournal, MovesDisks, OpensDisks, OpensFile, OpensJournal, RefusesBehind, RefusesDisks, RefusesFirst}
 use Rattle.hay_batch.specs.Stores.{IsReadyStore, IsShaped, ReplicaAt, Stands}
 use Rattle.hay_batch.proofs.Lists.{at_below, at_there}
@@ -182,9 +180,34 @@ module _ {D : Type 0} (Tells : Type 0) (files : D → Files) (drawn : D → ℕ 
       replicas = λ v j r there. (was_file v j r there).is.ready tells;
     }
 
-    pub made_homes : (rows : List DirRow) × AreHomes store.directory.homes rows × (store.directory.rows ≡ length rows)
-    unfolding was_journal
-    made_homes = subst (λ (d : LoadDirectory D). (rows : List DirRow) × AreHomes d.homes rows × (d.rows ≡ length rows)) (sym m.directory) was_journal.is.homes
+    pub made_rows : RecallsRows Tells settings (reads_of held 0 0) store.directory.homes store.directory.rows
+    unfolding was_journal reads_at
+    made_rows =
+        let kept_rows = was_journal.is.recalls in
+        let first : RecallsRows Tells settings (reads_of held 0 0) kept.homes kept.rows = record {
+          rows = kept_rows.rows;
+          are = kept_rows.are;
+          many = kept_rows.many;
+          within = kept_rows.within;
+          reads = λ tells. subst (λ (c : ℕ → List ℕ). OpensRows settings (c 0) kept_rows.rows) (reads_at tells 0 was_journal.disk was_journal.there) (kept_rows.reads tells);
+        } in
+        subst (λ (d : LoadDirectory D). RecallsRows Tells settings (reads_of held 0 0) d.homes d.rows) (sym m.directory) first
+
+    -- what a replica's disk was opened as, by what was read of its slot
+    opens_here : Tells → (v j : ℕ) (s : Stored) (disk : D) → At old (v * settings.replicas + j + 1) disk → OpensAs (replica_super settings v j) (reads_of held (slot_of settings v j)) s
+        → OpensAs (replica_super settings v j) (λ n. (files disk n).now) s
+    unfolding reads_at
+    opens_here tells v j s disk there is =
+        let slot : v * settings.replicas + j + 1 ≡ slot_of settings v j = omega arith in
+        subst (λ (c : ℕ → List ℕ). OpensAs (replica_super settings v j) c s) (sym (reads_at tells (v * settings.replicas + j + 1) disk there))
+        (subst (λ n. OpensAs (replica_super settings v j) (reads_of held n) s) (sym slot) is)
+
+    pub made_ends : (v j : ℕ) (r : LoadReplica D) → ReplicaAt store v j r → RecallsEnd Tells (replica_super settings v j) (reads_of held (slot_of settings v j)) r.volume
+    unfolding was_file opens_here
+    made_ends v j r there =
+        let w = was_file v j r there in
+        let recalls = w.is.recalls in
+        record { from = recalls.from; room = recalls.room; found = λ tells s is. recalls.found tells s (opens_here tells v j s w.disk w.there is) }
 
     open_holds : (sup : Super) (s : Stored) (r : LoadReplica D) → IsOpenAs files sup s r → IsReady files r → Holds files (super_bytes (volume_super sup s.generation)) s.cells r
     open_holds sup s r opened ready =
@@ -198,13 +221,11 @@ module _ {D : Type 0} (Tells : Type 0) (files : D → Files) (drawn : D → ℕ 
         }
 
     open_as : Tells → (s : StoredStore) → OpensStore settings (reads_of held) s → (v j : ℕ) (r : LoadReplica D) → ReplicaAt store v j r → IsOpenAs files (replica_super settings v j) (s.replicas v j) r
-    unfolding was_file reads_at inside
+    unfolding was_file inside opens_here
     open_as tells s finds v j r there =
         let w = was_file v j r there in
         let low = inside v j r there in
-        let slot : v * settings.replicas + j + 1 ≡ slot_of settings v j = omega arith in
-        w.is.opened tells (s.replicas v j) (subst (λ (c : ℕ → List ℕ). OpensAs (replica_super settings v j) c (s.replicas v j)) (sym (reads_at tells (v * settings.replicas + j + 1) w.disk w.there))
-        (subst (λ n. OpensAs (replica_super settings v j) (reads_of held n) (s.replicas v j)) (sym slot) (finds.replicas v j low.0 low.1)))
+        w.is.opened tells (s.replicas v j) (opens_here tells v j (s.replicas v j) w.disk w.there (finds.replicas v j low.0 low.1))
 
     pub made_stands : Tells → (s : StoredStore) → OpensStore settings (reads_of held) s → StandsAs files store s
     unfolding was_file was_journal reads_at open_holds open_as

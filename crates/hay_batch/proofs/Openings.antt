@@ -1,5 +1,5 @@
 -- What was opened, as what a store holds.
-use Rattle.std.proofs.Common.{◌≡◌, inl, List, [], ◌∷◌, ℕ, length, refl, sym, ap, subst, ◌∙◌}
+use Rattle.std.proofs.Common.{◌≡◌, inl, inr, ◌<◌, List, [], ◌∷◌, ℕ, length, refl, sym, ap, subst, ◌∙◌, arith}
 use Rattle.std.specs.Option.{option_or}
 use Rattle.hay_needle.specs.declared.needle.Pair.{Pair}
 use Rattle.hay_needle.specs.declared.settings.Settings.{Settings}
@@ -17,7 +17,7 @@ use Rattle.hay_batch.specs.Directories.{HoldsRows}
 use Rattle.hay_batch.specs.Directories as directories
 use Rattle.hay_batch.specs.Homes.{AreHomes, home_among, home_in}
 use Rattle.hay_batch.specs.Openings.{directory_of, journal_super}
-use Rattle.hay_batch.specs.Shelves.{IsOpenAs}
+use Rattle.hay_batch.specs.Shelves.{IsOpenAs, OpensRows}
 use Rattle.hay_batch.specs.Slots.{replica_of}
 
 pub opened_as : {D P : Type 0} (files : D → Files) (disk : D) (sup : Super) (s : Stored) (opened : Opened P) → OpenedAs sup (files disk) opened s → IsOpenAs files sup s (replica_of disk opened.volume)
@@ -47,6 +47,14 @@ module _ {D P : Type 0} (files : D → Files) (old new : D) (sup : Super) (opene
 
 pub homes_are : (old new : List ((ℕ × ℕ) × ℕ)) (rows : List DirRow) → old ≡ [] → ((pair : Pair) → home_among new pair ≡ option_or (home_among old pair) (home_in rows pair)) → AreHomes new rows
 homes_are old new rows none adds = record { are = λ pair. adds pair ∙ ap (λ (l : List ((ℕ × ℕ) × ℕ)). option_or (home_among l pair) (home_in rows pair)) none }
+
+-- the rows that were read are those that an opening finds
+pub rows_read : (settings : Settings) (sup : Super) (old new : List ℕ) (items : List DirRow) → sup ≡ journal_super settings → (old ≡ [] → items ≡ []) → (0 < length old → new ≡ old)
+    → IsJournal (super_bytes sup) sup.settings.volumes new items → OpensRows settings old items
+rows_read settings sup [] new items same void stays is = inl (refl, void refl)
+rows_read settings sup (byte ∷ bytes) new items same void stays is =
+    inr (subst (λ (l : List ℕ). IsJournal (super_bytes (journal_super settings)) settings.volumes l items) (stays (omega arith))
+    (subst (λ (u : Super). IsJournal (super_bytes u) u.settings.volumes new items) same is))
 
 -- What was read of a journal is what the Directory holds.
 pub record Reads {D : Type 0} (files : D → Files) (sup : Super) (disk : D) (kept : OpenJournal) (items : List DirRow) : Type 0 where

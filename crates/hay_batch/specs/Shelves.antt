@@ -1,5 +1,5 @@
 -- Where the disks of a store are on a shelf, what an opening of the store finds on them, and what it does to them.
-use Rattle.std.specs.Prelude.{◌≡◌, ◌≢◌, ◌⊎◌, ◌≤◌, ◌<◌, ℕ, ◌+◌, ◌*◌, ◌/◌, ◌%◌, List, [], ◌++◌, map, nat_eq, if◌then◌else◌}
+use Rattle.std.specs.Prelude.{◌≡◌, ◌≢◌, ◌⊎◌, ◌≤◌, ◌<◌, ℕ, ◌+◌, ◌*◌, ◌/◌, ◌%◌, List, [], ◌++◌, length, map, nat_eq, if◌then◌else◌, All}
 use Rattle.hay_needle.specs.declared.settings.FileKind.TheVariants.{Volume}
 use Rattle.hay_needle.specs.declared.settings.Settings.{Settings}
 use Rattle.hay_needle.specs.declared.settings.Super.{Super}
@@ -14,7 +14,9 @@ use Rattle.hay_dirfile.specs.declared.row.DirRow.{DirRow}
 use Rattle.hay_batch.specs.declared.photo.NewPhoto.{NewPhoto}
 use Rattle.hay_batch.specs.declared.replica.LoadReplica.{LoadReplica}
 use Rattle.hay_batch.specs.declared.store.LoadStore.{LoadStore}
+use Rattle.hay_volume.specs.declared.volume.VolumeFile.{VolumeFile}
 use Rattle.hay_batch.specs.Batches.{batch_total, new_cells, new_row}
+use Rattle.hay_batch.specs.Homes.{AreHomes}
 use Rattle.hay_batch.specs.Openings.{journal_super}
 use Rattle.hay_batch.specs.Stores.{Contents, ReplicaAt, Stands}
 
@@ -94,6 +96,24 @@ pub record IsOpenAs {D : Type 0} (files : D → Files) (sup : Super) (s : Stored
 pub record StandsAs {D : Type 0} (files : D → Files) (store : LoadStore D) (s : StoredStore) : Type 0 where
   pub contents : Stands files store (contents_of store.settings s)
   pub replicas : (v j : ℕ) (r : LoadReplica D) → ReplicaAt store v j r → IsOpenAs files (replica_super store.settings v j) (s.replicas v j) r
+
+-- WHAT IS KEPT IN MEMORY
+
+-- What is kept in memory of a journal with these contents is right of these rows, whatever its disk tells, and each row names a volume that
+-- there is. Where the disk tells, they are the rows that an opening finds.
+pub record RecallsRows (Tells : Type 0) (settings : Settings) (file : List ℕ) (homes : List ((ℕ × ℕ) × ℕ)) (count : ℕ) : Type 0 where
+  pub rows : List DirRow
+  pub are : AreHomes homes rows
+  pub many : count ≡ length rows
+  pub within : All (λ (row : DirRow). row.volume < settings.volumes) rows
+  pub reads : Tells → OpensRows settings file rows
+
+-- What is kept in memory of a replica with these contents: whatever its disk tells, its cells end behind the superblock, and it has the room
+-- of the settings. Where the disk tells, and is void or whole, they end where an opening finds that they do.
+pub record RecallsEnd (Tells : Type 0) (sup : Super) (contents : ℕ → List ℕ) (volume : VolumeFile) : Type 0 where
+  pub from : 64 ≤ volume.end
+  pub room : volume.capacity ≡ sup.settings.capacity
+  pub found : Tells → (s : Stored) → OpensAs sup contents s → volume.end ≡ s.end
 
 -- WITH A BATCH
 

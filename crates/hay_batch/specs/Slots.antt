@@ -21,10 +21,9 @@ use Rattle.hay_batch.specs.declared.replica.LoadReplica.{LoadReplica}
 use Rattle.hay_batch.specs.Directories.{HoldsRows}
 use Rattle.hay_batch.specs.Directories as directories
 use Rattle.hay_batch.specs.Faults.{not_opened, of_journal}
-use Rattle.hay_batch.specs.Homes.{AreHomes}
 use Rattle.hay_batch.specs.Openings.{OpensDirectory, OpensReplica, directory_of, journal_super}
 use Rattle.hay_batch.specs.Replicas.{At, IsReady}
-use Rattle.hay_batch.specs.Shelves.{IsOpenAs, OpensRows, place_super}
+use Rattle.hay_batch.specs.Shelves.{IsOpenAs, OpensRows, RecallsEnd, RecallsRows, place_super}
 
 -- THE DISK OF THE DIRECTORY
 
@@ -34,11 +33,11 @@ pub record IsSoundJournal {D : Type 0} (files : D → Files) (settings : Setting
   pub behind : (at : ℕ) → IsDamagedJournal (journal_super settings) (files new 0).now at → ⊥
   pub formatted : IsVoid (λ n. (files new n).now) → ⊥
 
--- The Directory's disk was opened, and this is kept of it. Whatever it tells, what is kept in memory is right of the rows that were read.
+-- The Directory's disk was opened, and this is kept of it.
 pub record OpensJournal {D : Type 0} (Tells : Type 0) (files : D → Files) (fault_count fuse_count : D → ℕ) (settings : Settings) (old new : D) (kept : OpenJournal) : Type 0 where
   pub opened : Tells → (rows : List DirRow) → OpensRows settings (files old 0).now rows → HoldsRows files (super_bytes (journal_super settings)) settings.volumes rows (directory_of new kept)
   pub ready : Tells → directories.IsReady files (directory_of new kept)
-  pub homes : (rows : List DirRow) × AreHomes kept.homes rows × (kept.rows ≡ length rows)
+  pub recalls : RecallsRows Tells settings (files old 0).now kept.homes kept.rows
   pub sound : Tells → IsSoundJournal files settings old new
   pub disk : OpensDirectory Tells files fault_count fuse_count old new
 
@@ -70,6 +69,7 @@ replica_of disk volume = record { disk = disk; volume = volume }
 pub record OpensFile {D : Type 0} (Tells : Type 0) (files : D → Files) (fault_count fuse_count : D → ℕ) (sup : Super) (old new : D) (volume : VolumeFile) : Type 0 where
   pub opened : Tells → (s : Stored) → OpensAs sup (λ n. (files old n).now) s → IsOpenAs files sup s (replica_of new volume)
   pub ready : Tells → IsReady files (replica_of new volume)
+  pub recalls : RecallsEnd Tells sup (λ n. (files old n).now) volume
   pub sound : Tells → IsSound files sup old new
   pub disk : OpensReplica Tells files fault_count fuse_count old new
 

@@ -97,6 +97,11 @@ with_batch v photos k = record {
   ends = λ u j. if nat_eq u v then k.ends u j + batch_total photos else k.ends u j;
 }
 
+-- The cells of each replica of this volume end behind a batch now, and those of each other where they did.
+pub record MovesEnds {D : Type 0} (volume : ℕ) (photos : List NewPhoto) (old new : LoadStore D) : Type 0 where
+  pub here : (j : ℕ) (r r' : LoadReplica D) → ReplicaAt old volume j r → ReplicaAt new volume j r' → r'.volume ≡ record r.volume { end = r.volume.end + batch_total photos }
+  pub others : (v j : ℕ) (r r' : LoadReplica D) → v ≢ volume → ReplicaAt old v j r → ReplicaAt new v j r' → r'.volume ≡ r.volume
+
 -- WHAT A STOP LEAVES
 
 -- the bytes of the journal, and of the volume file of each replica

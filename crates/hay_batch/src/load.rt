@@ -17,7 +17,7 @@ ghost use Rattle.hay_batch.specs.Directories as directories;
 ghost use Rattle.hay_batch.specs.Homes.{AddsHomes, home_among};
 ghost use Rattle.hay_batch.specs.Replicas.{Adds, At, HasRoom, IsReady, MayAdd};
 ghost use Rattle.hay_batch.specs.Shelves.{LeavesBatch, MayLeaveDisks, OpensStore, StandsAs, StoredStore, with_stored};
-ghost use Rattle.hay_batch.specs.Stores.{AreContents, AreTries, Contents, FailsAt, Images, IsDiskFault, IsReadyStore, IsShaped, IsTargetOf, KeepsCounts, KeepsFiles, LeavesWithOrWithout, MayLeaveStore, ReplicaAt, Stands, with_batch};
+ghost use Rattle.hay_batch.specs.Stores.{AreContents, AreTries, Contents, FailsAt, Images, IsDiskFault, IsReadyStore, IsShaped, IsTargetOf, KeepsCounts, KeepsFiles, LeavesWithOrWithout, MayLeaveStore, MovesEnds, ReplicaAt, Stands, with_batch};
 
 use crate::directory::LoadDirectory;
 use crate::fault::LoadFault;
@@ -126,6 +126,7 @@ impl<D: Disk> LoadStore<D> {
         ensures next { D.Tells → OnOk result (IsReadyStore D.files self.new) }
         ensures homes { OnOk result (AddsHomes (map (new_row volume) photos.now) self.old.directory.homes self.new.directory.homes) }
         ensures rows { OnOk result (self.new.directory.rows ≡ min (self.old.directory.rows + length photos.now) (2 ^ 64 - 1)) }
+        ensures ends { OnOk result (MovesEnds volume photos.now self.old self.new) }
         ensures left { D.Tells → (k : Contents) (left : Images) → Stands D.files self.old k → MayLeaveStore D.files self.new left →
             LeavesWithOrWithout self.old.settings volume photos.now k left }
         ensures files { D.Tells → KeepsFiles D.files self.old self.new }
@@ -161,9 +162,11 @@ impl<D: Disk> LoadStore<D> {
         ensures room { IfOk result (λ loaded. IsTargetOf self.old photos.now loaded.volume) }
         ensures rows { IfOk result (λ loaded. loaded.rows ≡ self.new.directory.rows) }
 
-        // Whatever the disks tell, the pairs of a batch that was loaded are known then, and its rows are counted.
+        // Whatever the disks tell, the pairs of a batch that was loaded are known then, its rows are counted, and the cells of its
+        // volume's replicas end behind it.
         ensures settled { IfOk result (λ loaded. AddsHomes (map (new_row loaded.volume) photos.now) self.old.directory.homes self.new.directory.homes) }
         ensures counted { OnOk result (self.new.directory.rows ≡ min (self.old.directory.rows + length photos.now) (2 ^ 64 - 1)) }
+        ensures ends { IfOk result (λ loaded. MovesEnds loaded.volume photos.now self.old self.new) }
 
         // At `Ok` the store has the batch, all of it is on the disks, and the next batch may follow.
         ensures loaded { D.Tells → (k : Contents) → Stands D.files self.old k → IfOk result (λ loaded. Stands D.files self.new (with_batch loaded.volume photos.now k)) }

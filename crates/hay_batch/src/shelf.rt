@@ -1,17 +1,15 @@
 //! Opening a store on a shelf, and closing it.
 
-ghost use Rattle.std.specs.Prelude.{◌≡◌, ◌≤◌, ◌<◌, ◌+◌, ◌*◌, ℕ, true, List, length, IfErr, IfOk, OnErr, OnOk};
+ghost use Rattle.std.specs.Prelude.{◌≡◌, ◌≤◌, ◌<◌, ◌+◌, ◌*◌, ℕ, true, length, IfErr, IfOk, OnErr, OnOk};
 ghost use Rattle.hay_disk.specs.Counts.{Rose};
 ghost use Rattle.hay_mount.specs.Mounts.{AreIn, AreOut, IsGivenDisk, SameFrom};
-ghost use Rattle.hay_dirfile.specs.declared.row.DirRow.{DirRow};
 ghost use Rattle.hay_open.specs.declared.fault.OpenFault.{OpenFault};
 ghost use Rattle.hay_batch.specs.declared.fault.LoadOpenFault.{LoadOpenFault};
 ghost use Rattle.hay_batch.specs.declared.replica.LoadReplica.{LoadReplica};
 ghost use Rattle.hay_batch.specs.declared.store.LoadVolume.{LoadVolume};
-ghost use Rattle.hay_batch.specs.Homes.{AreHomes};
 ghost use Rattle.hay_batch.specs.Replicas.{At};
-ghost use Rattle.hay_batch.specs.Shelves.{AreSoundBelow, EachDisk, IsDamagedDisk, IsLeft, IsLimited, IsUndamagedBelow, OpensSlot, OpensStore, StandsAs, StoredStore, disk_count, reads_of, slot_of};
-ghost use Rattle.hay_batch.specs.Stores.{IsReadyStore, IsShaped};
+ghost use Rattle.hay_batch.specs.Shelves.{AreSoundBelow, EachDisk, IsDamagedDisk, IsLeft, IsLimited, IsUndamagedBelow, OpensSlot, OpensStore, RecallsEnd, RecallsRows, StandsAs, StoredStore, disk_count, reads_of, replica_super, slot_of};
+ghost use Rattle.hay_batch.specs.Stores.{IsReadyStore, IsShaped, ReplicaAt};
 
 use crate::disks::open_disks;
 use crate::fault::{LoadOpenFault, not_mounted};
@@ -42,8 +40,10 @@ impl<D: Disk> LoadStore<D> {
         ensures disks { IfOk result (EachDisk (λ slot disk. OpensSlot D.Tells slot (H.disks shelf.old slot) (D.files disk) (D.fault_count disk) (D.fuse_count disk))) }
         ensures shape { IfOk result (λ store. (store.settings ≡ settings) × IsShaped store) }
         ensures ready { D.Tells → IfOk result (IsReadyStore D.files) }
-        // Whatever the disks tell, what is kept in memory is right of the rows that were read.
-        ensures homes { IfOk result (λ store. (rows : List DirRow) × AreHomes store.directory.homes rows × (store.directory.rows ≡ length rows)) }
+        // Whatever the disks tell, what is kept in memory is right of rows that name volumes, and of ends behind the superblocks.
+        ensures homes { IfOk result (λ store. RecallsRows D.Tells settings (reads_of (H.disks shelf.old) 0 0) store.directory.homes store.directory.rows) }
+        ensures ends { IfOk result (λ store. (v j : ℕ) (r : LoadReplica D) → ReplicaAt store v j r →
+            RecallsEnd D.Tells (replica_super settings v j) (reads_of (H.disks shelf.old) (slot_of settings v j)) r.volume) }
         ensures out { OnOk result (AreOut (disk_count settings) (H.disks shelf.new)) }
 
         // What a refusal leaves, and its cause.

@@ -1,5 +1,5 @@
 -- Counting the cells of a volume file.
-use Rattle.std.proofs.Common.{◌≡◌, ℕ, ◌+◌, ◌<◌, Bool, true, false, not, cond, List, [], ◌∷◌, length, get_or, take, BTreeSet, btree_set_len, refl, sym, ap, subst, ◌∙◌, arith, Option, Some, None}
+use Rattle.std.proofs.Common.{◌≡◌, ℕ, ◌+◌, ◌*◌, ◌<◌, ◌≤◌, Bool, true, false, not, cond, List, [], ◌∷◌, length, get_or, take, BTreeSet, btree_set_len, refl, sym, ap, subst, ◌∙◌, arith, Option, Some, None}
 use Rattle.std.specs.Prelude.{map, is_some, count_by}
 use Rattle.std.specs.List.{slice_get}
 use Rattle.std.specs.BTreeSet.{IsEmpty, Updates, contains}
@@ -18,7 +18,9 @@ use Rattle.hay_needle.specs.declared.needle.Photo.{Photo}
 use Rattle.hay_needle.specs.Needle.{needle_of_cell}
 use Rattle.hay_needle.specs.Tables.{Table, needle_outcome, pair_cmp, table_of, with_outcome, with_photo, without_pair}
 use Rattle.hay_needle.proofs.TableLaws.{IsOrdered, ordered-table_of, pair_apart, pair_exact, pair_tied, pair_total, table_of-append}
+use Rattle.hay_needle.specs.Sizes.{needle_total}
 use Rattle.hay_volume.specs.Cells.{cell_head, needles_of}
+use Rattle.hay_volume.specs.Needles.{AreHeadsFrom}
 use Rattle.hay_open.proofs.CellRows.{head_there, take_here}
 use Rattle.hay_check.specs.Verdicts.{is_old, old_count}
 
@@ -75,6 +77,11 @@ pairs_removed old new table pair removed keeps ordered updates is long = record 
       (ap (λ (b : Bool). cond b 1 0 + length (without_pair table pair)) (is ∙ keeps.has pair) ∙ length_without pair_cmp pair_total pair table ordered);
 }
 
+-- a pair that is added is one more at most
+pub one_most : (b : Bool) → cond b 1 0 ≤ 1
+one_most true = omega arith
+one_most false = omega arith
+
 -- the pairs of the first cells
 abbrev pub KeepsFirst : BTreeSet Pair → List CellHead → ℕ → Type 0
 KeepsFirst pairs heads k = (cells : List Cell) → heads ≡ map cell_head cells → KeepsPairs pairs (table_of (needles_of (take k cells)))
@@ -117,6 +124,13 @@ one_removed old new heads k d pair removed keeps within dead pair_is updates is 
     let same : pair ≡ cell.0.pair = pair_is ∙ ap (λ (h : CellHead). h.pair) cell.2 in
     subst (λ (t : Table). KeepsPairs new t) (ap (λ (q : Pair). without_pair table q) same ∙ sym gone ∙ sym (table_more k cells cell.0 cell.1))
     (pairs_removed old new table pair removed (keeps cells are) (ordered-table_of (needles_of (take k cells))) updates is long)
+
+-- WHERE THEY END
+
+-- cells that stand one behind another reach so far
+pub heads_reach : (at end : ℕ) (heads : List CellHead) → AreHeadsFrom at heads end → at + length heads * needle_total 0 ≤ end
+heads_reach at end [] is = omega (arith, is)
+heads_reach at end (head ∷ heads) row = let rest = heads_reach (at + needle_total head.size) end heads row.1 in omega (arith, rest)
 
 -- OLD CELLS
 

@@ -1,16 +1,17 @@
 -- What a check answers of the contents of a disk.
-use Rattle.std.specs.Prelude.{◌≡◌, ◌⊎◌, ℕ, Bool, true, false, List, length, count_by}
+use Rattle.std.specs.Prelude.{◌≡◌, ◌⊎◌, ◌≤◌, ◌<◌, ℕ, ◌+◌, ◌*◌, ◌^◌, Bool, true, false, List, length, count_by}
 use Rattle.hay_needle.specs.declared.needle.Cell.{Cell}
 use Rattle.hay_needle.specs.declared.needle.Version.{Version}
 use Rattle.hay_needle.specs.declared.needle.Version.TheVariants as version
 use Rattle.hay_needle.specs.declared.settings.Super.{Super}
+use Rattle.hay_needle.specs.Sizes.{needle_total}
 use Rattle.hay_needle.specs.Super.{super_bytes}
 use Rattle.hay_needle.specs.Tables.{table_of}
 use Rattle.hay_dirfile.specs.declared.row.DirRow.{DirRow}
 use Rattle.hay_dirfile.specs.Journal.{IsDamagedJournal, IsJournal}
 use Rattle.hay_volume.specs.Cells.{needles_of}
 use Rattle.hay_open.specs.Damage.{IsOpeningDamage}
-use Rattle.hay_open.specs.Stored.{IsStored, IsVoid, OpensAs, Stored}
+use Rattle.hay_open.specs.Stored.{IsStored, IsVoid, OpensAs, Stored, index_file, volume_file}
 use Rattle.hay_check.specs.declared.verdict.Verdict.{Verdict}
 use Rattle.hay_check.specs.declared.verdict.Verdict.TheVariants as verdict
 use Rattle.hay_check.specs.Damage.{IsFirstDamage}
@@ -46,6 +47,29 @@ JournalCheckOf sup contents v =
     (IsVoid contents × (v ≡ verdict.Void))
     ⊎ ((rows : List DirRow) × IsJournal (super_bytes sup) sup.settings.volumes (contents 0) rows × (v ≡ verdict.Rows (length rows)))
     ⊎ ((at : ℕ) × (IsVoid contents → ⊥) × IsDamagedJournal sup (contents 0) at × (v ≡ verdict.Damaged 0 at))
+
+-- WHATEVER THE DISK TELLS
+
+-- a file that the head or a generation of a replica may name
+abbrev pub IsReplicaFile : ℕ → Type 0
+IsReplicaFile file = (file ≡ 0) ⊎ ((generation : ℕ) × (generation ≤ 65535) × ((file ≡ volume_file generation) ⊎ (file ≡ index_file generation)))
+
+-- the verdicts that there are on a replica's disk: of a whole one the numbers fit each other, and all fit their types
+abbrev pub IsReplicaVerdict : Verdict → Type 0
+IsReplicaVerdict verdict.Void = Unit {0}
+IsReplicaVerdict (verdict.Rows rows) = ⊥
+IsReplicaVerdict (verdict.Whole generation cells live records end old) =
+    (generation ≤ 65535) × (live ≤ cells) × (records ≤ cells) × (old ≤ cells) × (64 + cells * needle_total 0 ≤ end) × (end < 2 ^ 64)
+IsReplicaVerdict (verdict.Damaged file at) = IsReplicaFile file × (at < 2 ^ 64)
+
+-- and those on the Directory's
+abbrev pub IsJournalVerdict : Verdict → Type 0
+IsJournalVerdict verdict.Void = Unit {0}
+IsJournalVerdict (verdict.Rows rows) = rows < 2 ^ 64
+IsJournalVerdict (verdict.Whole generation cells live records end old) = ⊥
+IsJournalVerdict (verdict.Damaged file at) = (file ≡ 0) × (at < 2 ^ 64)
+
+-- WHAT AN OPENING FINDS
 
 -- What an opening finds on a whole disk has the numbers of the verdict, and nothing that it reads is damaged.
 pub record OpensWhole (sup : Super) (contents : ℕ → List ℕ) (v : Verdict) : Type 0 where

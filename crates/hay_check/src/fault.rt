@@ -1,6 +1,6 @@
 //! What ends a check before all was read.
 
-ghost use Rattle.std.specs.Prelude.{◌≡◌};
+ghost use Rattle.std.specs.Prelude.{◌≡◌, ◌<◌, ◌^◌, ℕ};
 ghost use Rattle.hay_check.specs.Faults.{answer};
 
 use crate::verdict::{CheckFault, Verdict};
@@ -18,7 +18,8 @@ pub(crate) enum Refusal {
 impl Refusal {
     // What the check answers.
     pub(crate) fn answer<D: Disk>(self, disk: &D) -> Result<Verdict, CheckFault>
-        ensures { result ≡ answer self (D.fault_count disk.now) }
+        ensures is { result ≡ answer self (D.fault_count disk.now) }
+        ensures fits { (file at : ℕ) → self ≡ Refusal.Damaged file at → at < 2 ^ 64 }
     {
         match self {
             Refusal::Failed => Err(CheckFault::Failed {

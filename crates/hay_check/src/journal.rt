@@ -16,6 +16,7 @@ use hay_needle::{SUPER_LEN, Super};
 pub(crate) fn count_rows<D: Disk>(disk: &mut D, sup: &Super) -> Result<u64, Refusal>
     ensures rows { D.Tells → IfOk result (λ count. (rows : List DirRow) × IsJournal (super_bytes sup.now) sup.now.settings.volumes (D.files disk.old 0).now rows × (count ≡ length rows)) }
     ensures damaged { D.Tells → (file at : ℕ) → result ≡ Err (Refusal.Damaged file at) → (file ≡ 0) × IsDamagedJournal sup.now (D.files disk.old 0).now at }
+    ensures file { (file at : ℕ) → result ≡ Err (Refusal.Damaged file at) → file ≡ 0 }
     ensures memory { IsErrOf result Refusal.NoMemory → ⊥ }
     ensures same { D.Tells → D.files disk.new ≡ D.files disk.old }
     ensures counted { IsCounted (D.fault_count disk.old) (D.fault_count disk.new) (IsErrOf result Refusal.Failed) }

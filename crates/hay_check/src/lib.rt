@@ -11,7 +11,7 @@
 ghost use Rattle.std.specs.Prelude.{◌≡◌, ◌⊎◌, ◌≤◌, ◌<◌, ◌+◌, ℕ, Ok, IfOk, IfErr, IsErrOf};
 ghost use Rattle.hay_disk.specs.Counts.{Rose};
 ghost use Rattle.hay_check.specs.declared.verdict.Verdict.{Verdict};
-ghost use Rattle.hay_check.specs.Verdicts.{CheckOf, JournalCheckOf, OpensWhole};
+ghost use Rattle.hay_check.specs.Verdicts.{CheckOf, IsJournalVerdict, IsReplicaVerdict, JournalCheckOf, OpensWhole};
 
 mod counts;
 mod fault;
@@ -40,6 +40,9 @@ pub fn check_replica<D: Disk>(
     ensures verdict { D.Tells → IfOk result (CheckOf sup.now (λ n. (D.files disk.old n).now)) }
     ensures only { D.Tells → (v : Verdict) → CheckOf sup.now (λ n. (D.files disk.old n).now) v → IfOk result (λ told. told ≡ v) }
 
+    // Whatever the disk tells, it is a verdict on a replica's disk, whose numbers fit each other.
+    ensures kind { IfOk result IsReplicaVerdict }
+
     // A disk that is whole is opened as what it has, and without damage.
     ensures opens { D.Tells → (generation cells live records end old : ℕ) → result ≡ Ok (Verdict.Whole generation cells live records end old) →
         OpensWhole sup.now (λ n. (D.files disk.old n).now) (Verdict.Whole generation cells live records end old) }
@@ -65,6 +68,9 @@ pub fn check_journal<D: Disk>(disk: &mut D, sup: &Super) -> Result<Verdict, Chec
     // The verdict is that of what the disk has, which has no other.
     ensures verdict { D.Tells → IfOk result (JournalCheckOf sup.now (λ n. (D.files disk.old n).now)) }
     ensures only { D.Tells → (v : Verdict) → JournalCheckOf sup.now (λ n. (D.files disk.old n).now) v → IfOk result (λ told. told ≡ v) }
+
+    // Whatever the disk tells, it is a verdict on the Directory's disk.
+    ensures kind { IfOk result IsJournalVerdict }
 
     ensures memory { IsErrOf result CheckFault.NoMemory → ⊥ }
     ensures same { D.Tells → D.files disk.new ≡ D.files disk.old }

@@ -92,6 +92,8 @@ pub(crate) fn check_index<D: Disk>(
     heads: &[CellHead],
 ) -> Result<usize, Refusal>
     ensures lists { D.Tells → IfOk result (λ count. ListsFirst (super_bytes sup.now) (D.files disk.old file).now (map head_record heads.now) count) }
+    ensures most { IfOk result (λ count. count ≤ length heads.now) }
+    ensures file { (number at : ℕ) → result ≡ Err (Refusal.Damaged number at) → number ≡ file }
     ensures damaged { D.Tells → (number at : ℕ) → result ≡ Err (Refusal.Damaged number at) → (number ≡ file) × IsDamagedListing sup.now (D.files disk.old file).now (map head_record heads.now) at }
     ensures same { D.Tells → D.files disk.new ≡ D.files disk.old }
     ensures counted { IsCounted (D.fault_count disk.old) (D.fault_count disk.new) (IsErrOf result Refusal.Failed) }

@@ -4,7 +4,7 @@ ghost use Rattle.std.specs.Prelude.{◌≡◌, ◌⊎◌, ◌≤◌, ◌+◌, �
 ghost use Rattle.hay_disk.specs.Counts.{IsCounted};
 ghost use Rattle.hay_open.specs.Stored.{Stored, IsStored};
 ghost use Rattle.hay_check.specs.Damage.{IsFirstDamage};
-ghost use Rattle.hay_check.specs.Verdicts.{whole_of};
+ghost use Rattle.hay_check.specs.Verdicts.{IsReplicaFile, IsReplicaVerdict, whole_of};
 
 use crate::counts::{live_count, old_count};
 use crate::fault::Refusal;
@@ -23,6 +23,8 @@ pub(crate) fn check_disk<D: Disk>(
     sup: &Super,
 ) -> Result<Verdict, Refusal>
     ensures whole { D.Tells → IfOk result (λ verdict. (s : Stored) × IsStored sup.now (λ n. (D.files disk.old n).now) s × (verdict ≡ whole_of s)) }
+    ensures kind { IfOk result IsReplicaVerdict }
+    ensures file { (file at : ℕ) → result ≡ Err (Refusal.Damaged file at) → IsReplicaFile file }
     ensures damaged { D.Tells → (file at : ℕ) → result ≡ Err (Refusal.Damaged file at) → IsFirstDamage sup.now (λ n. (D.files disk.old n).now) file at }
     ensures same { D.Tells → D.files disk.new ≡ D.files disk.old }
     ensures counted { IsCounted (D.fault_count disk.old) (D.fault_count disk.new) (IsErrOf result Refusal.Failed) }

@@ -9,8 +9,10 @@ ghost use Rattle.hay_needle.specs.declared.needle.Cell.{Cell};
 ghost use Rattle.hay_head.specs.Head.{IsDamagedHead, IsHead};
 ghost use Rattle.hay_head.specs.Rows.{IsSuperFaultAt};
 ghost use Rattle.hay_volume.specs.Cells.{HasCells, IsDamagedCell, cell_head};
+ghost use Rattle.hay_volume.specs.Needles.{AreHeadsFrom};
 ghost use Rattle.hay_open.specs.Stored as stored;
 ghost use Rattle.hay_check.specs.Damage.{HoldsCells, IsDamagedFront, IsDamagedVolume};
+ghost use Rattle.hay_check.specs.Verdicts.{IsReplicaFile};
 
 use crate::fault::Refusal;
 use hay_disk::Disk;
@@ -19,6 +21,9 @@ use hay_needle::{CellHead, SUPER_LEN, Super};
 use hay_open::{HEAD_FILE, head_super, volume_file, volume_super};
 use hay_volume::{CellFault, VolumeFile};
 use std::alloc::Global;
+
+// The greatest generation.
+const LAST_GENERATION: u64 = 65_535;
 
 /// The cells of the volume file that the head names.
 #[derive(Drop)]
@@ -32,13 +37,24 @@ pub(crate) struct Cells {
 // The generation that the head file names.
 fn read_generation<D: Disk>(disk: &mut D, sup: &Super) -> Result<u64, Refusal>
     ensures head { D.Tells → IfOk result (λ generation. IsHead (super_bytes (stored.head_super sup.now)) (D.files disk.old 0).now generation) }
+    ensures most { IfOk result (λ generation. generation ≤ 65535) }
+    ensures file { (file at : ℕ) → result ≡ Err (Refusal.Damaged file at) → file ≡ 0 }
     ensures damaged { D.Tells → (file at : ℕ) → result ≡ Err (Refusal.Damaged file at) → (file ≡ 0) × IsDamagedHead (stored.head_super sup.now) (D.files disk.old 0).now at }
     ensures same { D.Tells → D.files disk.new ≡ D.files disk.old }
     ensures counted { IsCounted (D.fault_count disk.old) (D.fault_count disk.new) (IsErrOf result Refusal.Failed) }
     ensures fuses { D.fuse_count disk.new ≡ D.fuse_count disk.old }
 {
     match Head::read(disk, &head_super(sup)) {
-        Ok(head) => Ok(head.generation),
+        Ok(head) => {
+            if head.generation > LAST_GENERATION {
+                // No disk that tells what it holds has a later generation.
+                return Err(Refusal::Damaged {
+                    file: HEAD_FILE,
+                    at: 0,
+                });
+            }
+            Ok(head.generation)
+        }
         Err(HeadFault::Failed) => Err(Refusal::Failed),
         Err(HeadFault::NoMemory) => Err(Refusal::NoMemory),
         Err(HeadFault::Damaged { at }) => Err(Refusal::Damaged {
@@ -52,6 +68,8 @@ fn read_generation<D: Disk>(disk: &mut D, sup: &Super) -> Result<u64, Refusal>
 fn scan<D: Disk>(alloc: Global, disk: &mut D, file: u32) -> Result<(Vec<CellHead>, u64), Refusal>
     ensures cells { D.Tells → IfOk result (λ scan. (cells : List Cell) × HasCells 64 (D.files disk.old file).now cells scan.1 × (scan.0.items ≡ map cell_head cells)) }
     ensures mark { D.Tells → IfOk result (λ scan. IsClosed needle_magic scan.1 (D.files disk.old file).now) }
+    ensures row { IfOk result (λ scan. AreHeadsFrom 64 scan.0.items scan.1) }
+    ensures file { (number at : ℕ) → result ≡ Err (Refusal.Damaged number at) → number ≡ file }
     ensures damaged { D.Tells → (number at : ℕ) → result ≡ Err (Refusal.Damaged number at) → (number ≡ file) × IsDamagedCell 64 (D.files disk.old file).now at }
     ensures same { D.Tells → D.files disk.new ≡ D.files disk.old }
     ensures counted { IsCounted (D.fault_count disk.old) (D.fault_count disk.new) (IsErrOf result Refusal.Failed) }
@@ -77,6 +95,8 @@ fn read_volume<D: Disk>(
     ensures begins { D.Tells → OnOk result (take 64 (D.files disk.old file).now ≡ super_bytes sup.now) }
     ensures cells { D.Tells → IfOk result (λ scan. (cells : List Cell) × HasCells 64 (D.files disk.old file).now cells scan.1 × (scan.0.items ≡ map cell_head cells)) }
     ensures mark { D.Tells → IfOk result (λ scan. IsClosed needle_magic scan.1 (D.files disk.old file).now) }
+    ensures row { IfOk result (λ scan. AreHeadsFrom 64 scan.0.items scan.1) }
+    ensures file { (number at : ℕ) → result ≡ Err (Refusal.Damaged number at) → number ≡ file }
     ensures damaged { D.Tells → (number at : ℕ) → result ≡ Err (Refusal.Damaged number at) → (number ≡ file) × IsDamagedVolume sup.now (D.files disk.old file).now at }
     ensures same { D.Tells → D.files disk.new ≡ D.files disk.old }
     ensures counted { IsCounted (D.fault_count disk.old) (D.fault_count disk.new) (IsErrOf result Refusal.Failed) }
@@ -96,6 +116,9 @@ pub(crate) fn read_cells<D: Disk>(
 ) -> Result<Cells, Refusal>
     ensures cells { D.Tells → IfOk result (λ read. (cells : List Cell) × HoldsCells sup.now (λ n. (D.files disk.old n).now) read.generation cells read.end
         × (read.heads.items ≡ map cell_head cells)) }
+    ensures row { IfOk result (λ read. AreHeadsFrom 64 read.heads.items read.end) }
+    ensures most { IfOk result (λ read. read.generation ≤ 65535) }
+    ensures file { (file at : ℕ) → result ≡ Err (Refusal.Damaged file at) → IsReplicaFile file }
     ensures damaged { D.Tells → (file at : ℕ) → result ≡ Err (Refusal.Damaged file at) → IsDamagedFront sup.now (λ n. (D.files disk.old n).now) file at }
     ensures same { D.Tells → D.files disk.new ≡ D.files disk.old }
     ensures counted { IsCounted (D.fault_count disk.old) (D.fault_count disk.new) (IsErrOf result Refusal.Failed) }

@@ -1,12 +1,14 @@
 -- What a load told of the lines that it took.
-use Rattle.std.proofs.Common.{◌≡◌, inl, inr, ℕ, List, [], ◌∷◌, ◌++◌, length, Bool, true, false, Some, Result, Err, refl, sym, ap, subst, ◌∙◌, arith, append_assoc, length-append}
-use Rattle.std.proofs.lemmas.List.{append-nil}
+use Rattle.std.proofs.Common.{◌≡◌, inl, inr, ◌<◌, ◌+◌, ℕ, suc, List, [], ◌∷◌, ◌++◌, length, map, take, get_or, Bool, true, false, Some, Result, Err, refl, sym, ap, subst, ◌∙◌, arith, append_assoc, length-append}
+use Rattle.std.proofs.lemmas.List.{append-nil, map-append}
+use Rattle.std.proofs.Math.Seq.{take-suc}
 use Rattle.std.proofs.lemmas.Result.{IfErr-at_err}
+use Rattle.std.specs.List.{AllByRecursion}
 use Rattle.std.specs.Prelude.{if◌then◌else◌, IfErr}
 use Rattle.hay_needle.specs.declared.settings.Settings.{Settings}
 use Rattle.hay_disk.specs.Disk.{Files}
+use Rattle.hay_reply.specs.declared.Refused.{Refused}
 use Rattle.hay_reply.specs.declared.Reply.TheVariants.{BadLine}
-use Rattle.hay_dirfile.specs.declared.row.DirRow.{DirRow}
 use Rattle.hay_batch.specs.declared.fault.FullTry.{FullTry}
 use Rattle.hay_batch.specs.declared.fault.LoadFault.{LoadFault}
 use Rattle.hay_batch.specs.declared.photo.NewPhoto.{NewPhoto}
@@ -16,10 +18,21 @@ use Rattle.hay_batch.specs.Stores.{IsDiskFault, IsShaped}
 use Rattle.hay_batch.proofs.StoredLaws.{stands_left}
 use Rattle.hay_load.specs.declared.reply.LoadReply.{LoadReply}
 use Rattle.hay_load.specs.declared.reply.LoadReply.TheVariants.{Other}
-use Rattle.hay_load.specs.Answers.{AnswersAll, SuitAll, reply_lines}
+use Rattle.hay_load.specs.Answers.{AnswersAll, Remembered, SuitAll, reply_lines}
 use Rattle.hay_load.specs.Gathering.{Bad, Batch, Group, OpenBatch, Step, closed, joins, put_step}
 use Rattle.hay_load.specs.Loads.{Answered, FailsFirst, LeavesFirst, Loads, Remembers, Suited}
-use Rattle.hay_load.specs.Replies.{load_line}
+use Rattle.hay_load.specs.Replies.{FitsLoad, load_line, refused_of}
+
+-- MORE TRIES
+
+-- one try more, as a run tells it
+pub refused_more : (tries : List FullTry) (i : ℕ) (d : FullTry) (told more : List Refused) (one : Refused) → i < length tries → told ≡ map refused_of (take i tries) → one ≡ refused_of (get_or tries i d)
+    → more ≡ told ++ one ∷ [] → more ≡ map refused_of (take (i + 1) tries)
+refused_more tries i d told more one within are is longer =
+    let next : suc i ≡ i + 1 = omega arith in
+    longer ∙ ap (λ (l : List Refused). l ++ one ∷ []) are ∙ ap (λ (r : Refused). map refused_of (take i tries) ++ r ∷ []) is
+    ∙ sym (map-append refused_of (take i tries) (get_or tries i d ∷ [])) ∙ ap (λ (l : List FullTry). map refused_of l) (sym (take-suc tries i d within))
+    ∙ ap (λ n. map refused_of (take n tries)) next
 
 -- MORE GROUPS
 
@@ -45,21 +58,27 @@ lines_more (Batch line photos ∷ groups) more (reply ∷ replies) others many =
     ap (λ (l : List ℕ). load_line line reply ++ l) (lines_more groups more replies others (let less : length replies ≡ length groups = omega (arith, many) in less))
     ∙ sym (append_assoc (load_line line reply) (reply_lines groups replies) (reply_lines more others))
 
-pub suit_more : (settings : Settings) (rows mid new : List DirRow) (groups more : List Group) (replies others : List LoadReply) → SuitAll settings rows groups replies mid
-    → SuitAll settings mid more others new → SuitAll settings rows (groups ++ more) (replies ++ others) new
-suit_more settings rows mid new [] more [] others first second = subst (λ (l : List DirRow). SuitAll settings l more others new) first second
-suit_more settings rows mid new [] more (reply ∷ replies) others first second = absurd first
-suit_more settings rows mid new (group ∷ groups) more [] others first second = absurd first
-suit_more settings rows mid new (Bad line ∷ groups) more (reply ∷ replies) others first second = (first.0, suit_more settings rows mid new groups more replies others first.1 second)
-suit_more settings rows mid new (Batch line photos ∷ groups) more (reply ∷ replies) others first second =
+pub suit_more : (settings : Settings) (known mid new : Remembered) (groups more : List Group) (replies others : List LoadReply) → SuitAll settings known groups replies mid
+    → SuitAll settings mid more others new → SuitAll settings known (groups ++ more) (replies ++ others) new
+suit_more settings known mid new [] more [] others first second = subst (λ (x : Remembered). SuitAll settings x more others new) first second
+suit_more settings known mid new [] more (reply ∷ replies) others first second = absurd first
+suit_more settings known mid new (group ∷ groups) more [] others first second = absurd first
+suit_more settings known mid new (Bad line ∷ groups) more (reply ∷ replies) others first second = (first.0, suit_more settings known mid new groups more replies others first.1 second)
+suit_more settings known mid new (Batch line photos ∷ groups) more (reply ∷ replies) others first second =
     (first.0, first.1, suit_more settings first.0 mid new groups more replies others first.2 second)
+
+-- so it is of the numbers of more replies
+pub fit_more : {X : Type 0} (P : X → Type 0) (xs ys : List X) → AllByRecursion P xs → AllByRecursion P ys → AllByRecursion P (xs ++ ys)
+fit_more P [] ys first second = second
+fit_more P (x ∷ xs) ys first second = (first.0, fit_more P xs ys first.1 second)
 
 module _ {D : Type 0} (Tells : Type 0) (files : D → Files) where
   pub loads_none : (old new : LoadStore D) (before after : List ℕ) → new ≡ old → after ≡ before → Loads Tells files [] old new before after
   loads_none old new before after same told = record {
     replies = [];
     many = refl;
-    suited = λ rows was. record { known = rows; suit = refl; remembers = subst (λ (store : LoadStore D). Remembers store rows) (sym same) was };
+    fit = tt;
+    suited = λ known was. record { known = known; suit = refl; remembers = subst (λ (store : LoadStore D). Remembers store known) (sym same) was };
     told = told ∙ sym (append-nil before);
     answers = λ tells s stands. record { stored = s; answers = refl; stands = subst (λ (store : LoadStore D). StandsAs files store s) (sym same) stands };
   }
@@ -68,19 +87,21 @@ module _ {D : Type 0} (Tells : Type 0) (files : D → Files) where
   loads_bad line old new before after same told = record {
     replies = Other BadLine ∷ [];
     many = refl;
-    suited = λ rows was. record { known = rows; suit = (refl, refl); remembers = subst (λ (store : LoadStore D). Remembers store rows) (sym same) was };
+    fit = (tt, tt);
+    suited = λ known was. record { known = known; suit = (refl, refl); remembers = subst (λ (store : LoadStore D). Remembers store known) (sym same) was };
     told = told ∙ ap (λ (l : List ℕ). before ++ l) (sym (append-nil (load_line line (Other BadLine))));
     answers = λ tells s stands. record { stored = s; answers = (refl, refl); stands = subst (λ (store : LoadStore D). StandsAs files store s) (sym same) stands };
   }
 
   pub loads_batch : (line : ℕ) (photos : List NewPhoto) (reply : LoadReply) (old new : LoadStore D) (before after : List ℕ)
-      → ((rows : List DirRow) → Remembers old rows → Suited old.settings rows photos reply new) → after ≡ before ++ load_line line reply
+      → FitsLoad reply → ((known : Remembered) → Remembers old known → Suited old.settings known photos reply new) → after ≡ before ++ load_line line reply
       → (Tells → (s : StoredStore) → StandsAs files old s → Answered files old.settings s photos reply new) → Loads Tells files (Batch line photos ∷ []) old new before after
-  loads_batch line photos reply old new before after suited told answered = record {
+  loads_batch line photos reply old new before after fits suited told answered = record {
     replies = reply ∷ [];
     many = refl;
-    suited = λ rows was.
-        let a = suited rows was in
+    fit = (fits, tt);
+    suited = λ known was.
+        let a = suited known was in
         record { known = a.known; suit = (a.known, a.suits, refl); remembers = a.remembers };
     told = told ∙ ap (λ (l : List ℕ). before ++ l) (sym (append-nil (load_line line reply)));
     answers = λ tells s stands.
@@ -93,12 +114,13 @@ module _ {D : Type 0} (Tells : Type 0) (files : D → Files) where
   loads_more groups more old mid new before middle after same first second = record {
     replies = first.replies ++ second.replies;
     many = (let a = length-append first.replies second.replies in let b = length-append groups more in let m = first.many in let n = second.many in omega (arith, a, b, m, n));
-    suited = λ rows was.
-        let a = first.suited rows was in
+    fit = fit_more FitsLoad first.replies second.replies first.fit second.fit;
+    suited = λ known was.
+        let a = first.suited known was in
         let b = second.suited a.known a.remembers in
         record {
           known = b.known;
-          suit = suit_more old.settings rows a.known b.known groups more first.replies second.replies a.suit
+          suit = suit_more old.settings known a.known b.known groups more first.replies second.replies a.suit
               (subst (λ (x : Settings). SuitAll x a.known more second.replies b.known) same b.suit);
           remembers = b.remembers;
         };
@@ -142,6 +164,7 @@ fails_more fault_count groups more old new before after fails = record {
   faults = fails.faults;
   fails = fails.fails;
   reply = fails.reply;
+  fits = fails.fits;
   failed = fails.failed;
   told = fails.told;
 }

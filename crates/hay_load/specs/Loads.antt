@@ -2,22 +2,24 @@
 use Rattle.std.specs.Prelude.{◌≡◌, ◌⊎◌, ◌<◌, ◌+◌, ◌%◌, ◌++◌, ℕ, List, [], ◌∷◌, length, Option, Some, None, All, option_map}
 use Rattle.hay_needle.specs.declared.settings.Settings.{Settings}
 use Rattle.hay_disk.specs.Disk.{Files}
-use Rattle.hay_dirfile.specs.declared.row.DirRow.{DirRow}
 use Rattle.hay_reply.specs.declared.Reply.{Reply}
 use Rattle.hay_reply.specs.declared.Reply.TheVariants.{Failed, FailedDir}
+use Rattle.hay_reply.specs.Fits.{FitsReply}
+use Rattle.std.specs.List.{AllByRecursion}
 use Rattle.hay_batch.specs.declared.photo.NewPhoto.{NewPhoto}
+use Rattle.hay_batch.specs.declared.replica.LoadReplica.{LoadReplica}
 use Rattle.hay_batch.specs.declared.store.LoadStore.{LoadStore}
 use Rattle.hay_batch.specs.Batches.{batch_total}
 use Rattle.hay_batch.specs.Homes.{AreHomes, home_among}
 use Rattle.hay_batch.specs.Shelves.{LeavesBatch, OpensStore, StandsAs, StoredStore, slot_of}
-use Rattle.hay_batch.specs.Stores.{FailsAt, IsFirstRoom, IsReadyStore, IsShaped}
+use Rattle.hay_batch.specs.Stores.{FailsAt, IsFirstRoom, IsReadyStore, IsShaped, ReplicaAt}
 use Rattle.hay_load.specs.declared.batch.Gathered.{Gathered}
 use Rattle.hay_load.specs.declared.loading.Loading.{Loading}
 use Rattle.hay_load.specs.declared.reply.LoadReply.{LoadReply}
 use Rattle.hay_load.specs.declared.reply.LoadReply.TheVariants.{Other}
-use Rattle.hay_load.specs.Answers.{AnswersAll, AnswersBatch, MayLoad, SuitAll, SuitsBatch, counted, reply_lines}
+use Rattle.hay_load.specs.Answers.{AnswersAll, AnswersBatch, MayLoad, Remembered, SuitAll, SuitsBatch, counted, remembered_of, reply_lines}
 use Rattle.hay_load.specs.Gathering.{Group, Batch, Bad, IsGathered, OpenBatch, key_of}
-use Rattle.hay_load.specs.Replies.{load_line}
+use Rattle.hay_load.specs.Replies.{FitsLoad, load_line}
 
 -- THE OPEN BATCH
 
@@ -48,28 +50,31 @@ pub record AnsweredAll {D : Type 0} (files : D → Files) (settings : Settings) 
   pub answers : AnswersAll settings s groups replies stored
   pub stands : StandsAs files store stored
 
--- what the store keeps in memory is right of these rows
-pub record Remembers {D : Type 0} (store : LoadStore D) (rows : List DirRow) : Type 0 where
-  pub homes : AreHomes store.directory.homes rows
-  pub count : counted store.directory.rows ≡ counted (length rows)
+-- what the store keeps in memory is this, and each replica has the room of the settings
+pub record Remembers {D : Type 0} (store : LoadStore D) (known : Remembered) : Type 0 where
+  pub homes : AreHomes store.directory.homes known.rows
+  pub count : counted store.directory.rows ≡ counted (length known.rows)
+  pub ends : (v j : ℕ) (r : LoadReplica D) → ReplicaAt store v j r → r.volume.end ≡ known.ends v j
+  pub rooms : (v j : ℕ) (r : LoadReplica D) → ReplicaAt store v j r → r.volume.capacity ≡ store.settings.capacity
 
--- A batch was answered by a reply that suits it, and the store remembers the rows then.
-pub record Suited {D : Type 0} (settings : Settings) (rows : List DirRow) (photos : List NewPhoto) (reply : LoadReply) (store : LoadStore D) : Type 0 where
-  pub known : List DirRow
-  pub suits : SuitsBatch settings rows photos reply known
+-- A batch was answered by a reply that suits it, and the store remembers this then.
+pub record Suited {D : Type 0} (settings : Settings) (first : Remembered) (photos : List NewPhoto) (reply : LoadReply) (store : LoadStore D) : Type 0 where
+  pub known : Remembered
+  pub suits : SuitsBatch settings first photos reply known
   pub remembers : Remembers store known
 
 -- so were these groups
-pub record SuitedAll {D : Type 0} (settings : Settings) (rows : List DirRow) (groups : List Group) (replies : List LoadReply) (store : LoadStore D) : Type 0 where
-  pub known : List DirRow
-  pub suit : SuitAll settings rows groups replies known
+pub record SuitedAll {D : Type 0} (settings : Settings) (first : Remembered) (groups : List Group) (replies : List LoadReply) (store : LoadStore D) : Type 0 where
+  pub known : Remembered
+  pub suit : SuitAll settings first groups replies known
   pub remembers : Remembers store known
 
 -- These groups were answered, and the lines of their replies were added.
 pub record Loads {D : Type 0} (Tells : Type 0) (files : D → Files) (groups : List Group) (old new : LoadStore D) (before after : List ℕ) : Type 0 where
   pub replies : List LoadReply
   pub many : length replies ≡ length groups
-  pub suited : (rows : List DirRow) → Remembers old rows → SuitedAll old.settings rows groups replies new
+  pub fit : AllByRecursion FitsLoad replies
+  pub suited : (known : Remembered) → Remembers old known → SuitedAll old.settings known groups replies new
   pub told : after ≡ before ++ reply_lines groups replies
   pub answers : Tells → (s : StoredStore) → StandsAs files old s → AnsweredAll files old.settings s groups replies new
 
@@ -97,6 +102,7 @@ pub record FailsFirst {D : Type 0} (fault_count : D → ℕ) (groups : List Grou
   pub faults : ℕ
   pub fails : FailsBatch fault_count batch.photos old new slot faults
   pub reply : Reply
+  pub fits : FitsReply reply
   pub failed : IsFailed old.settings slot faults reply
   pub told : after ≡ before ++ load_line batch.line (Other reply)
 
@@ -106,7 +112,7 @@ pub record FailsFirst {D : Type 0} (fault_count : D → ℕ) (groups : List Grou
 -- or with the whole of it in the first try with room
 abbrev pub LeavesNew : Settings → List NewPhoto → (ℕ → ℕ → List ℕ) → StoredStore → Type 0
 LeavesNew settings photos image s =
-    OpensStore settings image s ⊎ ((volume : ℕ) × MayLoad settings s photos volume × LeavesBatch settings volume photos image s)
+    OpensStore settings image s ⊎ ((volume : ℕ) × MayLoad settings (remembered_of s) photos volume × LeavesBatch settings volume photos image s)
 
 -- the same where the first of these groups may be such a batch
 abbrev pub LeavesFirst : Settings → List Group → (ℕ → ℕ → List ℕ) → StoredStore → Type 0

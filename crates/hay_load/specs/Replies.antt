@@ -1,12 +1,19 @@
--- The texts of the replies to batches and bad lines.
+-- The replies to batches and bad lines: which there are, and their texts.
 use Rattle.std.specs.Prelude.{ℕ, List, ◌++◌, map, codes, decimal}
 use Rattle.hay_reply.specs.declared.Refused.{Refused}
 use Rattle.hay_reply.specs.declared.Refused.TheVariants.{NoRoom}
 use Rattle.hay_reply.specs.declared.Reply.TheVariants.{Full}
+use Rattle.hay_reply.specs.Fits.{FitsReply, IsLarge, IsSmall}
 use Rattle.hay_reply.specs.Replies.{field, numbered_line}
 use Rattle.hay_batch.specs.declared.fault.FullTry.{FullTry}
 use Rattle.hay_load.specs.declared.reply.LoadReply.{LoadReply}
 use Rattle.hay_load.specs.declared.reply.LoadReply.TheVariants.{Loaded, Known, Other}
+
+-- each number of a reply is one of its field's type
+abbrev pub FitsLoad : LoadReply → Type 0
+FitsLoad (Loaded volume photos rows) = IsSmall volume × IsLarge photos × IsLarge rows
+FitsLoad (Known volume) = IsSmall volume
+FitsLoad (Other reply) = FitsReply reply
 
 -- a try without room, as a run tells it
 abbrev pub refused_of : FullTry → Refused

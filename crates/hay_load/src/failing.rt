@@ -2,6 +2,7 @@
 
 ghost use Rattle.std.specs.Prelude.{◌≡◌, ◌<◌, ◌%◌, ◌+◌, ℕ};
 ghost use Rattle.hay_reply.specs.declared.Reply.{Reply};
+ghost use Rattle.hay_reply.specs.Fits.{FitsReply};
 ghost use Rattle.hay_batch.specs.Shelves.{slot_of};
 
 use hay_needle::Settings;
@@ -11,6 +12,7 @@ use hay_reply::Reply;
 pub(crate) fn failed_reply(settings: &Settings, slot: u32, faults: u64) -> Reply
     requires machines { 0 < settings.now.machines }
     requires replicas { 0 < settings.now.replicas }
+    ensures fits { FitsReply result }
     ensures directory { slot ≡ 0 → result ≡ Reply.FailedDir faults }
     ensures replica { (v j : ℕ) → j < settings.now.replicas → slot ≡ slot_of settings.now v j → result ≡ Reply.Failed v ((v + j) % settings.now.machines) faults }
 {

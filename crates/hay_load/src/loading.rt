@@ -2,11 +2,12 @@
 
 ghost use Rattle.std.specs.Prelude.{◌≡◌, ◌<◌, ◌≤◌, ◌∷◌, [], ℕ, List, None, length, IfErr, IfOk, OnOk, IsErrOf};
 ghost use Rattle.hay_script.specs.Script.{IsWithin, IsWithinLine};
-ghost use Rattle.hay_dirfile.specs.declared.row.DirRow.{DirRow};
 ghost use Rattle.hay_batch.specs.Shelves.{MayLeaveDisks, StandsAs, StoredStore};
 ghost use Rattle.hay_batch.specs.Stores.{IsReadyStore, IsShaped, KeepsCounts};
 ghost use Rattle.hay_load.specs.declared.loading.BatchEnd.{BatchEnd};
 ghost use Rattle.hay_load.specs.declared.loading.LoadEnd.{LoadEnd};
+ghost use Rattle.hay_load.specs.Answers.{Remembered};
+ghost use Rattle.hay_load.specs.Replies.{FitsLoad};
 ghost use Rattle.hay_load.specs.Gathering.{Batch, IsGathered, bad_step, closed, command_step, line_step, put_step};
 ghost use Rattle.hay_load.specs.Loads.{Answered, FailsBatch, FailsFirst, IsLoading, LeavesFirst, LeavesNew, Loads, Remembers, Suited, held_of};
 
@@ -70,7 +71,8 @@ fn answer<D: Disk>(
     requires shape { IsShaped store.old }
     requires ready { D.Tells → IsReadyStore D.files store.old }
     ensures answered { D.Tells → (s : StoredStore) → StandsAs D.files store.old s → IfOk result (λ reply. Answered D.files store.old.settings s photos.now reply store.new) }
-    ensures suited { (rows : List DirRow) → Remembers store.old rows → IfOk result (λ reply. Suited store.old.settings rows photos.now reply store.new) }
+    ensures fits { IfOk result FitsLoad }
+    ensures suited { (known : Remembered) → Remembers store.old known → IfOk result (λ reply. Suited store.old.settings known photos.now reply store.new) }
     ensures left { D.Tells → (s : StoredStore) (image : ℕ → ℕ → List ℕ) → StandsAs D.files store.old s → MayLeaveDisks D.files store.new image →
         LeavesNew store.old.settings photos.now image s }
     ensures next { D.Tells → OnOk result (IsReadyStore D.files store.new) }

@@ -1,6 +1,8 @@
 //! What a batch or a bad line is answered.
 
 ghost use Rattle.std.specs.Prelude.{◌≡◌, ◌++◌, map, IfOk, OnOk, OnErr};
+ghost use Rattle.std.specs.List.{AllByRecursion};
+ghost use Rattle.hay_reply.specs.Fits.{FitsRefused};
 ghost use Rattle.hay_load.specs.Replies as texts;
 
 use hay_base::{Listed, NoMemory};
@@ -19,25 +21,35 @@ pub enum LoadReply {
     Other(Reply),
 }
 
+// A try without room, as a run tells it.
+fn no_room(full: FullTry) -> Refused
+    ensures is { result ≡ texts.refused_of full }
+    ensures fits { FitsRefused result }
+{
+    Refused::NoRoom {
+        volume: full.volume,
+        machine: full.machine,
+        end: full.end,
+        need: full.need,
+    }
+}
+
 // The tries without room, as a run tells them.
 fn refused_of(alloc: Global, tries: &[FullTry]) -> Result<Listed<Refused>, NoMemory>
-    ensures { IfOk result (λ refused. refused ≡ map texts.refused_of tries.now) }
+    ensures are { IfOk result (λ refused. refused ≡ map texts.refused_of tries.now) }
+    ensures fit { IfOk result (AllByRecursion FitsRefused) }
 {
     let mut refused = Listed::new(alloc);
     for full in tries {
-        refused.push(Refused::NoRoom {
-            volume: full.volume,
-            machine: full.machine,
-            end: full.end,
-            need: full.need,
-        })?;
+        refused.push(no_room(*full))?;
     }
     Ok(refused)
 }
 
 /// A batch for which no try has room.
 pub(crate) fn full_reply(alloc: Global, tries: &[FullTry]) -> Result<LoadReply, NoMemory>
-    ensures { IfOk result (λ reply. reply ≡ texts.full_reply tries.now) }
+    ensures is { IfOk result (λ reply. reply ≡ texts.full_reply tries.now) }
+    ensures fits { IfOk result texts.FitsLoad }
 {
     let tries = refused_of(alloc, tries)?;
     Ok(LoadReply::Other(Reply::Full { tries }))

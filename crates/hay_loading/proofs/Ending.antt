@@ -1,5 +1,5 @@
 -- How a load ends, by what was answered and by what the shelf has then.
-use Rattle.std.proofs.Common.{◌≡◌, ◌⊎◌, inl, inr, ℕ, ◌≤◌, ◌<◌, List, [], ◌∷◌, ◌++◌, length, Option, Some, Result, Ok, Err, refl, sym, ap, subst, ◌∙◌, append_assoc, arith}
+use Rattle.std.proofs.Common.{◌≡◌, ◌⊎◌, inl, inr, ℕ, ◌≤◌, ◌<◌, List, [], ◌∷◌, ◌++◌, length, All, Option, Some, None, Result, Ok, Err, refl, sym, ap, subst, ◌∙◌, append_assoc, arith}
 use Rattle.std.proofs.lemmas.List.{append-nil}
 use Rattle.hay_needle.specs.declared.settings.Settings.{Settings}
 use Rattle.hay_disk.specs.Counts.{Rose}
@@ -8,27 +8,28 @@ use Rattle.hay_disk.specs.Shelf.{HeldDisk}
 use Rattle.hay_disk.specs.Streams.{Wrote, WrotePart}
 use Rattle.hay_mount.specs.Mounts.{IsGivenDisk}
 use Rattle.hay_reply.specs.Replies.{header_line}
-use Rattle.hay_dirfile.specs.declared.row.DirRow.{DirRow}
+use Rattle.hay_batch.specs.declared.photo.NewPhoto.{NewPhoto}
 use Rattle.hay_batch.specs.declared.replica.LoadReplica.{LoadReplica}
 use Rattle.hay_batch.specs.declared.store.LoadStore.{LoadStore}
-use Rattle.hay_batch.specs.Homes.{AreHomes}
+use Rattle.hay_batch.specs.Batches.{batch_total}
+use Rattle.hay_batch.specs.Homes.{home_among}
 use Rattle.hay_batch.specs.Shelves.{EachDisk, MayLeaveDisks, OpensSlot, OpensStore, StandsAs, StoredStore, disk_count, reads_of, slot_of}
-use Rattle.hay_batch.specs.Stores.{FailsAt, FailsReplica, IsShaped, ReplicaAt}
+use Rattle.hay_batch.specs.Stores.{FailsAt, FailsReplica, IsFirstRoom, IsShaped, ReplicaAt}
 use Rattle.hay_batch.proofs.Lists.{at_below}
 use Rattle.hay_batch.proofs.Loading.{replica_there}
 use Rattle.hay_batch.proofs.ShelfLaws.{slot_within}
 use Rattle.hay_batch.proofs.StoredLaws.{stands_left}
 use Rattle.hay_load.specs.declared.reply.LoadReply.{LoadReply}
 use Rattle.hay_load.specs.declared.reply.LoadReply.TheVariants.{Other}
-use Rattle.hay_load.specs.Answers.{AnswersAll, MayLoad, SuitAll, counted, reply_lines}
-use Rattle.hay_load.specs.Gathering.{Batch, Group}
+use Rattle.hay_load.specs.Answers.{AnswersAll, MayLoad, Remembered, SuitAll, remembered_of, reply_lines}
+use Rattle.hay_load.specs.Gathering.{Batch, Group, key_of}
 use Rattle.hay_load.specs.Loads.{IsFailed, LeavesFirst, Loads, Remembers}
-use Rattle.hay_load.specs.Replies.{load_line}
-use Rattle.hay_load.proofs.Answering.{homeless_in, may_load}
-use Rattle.hay_load.proofs.Taking.{answers_more, suit_more}
+use Rattle.hay_load.specs.Replies.{FitsLoad, load_line}
+use Rattle.hay_load.proofs.Answering.{may_load, stands_remembers}
+use Rattle.hay_load.proofs.Taking.{answers_more, fit_more, suit_more}
 use Rattle.hay_loading.specs.declared.stops.Stop.{Stop}
 use Rattle.hay_loading.specs.declared.stops.Stop.TheVariants as stop
-use Rattle.hay_loading.specs.Endings.{AllStandIn, Answers, Breaks, CutsShort, Ends, Halts, HaltsAt, HaltsBehind, MayFailAt, ReadFront, ReadOver, groups_before, IsFront, LoadsAll, MayLeaveSlots, Wants, WroteBoth, WroteThen, load_text, script_groups}
+use Rattle.hay_loading.specs.Endings.{AllStandIn, Answers, Begins, Breaks, CutsShort, Ends, Halts, HaltsAt, HaltsBehind, MayFailAt, ReadFront, ReadOver, groups_before, IsFront, LoadsAll, MayLeaveSlots, Wants, WroteBoth, WroteThen, load_text, script_groups}
 use Rattle.hay_loading.specs.Lines.{FailsTold, Leaves, ServesAll, ServesUntil, Told}
 use Rattle.hay_loading.proofs.Apart.{front_apart}
 use Rattle.hay_loading.proofs.Showing.{all_stand, answers_same}
@@ -60,12 +61,6 @@ lines_behind Tells files settings groups old new text before mid after loads fir
     let P : List ℕ → Type 0 = λ l. Wrote before (header_line settings ++ l) after in
     subst P loads.told (wrote_more before mid after (header_line settings) text first second)
 
--- ROWS
-
--- a store that was opened remembers the rows that were read
-pub remembered : {D : Type 0} (store : LoadStore D) (rows : List DirRow) → AreHomes store.directory.homes rows → store.directory.rows ≡ length rows → Remembers store rows
-remembered store rows homes count = record { homes = homes; count = ap (λ (n : ℕ). counted n) count }
-
 -- WHAT IS GIVEN BACK
 
 module _ {D : Type 0} (Tells : Type 0) (files : D → Files) (drawn : D → ℕ → ℕ) (faults fuses : D → ℕ) (settings : Settings) (new : ℕ → HeldDisk) (store' : LoadStore D)
@@ -91,7 +86,7 @@ module _ {D : Type 0} (Tells : Type 0) (files : D → Files) (drawn : D → ℕ 
   module _ (script : List ℕ) (old : ℕ → HeldDisk) (shelf shelf' : ℕ) (before begun after : Option (List ℕ)) (store : LoadStore D) (same : store.settings ≡ settings) (shape : IsShaped store)
       (opened : Tells → (s : StoredStore) → OpensStore settings (reads_of old) s → StandsAs files store s)
       (disks : EachDisk (λ slot disk. OpensSlot Tells slot (old slot) (files disk) (faults disk) (fuses disk)) store) (header : Wrote before (header_line settings) begun)
-      (some : 0 < settings.volumes) (rows : List DirRow) (was : Remembers store rows) where
+      (some : 0 < settings.volumes) (known : Remembered) (begins : Begins Tells settings (reads_of old) known) (was : Remembers store known) where
     both_by : (groups next : List Group) (replies : List LoadReply) (s t : StoredStore) (image : ℕ → ℕ → List ℕ) → IsFront (groups ++ next) (script_groups settings script)
         → AnswersAll settings s groups replies t → LeavesFirst settings next image t
         → LeavesFirst settings next image t × AllStandIn settings groups replies image
@@ -102,7 +97,11 @@ module _ {D : Type 0} (Tells : Type 0) (files : D → Files) (drawn : D → ℕ 
         → Leaves Tells files next mid store' → Answers Tells settings script old new shelf shelf' before after groups loads.replies next
     answers_by groups next mid text loads kept front leaves = record {
       front = front;
-      suited = (let a = loads.suited rows was in (rows, a.known, subst (λ (x : Settings). SuitAll x rows groups loads.replies a.known) same a.suit));
+      first = known;
+      begins = begins;
+      known = (loads.suited known was).known;
+      suited = (let a = loads.suited known was in subst (λ (x : Settings). SuitAll x known groups loads.replies a.known) same a.suit);
+      fit = loads.fit;
       answers = λ tells s opens.
           let a = loads.answers tells s (opened tells s opens) in (
             a.stored,
@@ -180,13 +179,17 @@ module _ {D : Type 0} (Tells : Type 0) (files : D → Files) (drawn : D → ℕ 
             one = until.one;
             answers = record {
               front = front_both until.groups until.next (script_groups settings script) front_of;
+              first = known;
+              begins = begins;
+              known = (let a = first.suited known was in (loads.suited a.known a.remembers).known);
               suited =
-                  (let a = first.suited rows was in
+                  (let a = first.suited known was in
                   let b = loads.suited a.known a.remembers in
-                  let front : SuitAll settings rows until.groups first.replies a.known = subst (λ (x : Settings). SuitAll x rows until.groups first.replies a.known) same a.suit in
+                  let front : SuitAll settings known until.groups first.replies a.known = subst (λ (x : Settings). SuitAll x known until.groups first.replies a.known) same a.suit in
                   let behind : SuitAll settings a.known until.next loads.replies b.known =
                   subst (λ (x : Settings). SuitAll x a.known until.next loads.replies b.known) (until.settings ∙ same) b.suit in
-                  (rows, b.known, suit_more settings rows a.known b.known until.groups until.next first.replies loads.replies front behind));
+                  suit_more settings known a.known b.known until.groups until.next first.replies loads.replies front behind);
+              fit = fit_more FitsLoad first.replies loads.replies first.fit loads.fit;
               answers = λ tells s opens.
                   let a = first.answers tells s (opened tells s opens) in
                   let b = loads.answers tells a.stored a.stands in
@@ -254,9 +257,20 @@ module _ {D : Type 0} (Tells : Type 0) (files : D → Files) (drawn : D → ℕ 
       fell volume slot count (inl first) = fell_first volume slot count first.0 first.1 first.2
       fell volume slot count (inr f) = fell_replica volume slot count f
 
+      -- where a disk may fail, by what is remembered
+      may_fail_by : (photos : List NewPhoto) (volume slot count : ℕ) (now : Remembered) → Remembers until.mid now
+          → All (λ (photo : NewPhoto). home_among until.mid.directory.homes photo.pair ≡ None) photos → IsFirstRoom until.mid (key_of photos) (batch_total photos) volume
+          → Fell volume slot count → MayFailAt settings now photos slot
+      may_fail_by photos volume slot count now remembers none room falls = record {
+        volume = volume;
+        loads = subst (λ (y : Settings). MayLoad y now photos volume) (until.settings ∙ same) (may_load now until.mid until.shape remembers photos volume none room);
+        disk = falls.is_place;
+      }
+
       breaks : (Behind : Option (List ℕ) → List ℕ → List ℕ → Option (List ℕ) → Type 0) (Writes : Option (List ℕ) → List ℕ → Option (List ℕ) → Type 0)
           → ((whole more : List ℕ) → Wrote before whole until.middle → Writes until.middle more after → Behind before whole more after)
           → FailsTold Tells files faults Writes until.next until.mid store' until.middle after → Breaks Tells settings script old new shelf shelf' before after Behind
+      unfolding answers_by
       breaks Behind Writes join f =
           let x = f.fails in
           let one = Batch x.batch.line x.batch.photos in
@@ -274,25 +288,16 @@ module _ {D : Type 0} (Tells : Type 0) (files : D → Files) (drawn : D → ℕ 
             slot = x.slot;
             faults = x.faults;
             within = count.is_within;
-            may = λ tells s t opens answers.
+            may = (let a = first.suited known was in may_fail_by x.batch.photos x.fails.volume x.slot x.faults a.known a.remembers x.fails.homeless x.fails.room count);
+            may_stored = λ tells s t opens answers.
                 let a = first.answers tells s (opened tells s opens) in
                 let told : AnswersAll settings s until.groups first.replies a.stored = subst (λ (y : Settings). AnswersAll y s until.groups first.replies a.stored) same a.answers in
-                subst (λ (u : StoredStore). MayFailAt settings u x.batch.photos x.slot) (answers_same settings s a.stored t until.groups first.replies told answers) (record {
-                  volume = x.fails.volume;
-                  loads = subst (λ (y : Settings). MayLoad y a.stored x.batch.photos x.fails.volume) (until.settings ∙ same)
-                      (may_load files a.stored x.batch.photos until.mid until.shape a.stands x.fails.volume x.fails.homeless x.fails.room);
-                  disk = count.is_place;
-                });
-            homeless =
-                (let a = first.suited rows was in (
-                  rows,
-                  a.known,
-                  subst (λ (y : Settings). SuitAll y rows until.groups first.replies a.known) same a.suit,
-                  homeless_in until.mid.directory.homes a.known x.batch.photos a.remembers.homes x.fails.homeless,
-                ));
+                subst (λ (u : StoredStore). MayFailAt settings (remembered_of u) x.batch.photos x.slot) (answers_same settings s a.stored t until.groups first.replies told answers)
+                (may_fail_by x.batch.photos x.fails.volume x.slot x.faults (remembered_of a.stored) (stands_remembers files a.stored until.mid a.stands) x.fails.homeless x.fails.room count);
             rose = count.is_rise;
             count = count.is_count;
             reply = x.reply;
+            fits = x.fits;
             failed = subst (λ (y : Settings). IsFailed y x.slot x.faults x.reply) (until.settings ∙ same) x.failed;
             wrote = join (load_text settings until.groups until.told.loads.replies) (load_line x.batch.line (Other x.reply)) told_whole
                 (subst (λ (l : List ℕ). Writes until.middle l after) x.told f.wrote);
@@ -320,7 +325,7 @@ module _ {D : Type 0} (Tells : Type 0) (files : D → Files) (drawn : D → ℕ 
     -- how a load ends whose store was opened
     pub ends_open : (left' : Option (List ℕ)) (result : Result (Unit {0}) Stop) → ((done : Unit {0}) → result ≡ Ok done → ServesAll Tells files (Some script) store store' begun after)
         → ((why : Stop) → result ≡ Err why → ServesUntil Tells files faults fuses why (Some script) left' store store' begun after)
-        → Ends Tells settings script old new shelf shelf' before after result
+        → Ends Tells settings script old new shelf shelf' before after left' result
     ends_open left' (Ok done) served stopped = loads_all (served done refl)
     ends_open left' (Err stop.Output) served stopped =
         let until = stopped stop.Output refl in

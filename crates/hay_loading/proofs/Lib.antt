@@ -9,5 +9,7 @@ pub mod Showing
 pub mod Apart
 pub mod Ending
 pub mod Refusing
+pub mod Remembering
+pub mod Refuted
 pub mod Statuses
 pub mod NextRun

@@ -1,5 +1,5 @@
 -- How a load ends whose store was not opened.
-use Rattle.std.proofs.Common.{◌≡◌, ◌⊎◌, inl, inr, ℕ, ◌<◌, List, Option, Some, Err, refl, sym, subst}
+use Rattle.std.proofs.Common.{◌≡◌, ◌≢◌, ◌⊎◌, inl, inr, ℕ, ◌<◌, List, Option, Some, Err, refl, sym, subst}
 use Rattle.std.specs.Prelude.{IsErrOf, IsOk}
 use Rattle.hay_needle.specs.declared.settings.Settings.{Settings}
 use Rattle.hay_disk.specs.Counts.{Rose}
@@ -8,6 +8,7 @@ use Rattle.hay_disk.specs.Streams.{Wrote, WrotePart}
 use Rattle.hay_mount.specs.Mounts.{AreIn}
 use Rattle.hay_open.specs.declared.fault.OpenFault.{OpenFault}
 use Rattle.hay_reply.specs.declared.Note.{Note}
+use Rattle.hay_reply.specs.Fits.{FitsNote}
 use Rattle.hay_reply.specs.Replies.{header_line, note_line}
 use Rattle.hay_batch.specs.declared.fault.LoadOpenFault.{LoadOpenFault}
 use Rattle.hay_batch.specs.Shelves.{AreSoundBelow, IsDamagedDisk, IsUndamagedBelow, disk_count, reads_of}
@@ -18,7 +19,8 @@ use Rattle.hay_loading.specs.Stops.{note_of}
 use Rattle.hay_loading.proofs.Sinks.{part_more, wrote_more, wrote_part}
 use Rattle.hay_loading.proofs.Statuses.{stopped}
 
-module _ (Tells : Type 0) (settings : Settings) (script : List ℕ) (old new : ℕ → HeldDisk) (shelf shelf' : ℕ) (before begun after : Option (List ℕ)) (fault : LoadOpenFault)
+module _ (Tells : Type 0) (settings : Settings) (script : List ℕ) (old new : ℕ → HeldDisk) (shelf shelf' : ℕ) (before begun after rest : Option (List ℕ)) (unread : rest ≡ Some script) (fault : LoadOpenFault)
+    (fits : (note : Note) → note_of fault ≡ Some note → FitsNote note)
     (left : AreLeft Tells settings script old new shelf shelf' before after)
     (by_shelf : (faults : ℕ) → fault ≡ LoadOpenFault.Shelf faults → Rose shelf shelf' × (faults ≡ shelf'))
     (failed : (slot faults : ℕ) → fault ≡ LoadOpenFault.Open slot (OpenFault.Failed faults)
@@ -34,20 +36,20 @@ module _ (Tells : Type 0) (settings : Settings) (script : List ℕ) (old new : �
   why_by (LoadOpenFault.Open slot OpenFault.NoMemory) note is told = absurd cc
   why_by LoadOpenFault.NoMemory note is told = absurd cc
 
-  unopened : after ≡ begun → Unopened Tells settings script old new shelf shelf' before after
-  unopened same = record { left = left; wrote = wrote_part before after (header_line settings) (subst (λ (w : Option (List ℕ)). Wrote before (header_line settings) w) (sym same) header) }
+  unopened : after ≡ begun → Unopened Tells settings script old new shelf shelf' before after rest
+  unopened same = record { left = left; unread = unread; wrote = wrote_part before after (header_line settings) (subst (λ (w : Option (List ℕ)). Wrote before (header_line settings) w) (sym same) header) }
 
   -- by what was written of it
   pub ends_refused : (why : Stop) → (why ≡ stop.Store → (note : Note) × (note_of fault ≡ Some note) × Wrote begun (note_line note) after)
       → (why ≡ stop.Output → (note : Note) × (note_of fault ≡ Some note) × WrotePart begun (note_line note) after) → (why ≡ stop.NoMemory → after ≡ begun)
-      → (why ≡ stop.Output) ⊎ (why ≡ stop.NoMemory) ⊎ (why ≡ stop.Store) → Ends Tells settings script old new shelf shelf' before after (Err why)
+      → (why ≡ stop.Output) ⊎ (why ≡ stop.NoMemory) ⊎ (why ≡ stop.Store) → Ends Tells settings script old new shelf shelf' before after rest (Err why)
   ends_refused stop.Output told part wanting stops =
       let t = part refl in
-      inr (inl (record { note = t.0; why = why_by fault t.0 refl t.1; left = left; wrote = part_more before begun after (header_line settings) (note_line t.0) header t.2 }))
+      inr (inl (record { note = t.0; fits = fits t.0 t.1; why = why_by fault t.0 refl t.1; left = left; unread = unread; wrote = part_more before begun after (header_line settings) (note_line t.0) header t.2 }))
   ends_refused stop.NoMemory told part wanting stops = inl (unopened (wanting refl))
   ends_refused stop.Store told part wanting stops =
       let t = told refl in
-      inl (record { note = t.0; why = why_by fault t.0 refl t.1; left = left; wrote = wrote_more before begun after (header_line settings) (note_line t.0) header t.2 })
+      inl (record { note = t.0; fits = fits t.0 t.1; why = why_by fault t.0 refl t.1; left = left; unread = unread; wrote = wrote_more before begun after (header_line settings) (note_line t.0) header t.2 })
   ends_refused stop.Input told part wanting (inl is) = absurd cc
   ends_refused stop.Input told part wanting (inr (inl is)) = absurd cc
   ends_refused stop.Input told part wanting (inr (inr is)) = absurd cc
@@ -56,7 +58,7 @@ module _ (Tells : Type 0) (settings : Settings) (script : List ℕ) (old new : �
   ends_refused stop.TooLong told part wanting (inr (inr is)) = absurd cc
 
 -- the header was not written
-module _ (Tells : Type 0) (settings : Settings) (script : List ℕ) (old : ℕ → HeldDisk) (shelf : ℕ) (before after : Option (List ℕ)) (back : AreIn (disk_count settings) old)
+module _ (Tells : Type 0) (settings : Settings) (script : List ℕ) (old : ℕ → HeldDisk) (shelf : ℕ) (before after rest : Option (List ℕ)) (unread : rest ≡ Some script) (back : AreIn (disk_count settings) old)
     (part : WrotePart before (header_line settings) after) where
   untouched : AreLeft Tells settings script old old shelf shelf before after
   untouched = λ slot within. inl (record {
@@ -68,9 +70,9 @@ module _ (Tells : Type 0) (settings : Settings) (script : List ℕ) (old : ℕ �
     back = back slot within;
   })
 
-  pub ends_unbegun : (why : Stop) → (why ≡ stop.Output) ⊎ (why ≡ stop.NoMemory) → Ends Tells settings script old old shelf shelf before after (Err why)
-  ends_unbegun stop.Output stops = inl (record { left = untouched; wrote = part })
-  ends_unbegun stop.NoMemory stops = inl (record { left = untouched; wrote = part })
+  pub ends_unbegun : (why : Stop) → (why ≡ stop.Output) ⊎ (why ≡ stop.NoMemory) → Ends Tells settings script old old shelf shelf before after rest (Err why)
+  ends_unbegun stop.Output stops = inl (record { left = untouched; unread = unread; wrote = part })
+  ends_unbegun stop.NoMemory stops = inl (record { left = untouched; unread = unread; wrote = part })
   ends_unbegun stop.Store (inl is) = absurd cc
   ends_unbegun stop.Store (inr is) = absurd cc
   ends_unbegun stop.Input (inl is) = absurd cc
@@ -78,16 +80,17 @@ module _ (Tells : Type 0) (settings : Settings) (script : List ℕ) (old : ℕ �
   ends_unbegun stop.TooLong (inl is) = absurd cc
   ends_unbegun stop.TooLong (inr is) = absurd cc
 
--- a load with one of these stops read no script as far as it could be
-pub not_read : (why : Stop) → (why ≡ stop.Output) ⊎ (why ≡ stop.NoMemory) ⊎ (why ≡ stop.Store)
-    → IsOk (stopped why) ⊎ IsErrOf (stopped why) stop.Input ⊎ IsErrOf (stopped why) stop.TooLong → ⊥
-not_read why stops (inl done) = absurd cc
-not_read why (inl is) (inr (inl input)) = absurd cc
-not_read why (inr (inl is)) (inr (inl input)) = absurd cc
-not_read why (inr (inr is)) (inr (inl input)) = absurd cc
-not_read why (inl is) (inr (inr long)) = absurd cc
-not_read why (inr (inl is)) (inr (inr long)) = absurd cc
-not_read why (inr (inr is)) (inr (inr long)) = absurd cc
+-- a load with one of these stops read no script as far as it could be, nor where its source has what it had
+pub not_read : (why : Stop) (left : Option (List ℕ)) → (why ≡ stop.Output) ⊎ (why ≡ stop.NoMemory) ⊎ (why ≡ stop.Store)
+    → IsOk (stopped why) ⊎ IsErrOf (stopped why) stop.Input ⊎ IsErrOf (stopped why) stop.TooLong ⊎ (left ≢ left) → ⊥
+not_read why left stops (inl done) = absurd cc
+not_read why left (inl is) (inr (inl input)) = absurd cc
+not_read why left (inr (inl is)) (inr (inl input)) = absurd cc
+not_read why left (inr (inr is)) (inr (inl input)) = absurd cc
+not_read why left (inl is) (inr (inr (inl long))) = absurd cc
+not_read why left (inr (inl is)) (inr (inr (inl long))) = absurd cc
+not_read why left (inr (inr is)) (inr (inr (inl long))) = absurd cc
+not_read why left stops (inr (inr (inr read))) = read refl
 
 -- one of two stops
 pub same_stop : (why a b : Stop) → (stopped why ≡ stopped a) ⊎ (stopped why ≡ stopped b) → (why ≡ a) ⊎ (why ≡ b)

@@ -25,7 +25,7 @@ use Rattle.hay_batch.proofs.HomeLaws.{home_in-append}
 use Rattle.hay_batch.proofs.Showing.{batch_shows}
 use Rattle.hay_load.specs.declared.reply.LoadReply.{LoadReply}
 use Rattle.hay_load.specs.declared.reply.LoadReply.TheVariants.{Known, Loaded}
-use Rattle.hay_load.specs.Answers.{AnswersAll, AnswersBatch, AreHomeless}
+use Rattle.hay_load.specs.Answers.{AnswersAll, AnswersBatch, AreHomeless, IsNotLoaded, Remembered, remembered_of}
 use Rattle.hay_load.specs.Gathering.{Bad, Batch, Group}
 use Rattle.hay_load.specs.Loads.{LeavesFirst}
 use Rattle.hay_load.specs.Replies.{full_reply}
@@ -129,9 +129,8 @@ keeps_new s volume k photo photos none distinct at = record {
 
 keeps_batch : (settings : Settings) (s new : StoredStore) (photos : List NewPhoto) (reply : LoadReply) (volume : ℕ) (photo : NewPhoto) → AnswersBatch settings s photos reply new
     → Keeps s volume photo → Keeps new volume photo
-keeps_batch settings s new photos reply volume photo (inl known) keeps = subst (λ (x : StoredStore). Keeps x volume photo) (sym known.same) keeps
-keeps_batch settings s new photos reply volume photo (inr (inl full)) keeps = subst (λ (x : StoredStore). Keeps x volume photo) (sym full.same) keeps
-keeps_batch settings s new photos reply volume photo (inr (inr loaded)) keeps = subst (λ (x : StoredStore). Keeps x volume photo) (sym loaded.stored)
+keeps_batch settings s new photos reply volume photo (inl refused) keeps = subst (λ (x : StoredStore). Keeps x volume photo) (sym refused.1) keeps
+keeps_batch settings s new photos reply volume photo (inr loaded) keeps = subst (λ (x : StoredStore). Keeps x volume photo) (sym loaded.stored)
     (keeps_more s volume loaded.volume photo photos loaded.may.homeless keeps)
 
 keeps_all : (settings : Settings) (s new : StoredStore) (groups : List Group) (replies : List LoadReply) (volume : ℕ) (photo : NewPhoto) → AnswersAll settings s groups replies new
@@ -147,12 +146,18 @@ loaded_volume : (a b m n p q : ℕ) → Loaded a m p ≡ Loaded b n q → a ≡ 
 loaded_volume a b m n p q is = cc
 
 -- a batch that was told as loaded was
+-- a reply to a batch that is not loaded tells of none that is
+never_loaded : (settings : Settings) (known : Remembered) (photos : List NewPhoto) (reply : LoadReply) (volume count rows : ℕ) → IsNotLoaded settings known photos reply
+    → reply ≡ Loaded volume count rows → ⊥
+never_loaded settings known photos reply volume count rows (inl home) is = let both : Known home.volume ≡ Loaded volume count rows = sym home.told ∙ is in absurd cc
+never_loaded settings known photos reply volume count rows (inr full) is = let both : full_reply full.tries ≡ Loaded volume count rows = sym full.told ∙ is in absurd cc
+
 keeps_told : (settings : Settings) (s new : StoredStore) (photos : List NewPhoto) (reply : LoadReply) (volume count rows k : ℕ) (photo : NewPhoto)
     → AnswersBatch settings s photos reply new → reply ≡ Loaded volume count rows → AreDistinct photos → At photos k photo
     → Keeps new volume photo × (0 < settings.volumes → volume < settings.volumes)
-keeps_told settings s new photos reply volume count rows k photo (inl known) is distinct at = let both : Known known.volume ≡ Loaded volume count rows = sym known.told ∙ is in absurd cc
-keeps_told settings s new photos reply volume count rows k photo (inr (inl full)) is distinct at = absurd (let told = full.told in cc)
-keeps_told settings s new photos reply volume count rows k photo (inr (inr loaded)) is distinct at =
+keeps_told settings s new photos reply volume count rows k photo (inl refused) is distinct at =
+    absurd (never_loaded settings (remembered_of s) photos reply volume count rows refused.0 is)
+keeps_told settings s new photos reply volume count rows k photo (inr loaded) is distinct at =
     let same : loaded.volume ≡ volume = loaded_volume loaded.volume volume (length photos) count (length new.rows) rows (sym loaded.told ∙ is) in (
       subst (λ n. Keeps new n photo) same
           (subst (λ (x : StoredStore). Keeps x loaded.volume photo) (sym loaded.stored) (keeps_new s loaded.volume k photo photos loaded.may.homeless distinct at)),
@@ -162,19 +167,12 @@ keeps_told settings s new photos reply volume count rows k photo (inr (inr loade
 -- WHAT IS STORED THEN
 
 stored_same : (settings : Settings) (s t u : StoredStore) (photos : List NewPhoto) (reply : LoadReply) → AnswersBatch settings s photos reply t → AnswersBatch settings s photos reply u → t ≡ u
-stored_same settings s t u photos reply (inl first) (inl second) = first.same ∙ sym second.same
-stored_same settings s t u photos reply (inl first) (inr (inl second)) = first.same ∙ sym second.same
-stored_same settings s t u photos reply (inl first) (inr (inr second)) =
-    let both : Known first.volume ≡ Loaded second.volume (length photos) (length u.rows) = sym first.told ∙ second.told in absurd cc
-stored_same settings s t u photos reply (inr (inl first)) (inl second) = first.same ∙ sym second.same
-stored_same settings s t u photos reply (inr (inl first)) (inr (inl second)) = first.same ∙ sym second.same
-stored_same settings s t u photos reply (inr (inl first)) (inr (inr second)) =
-    let both : full_reply first.tries ≡ Loaded second.volume (length photos) (length u.rows) = sym first.told ∙ second.told in absurd cc
-stored_same settings s t u photos reply (inr (inr first)) (inl second) =
-    let both : Loaded first.volume (length photos) (length t.rows) ≡ Known second.volume = sym first.told ∙ second.told in absurd cc
-stored_same settings s t u photos reply (inr (inr first)) (inr (inl second)) =
-    let both : Loaded first.volume (length photos) (length t.rows) ≡ full_reply second.tries = sym first.told ∙ second.told in absurd cc
-stored_same settings s t u photos reply (inr (inr first)) (inr (inr second)) =
+stored_same settings s t u photos reply (inl first) (inl second) = first.1 ∙ sym second.1
+stored_same settings s t u photos reply (inl first) (inr second) =
+    absurd (never_loaded settings (remembered_of s) photos reply second.volume (length photos) (length u.rows) first.0 second.told)
+stored_same settings s t u photos reply (inr first) (inl second) =
+    absurd (never_loaded settings (remembered_of s) photos reply first.volume (length photos) (length t.rows) second.0 first.told)
+stored_same settings s t u photos reply (inr first) (inr second) =
     let same : first.volume ≡ second.volume = loaded_volume first.volume second.volume (length photos) (length photos) (length t.rows) (length u.rows) (sym first.told ∙ second.told) in
     first.stored ∙ ap (λ (v : ℕ). with_stored v photos s) same ∙ sym second.stored
 

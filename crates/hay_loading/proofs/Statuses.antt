@@ -41,13 +41,15 @@ abbrev pub stopped : Stop → Result (Unit {0}) Stop
 stopped why = Err why
 
 -- and of the statuses at which a script was read as far as it could be
-pub read_by : (why : Stop) (status : ℕ) → status ≡ status_of why → (status ≡ 0) ⊎ (status ≡ 4) ⊎ (status ≡ 7) → IsErrOf (stopped why) stop.Input ⊎ IsErrOf (stopped why) stop.TooLong
-read_by why status is (inl zeroth) = absurd (never_zero why (sym is ∙ zeroth))
-read_by why status is (inr (inl four)) = inl (ap stopped (input_by why (sym is ∙ four)))
-read_by why status is (inr (inr seven)) = inr (ap stopped (long_by why (sym is ∙ seven)))
+pub read_by : (WasRead : Type 0) (why : Stop) (status : ℕ) → status ≡ status_of why → (status ≡ 0) ⊎ (status ≡ 4) ⊎ (status ≡ 7) ⊎ WasRead
+    → IsErrOf (stopped why) stop.Input ⊎ IsErrOf (stopped why) stop.TooLong ⊎ WasRead
+read_by WasRead why status is (inl zeroth) = absurd (never_zero why (sym is ∙ zeroth))
+read_by WasRead why status is (inr (inl four)) = inl (ap stopped (input_by why (sym is ∙ four)))
+read_by WasRead why status is (inr (inr (inl seven))) = inr (inl (ap stopped (long_by why (sym is ∙ seven))))
+read_by WasRead why status is (inr (inr (inr read))) = inr (inr read)
 
-module _ (Tells : Type 0) (settings : Settings) (script : List ℕ) (old new : ℕ → HeldDisk) (shelf shelf' : ℕ) (before after : Option (List ℕ)) where
-  pub to_all : Ends Tells settings script old new shelf shelf' before after (Ok tt) → LoadsTo Tells settings script old new shelf shelf' before after 0
+module _ (Tells : Type 0) (settings : Settings) (script : List ℕ) (old new : ℕ → HeldDisk) (shelf shelf' : ℕ) (before after rest : Option (List ℕ)) where
+  pub to_all : Ends Tells settings script old new shelf shelf' before after rest (Ok tt) → LoadsTo Tells settings script old new shelf shelf' before after rest 0
   to_all ends = record {
     all = λ is. ends;
     output = λ is. absurd (omega (arith, is));
@@ -57,8 +59,8 @@ module _ (Tells : Type 0) (settings : Settings) (script : List ℕ) (old new : �
     long = λ is. absurd (omega (arith, is));
   }
 
-  pub to_stop : (why : Stop) (status : ℕ) → status ≡ status_of why → Ends Tells settings script old new shelf shelf' before after (Err why)
-      → LoadsTo Tells settings script old new shelf shelf' before after status
+  pub to_stop : (why : Stop) (status : ℕ) → status ≡ status_of why → Ends Tells settings script old new shelf shelf' before after rest (Err why)
+      → LoadsTo Tells settings script old new shelf shelf' before after rest status
   to_stop stop.Output status three ends = record {
     all = λ is. absurd (omega (arith, is, three));
     output = λ is. ends;

@@ -76,6 +76,7 @@ module _ {D : Type 0} (Tells : Type 0) (files : D → Files) where
   loads_behind text told groups old new loads = record {
     replies = loads.replies;
     many = loads.many;
+    fit = loads.fit;
     suited = loads.suited;
     told = ap (λ (l : List ℕ). text ++ l) loads.told;
     answers = loads.answers;

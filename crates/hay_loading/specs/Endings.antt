@@ -1,5 +1,6 @@
 -- What a load of a script tells, and what it leaves of the disks, at each status.
-use Rattle.std.specs.Prelude.{◌≡◌, ◌⊎◌, ◌<◌, ◌≤◌, ◌+◌, ℕ, List, [], ◌∷◌, ◌++◌, length, take, map, Option, Some, None, Result, Ok, Err}
+use Rattle.std.specs.Prelude.{◌≡◌, ◌⊎◌, ◌<◌, ◌≤◌, ◌+◌, ℕ, List, [], ◌∷◌, ◌++◌, length, take, map, All, Option, Some, None, Result, Ok, Err}
+use Rattle.std.specs.List.{AllByRecursion}
 use Rattle.hay_needle.specs.declared.settings.Settings.{Settings}
 use Rattle.hay_disk.specs.Counts.{Rose}
 use Rattle.hay_disk.specs.Disk.{MayLeave}
@@ -10,6 +11,7 @@ use Rattle.hay_script.specs.Script.{line_of, lines_of}
 use Rattle.hay_reply.specs.declared.Note.{Note}
 use Rattle.hay_reply.specs.declared.Note.TheVariants.{OpenShelf, OpenFailed, OpenDamaged}
 use Rattle.hay_reply.specs.declared.Reply.{Reply}
+use Rattle.hay_reply.specs.Fits.{FitsNote, FitsReply}
 use Rattle.hay_reply.specs.Replies.{header_line, note_line}
 use Rattle.hay_needle.specs.Tables.{look, rows_of}
 use Rattle.hay_volume.specs.Cells.{needles_of}
@@ -22,11 +24,11 @@ use Rattle.hay_batch.specs.Replicas.{At}
 use Rattle.hay_batch.specs.Shelves.{AreSoundBelow, IsDamagedDisk, IsLeft, IsUndamagedBelow, OpensRows, OpensStore, StoredStore, disk_count, reads_of, replica_super, slot_of}
 use Rattle.hay_load.specs.declared.reply.LoadReply.{LoadReply}
 use Rattle.hay_load.specs.declared.reply.LoadReply.TheVariants.{Loaded, Other}
-use Rattle.hay_load.specs.Answers.{AnswersAll, AreHomeless, MayLoad, SuitAll, reply_lines}
+use Rattle.hay_load.specs.Answers.{AnswersAll, MayLoad, Remembered, SuitAll, remembered_of, reply_lines}
 use Rattle.hay_legal.specs.Items.{fed_part}
 use Rattle.hay_load.specs.Gathering.{Group, Batch, Bad, OpenBatch, groups_of, line_step}
 use Rattle.hay_load.specs.Loads.{IsFailed, LeavesFirst}
-use Rattle.hay_load.specs.Replies.{load_line}
+use Rattle.hay_load.specs.Replies.{FitsLoad, load_line}
 use Rattle.hay_loading.specs.declared.stops.Stop.{Stop}
 use Rattle.hay_loading.specs.declared.stops.Stop.TheVariants as stop
 
@@ -108,10 +110,22 @@ pub record CountsOn (old new : HeldDisk) : Type 0 where
 
 -- Where a disk may fail while a batch is loaded: no photo of it has a home, and the slot is that of the Directory, or that of a replica of
 -- the first try with room.
-pub record MayFailAt (settings : Settings) (s : StoredStore) (photos : List NewPhoto) (slot : ℕ) : Type 0 where
+pub record MayFailAt (settings : Settings) (known : Remembered) (photos : List NewPhoto) (slot : ℕ) : Type 0 where
   pub volume : ℕ
-  pub loads : MayLoad settings s photos volume
+  pub loads : MayLoad settings known photos volume
   pub disk : (slot ≡ 0) ⊎ ((j : ℕ) × (j < settings.replicas) × (slot ≡ slot_of settings volume j))
+
+-- WHAT IS REMEMBERED
+
+-- What is remembered of a store as it is opened on these contents, whatever the disks tell: each row names a volume that there is, and the
+-- cells of each replica end behind the superblock. Where the disks tell, the rows are those of the journal, and the cells of each replica that
+-- is void or whole end where they do.
+pub record Begins (Tells : Type 0) (settings : Settings) (contents : ℕ → ℕ → List ℕ) (first : Remembered) : Type 0 where
+  pub within : All (λ (row : DirRow). row.volume < settings.volumes) first.rows
+  pub reads : Tells → OpensRows settings (contents 0 0) first.rows
+  pub from : (v j : ℕ) → v < settings.volumes → j < settings.replicas → 64 ≤ first.ends v j
+  pub found : Tells → (v j : ℕ) (s : Stored) → v < settings.volumes → j < settings.replicas
+      → OpensAs (replica_super settings v j) (contents (slot_of settings v j)) s → first.ends v j ≡ s.end
 
 -- HOW A LOAD ENDS
 
@@ -121,13 +135,17 @@ IsStatus status = (status ≡ 0) ⊎ (status ≡ 3) ⊎ (status ≡ 4) ⊎ (stat
 -- A load of a script on disks that are taken and given back, by a shelf with this count of faults and then that, while a sink goes
 -- from what it held to what it holds.
 module _ (Tells : Type 0) (settings : Settings) (script : List ℕ) (old new : ℕ → HeldDisk) (shelf shelf' : ℕ) (before after : Option (List ℕ)) where
-  -- The first groups of the script were answered by these replies, which suit the rows that were read, whatever the disks tell; and
-  -- what the disks had became what is stored then, and behind these groups come those that are next. In whatever a stop leaves of the
+  -- The first groups of the script were answered by these replies, each of which suits what is remembered before it, whatever the disks tell;
+  -- and what the disks had became what is stored then, and behind these groups come those that are next. In whatever a stop leaves of the
   -- disks an opening finds that; or, where the first of the next groups is a batch of which no photo has a home, perhaps that with this
   -- whole batch in the first try with room, and never a row of a part of it. All batches that were told as loaded stand there.
   pub record Answers (groups : List Group) (replies : List LoadReply) (next : List Group) : Type 0 where
     pub front : IsFront (groups ++ next) (script_groups settings script)
-    pub suited : (rows : List DirRow) × (known : List DirRow) × SuitAll settings rows groups replies known
+    pub first : Remembered
+    pub begins : Begins Tells settings (reads_of old) first
+    pub known : Remembered
+    pub suited : SuitAll settings first groups replies known
+    pub fit : AllByRecursion FitsLoad replies
     pub answers : Tells → (s : StoredStore) → OpensStore settings (reads_of old) s →
         (t : StoredStore) × AnswersAll settings s groups replies t
         × ((image : ℕ → ℕ → List ℕ) → MayLeaveSlots settings new image → LeavesFirst settings next image t × AllStandIn settings groups replies image)
@@ -172,8 +190,8 @@ module _ (Tells : Type 0) (settings : Settings) (script : List ℕ) (old new : �
     pub answers : Answers (groups ++ last) (replies ++ others) []
     pub wrote : WroteThen before (load_text settings groups replies) (reply_lines last others) after
 
-  -- The first groups were answered, and a disk failed while the next batch was loaded, where one may. Its count rose to the one that is told.
-  -- Whatever the disks tell, the batch has no home by rows that the replies suit.
+  -- The first groups were answered, and a disk failed while the next batch was loaded, where one may by what is remembered then, and by what
+  -- is stored. Its count rose to the one that is told.
   pub record Breaks (Writes : Option (List ℕ) → List ℕ → List ℕ → Option (List ℕ) → Type 0) : Type 0 where
     pub groups : List Group
     pub replies : List LoadReply
@@ -183,11 +201,12 @@ module _ (Tells : Type 0) (settings : Settings) (script : List ℕ) (old new : �
     pub slot : ℕ
     pub faults : ℕ
     pub within : slot < disk_count settings
-    pub may : Tells → (s t : StoredStore) → OpensStore settings (reads_of old) s → AnswersAll settings s groups replies t → MayFailAt settings t photos slot
-    pub homeless : (rows : List DirRow) × (known : List DirRow) × SuitAll settings rows groups replies known × AreHomeless known photos
+    pub may : MayFailAt settings answers.known photos slot
+    pub may_stored : Tells → (s t : StoredStore) → OpensStore settings (reads_of old) s → AnswersAll settings s groups replies t → MayFailAt settings (remembered_of t) photos slot
     pub rose : Rose (old slot).fault_count (new slot).fault_count
     pub count : faults ≡ (new slot).fault_count
     pub reply : Reply
+    pub fits : FitsReply reply
     pub failed : IsFailed settings slot faults reply
     pub wrote : Writes before (load_text settings groups replies) (load_line line (Other reply)) after
 
@@ -207,32 +226,35 @@ module _ (Tells : Type 0) (settings : Settings) (script : List ℕ) (old new : �
   abbrev pub AreLeft : Type 0
   AreLeft = (slot : ℕ) → slot < disk_count settings → IsLeft Tells slot (old slot) (new slot)
 
-  -- the store was not opened, as is told behind the header
-  pub record Refuses (Writes : Option (List ℕ) → List ℕ → List ℕ → Option (List ℕ) → Type 0) : Type 0 where
+  -- the store was not opened, as is told behind the header, and nothing of the script was read
+  pub record Refuses (rest : Option (List ℕ)) (Writes : Option (List ℕ) → List ℕ → List ℕ → Option (List ℕ) → Type 0) : Type 0 where
     pub note : Note
+    pub fits : FitsNote note
     pub why : IsRefusal note
     pub left : AreLeft
+    pub unread : rest ≡ Some script
     pub wrote : Writes before (header_line settings) (note_line note) after
 
   -- it was not, and no more than the header was written
-  pub record Unopened : Type 0 where
+  pub record Unopened (rest : Option (List ℕ)) : Type 0 where
     pub left : AreLeft
+    pub unread : rest ≡ Some script
     pub wrote : WrotePart before (header_line settings) after
 
-  -- what was done, by why the load stopped
-  abbrev pub Ends : Result (Unit {0}) Stop → Type 0
-  Ends (Ok done) = LoadsAll
-  Ends (Err stop.Output) = Unopened ⊎ Refuses WroteThen ⊎ CutsShort ⊎ Breaks WroteThen
-  Ends (Err stop.Input) = Halts
-  Ends (Err stop.NoMemory) = Unopened ⊎ Wants
-  Ends (Err stop.Store) = Refuses WroteBoth ⊎ Breaks WroteBoth
-  Ends (Err stop.TooLong) = Halts
+  -- what was done, by what the source has left and why the load stopped
+  abbrev pub Ends : Option (List ℕ) → Result (Unit {0}) Stop → Type 0
+  Ends rest (Ok done) = LoadsAll
+  Ends rest (Err stop.Output) = Unopened rest ⊎ Refuses rest WroteThen ⊎ CutsShort ⊎ Breaks WroteThen
+  Ends rest (Err stop.Input) = Halts
+  Ends rest (Err stop.NoMemory) = Unopened rest ⊎ Wants
+  Ends rest (Err stop.Store) = Refuses rest WroteBoth ⊎ Breaks WroteBoth
+  Ends rest (Err stop.TooLong) = Halts
 
   -- What was done at each status.
-  pub record LoadsTo (status : ℕ) : Type 0 where
+  pub record LoadsTo (rest : Option (List ℕ)) (status : ℕ) : Type 0 where
     pub all : status ≡ 0 → LoadsAll
-    pub output : status ≡ 3 → Unopened ⊎ Refuses WroteThen ⊎ CutsShort ⊎ Breaks WroteThen
+    pub output : status ≡ 3 → Unopened rest ⊎ Refuses rest WroteThen ⊎ CutsShort ⊎ Breaks WroteThen
     pub input : status ≡ 4 → Halts
-    pub memory : status ≡ 5 → Unopened ⊎ Wants
-    pub store : status ≡ 6 → Refuses WroteBoth ⊎ Breaks WroteBoth
+    pub memory : status ≡ 5 → Unopened rest ⊎ Wants
+    pub store : status ≡ 6 → Refuses rest WroteBoth ⊎ Breaks WroteBoth
     pub long : status ≡ 7 → Halts

@@ -1,8 +1,9 @@
 //! What a load writes: the header, lines of replies, and how a refused opening is told.
-ghost use Rattle.std.specs.Prelude.{◌≡◌, ◌⊎◌, ◌≤◌, ◌++◌, Some, None, Err, OnOk, OnErr, IsErrOf};
+ghost use Rattle.std.specs.Prelude.{◌≡◌, ◌⊎◌, ◌≤◌, ◌++◌, Some, None, Err, IfSome, OnOk, OnErr, IsErrOf};
 ghost use Rattle.hay_disk.specs.Counts.{Rose};
 ghost use Rattle.hay_disk.specs.Streams.{Wrote, WrotePart};
 ghost use Rattle.hay_reply.specs.declared.Note.{Note};
+ghost use Rattle.hay_reply.specs.Fits.{FitsNote};
 ghost use Rattle.hay_reply.specs.Replies as texts;
 ghost use Rattle.hay_loading.specs.Lines.{Appends};
 ghost use Rattle.hay_loading.specs.Stops.{note_of};
@@ -74,7 +75,8 @@ fn write_note<K: Sink>(alloc: Global, note: &Note, sink: &mut K) -> Result<(), S
 
 /// How a refused opening is told, unless memory was wanting.
 fn refusal_note(fault: LoadOpenFault) -> Option<Note>
-    ensures { result ≡ note_of fault }
+    ensures is { result ≡ note_of fault }
+    ensures fits { IfSome result FitsNote }
 {
     match fault {
         LoadOpenFault::Shelf { faults } => Some(Note::OpenShelf { faults }),
@@ -91,6 +93,7 @@ fn refusal_note(fault: LoadOpenFault) -> Option<Note>
 pub fn write_refusal<K: Sink>(alloc: Global, fault: LoadOpenFault, sink: &mut K) -> Stop
     ensures told { result ≡ Stop.Store → (note : Note) × (note_of fault ≡ Some note) × Wrote (K.written sink.old) (texts.note_line note) (K.written sink.new) }
     ensures part { result ≡ Stop.Output → (note : Note) × (note_of fault ≡ Some note) × WrotePart (K.written sink.old) (texts.note_line note) (K.written sink.new) }
+    ensures fits { (note : Note) → note_of fault ≡ Some note → FitsNote note }
     ensures wanting { result ≡ Stop.NoMemory → sink.new ≡ sink.old }
     ensures stops { (result ≡ Stop.Output) ⊎ (result ≡ Stop.NoMemory) ⊎ (result ≡ Stop.Store) }
     ensures cause { result ≡ Stop.Output → Rose (K.fault_count sink.old) (K.fault_count sink.new) }

@@ -1,7 +1,7 @@
 use Rattle.std.proofs.Common.{◌≡◌, Err, ap, subst}
 use Rattle.hay_check.specs.declared.verdict.Verdict.{Verdict}
 use Rattle.hay_check.specs.declared.verdict.Verdict.TheVariants.{Whole}
-use Rattle.hay_check.specs.Verdicts.{CheckOf, OpensWhole}
+use Rattle.hay_check.specs.Verdicts.{CheckOf, IsReplicaVerdict, OpensWhole}
 use Rattle.hay_index.proofs.Readings.{if_ok}
 use Rattle.hay_check.proofs.Once.{verdict_once}
 use Rattle.hay_check.proofs.Deciding.{answered, check_damage, check_opens, check_void, check_whole, not_void}
@@ -24,7 +24,7 @@ returns-in-Ok-check_disk-clause-opens g c = λ tells generation cells live recor
 
 pub returns-in-Err-check_disk-clause-verdict : goal.returns-in-Err-check_disk-clause-verdict
 returns-in-Err-check_disk-clause-verdict g c = λ tells.
-    answered (CheckOf c.args.sup.now (λ n. (g.D.Disk.files c.args.disk.now n).now)) c.in-Err-check_disk.refusal _ c.answer.result c.answer.ensures
+    answered (CheckOf c.args.sup.now (λ n. (g.D.Disk.files c.args.disk.now n).now)) c.in-Err-check_disk.refusal _ c.answer.result c.answer.ensures.is
     (λ file at is. check_damage c.args.sup.now (g.D.Disk.files c.args.disk.now) (g.D.Disk.files c.size.new.self) file at (c.size.ensures.same tells)
     (not_void c.in-Ok.field-0 (λ n. (g.D.Disk.files c.args.disk.now n).now) (c.in-Ok.ensures.size tells) c.in-Ok.field-0-test.1) (c.in-Err-check_disk.ensures.damaged tells file at (ap (λ x. Err x) is)))
 
@@ -39,3 +39,8 @@ returns-in-Ok-check_disk-clause-only g c = λ tells v is.
 pub returns-in-Err-check_disk-clause-only : goal.returns-in-Err-check_disk-clause-only
 returns-in-Err-check_disk-clause-only g c = λ tells v is.
     if_ok c.answer.result (CheckOf c.args.sup.now (λ n. (g.D.Disk.files c.args.disk.now n).now)) _ (returns-in-Err-check_disk-clause-verdict g c tells) (λ told holds. verdict_once c.args.sup.now (λ n. (g.D.Disk.files c.args.disk.now n).now) told v c.read_numbers.ensures (λ n. g.met.D.Disk.fits c.args.disk.now n tells) holds is)
+
+pub returns-in-Err-check_disk-clause-kind : goal.returns-in-Err-check_disk-clause-kind
+returns-in-Err-check_disk-clause-kind g c =
+    answered IsReplicaVerdict c.in-Err-check_disk.refusal _ c.answer.result c.answer.ensures.is
+    (λ file at is. (c.in-Err-check_disk.ensures.file file at (ap (λ x. Err x) is), c.answer.ensures.fits file at is))

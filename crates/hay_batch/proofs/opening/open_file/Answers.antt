@@ -1,4 +1,5 @@
-use Rattle.std.proofs.Common.{Err, ap}
+use Rattle.std.proofs.Common.{Err, ap, arith}
+use Rattle.hay_volume.specs.declared.volume.VolumeFile.{VolumeFile}
 use Rattle.hay_batch.proofs.Openings.{opened_as, opened_formatted}
 use Rattle.hay_batch.proofs.opening.open_file.Goals as goal
 
@@ -8,6 +9,11 @@ returns-in-Ok-clause-opened g c =
     record {
       opened = λ tells s is. opened_as g.D.Disk.files c.open_replica.new.disk c.args.sup.now s c.in-Ok.opened (told.opened tells s is);
       ready = λ tells. (told.ready tells).volume;
+      recalls = record {
+        from = (let from = told.from in omega (arith, from));
+        room = told.capacity;
+        found = λ tells s is. ap (λ (v : VolumeFile). v.end) (opened_as g.D.Disk.files c.open_replica.new.disk c.args.sup.now s c.in-Ok.opened (told.opened tells s is)).volume;
+      };
       sound = λ tells. record {
         before = told.undamaged tells;
         behind = told.undamaged_now tells;

@@ -1,4 +1,5 @@
-use Rattle.std.proofs.Common.{◌≡◌, ◌∙◌, ℕ, List, Err, ap, sym, subst, inl, inr, length, arith}
+use Rattle.std.proofs.Common.{◌≡◌, ◌<◌, ◌∙◌, ℕ, List, All, Err, ap, sym, subst, inl, inr, length, arith}
+use Rattle.hay_disk.specs.Disk.{Files}
 use Rattle.hay_needle.specs.declared.settings.Super.{Super}
 use Rattle.hay_needle.specs.Super.{super_bytes}
 use Rattle.hay_dirfile.specs.Journal.{IsDamagedJournal, IsJournal}
@@ -7,7 +8,7 @@ use Rattle.std.proofs.lemmas.Result.{err_from_is_err_and}
 use Rattle.hay_batch.specs.Homes.{AreHomes}
 use Rattle.hay_batch.specs.Slots.{RefusesJournal}
 use Rattle.hay_batch.proofs.Lists.{passed_on}
-use Rattle.hay_batch.proofs.Openings.{homes_are, journal_holds}
+use Rattle.hay_batch.proofs.Openings.{homes_are, journal_holds, rows_read}
 use Rattle.hay_batch.proofs.opening.open_journal.Goals as goal
 
 pub returns-in_err-journal-clause-refused : goal.returns-in_err-journal-clause-refused
@@ -42,7 +43,14 @@ returns-clause-opened g c =
           ])
           (record { is = told.rows tells; end = told.end tells; solid = told.rest tells; ready = told.next tells; homes = homes; count = count });
       ready = λ tells. told.next tells;
-      homes = (items, homes, count);
+      recalls = record {
+        rows = items;
+        are = homes;
+        many = count;
+        within = subst (λ (sup : Super). All (λ (row : DirRow). row.volume < sup.settings.volumes) items) same told.within;
+        reads = λ tells. rows_read c.args.settings.now c.journal_super-sup.result (g.D.Disk.files c.args.disk.now 0).now (g.D.Disk.files c.open.new.disk 0).now items same
+            (told.void tells) (λ some. ap (λ (f : Files). (f 0).now) (told.same tells some)) (told.rows tells);
+      };
       sound = λ tells. record {
         before = λ some at damage. told.undamaged tells some at (subst (λ (sup : Super). IsDamagedJournal sup (g.D.Disk.files c.args.disk.now 0).now at) (sym same) damage);
         behind = λ at damage. told.undamaged_now tells at (subst (λ (sup : Super). IsDamagedJournal sup (g.D.Disk.files c.open.new.disk 0).now at) (sym same) damage);

@@ -26,7 +26,7 @@ returns-in-Ok-full_reply-clause-answered g c = λ tells s stands.
       | inl known ↦ absurd (let both : c.in-Err-Full.field-0 ≡ LoadFault.Known known.0 = (let e = known.1 in cc) in let apart : LoadFault.Full tries ≡ LoadFault.Known known.0 = sym is ∙ both in cc)
       | inr none ↦ full_answer g.D.Disk.files s c.args.photos.now c.args.store.now c.load_batch.new.self c.requires.shape stands tries c.in-Ok-full_reply.reply
           (told.kept (full_is_none c.in-Err-Full.field-0 tries is)) none.1
-          (told.full tries is (key_of c.args.photos.now) c.requires.gathered.key) (c.in-Ok-full_reply.ensures ∙ ap texts.full_reply c.as_slice.ensures)
+          (told.full tries is (key_of c.args.photos.now) c.requires.gathered.key) (c.in-Ok-full_reply.ensures.is ∙ ap texts.full_reply c.as_slice.ensures)
     ]
 
 pub returns-in-Ok-clause-left : goal.returns-in-Ok-clause-left
@@ -66,34 +66,36 @@ returns-clause-left g c = λ tells s image stands leaves.
     c.requires.gathered.key (told.left_stored tells s image stands leaves)
 
 pub returns-in-Ok-clause-suited : goal.returns-in-Ok-clause-suited
-returns-in-Ok-clause-suited g c = λ rows was. elim c.in-Ok.ensures.homes [
-  | inl known ↦ absurd (let both = known.1 in cc)
-  | inr none ↦ loaded_suits rows c.args.photos.now c.args.store.now c.load_batch.new.self was c.in-Ok.field-0.volume c.in-Ok.field-0.rows none.1
-      (c.in-Ok.ensures.room (key_of c.args.photos.now) c.requires.gathered.key) c.in-Ok.ensures.rows c.in-Ok.ensures.settled c.in-Ok.ensures.counted
+returns-in-Ok-clause-suited g c = λ known was. elim c.in-Ok.ensures.homes [
+  | inl home ↦ absurd (let both = home.1 in cc)
+  | inr none ↦ loaded_suits known c.args.photos.now c.args.store.now c.load_batch.new.self c.requires.shape was c.load_batch.ensures.shape.1 c.load_batch.ensures.shape.0 c.in-Ok.field-0.volume
+      c.in-Ok.ensures.ends c.in-Ok.field-0.rows none.1 (c.in-Ok.ensures.room (key_of c.args.photos.now) c.requires.gathered.key) c.in-Ok.ensures.rows c.in-Ok.ensures.settled
+      c.in-Ok.ensures.counted
 ]
 
 pub returns-in-Ok-full_reply-clause-suited : goal.returns-in-Ok-full_reply-clause-suited
-returns-in-Ok-full_reply-clause-suited g c = λ rows was.
+returns-in-Ok-full_reply-clause-suited g c = λ known was.
     let told = c.in-Err-Full.ensures in
     let tries = c.in-Err-Full.tries in
     let is = c.in-Err-Full.field-0-is in
     elim told.homes [
-      | inl known ↦ absurd (let both : c.in-Err-Full.field-0 ≡ LoadFault.Known known.0 = (let e = known.1 in cc) in let apart : LoadFault.Full tries ≡ LoadFault.Known known.0 = sym is ∙ both in cc)
-      | inr none ↦ full_suits rows c.args.photos.now c.args.store.now c.load_batch.new.self was c.requires.shape tries c.in-Ok-full_reply.reply
+      | inl home ↦ absurd (let both : c.in-Err-Full.field-0 ≡ LoadFault.Known home.0 = (let e = home.1 in cc) in let apart : LoadFault.Full tries ≡ LoadFault.Known home.0 = sym is ∙ both in cc)
+      | inr none ↦ full_suits known c.args.photos.now c.args.store.now c.load_batch.new.self c.requires.shape was tries c.in-Ok-full_reply.reply
           (told.kept (full_is_none c.in-Err-Full.field-0 tries is)) none.1
-          (told.full tries is (key_of c.args.photos.now) c.requires.gathered.key) (c.in-Ok-full_reply.ensures ∙ ap texts.full_reply c.as_slice.ensures)
+          (told.full tries is (key_of c.args.photos.now) c.requires.gathered.key) (c.in-Ok-full_reply.ensures.is ∙ ap texts.full_reply c.as_slice.ensures)
     ]
 
 pub returns-in-Err-Known-clause-suited : goal.returns-in-Err-Known-clause-suited
-returns-in-Err-Known-clause-suited g c = λ rows was.
+returns-in-Err-Known-clause-suited g c = λ known was.
     let told = c.load_batch.ensures in
     let volume = c.in-Err-Known.volume in
     let fault : c.load_batch.result ≡ Err (LoadFault.Known volume) = (let answer = c.in-Err-Known.is in let is = c.in-Err-Known.field-0-is in cc) in
     elim told.homes [
-      | inl known ↦
-          let same : known.0 ≡ volume = (let e = known.1 in cc) in
-          known_suits rows c.args.photos.now c.args.store.now c.load_batch.new.self was volume (kept_known c.load_batch.result known.0 (c.load_batch.new.self ≡ c.args.store.now) known.1 told.kept)
-          (subst (λ (v : ℕ). IsFirstHome c.args.store.now.directory.homes c.args.photos.now v) same known.2)
+      | inl home ↦
+          let same : home.0 ≡ volume = (let e = home.1 in cc) in
+          known_suits known c.args.photos.now c.args.store.now c.load_batch.new.self c.requires.shape was volume
+          (kept_known c.load_batch.result home.0 (c.load_batch.new.self ≡ c.args.store.now) home.1 told.kept)
+          (subst (λ (v : ℕ). IsFirstHome c.args.store.now.directory.homes c.args.photos.now v) same home.2)
       | inr none ↦ absurd (none.0 volume fault)
     ]
 

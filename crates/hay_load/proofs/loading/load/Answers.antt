@@ -9,7 +9,8 @@ pub returns-in_ok-load_line-in-Ok-clause-loads : goal.returns-in_ok-load_line-in
 returns-in_ok-load_line-in-Ok-clause-loads g c =
     loads_batch g.D.Disk.Tells g.D.Disk.files c.args.batch.now.line c.args.batch.now.photos.items c.in-Ok.reply c.args.store.now c.answer.new.store c.args.out.now.items
     c.load_line.new.out.items
-    (λ rows was. subst (λ (l : List NewPhoto). Suited c.args.store.now.settings rows l c.in-Ok.reply c.answer.new.store) c.as_slice.ensures.value (c.in-Ok.ensures.suited rows was))
+    c.in-Ok.ensures.fits
+    (λ known was. subst (λ (l : List NewPhoto). Suited c.args.store.now.settings known l c.in-Ok.reply c.answer.new.store) c.as_slice.ensures.value (c.in-Ok.ensures.suited known was))
     c.in_ok-load_line-in-Ok.ensures.ok
     (λ tells s stands. subst (λ (l : List NewPhoto). Answered g.D.Disk.files c.args.store.now.settings s l c.in-Ok.reply c.answer.new.store) c.as_slice.ensures.value
     (c.in-Ok.ensures.answered tells s stands))
@@ -24,6 +25,7 @@ returns-in_ok-load_line-in-Err-Failed-clause-failed g c = λ _. record {
   fails = subst (λ (l : List NewPhoto). FailsBatch g.D.Disk.fault_count l c.args.store.now c.answer.new.store c.in-Err-Failed.slot c.in-Err-Failed.faults) c.as_slice.ensures.value
       (c.in-Err-Failed.ensures.failed c.in-Err-Failed.slot c.in-Err-Failed.faults c.in-Err-Failed.field-0-is);
   reply = c.failed_reply-reply.result;
+  fits = c.failed_reply-reply.ensures.fits;
   failed = subst (λ (x : Settings). IsFailed x c.in-Err-Failed.slot c.in-Err-Failed.faults c.failed_reply-reply.result) c.answer.ensures.shape.0
       (record { directory = c.failed_reply-reply.ensures.directory; replica = c.failed_reply-reply.ensures.replica });
   told = c.in_ok-load_line-in-Err-Failed.ensures.ok;

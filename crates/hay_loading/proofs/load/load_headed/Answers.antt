@@ -1,4 +1,4 @@
-use Rattle.std.proofs.Common.{◌≡◌, ◌⊎◌, inl, inr, subst}
+use Rattle.std.proofs.Common.{◌≡◌, ◌≢◌, ◌⊎◌, inl, inr, subst}
 use Rattle.std.specs.Prelude.{Result, Err, IsErrOf, IsOk}
 use Rattle.std.proofs.lemmas.Result.{err_from_is_err_and}
 use Rattle.hay_loading.specs.declared.stops.Stop.{Stop}
@@ -14,8 +14,8 @@ returns-in_err-write_header-clause-ends g c = λ script told.
     let count = g.H.Shelf.fault_count c.args.shelf.now in
     let wrong : Result (Unit {0}) Stop = Err c.in_err-write_header.field-0.0 in
     let same : wrong ≡ c.from_residual.result = (let p = err_from_is_err_and c.from_residual.result c.from_residual.ensures.1 in cc (p.1, p.2)) in
-    subst (λ (r : Result (Unit {0}) Stop). Ends g.H.Disk.Disk.Tells c.args.settings script disks disks count count (g.K.Sink.written c.args.sink.now) (g.K.Sink.written c.write_header.new.sink) r) same
-    (ends_unbegun g.H.Disk.Disk.Tells c.args.settings script disks count (g.K.Sink.written c.args.sink.now) (g.K.Sink.written c.write_header.new.sink) c.requires.disks_in
+    subst (λ (r : Result (Unit {0}) Stop). Ends g.H.Disk.Disk.Tells c.args.settings script disks disks count count (g.K.Sink.written c.args.sink.now) (g.K.Sink.written c.write_header.new.sink) (g.S.Source.left c.args.source.now) r) same
+    (ends_unbegun g.H.Disk.Disk.Tells c.args.settings script disks count (g.K.Sink.written c.args.sink.now) (g.K.Sink.written c.write_header.new.sink) (g.S.Source.left c.args.source.now) told c.requires.disks_in
     c.in_err-write_header.ensures.part
     c.in_err-write_header.field-0.0 (same_stop c.in_err-write_header.field-0.0 stop.Output stop.NoMemory c.in_err-write_header.ensures.stops))
 
@@ -32,5 +32,6 @@ pub returns-in_err-write_header-clause-sound : goal.returns-in_err-write_header-
 returns-in_err-write_header-clause-sound g c = λ tells ends.
     let same : c.from_residual.result ≡ stopped c.in_err-write_header.field-0.0 = (let p = err_from_is_err_and c.from_residual.result c.from_residual.ensures.1 in cc (p.1, p.2)) in
     let why = c.in_err-write_header.field-0.0 in
-    absurd (not_read why (elim (same_stop why stop.Output stop.NoMemory c.in_err-write_header.ensures.stops) [ inl is ↦ inl is | inr is ↦ inr (inl is) ])
-    (subst (λ (r : Result (Unit {0}) Stop). IsOk r ⊎ IsErrOf r stop.Input ⊎ IsErrOf r stop.TooLong) same ends))
+    let left = g.S.Source.left c.args.source.now in
+    absurd (not_read why left (elim (same_stop why stop.Output stop.NoMemory c.in_err-write_header.ensures.stops) [ inl is ↦ inl is | inr is ↦ inr (inl is) ])
+    (subst (λ (r : Result (Unit {0}) Stop). IsOk r ⊎ IsErrOf r stop.Input ⊎ IsErrOf r stop.TooLong ⊎ (left ≢ left)) same ends))

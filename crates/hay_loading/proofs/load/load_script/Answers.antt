@@ -1,10 +1,11 @@
 use Rattle.std.proofs.Common.{◌≡◌, ◌<◌, Some, sym, ap, subst, ◌∙◌}
 use Rattle.hay_needle.specs.declared.settings.Settings.{Settings}
 use Rattle.hay_mount.specs.Mounts.{AreIn, AreOut, SameFrom}
-use Rattle.hay_batch.specs.Shelves.{disk_count}
+use Rattle.hay_batch.specs.Shelves.{disk_count, reads_of}
 use Rattle.hay_loading.proofs.Counting.{counts_left, counts_on}
 use Rattle.hay_loading.specs.declared.stops.Stop.TheVariants as stop
-use Rattle.hay_loading.proofs.Ending.{ends_open, halts_input, halts_long, remembered}
+use Rattle.hay_loading.proofs.Ending.{ends_open, halts_input, halts_long}
+use Rattle.hay_loading.proofs.Remembering.{begins_first, first_of, remembers_first}
 use Rattle.hay_loading.proofs.Refusing.{ends_refused, not_read}
 use Rattle.hay_loading.proofs.Serving.{counts_at, serves_at, settings_at, store_begun, until_at}
 use Rattle.hay_loading.proofs.load.load_script.Goals as goal
@@ -20,12 +21,12 @@ pub returns-in-Err-clause-ends : goal.returns-in-Err-clause-ends
 returns-in-Err-clause-ends g c = λ script before told header.
     ends_refused g.H.Disk.Disk.Tells c.args.settings script (g.H.Shelf.disks c.args.shelf.now) (g.H.Shelf.disks c.open.new.shelf) (g.H.Shelf.fault_count c.args.shelf.now)
     (g.H.Shelf.fault_count c.open.new.shelf)
-    before (g.K.Sink.written c.args.sink.now) (g.K.Sink.written c.write_refusal.new.sink) c.in-Err.fault c.in-Err.ensures.left c.in-Err.ensures.shelf c.in-Err.ensures.failed
+    before (g.K.Sink.written c.args.sink.now) (g.K.Sink.written c.write_refusal.new.sink) (g.S.Source.left c.args.source.now) told c.in-Err.fault c.write_refusal.ensures.fits c.in-Err.ensures.left c.in-Err.ensures.shelf c.in-Err.ensures.failed
     c.in-Err.ensures.damaged header
     c.write_refusal.result c.write_refusal.ensures.told c.write_refusal.ensures.part (λ e. ap g.K.Sink.written (c.write_refusal.ensures.wanting e)) c.write_refusal.ensures.stops
 
 pub returns-in-Err-clause-sound : goal.returns-in-Err-clause-sound
-returns-in-Err-clause-sound g c = λ tells ends. absurd (not_read c.write_refusal.result c.write_refusal.ensures.stops ends)
+returns-in-Err-clause-sound g c = λ tells ends. absurd (not_read c.write_refusal.result (g.S.Source.left c.args.source.now) c.write_refusal.ensures.stops ends)
 
 pub returns-clause-sound : goal.returns-clause-sound
 returns-clause-sound g c = λ tells ends. c.in-Ok.ensures.sound tells
@@ -42,8 +43,11 @@ returns-clause-ends g c = λ script before told header.
     c.serve-outcome.ensures.shape.1 c.close.ensures.given
     script (g.H.Shelf.disks c.args.shelf.now) (g.H.Shelf.fault_count c.args.shelf.now) (g.H.Shelf.fault_count c.close.new.shelf) before begun after c.in-Ok.store
     c.in-Ok.ensures.shape.0 c.in-Ok.ensures.shape.1
-    c.in-Ok.ensures.opened c.in-Ok.ensures.disks header c.requires.limits.some_volumes c.in-Ok.ensures.homes.0
-    (remembered c.in-Ok.store c.in-Ok.ensures.homes.0 c.in-Ok.ensures.homes.1 c.in-Ok.ensures.homes.2) (g.S.Source.left c.serve-outcome.new.source) c.serve-outcome.result
+    c.in-Ok.ensures.opened c.in-Ok.ensures.disks header c.requires.limits.some_volumes
+    (first_of D.Tells c.args.settings (reads_of (g.H.Shelf.disks c.args.shelf.now)) c.in-Ok.store c.in-Ok.ensures.shape.0 c.in-Ok.ensures.shape.1 c.in-Ok.ensures.homes c.in-Ok.ensures.ends)
+    (begins_first D.Tells c.args.settings (reads_of (g.H.Shelf.disks c.args.shelf.now)) c.in-Ok.store c.in-Ok.ensures.shape.0 c.in-Ok.ensures.shape.1 c.in-Ok.ensures.homes c.in-Ok.ensures.ends)
+    (remembers_first D.Tells c.args.settings (reads_of (g.H.Shelf.disks c.args.shelf.now)) c.in-Ok.store c.in-Ok.ensures.shape.0 c.in-Ok.ensures.shape.1 c.in-Ok.ensures.homes c.in-Ok.ensures.ends)
+    (g.S.Source.left c.serve-outcome.new.source) c.serve-outcome.result
     (λ done is. serves_at D.Tells D.files (Some script) c.new-load.result.store c.in-Ok.store c.serve-outcome.new.load.store begun after began (rw (is, told) at c.serve-outcome.ensures.served))
     (λ why is. until_at D.Tells D.files D.fault_count D.fuse_count why (Some script) (g.S.Source.left c.serve-outcome.new.source) c.new-load.result.store c.in-Ok.store c.serve-outcome.new.load.store begun after began
     (rw told at c.serve-outcome.ensures.stopped why is))
@@ -90,8 +94,11 @@ returns-clause-halts g c = λ stops script before told header.
     c.serve-outcome.ensures.shape.1 c.close.ensures.given
     script (g.H.Shelf.disks c.args.shelf.now) (g.H.Shelf.fault_count c.args.shelf.now) (g.H.Shelf.fault_count c.close.new.shelf) before begun after c.in-Ok.store
     c.in-Ok.ensures.shape.0 c.in-Ok.ensures.shape.1
-    c.in-Ok.ensures.opened c.in-Ok.ensures.disks header c.requires.limits.some_volumes c.in-Ok.ensures.homes.0
-    (remembered c.in-Ok.store c.in-Ok.ensures.homes.0 c.in-Ok.ensures.homes.1 c.in-Ok.ensures.homes.2) left'
+    c.in-Ok.ensures.opened c.in-Ok.ensures.disks header c.requires.limits.some_volumes
+    (first_of D.Tells c.args.settings (reads_of (g.H.Shelf.disks c.args.shelf.now)) c.in-Ok.store c.in-Ok.ensures.shape.0 c.in-Ok.ensures.shape.1 c.in-Ok.ensures.homes c.in-Ok.ensures.ends)
+    (begins_first D.Tells c.args.settings (reads_of (g.H.Shelf.disks c.args.shelf.now)) c.in-Ok.store c.in-Ok.ensures.shape.0 c.in-Ok.ensures.shape.1 c.in-Ok.ensures.homes c.in-Ok.ensures.ends)
+    (remembers_first D.Tells c.args.settings (reads_of (g.H.Shelf.disks c.args.shelf.now)) c.in-Ok.store c.in-Ok.ensures.shape.0 c.in-Ok.ensures.shape.1 c.in-Ok.ensures.homes c.in-Ok.ensures.ends)
+    left'
     (until_at D.Tells D.files D.fault_count D.fuse_count stop.Input (Some script) left' c.new-load.result.store c.in-Ok.store c.serve-outcome.new.load.store begun after
     (store_begun c.new-load.result c.in-Ok.store c.new-load.ensures.made) (rw told at c.serve-outcome.ensures.stopped stop.Input stops))
 
@@ -107,7 +114,10 @@ returns-clause-halts_over g c = λ stops script before told header.
     c.serve-outcome.ensures.shape.1 c.close.ensures.given
     script (g.H.Shelf.disks c.args.shelf.now) (g.H.Shelf.fault_count c.args.shelf.now) (g.H.Shelf.fault_count c.close.new.shelf) before begun after c.in-Ok.store
     c.in-Ok.ensures.shape.0 c.in-Ok.ensures.shape.1
-    c.in-Ok.ensures.opened c.in-Ok.ensures.disks header c.requires.limits.some_volumes c.in-Ok.ensures.homes.0
-    (remembered c.in-Ok.store c.in-Ok.ensures.homes.0 c.in-Ok.ensures.homes.1 c.in-Ok.ensures.homes.2) left'
+    c.in-Ok.ensures.opened c.in-Ok.ensures.disks header c.requires.limits.some_volumes
+    (first_of D.Tells c.args.settings (reads_of (g.H.Shelf.disks c.args.shelf.now)) c.in-Ok.store c.in-Ok.ensures.shape.0 c.in-Ok.ensures.shape.1 c.in-Ok.ensures.homes c.in-Ok.ensures.ends)
+    (begins_first D.Tells c.args.settings (reads_of (g.H.Shelf.disks c.args.shelf.now)) c.in-Ok.store c.in-Ok.ensures.shape.0 c.in-Ok.ensures.shape.1 c.in-Ok.ensures.homes c.in-Ok.ensures.ends)
+    (remembers_first D.Tells c.args.settings (reads_of (g.H.Shelf.disks c.args.shelf.now)) c.in-Ok.store c.in-Ok.ensures.shape.0 c.in-Ok.ensures.shape.1 c.in-Ok.ensures.homes c.in-Ok.ensures.ends)
+    left'
     (until_at D.Tells D.files D.fault_count D.fuse_count stop.TooLong (Some script) left' c.new-load.result.store c.in-Ok.store c.serve-outcome.new.load.store begun after
     (store_begun c.new-load.result c.in-Ok.store c.new-load.ensures.made) (rw told at c.serve-outcome.ensures.stopped stop.TooLong stops))

@@ -2,7 +2,7 @@ use Rattle.std.proofs.Common.{◌≡◌, get_or, inl, inr, sym, subst}
 use Rattle.hay_batch.specs.declared.photo.NewPhoto.{NewPhoto}
 use Rattle.hay_batch.specs.Batches.{batch_total}
 use Rattle.hay_batch.specs.Shelves.{StandsAs, contents_of, with_stored}
-use Rattle.hay_batch.specs.Stores.{IsTargetOf}
+use Rattle.hay_batch.specs.Stores.{IsTargetOf, MovesEnds}
 use Rattle.hay_batch.proofs.Loading.{files_same, left_same}
 use Rattle.hay_batch.proofs.Showing.{batch_shows}
 use Rattle.hay_batch.proofs.StoreLaws.{if_err_more, if_ok_more, on_ok_if, same_tries, target_of}
@@ -59,6 +59,11 @@ returns-in-Some-clause-files g c = λ tells. files_same g.D.Disk.files c.args.se
 
 pub returns-in-Err-clause-files : goal.returns-in-Err-clause-files
 returns-in-Err-clause-files g c = λ tells. files_same g.D.Disk.files c.args.self.now
+
+pub returns-in-Ok-clause-ends : goal.returns-in-Ok-clause-ends
+returns-in-Ok-clause-ends g c =
+    let told = c.load_into.ensures in
+    on_ok_if c.load_into.result _ _ _ told.ends told.answer (λ moves loaded answer. subst (λ v. MovesEnds v c.args.photos.now c.args.self.now c.load_into.new.self) (sym answer.0) moves)
 
 -- what an opening finds
 pub returns-in-Some-clause-left_stored : goal.returns-in-Some-clause-left_stored

@@ -2,6 +2,7 @@ use Rattle.std.proofs.Common.{◌≡◌, ◌+◌, ◌*◌, inl, inr, sym, ap, su
 use Rattle.hay_needle.specs.declared.settings.Settings.{Settings}
 use Rattle.hay_disk.specs.Disk.{KeepsOthers}
 use Rattle.hay_batch.specs.declared.directory.LoadDirectory.{LoadDirectory}
+use Rattle.hay_batch.specs.declared.replica.LoadReplica.{LoadReplica}
 use Rattle.hay_batch.specs.Directories.{HoldsRows, MaySettle}
 use Rattle.hay_batch.proofs.Loading.{Touches, fails_replica, files_kept, left_all_or_no_rows, left_without_rows, ready_loaded, refused_is, rows_kept, stands_loaded}
 use Rattle.hay_batch.proofs.StoreLaws.{on_ok_more}
@@ -32,6 +33,12 @@ returns-in-Ok-clause-left g c = λ tells k left stands leaves.
     subst (λ (d : LoadDirectory g.row.D.Denot). MaySettle g.D.Disk.files c.args.volume c.args.photos.now d c.settle_rows.new.directory) c.append.ensures.same (c.settle_rows.ensures.left tells) in
     left_all_or_no_rows g.D.Disk.files c.args.volume c.args.photos.now k c.args.self.now c.append.new.self touched stands g.D.Disk.Tells tells c.in-Ok.ensures.added left leaves.volumes
     (settles.left k.superblock c.args.self.now.settings.volumes k.rows left.journal c.requires.there stands.directory leaves.journal)
+
+pub returns-in-Ok-clause-ends : goal.returns-in-Ok-clause-ends
+returns-in-Ok-clause-ends g c = on_ok_more c.settle_rows.result _ _ c.settle_rows.ensures.homes (λ _. record {
+  here = λ j r r' was is. (c.in-Ok.ensures.added j r r' was is).volume;
+  others = λ v j r r' apart was is. ap (λ (x : LoadReplica g.row.D.Denot). x.volume) (c.append.ensures.others v j r r' apart was is);
+})
 
 -- a replica refused
 pub returns-in-Err-clause-left : goal.returns-in-Err-clause-left

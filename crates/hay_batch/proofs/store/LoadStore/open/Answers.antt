@@ -1,7 +1,7 @@
 use Rattle.std.proofs.Common.{◌≡◌, ◌∙◌, ◌++◌, List, length, take, drop, refl, sym, ap, subst, arith}
 use Rattle.hay_mount.specs.Mounts.{InOrder, IsGivenDisk, IsMountedDisk}
 use Rattle.hay_batch.specs.Shelves.{disk_count}
-use Rattle.hay_batch.proofs.OpenedLaws.{back_slots, left_slots, made_disks, made_homes, made_of, made_ready, made_sound, made_stands, refused_damaged, refused_failed, rests_at}
+use Rattle.hay_batch.proofs.OpenedLaws.{back_slots, left_slots, made_disks, made_ends, made_of, made_ready, made_rows, made_sound, made_stands, refused_damaged, refused_failed, rests_at}
 use Rattle.hay_batch.proofs.StoreLaws.{items_written}
 use Rattle.hay_batch.proofs.store.LoadStore.open.Goals as goal
 
@@ -102,7 +102,25 @@ returns-in-Ok-open_disks-clause-homes g c =
     let files = c.in-Ok-open_disks.files.items in
     let opens = c.in-Ok-open_disks.ensures.opened in
     let made = made_of g.D.Disk.Tells g.D.Disk.files g.D.Disk.drawn g.D.Disk.fault_count g.D.Disk.fuse_count c.args.settings c.requires.limits (g.H.Shelf.disks c.args.shelf.now) c.as_mut_slice.result.now c.open_disks.new.disks count taken many kept files store (take c.in-Ok.disks.len (ws ++ drop (length ws) xs)) whole told.settings told.shape told.journal.0 told.journal.1 told.journal.2 told.directory told.replicas in
-    made_homes g.D.Disk.Tells g.D.Disk.files g.D.Disk.drawn g.D.Disk.fault_count g.D.Disk.fuse_count c.args.settings c.requires.limits (g.H.Shelf.disks c.args.shelf.now) c.as_mut_slice.result.now c.open_disks.new.disks count taken many kept files store opens made
+    made_rows g.D.Disk.Tells g.D.Disk.files g.D.Disk.drawn g.D.Disk.fault_count g.D.Disk.fuse_count c.args.settings c.requires.limits (g.H.Shelf.disks c.args.shelf.now) c.as_mut_slice.result.now c.open_disks.new.disks count taken many kept files store opens made
+
+pub returns-in-Ok-open_disks-clause-ends : goal.returns-in-Ok-open_disks-clause-ends
+returns-in-Ok-open_disks-clause-ends g c =
+    let xs = c.in-Ok.disks.items in
+    let ws = c.open_disks.new.disks in
+    let value : c.as_mut_slice.result.now ≡ xs = c.as_mut_slice.ensures.value in
+    let taken : InOrder (λ slot disk. IsMountedDisk g.D.Disk.Tells g.D.Disk.files g.D.Disk.drawn g.D.Disk.fault_count g.D.Disk.fuse_count (g.H.Shelf.disks c.args.shelf.now slot) disk) 0 c.as_mut_slice.result.now =
+    subst (λ (l : List g.row.D.Denot). InOrder (λ slot disk. IsMountedDisk g.D.Disk.Tells g.D.Disk.files g.D.Disk.drawn g.D.Disk.fault_count g.D.Disk.fuse_count (g.H.Shelf.disks c.args.shelf.now slot) disk) 0 l) (sym value) c.in-Ok.ensures.disks in
+    let count : length c.as_mut_slice.result.now ≡ disk_count c.args.settings = ap (λ (l : List g.row.D.Denot). length l) value ∙ c.in-Ok.ensures.count ∙ c.disk_count.ensures.is in
+    let many : length ws ≡ length c.as_mut_slice.result.now = c.open_disks.ensures.moves.count in
+    let whole : take c.in-Ok.disks.len (ws ++ drop (length ws) xs) ≡ ws = items_written c.in-Ok.disks.len ws xs (omega (arith, c.in-Ok.disks.ok.0)) (many ∙ ap (λ (l : List g.row.D.Denot). length l) value) in
+    let told = c.assemble.ensures in
+    let store = c.assemble.result in
+    let kept = c.in-Ok-open_disks.kept in
+    let files = c.in-Ok-open_disks.files.items in
+    let opens = c.in-Ok-open_disks.ensures.opened in
+    let made = made_of g.D.Disk.Tells g.D.Disk.files g.D.Disk.drawn g.D.Disk.fault_count g.D.Disk.fuse_count c.args.settings c.requires.limits (g.H.Shelf.disks c.args.shelf.now) c.as_mut_slice.result.now c.open_disks.new.disks count taken many kept files store (take c.in-Ok.disks.len (ws ++ drop (length ws) xs)) whole told.settings told.shape told.journal.0 told.journal.1 told.journal.2 told.directory told.replicas in
+    made_ends g.D.Disk.Tells g.D.Disk.files g.D.Disk.drawn g.D.Disk.fault_count g.D.Disk.fuse_count c.args.settings c.requires.limits (g.H.Shelf.disks c.args.shelf.now) c.as_mut_slice.result.now c.open_disks.new.disks count taken many kept files store opens made
 
 pub returns-in-Err-open_disks-clause-left : goal.returns-in-Err-open_disks-clause-left
 returns-in-Err-open_disks-clause-left g c =
