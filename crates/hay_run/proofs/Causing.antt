@@ -20,7 +20,7 @@ use Rattle.hay_legal.specs.Items.Asked.{Alone, Block}
 use Rattle.hay_cluster.specs.declared.fault.ClusterFault.{ClusterFault}
 use Rattle.hay_cluster.specs.declared.fault.ClusterFault.TheVariants as refusal
 use Rattle.hay_cluster.specs.Leaving.{LeavesContents}
-use Rattle.hay_cluster.specs.Needles.{TellsDamage}
+use Rattle.hay_cluster.specs.Needles.{MeetsNeedles, TellsDamage}
 use Rattle.hay_cluster.specs.Outside.{AreSoundBelow, IsDamagedDisk, IsUndamaged}
 use Rattle.hay_cluster.specs.Causes.{EndsRuns, HasFaultCause, IsCaused, LeavesFuses}
 use Rattle.hay_cluster.specs.Passing.{PassesBefore}
@@ -84,14 +84,14 @@ module _ (Tells : Type 0) where
   pub caused_reply : (Writes : Writing) (settings : Settings) (before after : Tally) (number : ℕ) (command : Command) (reply : Reply) (written written' : Option (List ℕ))
       → ((pick : ℕ) → command ≢ asks.Restart pick) → IsLaterTally before after → LeavesFuses settings command before.fuses after.fuses
       → FitsReply reply → Suits settings number command reply → IsCaused settings before.counts.disks after.counts.disks reply
-      → PassesBefore settings (HasSureArm before 0) (plain_tag number) command before.counts after.counts after.seen reply
+      → PassesBefore Tells settings (HasSureArm before 0) after.contents (plain_tag number) command before.counts after.counts after.seen reply
       → Answers settings (plain_tag number) command reply before.seen after.seen
       → LeavesSights settings command reply before.seen after.seen → EndsRuns settings reply before.seen after.seen before.counts.disks after.counts.disks
       → (Tells → LeavesContents settings command reply (before.seen).volumes (after.seen).volumes before.contents after.contents)
-      → (Tells → TellsDamage settings before.contents before.seen command reply)
+      → (Tells → TellsDamage settings before.contents before.seen command reply) → (Tells → MeetsNeedles settings before.contents before.seen after.seen command reply)
       → Writes written (numbered_line number reply) written'
       → Caused Tells Writes settings before after (Alone number (item.Command command) ∷ []) written written'
-  caused_reply Writes settings before after number command reply written written' other none fuses fits suits cause passes seen sights ended contents damaged wrote =
+  caused_reply Writes settings before after number command reply written written' other none fuses fits suits cause passes seen sights ended contents damaged told wrote =
       caused_one Writes settings before after (Alone number (item.Command command)) (numbered_line number reply) written written' none (
         fuses,
         inr (record {
@@ -106,6 +106,7 @@ module _ (Tells : Type 0) where
           ended = ended;
           contents = contents;
           damaged = damaged;
+          told = told;
           is = refl;
         }),
       ) wrote

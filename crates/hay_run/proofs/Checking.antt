@@ -13,11 +13,12 @@ use Rattle.hay_disk.specs.Streams.{Wrote, WrotePart}
 use Rattle.hay_mount.specs.Mounts.{SameFrom}
 use Rattle.hay_needle.specs.declared.settings.Settings.{Settings}
 use Rattle.hay_needle.specs.declared.settings.Super.{Super}
-use Rattle.hay_check.specs.Verdicts.{CheckOf}
+use Rattle.hay_check.specs.Verdicts.{CheckOf, IsJournalVerdict, IsReplicaVerdict}
 use Rattle.hay_check.specs.declared.verdict.CheckFault.{CheckFault}
 use Rattle.hay_check.specs.declared.verdict.Verdict.{Verdict}
 use Rattle.hay_reply.specs.declared.Note.{Note}
 use Rattle.hay_reply.specs.declared.Note.TheVariants.{OpenShelf, OpenFailed}
+use Rattle.hay_reply.specs.Fits.{FitsNote}
 use Rattle.hay_reply.specs.Replies.{header_line, note_line}
 use Rattle.hay_cluster.specs.declared.fault.ClusterFault.{ClusterFault}
 use Rattle.hay_cluster.specs.declared.fault.ClusterFault.TheVariants as refusal
@@ -29,7 +30,7 @@ use Rattle.hay_legal.specs.Stands.{Contents, Outside}
 use Rattle.hay_legal.specs.Statuses.{Ending, read_contents, status_of}
 use Rattle.hay_legal.specs.Statuses.Ending.{NoMemory, NotOpened, OutputFault, ReadAll}
 use Rattle.hay_logical.specs.Fits.{super_of}
-use Rattle.hay_run.specs.Checking.{AreVerdicts, ChecksTo, CutsShort, IsBreak, IsFaultAt, IsUnchanged, IsVerdictOn, check_status, check_text, is_damaged, verdict_line, verdict_lines}
+use Rattle.hay_run.specs.Checking.{AreVerdicts, ChecksTo, CutsShort, IsBreak, IsFaultAt, IsUnchanged, IsVerdictIn, IsVerdictOn, check_status, check_text, is_damaged, verdict_line, verdict_lines}
 use Rattle.hay_run.proofs.Turning.{wrote_more, wrote_nothing, wrote_part}
 
 -- what was written in part behind what was written whole
@@ -90,6 +91,15 @@ verdict_by settings slot contents sup behind is (Ok verdict) checked = record {
   replica = λ v j below within here. subst (λ s. CheckOf s contents verdict) (is v j within here) checked;
 }
 
+-- and by its kind
+pub first_kind : (slot : ℕ) (r : Result Verdict CheckFault) → slot ≡ 0 → IfOk r IsJournalVerdict → IfOk r (IsVerdictIn slot)
+first_kind slot (Err fault) first kind = tt
+first_kind slot (Ok verdict) first kind = record { journal = λ _. kind; replica = λ behind. absurd (omega (arith, first, behind)) }
+
+pub other_kind : (slot : ℕ) (r : Result Verdict CheckFault) → (slot ≡ 0 → ⊥) → IfOk r IsReplicaVerdict → IfOk r (IsVerdictIn slot)
+other_kind slot (Err fault) behind kind = tt
+other_kind slot (Ok verdict) behind kind = record { journal = λ first. absurd (behind first); replica = λ _. kind }
+
 -- WHAT IS LEFT
 
 unchanged_same : (Tells : Type 0) (old new : HeldDisk) → new ≡ old → IsUnchanged Tells old new
@@ -143,14 +153,14 @@ module _ (Tells : Type 0) (settings : Settings) (taken given : Outside) (before 
   Breaks slot fault = (note_of fault ≡ None) ⊎ ((note : Note) × (note_of fault ≡ Some note) × IsBreak settings taken given slot note)
 
   pub breaks : (slot shelf disk : ℕ) (fault : ClusterFault) → slot < disk_count settings → taken.shelf ≤ shelf → taken.faults slot ≡ disk
-      → IsFaultAt slot shelf given.shelf disk (given.faults slot) fault → Breaks slot fault
-  breaks slot shelf disk (refusal.Shelf faults) within later same why =
-      inr (OpenShelf faults, refl, inl (faults, refl, rose_since taken.shelf shelf given.shelf later why.0, why.1))
-  breaks slot shelf disk (refusal.Failed faulty faults) within later same why =
+      → ((note : Note) → note_of fault ≡ Some note → FitsNote note) → IsFaultAt slot shelf given.shelf disk (given.faults slot) fault → Breaks slot fault
+  breaks slot shelf disk (refusal.Shelf faults) within later same fits why =
+      inr (OpenShelf faults, refl, (fits (OpenShelf faults) refl, within, inl (faults, refl, rose_since taken.shelf shelf given.shelf later why.0, why.1)))
+  breaks slot shelf disk (refusal.Failed faulty faults) within later same fits why =
       let rose : Rose (taken.faults slot) (given.faults slot) = rw same why.1 in
-      inr (OpenFailed faulty faults, refl, inr (faults, ap (λ s. OpenFailed s faults) why.0, within, rose, why.2))
-  breaks slot shelf disk (refusal.Damaged faulty file at) within later same why = absurd why
-  breaks slot shelf disk refusal.NoMemory within later same why = inl refl
+      inr (OpenFailed faulty faults, refl, (fits (OpenFailed faulty faults) refl, within, inr (faults, ap (λ s. OpenFailed s faults) why.0, within, rose, why.2)))
+  breaks slot shelf disk (refusal.Damaged faulty file at) within later same fits why = absurd why
+  breaks slot shelf disk refusal.NoMemory within later same fits why = inl refl
 
   -- the disk behind those that were checked was not
   pub ends_refused : (verdicts : List Verdict) → AreVerdicts Tells settings (read_contents taken) verdicts → (slot : ℕ) → length verdicts ≡ slot → (mid : Option (List ℕ)) → Wrote before (check_text settings verdicts) mid
@@ -198,7 +208,7 @@ pub check_nothing : (Tells : Type 0) (settings : Settings) (status : ℕ) (outsi
     → ChecksTo Tells settings status outside outside written written
 check_nothing Tells settings status outside written is = record {
   verdicts = [];
-  are = record { few = omega arith; each = λ tells. tt };
+  are = record { few = omega arith; kinds = tt; each = λ tells. tt };
   ends = inr (inr (inr is, inl (0, wrote_nothing written)));
 }
 

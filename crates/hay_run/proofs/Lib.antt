@@ -11,6 +11,7 @@ pub mod Ran
 pub mod Reading
 pub mod Refusing
 pub mod Refuted
+pub mod RefutedChecks
 pub mod Restarting
 pub mod Serving
 pub mod Stopping

@@ -18,6 +18,7 @@ use Rattle.hay_legal.specs.Statuses as statuses
 use Rattle.hay_legal.specs.Statuses.{Ending, read_contents, status_of}
 use Rattle.hay_legal.specs.Statuses.Ending.{ReadAll, OutputFault, InputFault, NoMemory, NotOpened, TooLong}
 use Rattle.hay_legal.proofs.Reopening.{new_outcome}
+use Rattle.hay_cluster.specs.Causes.{HasFile}
 use Rattle.hay_cluster.specs.declared.fault.ClusterFault.{ClusterFault}
 use Rattle.hay_cluster.specs.declared.fault.ClusterFault.TheVariants as refusal
 use Rattle.hay_directory.specs.Rows.{OpensRows}
@@ -265,7 +266,7 @@ module _ (Tells : Type 0) (settings : Settings) (taken given : Outside) where
       → ((count : ℕ) → fault ≡ refusal.Shelf count → Rose taken.shelf given.shelf × (count ≡ given.shelf))
       → ((slot count : ℕ) → fault ≡ refusal.Failed slot count → (slot < disk_count settings) × Rose (taken.faults slot) (given.faults slot) × (count ≡ given.faults slot))
       → (Tells → (slot count : ℕ) → fault ≡ refusal.Failed slot count → IsUndamagedBelow settings slot (read_contents taken) × AreSoundBelow settings slot (read_contents given))
-      → ((slot file at : ℕ) → fault ≡ refusal.Damaged slot file at → slot < disk_count settings)
+      → ((slot file at : ℕ) → fault ≡ refusal.Damaged slot file at → HasFile settings slot file)
       → (Tells → (slot file at : ℕ) → fault ≡ refusal.Damaged slot file at → IsDamagedDisk settings (read_contents taken) slot file at × IsDamagedDisk settings (read_contents given) slot file at
       × AreSoundBelow settings slot (read_contents given))
       → (note : Note) → note_of fault ≡ Some note → IsFirstRefusal Tells settings taken given note
@@ -306,7 +307,7 @@ module _ (Tells : Type 0) (settings : Settings) (taken given : Outside) where
           file,
           at,
           is,
-          subst (λ (s : Settings). slot < disk_count s) same below,
+          subst (λ (s : Settings). HasFile s slot file) same below,
           λ tells.
               let damaged : IsDamagedDisk settings (contents_in files store') slot file at = subst (λ (s : Settings). IsDamagedDisk s (contents_in files store') slot file at) same (why tells).1 in (
                 λ k held. let s = stands tells k held in (why tells).0 s.0 s.1,

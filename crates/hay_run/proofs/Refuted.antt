@@ -12,7 +12,7 @@ use Rattle.hay_needle.specs.declared.needle.Pair.{Pair}
 use Rattle.hay_needle.specs.declared.settings.Settings.{Settings}
 use Rattle.hay_needle.specs.declared.total.TheConstants.{MAX_PHOTO}
 use Rattle.hay_needle.specs.declared.needle.Version.TheVariants.{Two}
-use Rattle.hay_needle.specs.Needle.{BeginsWithNeedle}
+use Rattle.hay_needle.specs.Needle.{BeginsWithNeedle, needle_of_cell}
 use Rattle.hay_needle.specs.Sizes.{max_photo, needle_total}
 use Rattle.hay_url.specs.declared.Url.{Url as UrlParts}
 use Rattle.hay_script.specs.declared.Command.{Command}
@@ -37,22 +37,24 @@ use Rattle.hay_logical.specs.declared.fault.LogicalFault.{LogicalFault}
 use Rattle.hay_logical.specs.declared.fault.LogicalFault.TheVariants as refusal
 use Rattle.hay_logical.specs.declared.unsure.Unsure.{Unsure}
 use Rattle.hay_open.specs.Stored.{volume_file}
-use Rattle.hay_volume.specs.Needles.{LacksNeedleWithin}
+use Rattle.hay_volume.specs.Needles.{HasNeedleOf, LacksNeedleOf, LacksNeedleWithin}
+use Rattle.hay_volume.proofs.Readings.{cell_begins}
 use Rattle.hay_logical.specs.Fits.{At}
-use Rattle.hay_logical.specs.Needles.{LacksSeen}
-use Rattle.hay_logical.specs.Seen.{BeginRefusedSeen, IsFresh, PutSeen, ReplicaSeen, RoomSeen, SeesAt, SeesRoom, StepRefusedSeen, StepsTo, VolumeSeen}
+use Rattle.hay_logical.specs.Needles.{HeadsLead, HeadsLeadOn, IsToldBy, LacksCell, LacksSeen}
+use Rattle.hay_logical.specs.Seen.{BeginRefusedSeen, FlushRefusedSeen, IsFresh, MeetsDamage, PutSeen, ReplicaSeen, RoomSeen, SeesAt, SeesRoom, StepRefusedSeen, StepsTo, VolumeSeen, begun}
 use Rattle.hay_logical.specs.Sights.{AwaitsLook, AwaitsLookAt, IsLiveSight, LiesWithin, Looks, LooksAtPair, SeesAll, Sight, Sights, StoresSights, SwapsSights, gone_sight}
 use Rattle.hay_logical.specs.Sights.Sight.{Gone as WasGone, Live, Never, Unseen}
 use Rattle.hay_cluster.specs.Causes.{Counts, EndsRuns, LeavesFuses}
-use Rattle.hay_cluster.specs.Leaving.{IsApartOn, LeavesByPut, MayAddRow, MayPut}
+use Rattle.hay_cluster.specs.Leaving.{AnySlot, IsApartOn, KeepsIn, LeavesByPut, LeavesContents, MayAddRow, MayPut}
 use Rattle.hay_cluster.specs.Maintenance.{IsRefusedAs}
-use Rattle.hay_cluster.specs.Needles.{IsDamagedCellAt, IsDamagedLookOn, TellsDamage}
+use Rattle.hay_cluster.specs.Needles.{AreToldAs, DeletesAsTold, FileAt, IsDamagedLookOn, LacksFor, LacksPlace, MeetsNeedles, TellsDamage}
 use Rattle.hay_cluster.specs.Passing.{CauseCameUp, PassesBefore, PassesOver, StandsFor, TriesTo}
 use Rattle.hay_cluster.specs.Seen.{Answers, AnswersPut, Closes, GetsHome, IsFrozenBy, IsThawed, MovesVolume, OpensSeen, OpensVolumeSeen, PlacesLie, RefusesPhoto, StoreSeen, TakesPhotoAt, VolumeAt, home_seen, is_drained}
 use Rattle.hay_cluster.specs.Sights.{ChangesPhotos, IsAbsent, LeavesSights, SeesOn}
 use Rattle.hay_cluster.specs.Store.{IsBuilt}
 use Rattle.hay_cluster.specs.Suiting.{Suits, start_at}
 use Rattle.hay_cluster.proofs.Machines.{replica_found, same_machine}
+use Rattle.hay_cluster.proofs.OpeningStore.{slot_below}
 use Rattle.hay_run.specs.Causing.{BeginsAt, HasSureArm, IsNoteCaused, IsReplyText, IsRestartText, Tally, plain_tag}
 use Rattle.hay_run.specs.Runs.{IsFirstRefusal}
 use Rattle.hay_run.proofs.Counting.{arm_there}
@@ -106,13 +108,23 @@ fused_without_a_fuse Tells settings taken sure before after calls begins low sam
 
 -- damage of a disk that the store has not
 pub damage_outside : (Tells : Type 0) (settings : Settings) (before after : Tally) (slot file at : ℕ) → disk_count settings ≤ slot → IsNoteCaused Tells settings before after (OpenDamaged slot file at) → ⊥
-damage_outside Tells settings before after slot file at high cause = let within = cause.0 in omega (arith, within, high)
+damage_outside Tells settings before after slot file at high cause = let within = (cause.0).0 in omega (arith, within, high)
 
 pub damage_outside_at_first : (Tells : Type 0) (settings : Settings) (taken given : Outside) (slot file at : ℕ) → disk_count settings ≤ slot → IsFirstRefusal Tells settings taken given (OpenDamaged slot file at) → ⊥
 damage_outside_at_first Tells settings taken given slot file at high (inl (count, is, rose, told)) = cc
 damage_outside_at_first Tells settings taken given slot file at high (inr (inl (other, (count, is, within, rose, told), lowest))) = cc
 damage_outside_at_first Tells settings taken given slot file at high (inr (inr (other, f, a, is, within, why))) =
-    let same : slot ≡ other = cc in omega (arith, same, within, high)
+    let same : slot ≡ other = cc in let low = within.0 in omega (arith, same, low, high)
+
+-- damage of the Directory's disk in another file than its journal
+pub damage_in_another_file : (Tells : Type 0) (settings : Settings) (before after : Tally) (file at : ℕ) → file ≢ 0 → IsNoteCaused Tells settings before after (OpenDamaged 0 file at) → ⊥
+damage_in_another_file Tells settings before after file at other cause = other ((cause.0).1 refl)
+
+pub damage_in_another_file_at_first : (Tells : Type 0) (settings : Settings) (taken given : Outside) (file at : ℕ) → file ≢ 0 → IsFirstRefusal Tells settings taken given (OpenDamaged 0 file at) → ⊥
+damage_in_another_file_at_first Tells settings taken given file at other (inl (count, is, rose, told)) = cc
+damage_in_another_file_at_first Tells settings taken given file at other (inr (inl (slot, (count, is, within, rose, told), lowest))) = cc
+damage_in_another_file_at_first Tells settings taken given file at other (inr (inr (slot, f, a, is, within, why))) =
+    let here : slot ≡ 0 = cc in let same : file ≡ f = cc in other (same ∙ within.1 here)
 
 -- WHAT IS SEEN OF VOLUMES AND THE DIRECTORY
 
@@ -139,6 +151,12 @@ answers_so : (Tells : Type 0) (settings : Settings) (before after : Tally) (comm
 answers_so Tells settings before after command number said (large, told) =
     subst (λ (r : Reply). Answers settings (plain_tag number) command r before.seen after.seen) (sym (same_reply number said told.said large told.fits told.is)) told.answers
 
+-- and what reads of the disks give
+contents_so : (Tells : Type 0) (settings : Settings) (before after : Tally) (command : Command) (number : ℕ) (said : Reply) → Tells → Says Tells settings before after command number said
+    → LeavesContents settings command said (before.seen).volumes (after.seen).volumes before.contents after.contents
+contents_so Tells settings before after command number said tells (large, told) =
+    subst (λ (r : Reply). LeavesContents settings command r (before.seen).volumes (after.seen).volumes before.contents after.contents) (sym (same_reply number said told.said large told.fits told.is)) (told.contents tells)
+
 -- and what is seen of photos
 sights_so : (Tells : Type 0) (settings : Settings) (before after : Tally) (command : Command) (number : ℕ) (said : Reply) → Says Tells settings before after command number said
     → LeavesSights settings command said before.seen after.seen
@@ -147,9 +165,9 @@ sights_so Tells settings before after command number said (large, told) =
 
 -- and which replicas were passed over
 passes_so : (Tells : Type 0) (settings : Settings) (before after : Tally) (command : Command) (number : ℕ) (said : Reply) → Says Tells settings before after command number said
-    → PassesBefore settings (HasSureArm before 0) (plain_tag number) command before.counts after.counts after.seen said
+    → PassesBefore Tells settings (HasSureArm before 0) after.contents (plain_tag number) command before.counts after.counts after.seen said
 passes_so Tells settings before after command number said (large, told) =
-    let P : Reply → Type 0 = λ r. PassesBefore settings (HasSureArm before 0) (plain_tag number) command before.counts after.counts after.seen r in
+    let P : Reply → Type 0 = λ r. PassesBefore Tells settings (HasSureArm before 0) after.contents (plain_tag number) command before.counts after.counts after.seen r in
     subst P (sym (same_reply number said told.said large told.fits told.is)) told.passes
 
 -- and which compactions it ended
@@ -402,12 +420,12 @@ damaged_outside_the_cells Tells settings before after v m cells m' place number 
     beyond low end (inr more) from below = omega (arith, more, below)
 
     refused : (fault : LogicalFault) (at : ℕ) (old new : VolumeSeen) → ((met : ReplicaSeen) → At old.replicas at met → r ≡ met) → IsRefusedAs v m fault (Damaged v m' place)
-        → StepRefusedSeen settings v at old new fault → ⊥
+        → StepRefusedSeen settings v at cells old new fault → ⊥
     refused (refusal.Damaged m'' there) at old new same is (ended, (met, on, meets)) =
         let one : there ≡ place = cc in
-        let from : met.next ≤ place = subst (λ k. met.next ≤ k) one meets.1 in
-        let below : place < met.end = subst (λ k. k < met.end) one meets.2 in
-        beyond met.next met.end (subst (λ (o : ReplicaSeen). (place < o.next) ⊎ (o.end ≤ place)) (same met on) outside) from below
+        let here : MeetsDamage cells place met = subst (λ k. MeetsDamage cells k met) one meets in
+        let behind = here.behind in
+        beyond met.next met.end (subst (λ (o : ReplicaSeen). (place < o.next) ⊎ (o.end ≤ place)) (same met on) outside) (let from : met.next ≤ place = omega (arith, behind) in from) here.within
     refused refusal.Idle at old new same is seen = cc
     refused (refusal.ReadOnly by) at old new same (inl is) seen = cc
     refused (refusal.ReadOnly by) at old new same (inr is) seen = cc
@@ -421,6 +439,63 @@ damaged_outside_the_cells Tells settings before after v m cells m' place number 
     told : Answers settings (plain_tag number) (asks.Step v m cells) (Damaged v m' place) before.seen after.seen → ⊥
     told (inl (none, nowhere, keeps)) = cc
     told (inr (inl (at, n, on, is, moves))) = cc
+    told (inr (inr (at, fault, on, is, moves))) =
+        refused fault at moves.before moves.after (λ met there. same_replica settings before.seen v m at r met moves.before sees on moves.was there) is moves.moves
+
+-- damage that a step of one cell met behind its next cell
+pub step_of_one_cell_damaged_behind_it : (Tells : Type 0) (settings : Settings) (before after : Tally) (v m m' place number : ℕ) (r : ReplicaSeen) → SeesReplica settings before.seen v m r
+    → place ≢ r.next → Says Tells settings before after (asks.Step v m 1) number (Damaged v m' place) → ⊥
+step_of_one_cell_damaged_behind_it Tells settings before after v m m' place number r sees other says =
+    told (answers_so Tells settings before after (asks.Step v m 1) number (Damaged v m' place) says)
+  where
+    refused : (fault : LogicalFault) (at : ℕ) (old new : VolumeSeen) → ((met : ReplicaSeen) → At old.replicas at met → r ≡ met) → IsRefusedAs v m fault (Damaged v m' place)
+        → StepRefusedSeen settings v at 1 old new fault → ⊥
+    refused (refusal.Damaged m'' there) at old new same is (ended, (met, on, meets)) =
+        let one : there ≡ place = cc in
+        let here : MeetsDamage 1 place r = subst (λ (o : ReplicaSeen). MeetsDamage 1 place o) (sym (same met on)) (subst (λ k. MeetsDamage 1 k met) one meets) in
+        let none = here.few in
+        let low = here.behind in
+        let high : place ≤ r.next + here.examined * 16777264 = here.most in
+        other (omega (arith, none, low, high))
+    refused refusal.Idle at old new same is seen = cc
+    refused (refusal.ReadOnly by) at old new same (inl is) seen = cc
+    refused (refusal.ReadOnly by) at old new same (inr is) seen = cc
+    refused (refusal.Failed m'' f) at old new same is seen = cc
+    refused (refusal.Busy m'' generation) at old new same is seen = cc
+    refused (refusal.Worn m'') at old new same is seen = cc
+    refused refusal.NoMemory at old new same is seen = cc
+    refused (refusal.Full m'' end need capacity) at old new same is seen = is
+    refused (refusal.Gone front) at old new same is seen = is
+
+    told : Answers settings (plain_tag number) (asks.Step v m 1) (Damaged v m' place) before.seen after.seen → ⊥
+    told (inl (none, nowhere, keeps)) = cc
+    told (inr (inl (at, n, on, is, moves))) = cc
+    told (inr (inr (at, fault, on, is, moves))) =
+        refused fault at moves.before moves.after (λ met there. same_replica settings before.seen v m at r met moves.before sees on moves.was there) is moves.moves
+
+-- a flush that failed where each cell had its record
+pub flush_of_nothing_failed : (Tells : Type 0) (settings : Settings) (before after : Tally) (v m m' n number : ℕ) (r : ReplicaSeen) → SeesReplica settings before.seen v m r
+    → r.bare ≡ 0 → Says Tells settings before after (asks.Flush v m) number (Failed v m' n) → ⊥
+flush_of_nothing_failed Tells settings before after v m m' n number r sees none says =
+    told (answers_so Tells settings before after (asks.Flush v m) number (Failed v m' n) says)
+  where
+    refused : (fault : LogicalFault) (at : ℕ) (old new : VolumeSeen) → ((met : ReplicaSeen) → At old.replicas at met → r ≡ met) → IsRefusedAs v m fault (Failed v m' n)
+        → FlushRefusedSeen settings v at old new fault → ⊥
+    refused (refusal.Failed m'' f) at old new same is (thawed, machine, changes) =
+        let some : 0 < r.bare = subst (λ (o : ReplicaSeen). 0 < o.bare) (sym (same changes.before changes.was)) changes.becomes.2 in omega (arith, none, some)
+    refused (refusal.ReadOnly by) at old new same (inl is) seen = cc
+    refused (refusal.ReadOnly by) at old new same (inr is) seen = cc
+    refused refusal.NoMemory at old new same is seen = cc
+    refused refusal.Idle at old new same is seen = seen
+    refused (refusal.Damaged m'' there) at old new same is seen = seen
+    refused (refusal.Busy m'' generation) at old new same is seen = seen
+    refused (refusal.Worn m'') at old new same is seen = seen
+    refused (refusal.Full m'' end need capacity) at old new same is seen = is
+    refused (refusal.Gone front) at old new same is seen = is
+
+    told : Answers settings (plain_tag number) (asks.Flush v m) (Failed v m' n) before.seen after.seen → ⊥
+    told (inl (none, nowhere, keeps)) = cc
+    told (inr (inl (at, appended, on, is, moves))) = cc
     told (inr (inr (at, fault, on, is, moves))) =
         refused fault at moves.before moves.after (λ met there. same_replica settings before.seen v m at r met moves.before sees on moves.was there) is moves.moves
 
@@ -445,7 +520,7 @@ pub idle_while_frozen : (Tells : Type 0) (settings : Settings) (before after : T
 idle_while_frozen Tells settings before after v m cells by number (volume, there, frozen) says =
     told (answers_so Tells settings before after (asks.Step v m cells) number (Idle v m) says)
   where
-    refused : (fault : LogicalFault) (at : ℕ) (old new : VolumeSeen) → old.frozen ≡ Some by → IsRefusedAs v m fault (Idle v m) → StepRefusedSeen settings v at old new fault → ⊥
+    refused : (fault : LogicalFault) (at : ℕ) (old new : VolumeSeen) → old.frozen ≡ Some by → IsRefusedAs v m fault (Idle v m) → StepRefusedSeen settings v at cells old new fault → ⊥
     refused refusal.Idle at old new still is seen = let thawed : old.frozen ≡ None = seen.0.0 in cc
     refused (refusal.ReadOnly m') at old new still (inl is) seen = cc
     refused (refusal.ReadOnly m') at old new still (inr is) seen = cc
@@ -570,7 +645,7 @@ pub failed_delete_leaves_it_open : (Tells : Type 0) (settings : Settings) (befor
 failed_delete_leaves_it_open Tells settings before after pair v m n number volume seen there thawed says = failed (sights_so Tells settings before after (asks.Del pair) number (Failed v m n) says)
   where
     failed : LeavesSights settings (asks.Del pair) (Failed v m n) before.seen after.seen → ⊥
-    failed (inl ((other, at, frozen), changes)) =
+    failed (inl ((other, at, frozen), changes, live)) =
         let same : Some volume ≡ Some other = sym there ∙ at in
         let is : volume ≡ other = cc in
         let open_still : other.frozen ≡ None = subst (λ (o : VolumeSeen). o.frozen ≡ None) is thawed in cc
@@ -689,21 +764,22 @@ tried_first f zero j front rest some is = absurd (omega (arith, some))
 tried_first f (suc n) j [] rest some is = inl cc
 tried_first f (suc n) j (i ∷ front) rest some is = inr (front, (let same : i ≡ f 0 = cc in ap (λ k. k ∷ front) same))
 
-first_cause : (A B : Passed → Type 0) (m : ℕ) (ms : List ℕ) (causes : List Passed) → map (λ passed. passed.machine) causes ≡ m ∷ ms → AllByRecursion A causes → AllByRecursion B causes
-    → (cause : Passed) × (cause.machine ≡ m) × A cause × B cause
-first_cause A B m ms [] order each stood = absurd cc
-first_cause A B m ms (cause ∷ causes) order each stood = (cause, cc, each.0, stood.0)
+first_cause : (Tells : Type 0) (A B C : Passed → Type 0) (m : ℕ) (ms : List ℕ) (causes : List Passed) → map (λ passed. passed.machine) causes ≡ m ∷ ms → AllByRecursion A causes → AllByRecursion B causes
+    → (Tells → AllByRecursion C causes) → (cause : Passed) × (cause.machine ≡ m) × A cause × B cause × (Tells → C cause)
+first_cause Tells A B C m ms [] order each stood lacks = absurd cc
+first_cause Tells A B C m ms (cause ∷ causes) order each stood lacks = (cause, cc, each.0, stood.0, λ tells. (lacks tells).0)
 
 -- where another replica answers, the first one was passed over
-pub record PassesFirst (settings : Settings) (Sure : Type 0) (lane start v : ℕ) (pair : Pair) (before after : Counts) (seen : StoreSeen) : Type 0 where
+pub record PassesFirst (Tells : Type 0) (settings : Settings) (Sure : Type 0) (contents : ℕ → Contents) (lane start v : ℕ) (pair : Pair) (before after : Counts) (seen : StoreSeen) : Type 0 where
   pub cause : Cause
   pub came : CauseCameUp settings Sure lane v before after (machine_of settings v start) cause
   pub stood : StandsFor cause (seen.places v pair start)
+  pub lacks : Tells → LacksFor settings contents seen v pair start cause
 
-passes_first : (settings : Settings) (Sure : Type 0) (lane start v m j : ℕ) (pair : Pair) (before after : Counts) (seen : StoreSeen) → IsBuilt settings → v < settings.volumes
-    → start < settings.replicas → replica_on settings v m ≡ Some j → j ≢ start → TriesTo settings Sure lane start v m pair before after seen
-    → PassesFirst settings Sure lane start v pair before after seen
-passes_first settings Sure lane start v m j pair before after seen built volume within on other tries =
+passes_first : (Tells : Type 0) (settings : Settings) (Sure : Type 0) (contents : ℕ → Contents) (lane start v m j : ℕ) (pair : Pair) (before after : Counts) (seen : StoreSeen) → IsBuilt settings → v < settings.volumes
+    → start < settings.replicas → replica_on settings v m ≡ Some j → j ≢ start → TriesTo Tells settings Sure contents lane start v m pair before after seen
+    → PassesFirst Tells settings Sure contents lane start v pair before after seen
+passes_first Tells settings Sure contents lane start v m j pair before after seen built volume within on other tries =
     elim (tried_first (λ i. (start + i) % settings.replicas) settings.replicas tries.replica tries.front tries.rest (omega (arith, within)) tries.tries) [
       | inl same ↦ absurd (other (answers ∙ same ∙ first))
       | inr (others, is) ↦ passed others is
@@ -715,13 +791,14 @@ passes_first settings Sure lane start v m j pair before after seen built volume 
     answers : j ≡ tries.replica
     answers = let same : Some j ≡ Some tries.replica = sym on ∙ tries.there in cc
 
-    passed : (others : List ℕ) → tries.front ≡ (start + 0) % settings.replicas ∷ others → PassesFirst settings Sure lane start v pair before after seen
+    passed : (others : List ℕ) → tries.front ≡ (start + 0) % settings.replicas ∷ others → PassesFirst Tells settings Sure contents lane start v pair before after seen
     passed others is =
         let passes = tries.passes in
         let order : map (λ passed. passed.machine) tries.causes ≡ machine_of settings v ((start + 0) % settings.replicas) ∷ map (machine_of settings v) others =
         passes.order ∙ ap (λ (js : List ℕ). map (machine_of settings v) js) is in
-        let one = first_cause (λ passed. CauseCameUp settings Sure lane v before after passed.machine passed.cause) (λ passed. SeesOn settings v pair (StandsFor passed.cause) seen passed.machine)
-        (machine_of settings v ((start + 0) % settings.replicas)) (map (machine_of settings v) others) tries.causes order passes.each passes.stood in
+        let one = first_cause Tells (λ passed. CauseCameUp settings Sure lane v before after passed.machine passed.cause) (λ passed. SeesOn settings v pair (StandsFor passed.cause) seen passed.machine)
+        (λ passed. (k : ℕ) × (replica_on settings v passed.machine ≡ Some k) × LacksFor settings contents seen v pair k passed.cause)
+        (machine_of settings v ((start + 0) % settings.replicas)) (map (machine_of settings v) others) tries.causes order passes.each passes.stood passes.lacks in
         let machine : (one.0).machine ≡ machine_of settings v start = one.1 ∙ ap (machine_of settings v) first in
         let sees = one.3 in
         let same : Some sees.0 ≡ Some start = sym sees.1 ∙ ap (replica_on settings v) machine ∙ replica_found settings v start volume within built.no_more_replicas in
@@ -730,6 +807,11 @@ passes_first settings Sure lane start v m j pair before after seen built volume 
           cause = (one.0).cause;
           came = subst (λ k. CauseCameUp settings Sure lane v before after k (one.0).cause) machine one.2;
           stood = subst (λ k. StandsFor (one.0).cause (seen.places v pair k)) here sees.2;
+          lacks = λ tells.
+              let on = one.4 tells in
+              let there : Some on.0 ≡ Some start = sym on.1 ∙ ap (replica_on settings v) machine ∙ replica_found settings v start volume within built.no_more_replicas in
+              let first : on.0 ≡ start = cc in
+              subst (λ k. LacksFor settings contents seen v pair k (one.0).cause) first on.2;
         }
 
 none_stands : (cause : Cause) (s : Sight) → IsAbsent s → StandsFor cause s → ⊥
@@ -757,13 +839,53 @@ photo_behind_a_replica_without_one Tells settings before after pair cookie v m f
     start : ℕ
     start = start_at settings number
 
-    read : TriesTo settings (HasSureArm before 0) 0 start v m pair before.counts after.counts after.seen
+    read : TriesTo Tells settings (HasSureArm before 0) after.contents 0 start v m pair before.counts after.counts after.seen
         → LeavesSights settings (asks.Read pair cookie) (Photo v m f d photo) before.seen after.seen → ⊥
     read tries (looked, shown) =
         let some = built.some_replicas in
-        let passed = passes_first settings (HasSureArm before 0) 0 start v m j pair before.counts after.counts after.seen built volume
+        let passed = passes_first Tells settings (HasSureArm before 0) after.contents 0 start v m j pair before.counts after.counts after.seen built volume
         (mod-lt number (omega (arith, some))) on other tries in
         none_stands passed.cause ((after.seen).places v pair start) (still_absent ((before.seen).places v pair start) ((after.seen).places v pair start) none ((looked.changes).each start)) passed.stood
+
+-- a photo that another replica showed than the first in the order of the line, whose photo was looked at, though no fetch of the arm failed
+pub photo_behind_a_whole_needle : (Tells : Type 0) (settings : Settings) (before after : Tally) (pair : Pair) (cookie : Cookie) (v m f d j number : ℕ) (photo : List ℕ) → Tells
+    → IsBuilt settings → v < settings.volumes → replica_on settings v m ≡ Some j → j ≢ start_at settings number → IsLiveSight ((before.seen).places v pair (start_at settings number))
+    → slice_index after.counts.arms 0 ≡ slice_index before.counts.arms 0 → slice_index before.counts.arms 0 < 2 ^ 64 - 1
+    → Says Tells settings before after (asks.Read pair cookie) number (Photo v m f d photo) → ⊥
+photo_behind_a_whole_needle Tells settings before after pair cookie v m f d j number photo tells built volume on other live same low says =
+    read (passes_so Tells settings before after (asks.Read pair cookie) number (Photo v m f d photo) says)
+    (sights_so Tells settings before after (asks.Read pair cookie) number (Photo v m f d photo) says)
+  where
+    start : ℕ
+    start = start_at settings number
+
+    never : (cause : Cause) (s : Sight) → IsLiveSight s → CauseCameUp settings (HasSureArm before 0) 0 v before.counts after.counts (machine_of settings v start) cause → StandsFor cause s
+        → (s ≡ (after.seen).places v pair start) → LacksFor settings after.contents after.seen v pair start cause → ⊥
+    never (Arm count) s lives came stood is lacks = came_not (slice_index before.counts.arms 0) (slice_index after.counts.arms 0) count same low came.1
+      where
+        came_not : (b a n : ℕ) → a ≡ b → b < 2 ^ 64 - 1 → CameUp b n a → ⊥
+        came_not b a n still below (inl more, most) = omega (arith, still, below, more, most)
+        came_not b a n still below (inr end, most) = omega (arith, still, below, end, most)
+    never (Disk count) Never lives came stood is lacks = lives
+    never (Disk count) (Live at) lives came stood is lacks = stood
+    never (Disk count) WasGone lives came stood is lacks = lives
+    never (Disk count) (Unseen at size) lives came stood is lacks = lives
+    never (Damage place) s lives came stood is lacks = none s lives (subst (λ (x : Sight). LacksPlace settings after.contents after.seen v start x) (sym is) lacks)
+      where
+        none : (x : Sight) → IsLiveSight x → LacksPlace settings after.contents after.seen v start x → ⊥
+        none Never l h = l
+        none (Live at) l h = h
+        none WasGone l h = l
+        none (Unseen at size) l h = l
+
+    read : TriesTo Tells settings (HasSureArm before 0) after.contents 0 start v m pair before.counts after.counts after.seen
+        → LeavesSights settings (asks.Read pair cookie) (Photo v m f d photo) before.seen after.seen → ⊥
+    read tries (looked, shown) =
+        let some = built.some_replicas in
+        let passed = passes_first Tells settings (HasSureArm before 0) after.contents 0 start v m j pair before.counts after.counts after.seen built volume
+        (mod-lt number (omega (arith, some))) on other tries in
+        never passed.cause ((after.seen).places v pair start) (still_live ((before.seen).places v pair start) ((after.seen).places v pair start) live ((looked.changes).each start)) passed.came passed.stood refl
+        (passed.lacks tells)
 
 -- so of a get that another machine than the URL's answered
 pub photo_of_a_url_behind_a_replica_without_one : (Tells : Type 0) (settings : Settings) (before after : Tally) (url : UrlParts) (m f d i j number : ℕ) (photo : List ℕ)
@@ -773,10 +895,10 @@ photo_of_a_url_behind_a_replica_without_one Tells settings before after url m f 
     get (passes_so Tells settings before after (asks.Get url) number (Photo url.volume m f d photo) says i there)
     (sights_so Tells settings before after (asks.Get url) number (Photo url.volume m f d photo) says)
   where
-    get : TriesTo settings (HasSureArm before 0) 0 i url.volume m url.pair before.counts after.counts after.seen
+    get : TriesTo Tells settings (HasSureArm before 0) after.contents 0 i url.volume m url.pair before.counts after.counts after.seen
         → LeavesSights settings (asks.Get url) (Photo url.volume m f d photo) before.seen after.seen → ⊥
     get tries (looked, shown) =
-        let passed = passes_first settings (HasSureArm before 0) 0 i url.volume m j url.pair before.counts after.counts after.seen built volume within on other tries in
+        let passed = passes_first Tells settings (HasSureArm before 0) after.contents 0 i url.volume m j url.pair before.counts after.counts after.seen built volume within on other tries in
         let was = (before.seen).places url.volume url.pair i in
         let is = (after.seen).places url.volume url.pair i in
         none_stands passed.cause is (still_absent was is none ((looked.changes).each i)) passed.stood
@@ -785,7 +907,7 @@ photo_of_a_url_behind_a_replica_without_one Tells settings before after url m f 
 pub unreadable_for_a_sure_arm : (Tells : Type 0) (settings : Settings) (before after : Tally) (pair : Pair) (cookie : Cookie) (v f d m n number : ℕ) (causes : List Passed)
     → HasSureArm before 0 → Says Tells settings before after (asks.Read pair cookie) number (Unreadable v f d (record { machine = m; cause = Arm n } ∷ causes)) → ⊥
 unreadable_for_a_sure_arm Tells settings before after pair cookie v f d m n number causes sure says =
-    let passes : PassesOver settings (HasSureArm before 0) 0 v pair before.counts after.counts after.seen (order_from settings (start_at settings number)) (record { machine = m; cause = Arm n } ∷ causes) =
+    let passes : PassesOver Tells settings (HasSureArm before 0) after.contents 0 v pair before.counts after.counts after.seen (order_from settings (start_at settings number)) (record { machine = m; cause = Arm n } ∷ causes) =
     passes_so Tells settings before after (asks.Read pair cookie) number (Unreadable v f d (record { machine = m; cause = Arm n } ∷ causes)) says in
     passes.each.0.0 sure
 
@@ -794,7 +916,7 @@ pub unreadable_for_an_arm_that_did_not_fail : (Tells : Type 0) (settings : Setti
     → slice_index after.counts.arms 0 ≡ slice_index before.counts.arms 0 → slice_index before.counts.arms 0 < 2 ^ 64 - 1
     → Says Tells settings before after (asks.Read pair cookie) number (Unreadable v f d (record { machine = m; cause = Arm n } ∷ causes)) → ⊥
 unreadable_for_an_arm_that_did_not_fail Tells settings before after pair cookie v f d m n number causes same low says =
-    let passes : PassesOver settings (HasSureArm before 0) 0 v pair before.counts after.counts after.seen (order_from settings (start_at settings number)) (record { machine = m; cause = Arm n } ∷ causes) =
+    let passes : PassesOver Tells settings (HasSureArm before 0) after.contents 0 v pair before.counts after.counts after.seen (order_from settings (start_at settings number)) (record { machine = m; cause = Arm n } ∷ causes) =
     passes_so Tells settings before after (asks.Read pair cookie) number (Unreadable v f d (record { machine = m; cause = Arm n } ∷ causes)) says in
     came (slice_index before.counts.arms 0) (slice_index after.counts.arms 0) same low passes.each.0.1
   where
@@ -807,7 +929,7 @@ pub unreadable_for_a_disk_that_did_not_fail : (Tells : Type 0) (settings : Setti
     → replica_on settings v m ≡ Some j → (Rose (slice_index before.counts.disks (slot_of settings v j)) (slice_index after.counts.disks (slot_of settings v j)) → ⊥)
     → Says Tells settings before after (asks.Read pair cookie) number (Unreadable v f d (record { machine = m; cause = Disk n } ∷ causes)) → ⊥
 unreadable_for_a_disk_that_did_not_fail Tells settings before after pair cookie v f d m j n number causes on still says =
-    let passes : PassesOver settings (HasSureArm before 0) 0 v pair before.counts after.counts after.seen (order_from settings (start_at settings number)) (record { machine = m; cause = Disk n } ∷ causes) =
+    let passes : PassesOver Tells settings (HasSureArm before 0) after.contents 0 v pair before.counts after.counts after.seen (order_from settings (start_at settings number)) (record { machine = m; cause = Disk n } ∷ causes) =
     passes_so Tells settings before after (asks.Read pair cookie) number (Unreadable v f d (record { machine = m; cause = Disk n } ∷ causes)) says in
     let rose = passes.each.0 in
     let same : Some rose.replica ≡ Some j = sym rose.there ∙ on in
@@ -876,14 +998,14 @@ pub step_damaged_where_a_needle_stands : (Tells : Type 0) (settings : Settings) 
 step_damaged_where_a_needle_stands Tells settings before after v m cells j place size number r tells on (volume, there, is) within stands says =
     met (damage_so Tells settings before after (asks.Step v m cells) number (Damaged v m place) tells says m place refl j on)
   where
-    met : IsDamagedCellAt settings before.contents before.seen v j place → ⊥
+    met : FileAt settings before.contents before.seen v j (λ o file. LacksCell cells place o file) → ⊥
     met (volume', there', (r', is', lacks)) =
         let one : Some volume' ≡ Some volume = sym there' ∙ there in
         let same_volume : volume' ≡ volume = cc in
         let two : Some r' ≡ Some r = sym (subst (λ (o : VolumeSeen). At o.replicas j r') same_volume is') ∙ is in
         let same_replica : r' ≡ r = cc in
         let none : LacksNeedleWithin r.end place (before.contents (slot_of settings v j) (volume_file r.generation)) =
-        subst (λ (o : ReplicaSeen). LacksNeedleWithin o.end place (before.contents (slot_of settings v j) (volume_file o.generation))) same_replica lacks in
+        subst (λ (o : ReplicaSeen). LacksNeedleWithin o.end place (before.contents (slot_of settings v j) (volume_file o.generation))) same_replica lacks.lacks in
         let ends : place + needle_total (length ((stands.needle).photo).bytes) ≤ r.end = subst (λ k. place + needle_total k ≤ r.end) (sym stands.long) within in
         none stands.needle stands.begins ends
 
@@ -901,6 +1023,26 @@ awaits_same (Live at) new place place' was (inr found) is = absurd was
 awaits_same WasGone new place place' was (inr found) is = absurd was
 awaits_same (Unseen at size) new place place' was (inr (inl live)) is = absurd (subst (AwaitsLookAt place') live is)
 awaits_same (Unseen at size) new place place' was (inr (inr gone)) is = absurd (subst (AwaitsLookAt place') gone is)
+
+-- a deletion that failed, and froze the volume, at a replica that has no photo of the pair
+pub delete_failed_where_no_photo_is : (Tells : Type 0) (settings : Settings) (before after : Tally) (pair : Pair) (v m n j number : ℕ) → IsBuilt settings
+    → j < settings.replicas → m ≡ machine_of settings v j → IsAbsent ((before.seen).places v pair j) → IsFrozenBy after.seen v m
+    → Says Tells settings before after (asks.Del pair) number (Failed v m n) → ⊥
+delete_failed_where_no_photo_is Tells settings before after pair v m n j number built within machine none frozen says =
+    failed (sights_so Tells settings before after (asks.Del pair) number (Failed v m n) says)
+  where
+    few : settings.replicas ≤ settings.machines
+    few = built.no_more_replicas
+
+    failed : LeavesSights settings (asks.Del pair) (Failed v m n) before.seen after.seen → ⊥
+    failed (inl (by, changes, (i, low, on, live))) =
+        let same : i ≡ j = same_machine settings.machines v i j (omega (arith, low, few)) (omega (arith, within, few)) (sym on ∙ machine) in
+        let here : IsLiveSight ((after.seen).places v pair j) = subst (λ k. IsLiveSight ((after.seen).places v pair k)) same live in
+        still_none ((before.seen).places v pair j) ((after.seen).places v pair j) none (((changes.changes).looks).each j) here
+    failed (inr ((volume, there, thawed), looks)) =
+        let one : Some volume ≡ Some frozen.0 = sym there ∙ frozen.1 in
+        let same : volume ≡ frozen.0 = cc in
+        let by : volume.frozen ≡ Some m = subst (λ (o : VolumeSeen). o.frozen ≡ Some m) (sym same) frozen.2 in cc
 
 -- two deletions of a pair that met damage at two places of one replica
 pub damaged_at_two_places : (Tells : Type 0) (settings : Settings) (a b c : Tally) (pair : Pair) (v m place place' first second : ℕ) → IsBuilt settings → place' ≢ place
@@ -932,24 +1074,153 @@ still_there WasGone new at place was (inr found) is = absurd was
 still_there (Unseen there size) new at place was (inr (inl live)) is = let same : place ≡ there = subst (StandsFor (Damage place)) live is in same ∙ sym was
 still_there (Unseen there size) new at place was (inr (inr gone)) is = absurd (subst (StandsFor (Damage place)) gone is)
 
+-- what a read that starts at this replica's machine tells of it first, by what is seen of the pair there behind it
+first_passed : (Tells : Type 0) (settings : Settings) (before after : Tally) (pair : Pair) (cookie : Cookie) (v f d m j number : ℕ) (cause : Cause) (causes : List Passed)
+    → replica_on settings v m ≡ Some j → Says Tells settings before after (asks.Read pair cookie) number (Unreadable v f d (record { machine = m; cause = cause } ∷ causes))
+    → StandsFor cause ((after.seen).places v pair j)
+first_passed Tells settings before after pair cookie v f d m j number cause causes on says =
+    read (passes_so Tells settings before after (asks.Read pair cookie) number said says)
+  where
+    said : Reply
+    said = Unreadable v f d (record { machine = m; cause = cause } ∷ causes)
+
+    read : PassesOver Tells settings (HasSureArm before 0) after.contents 0 v pair before.counts after.counts after.seen (order_from settings (start_at settings number)) (record { machine = m; cause = cause } ∷ causes)
+        → StandsFor cause ((after.seen).places v pair j)
+    read passes =
+        let sees = passes.stood.0 in
+        let same : Some sees.0 ≡ Some j = sym sees.1 ∙ on in
+        let here : sees.0 ≡ j = cc in
+        subst (λ k. StandsFor cause ((after.seen).places v pair k)) here sees.2
+
 -- a read that names damage at another place than the one where the photo of the pair is recorded
 pub unreadable_at_another_place : (Tells : Type 0) (settings : Settings) (before after : Tally) (pair : Pair) (cookie : Cookie) (v f d m j at place number : ℕ) (causes : List Passed)
     → replica_on settings v m ≡ Some j → StandsFor (Damage at) ((before.seen).places v pair j) → place ≢ at
     → Says Tells settings before after (asks.Read pair cookie) number (Unreadable v f d (record { machine = m; cause = Damage place } ∷ causes)) → ⊥
 unreadable_at_another_place Tells settings before after pair cookie v f d m j at place number causes on stood other says =
-    read (passes_so Tells settings before after (asks.Read pair cookie) number said says) (sights_so Tells settings before after (asks.Read pair cookie) number said says)
+    read (sights_so Tells settings before after (asks.Read pair cookie) number (Unreadable v f d (record { machine = m; cause = Damage place } ∷ causes)) says)
+  where
+    read : ChangesPhotos v (LooksAtPair pair) before.seen after.seen → ⊥
+    read looked =
+        other (still_there ((before.seen).places v pair j) ((after.seen).places v pair j) at place stood ((looked.changes).each j)
+        (first_passed Tells settings before after pair cookie v f d m j number (Damage place) causes on says))
+
+-- and of its needle, where the disks tell
+first_lacks : (Tells : Type 0) (settings : Settings) (before after : Tally) (pair : Pair) (cookie : Cookie) (v f d m j number : ℕ) (cause : Cause) (causes : List Passed) → Tells
+    → replica_on settings v m ≡ Some j → Says Tells settings before after (asks.Read pair cookie) number (Unreadable v f d (record { machine = m; cause = cause } ∷ causes))
+    → LacksFor settings after.contents after.seen v pair j cause
+first_lacks Tells settings before after pair cookie v f d m j number cause causes tells on says =
+    read (passes_so Tells settings before after (asks.Read pair cookie) number said says)
+  where
+    said : Reply
+    said = Unreadable v f d (record { machine = m; cause = cause } ∷ causes)
+
+    read : PassesOver Tells settings (HasSureArm before 0) after.contents 0 v pair before.counts after.counts after.seen (order_from settings (start_at settings number)) (record { machine = m; cause = cause } ∷ causes)
+        → LacksFor settings after.contents after.seen v pair j cause
+    read passes =
+        let first = (passes.lacks tells).0 in
+        let same : Some first.0 ≡ Some j = sym first.1 ∙ on in
+        let here : first.0 ≡ j = cc in
+        subst (λ k. LacksFor settings after.contents after.seen v pair k cause) here first.2
+
+-- a read that names damage of a replica's photo that was looked at
+pub unreadable_where_a_photo_was_looked_at : (Tells : Type 0) (settings : Settings) (before after : Tally) (pair : Pair) (cookie : Cookie) (v f d m j place number : ℕ) (causes : List Passed) → Tells
+    → replica_on settings v m ≡ Some j → IsLiveSight ((before.seen).places v pair j)
+    → Says Tells settings before after (asks.Read pair cookie) number (Unreadable v f d (record { machine = m; cause = Damage place } ∷ causes)) → ⊥
+unreadable_where_a_photo_was_looked_at Tells settings before after pair cookie v f d m j place number causes tells on live says =
+    read (sights_so Tells settings before after (asks.Read pair cookie) number (Unreadable v f d (record { machine = m; cause = Damage place } ∷ causes)) says)
+  where
+    never : (s : Sight) → IsLiveSight s → LacksPlace settings after.contents after.seen v j s → ⊥
+    never Never lives lacks = lives
+    never (Live at) lives lacks = lacks
+    never WasGone lives lacks = lives
+    never (Unseen at size) lives lacks = lives
+
+    read : ChangesPhotos v (LooksAtPair pair) before.seen after.seen → ⊥
+    read looked =
+        never ((after.seen).places v pair j) (still_live ((before.seen).places v pair j) ((after.seen).places v pair j) live ((looked.changes).each j))
+        (first_lacks Tells settings before after pair cookie v f d m j number (Damage place) causes tells on says)
+
+-- a read that names damage where the needle stands that is recorded
+pub unreadable_where_the_needle_stands : (Tells : Type 0) (settings : Settings) (before after : Tally) (pair : Pair) (cookie : Cookie) (v f d m j at size place number : ℕ) (r : ReplicaSeen) (causes : List Passed)
+    → Tells → v < settings.volumes → j < settings.replicas → replica_on settings v m ≡ Some j → VolumeAt v (λ volume. At volume.replicas j r) before.seen → (before.seen).places v pair j ≡ Unseen at size
+    → HasNeedleAt (before.contents (slot_of settings v j) (volume_file r.generation)) at size
+    → Says Tells settings before after (asks.Read pair cookie) number (Unreadable v f d (record { machine = m; cause = Damage place } ∷ causes)) → ⊥
+unreadable_where_the_needle_stands Tells settings before after pair cookie v f d m j at size place number r causes tells volume within on (w, there, is) unseen stands says =
+    read (sights_so Tells settings before after (asks.Read pair cookie) number said says)
   where
     said : Reply
     said = Unreadable v f d (record { machine = m; cause = Damage place } ∷ causes)
 
-    read : PassesOver settings (HasSureArm before 0) 0 v pair before.counts after.counts after.seen (order_from settings (start_at settings number)) (record { machine = m; cause = Damage place } ∷ causes)
-        → ChangesPhotos v (LooksAtPair pair) before.seen after.seen → ⊥
-    read passes looked =
-        let sees = passes.stood.0 in
-        let same : Some sees.0 ≡ Some j = sym sees.1 ∙ on in
-        let here : sees.0 ≡ j = cc in
-        let stands : StandsFor (Damage place) ((after.seen).places v pair j) = subst (λ k. StandsFor (Damage place) ((after.seen).places v pair k)) here sees.2 in
-        other (still_there ((before.seen).places v pair j) ((after.seen).places v pair j) at place stood ((looked.changes).each j) stands)
+    file : ReplicaSeen → List ℕ
+    file o = before.contents (slot_of settings v j) (volume_file o.generation)
+
+    keeps : KeepsIn settings AnySlot before.contents after.contents
+    keeps = contents_so Tells settings before after (asks.Read pair cookie) number said tells says
+
+    same : (after.seen).volumes ≡ (before.seen).volumes
+    same = ((answers_so Tells settings before after (asks.Read pair cookie) number said says).0).volumes
+
+    none : FileAt settings after.contents after.seen v j (λ o bytes. LacksNeedleOf size at bytes) → ⊥
+    none (w', there', (r', is', lacks)) =
+        let one : Some w' ≡ Some w = sym (subst (λ (ws : List VolumeSeen). At ws v w') same there') ∙ there in
+        let same_volume : w' ≡ w = cc in
+        let two : Some r' ≡ Some r = sym (subst (λ (o : VolumeSeen). At o.replicas j r') same_volume is') ∙ is in
+        let same_replica : r' ≡ r = cc in
+        let now : LacksNeedleOf size at (after.contents (slot_of settings v j) (volume_file r.generation)) =
+        subst (λ (o : ReplicaSeen). LacksNeedleOf size at (after.contents (slot_of settings v j) (volume_file o.generation))) same_replica lacks in
+        let was : LacksNeedleOf size at (file r) =
+        subst (λ (bytes : List ℕ). LacksNeedleOf size at bytes) (keeps (slot_of settings v j) (volume_file r.generation) (slot_below settings v j volume within) tt) now in
+        was stands.needle stands.begins stands.long
+
+    never : (s : Sight) → Looks (Unseen at size) s → LacksPlace settings after.contents after.seen v j s → ⊥
+    never Never looks lacks = lacks
+    never (Live there) looks lacks = lacks
+    never WasGone looks lacks = lacks
+    never (Unseen there long) (inl still) lacks =
+        none (subst (λ n. FileAt settings after.contents after.seen v j (λ o bytes. LacksNeedleOf n at bytes)) (let one : long ≡ size = cc in one)
+        (subst (λ n. FileAt settings after.contents after.seen v j (λ o bytes. LacksNeedleOf long n bytes)) (let two : there ≡ at = cc in two) lacks))
+    never (Unseen there long) (inr (inl found)) lacks = cc
+    never (Unseen there long) (inr (inr found)) lacks = cc
+
+    read : ChangesPhotos v (LooksAtPair pair) before.seen after.seen → ⊥
+    read looked =
+        never ((after.seen).places v pair j) (subst (λ (s : Sight). Looks s ((after.seen).places v pair j)) unseen ((looked.changes).each j))
+        (first_lacks Tells settings before after pair cookie v f d m j number (Damage place) causes tells on says)
+
+-- a read that names a failure of the arm at a replica whose place was not looked at
+pub unreadable_for_an_arm_that_was_not_asked : (Tells : Type 0) (settings : Settings) (before after : Tally) (pair : Pair) (cookie : Cookie) (v f d m j count number : ℕ) (causes : List Passed)
+    → replica_on settings v m ≡ Some j → AwaitsLook ((after.seen).places v pair j)
+    → Says Tells settings before after (asks.Read pair cookie) number (Unreadable v f d (record { machine = m; cause = Arm count } ∷ causes)) → ⊥
+unreadable_for_an_arm_that_was_not_asked Tells settings before after pair cookie v f d m j count number causes on awaits says =
+    never ((after.seen).places v pair j) awaits (first_passed Tells settings before after pair cookie v f d m j number (Arm count) causes on says)
+  where
+    never : (s : Sight) → AwaitsLook s → StandsFor (Arm count) s → ⊥
+    never Never awaits live = awaits
+    never (Live at) awaits live = awaits
+    never WasGone awaits live = awaits
+    never (Unseen at size) awaits live = live
+
+-- a read that names a failure of the disk at a replica whose place was looked at before
+pub unreadable_for_a_look_that_was_not_taken : (Tells : Type 0) (settings : Settings) (before after : Tally) (pair : Pair) (cookie : Cookie) (v f d m j count number : ℕ) (causes : List Passed)
+    → replica_on settings v m ≡ Some j → IsLiveSight ((before.seen).places v pair j)
+    → Says Tells settings before after (asks.Read pair cookie) number (Unreadable v f d (record { machine = m; cause = Disk count } ∷ causes)) → ⊥
+unreadable_for_a_look_that_was_not_taken Tells settings before after pair cookie v f d m j count number causes on live says =
+    looked_at (sights_so Tells settings before after (asks.Read pair cookie) number said says)
+  where
+    said : Reply
+    said = Unreadable v f d (record { machine = m; cause = Disk count } ∷ causes)
+
+    never : (old new : Sight) → IsLiveSight old → Looks old new → AwaitsLook new → ⊥
+    never Never new live looks awaits = live
+    never (Live at) new live (inl same) awaits = subst AwaitsLook same awaits
+    never (Live at) new live (inr found) awaits = found
+    never WasGone new live looks awaits = live
+    never (Unseen at size) new live looks awaits = live
+
+    looked_at : ChangesPhotos v (LooksAtPair pair) before.seen after.seen → ⊥
+    looked_at looked =
+        never ((before.seen).places v pair j) ((after.seen).places v pair j) live ((looked.changes).each j)
+        (first_passed Tells settings before after pair cookie v f d m j number (Disk count) causes on says)
 
 -- a flush that tells more cells, right behind an opening, than have room before the end of the replica's cells
 pub flushed_more_than_stand : (Tells : Type 0) (settings : Settings) (before after : Tally) (v m n number : ℕ) (r : ReplicaSeen) → OpensSeen settings before.seen → SeesReplica settings before.seen v m r
@@ -992,3 +1263,134 @@ photo_of_an_empty_replica Tells settings before after pair cookie v m f d number
         let here : j ≡ sees.at = cc in
         let now : IsLiveSight ((after.seen).places v pair sees.at) = subst (λ k. IsLiveSight ((after.seen).places v pair k)) here live in
         none ((before.seen).places v pair sees.at) ((after.seen).places v pair sees.at) (lies pair) ((looked.changes).each sees.at) now
+
+-- WHAT LOOKS MADE OF PLACES, WHERE THE DISKS TELL
+
+told_so : (Tells : Type 0) (settings : Settings) (before after : Tally) (command : Command) (number : ℕ) (said : Reply) → Tells → Says Tells settings before after command number said
+    → MeetsNeedles settings before.contents before.seen after.seen command said
+told_so Tells settings before after command number said tells (large, told) =
+    subst (λ (r : Reply). MeetsNeedles settings before.contents before.seen after.seen command r) (sym (same_reply number said told.said large told.fits told.is)) (told.told tells)
+
+-- a replica of which a needle of a recorded size was not looked at yet, and has none there
+pub record LacksRecorded (settings : Settings) (tally : Tally) (v j : ℕ) (pair : Pair) : Type 0 where
+  pub within : j < settings.replicas
+  pub place : ℕ
+  pub size : ℕ
+  pub unseen : (tally.seen).places v pair j ≡ Unseen place size
+  pub volume : VolumeSeen
+  pub there : At (tally.seen).volumes v volume
+  pub replica : ReplicaSeen
+  pub is : At volume.replicas j replica
+  pub lacks : LacksNeedleOf size place (tally.contents (slot_of settings v j) (volume_file replica.generation))
+
+-- a look leaves it unseen
+stays_unseen : (settings : Settings) (before : Tally) (v j : ℕ) (pair : Pair) (behind : Sights) → LacksRecorded settings before v j pair → AreToldAs settings before.contents before.seen v pair behind
+    → Looks ((before.seen).places v pair j) (behind pair j) → AwaitsLook (behind pair j)
+stays_unseen settings before v j pair behind lacks told looks =
+    stays (behind pair j) (subst (λ (s : Sight). Looks s (behind pair j)) lacks.unseen looks) (subst (λ (s : Sight). IsToldBy (file lacks.replica) s (behind pair j)) lacks.unseen (here (told j lacks.within)))
+  where
+    file : ReplicaSeen → List ℕ
+    file o = before.contents (slot_of settings v j) (volume_file o.generation)
+
+    here : FileAt settings before.contents before.seen v j (λ r bytes. IsToldBy bytes ((before.seen).places v pair j) (behind pair j)) → IsToldBy (file lacks.replica) ((before.seen).places v pair j) (behind pair j)
+    here (volume, there, (r, is, so)) =
+        let one : Some volume ≡ Some lacks.volume = sym there ∙ lacks.there in
+        let same : volume ≡ lacks.volume = cc in
+        let two : Some r ≡ Some lacks.replica = sym (subst (λ (o : VolumeSeen). At o.replicas j r) same is) ∙ lacks.is in
+        let same_replica : r ≡ lacks.replica = cc in
+        subst (λ (o : ReplicaSeen). IsToldBy (file o) ((before.seen).places v pair j) (behind pair j)) same_replica so
+
+    none : (deleted : Bool) → HasNeedleOf lacks.size deleted lacks.place (file lacks.replica) → ⊥
+    none deleted has =
+        let begins = cell_begins lacks.place (file lacks.replica) has.cell has.stands in lacks.lacks (needle_of_cell has.cell) begins has.size_is
+
+    stays : (new : Sight) → Looks (Unseen lacks.place lacks.size) new → IsToldBy (file lacks.replica) (Unseen lacks.place lacks.size) new → AwaitsLook new
+    stays Never (inl same) so = cc
+    stays Never (inr (inl found)) so = cc
+    stays Never (inr (inr found)) so = cc
+    stays (Live at) looks so = absurd (none false so)
+    stays WasGone looks so = absurd (none true so)
+    stays (Unseen at size) looks so = tt
+
+-- a photo that a replica showed whose needle is damaged, and was not looked at
+pub photo_of_a_damaged_needle : (Tells : Type 0) (settings : Settings) (before after : Tally) (pair : Pair) (cookie : Cookie) (v m f d j number : ℕ) (photo : List ℕ) → Tells
+    → replica_on settings v m ≡ Some j → LacksRecorded settings before v j pair → Says Tells settings before after (asks.Read pair cookie) number (Photo v m f d photo) → ⊥
+photo_of_a_damaged_needle Tells settings before after pair cookie v m f d j number photo tells on lacks says =
+    shown (sights_so Tells settings before after (asks.Read pair cookie) number (Photo v m f d photo) says)
+  where
+    told : AreToldAs settings before.contents before.seen v pair ((after.seen).places v)
+    told = told_so Tells settings before after (asks.Read pair cookie) number (Photo v m f d photo) tells says
+
+    live_not_unseen : (s : Sight) → IsLiveSight s → AwaitsLook s → ⊥
+    live_not_unseen Never live awaits = live
+    live_not_unseen (Live at) live awaits = awaits
+    live_not_unseen WasGone live awaits = live
+    live_not_unseen (Unseen at size) live awaits = live
+
+    shown : LeavesSights settings (asks.Read pair cookie) (Photo v m f d photo) before.seen after.seen → ⊥
+    shown (looked, (i, there, live)) =
+        let same : Some i ≡ Some j = sym there ∙ on in
+        let here : i ≡ j = cc in
+        live_not_unseen ((after.seen).places v pair j) (subst (λ k. IsLiveSight ((after.seen).places v pair k)) here live)
+        (stays_unseen settings before v j pair ((after.seen).places v) lacks told ((looked.changes).each j))
+
+-- one that was told as gone by such a replica
+pub gone_of_a_damaged_needle : (Tells : Type 0) (settings : Settings) (before after : Tally) (pair : Pair) (cookie : Cookie) (v m f d j number : ℕ) → Tells
+    → replica_on settings v m ≡ Some j → LacksRecorded settings before v j pair → Says Tells settings before after (asks.Read pair cookie) number (Gone v m f d) → ⊥
+gone_of_a_damaged_needle Tells settings before after pair cookie v m f d j number tells on lacks says =
+    shown (sights_so Tells settings before after (asks.Read pair cookie) number (Gone v m f d) says)
+  where
+    told : AreToldAs settings before.contents before.seen v pair ((after.seen).places v)
+    told = told_so Tells settings before after (asks.Read pair cookie) number (Gone v m f d) tells says
+
+    absent_not_unseen : (s : Sight) → IsAbsent s → AwaitsLook s → ⊥
+    absent_not_unseen Never none awaits = awaits
+    absent_not_unseen (Live at) none awaits = awaits
+    absent_not_unseen WasGone none awaits = awaits
+    absent_not_unseen (Unseen at size) none awaits = none
+
+    shown : LeavesSights settings (asks.Read pair cookie) (Gone v m f d) before.seen after.seen → ⊥
+    shown (looked, (i, there, none)) =
+        let same : Some i ≡ Some j = sym there ∙ on in
+        let here : i ≡ j = cc in
+        absent_not_unseen ((after.seen).places v pair j) (subst (λ k. IsAbsent ((after.seen).places v pair k)) here none)
+        (stays_unseen settings before v j pair ((after.seen).places v) lacks told ((looked.changes).each j))
+
+-- a deletion of a photo of which a replica's needle is damaged, and was not looked at
+pub deleted_over_a_damaged_needle : (Tells : Type 0) (settings : Settings) (before after : Tally) (pair : Pair) (v p d j number : ℕ) → Tells
+    → LacksRecorded settings before v j pair → Says Tells settings before after (asks.Del pair) number (Deleted v p d) → ⊥
+deleted_over_a_damaged_needle Tells settings before after pair v p d j number tells lacks says =
+    let told : DeletesAsTold settings before.contents before.seen v pair ((after.seen).places v) = told_so Tells settings before after (asks.Del pair) number (Deleted v p d) tells says in
+    (told.finds).all j lacks.within (stays_unseen settings before v j pair told.found lacks told.told (((told.finds).looks).each j))
+
+-- a step that was done though so many heads do not stand from its next cell on
+pub stepped_over_damage : (Tells : Type 0) (settings : Settings) (before after : Tally) (v m cells n j number : ℕ) (volume : VolumeSeen) (r : ReplicaSeen) → Tells
+    → replica_on settings v m ≡ Some j → At (before.seen).volumes v volume → At volume.replicas j r
+    → ((place : ℕ) → HeadsLead n r.next place (before.contents (slot_of settings v j) (volume_file r.generation)) → ⊥)
+    → Says Tells settings before after (asks.Step v m cells) number (Stepped v m n) → ⊥
+stepped_over_damage Tells settings before after v m cells n j number volume r tells on there is none says =
+    met (told_so Tells settings before after (asks.Step v m cells) number (Stepped v m n) tells says n refl j on)
+  where
+    met : FileAt settings before.contents before.seen v j (λ o file. VolumeAt v (SeesAt j (λ o'. HeadsLead n o.next o'.next file)) after.seen) → ⊥
+    met (volume', there', (o, is', (behind, at, (o', at', lead)))) =
+        let one : Some volume' ≡ Some volume = sym there' ∙ there in
+        let same : volume' ≡ volume = cc in
+        let two : Some o ≡ Some r = sym (subst (λ (w : VolumeSeen). At w.replicas j o) same is') ∙ is in
+        let same_replica : o ≡ r = cc in
+        none o'.next (subst (λ (x : ReplicaSeen). HeadsLead n x.next o'.next (before.contents (slot_of settings v j) (volume_file x.generation))) same_replica lead)
+
+-- a compaction that was done though heads do not stand from its first cell on as far as the cells go
+pub compacted_over_damage : (Tells : Type 0) (settings : Settings) (before after : Tally) (v m n j number : ℕ) (volume : VolumeSeen) (r : ReplicaSeen) → Tells
+    → replica_on settings v m ≡ Some j → At (before.seen).volumes v volume → At volume.replicas j r
+    → (HeadsLeadOn (begun r) (before.contents (slot_of settings v j) (volume_file r.generation)) → ⊥)
+    → Says Tells settings before after (asks.Compact v m) number (Compacted v m n) → ⊥
+compacted_over_damage Tells settings before after v m n j number volume r tells on there is none says =
+    met (told_so Tells settings before after (asks.Compact v m) number (Compacted v m n) tells says n refl j on)
+  where
+    met : FileAt settings before.contents before.seen v j (λ o file. VolumeAt v (SeesAt j (λ o'. HeadsLeadOn (begun o) file)) after.seen) → ⊥
+    met (volume', there', (o, is', (behind, at, (o', at', lead)))) =
+        let one : Some volume' ≡ Some volume = sym there' ∙ there in
+        let same : volume' ≡ volume = cc in
+        let two : Some o ≡ Some r = sym (subst (λ (w : VolumeSeen). At w.replicas j o) same is') ∙ is in
+        let same_replica : o ≡ r = cc in
+        none (subst (λ (x : ReplicaSeen). HeadsLeadOn (begun x) (before.contents (slot_of settings v j) (volume_file x.generation))) same_replica lead)

@@ -9,6 +9,7 @@ use Rattle.hay_legal.specs.Items.{Asked}
 use Rattle.hay_legal.specs.Known.{NoneFalls, disk_count}
 use Rattle.hay_reply.specs.declared.Note.{Note}
 use Rattle.hay_reply.specs.Replies.{note_line}
+use Rattle.hay_cluster.specs.Causes.{HasFile}
 use Rattle.hay_cluster.specs.Outside.{AreSoundBelow, IsDamagedDisk}
 use Rattle.hay_cluster.specs.Store.{Open, contents_in}
 use Rattle.hay_run.specs.declared.stops.Stop.{Stop}
@@ -66,7 +67,7 @@ refused_more Tells Stands files faults asked written written' store mid store' t
       file,
       at,
       is,
-      subst (λ (settings : Settings). slot < disk_count settings) same below,
+      subst (λ (settings : Settings). HasFile settings slot file) same below,
       λ tells. (
         λ k stands. let a = answers tells k stands in (damaged tells).0 a.t a.left,
         subst (λ (settings : Settings). IsDamagedDisk settings (contents_in files store') slot file at) same (damaged tells).1,

@@ -21,10 +21,10 @@ use Rattle.hay_legal.specs.Known.{NoneFalls, disk_count}
 use Rattle.hay_legal.specs.Stands.{Contents, Outside}
 use Rattle.hay_legal.specs.Statuses.{Ending, IsFront, read_contents}
 use Rattle.hay_legal.specs.Statuses.Ending.{ReadAll, OutputFault, InputFault, NoMemory, NotOpened, TooLong}
-use Rattle.hay_cluster.specs.Causes.{Counts, EndsRuns, IsCaused, LeavesFuses, RoseIn}
+use Rattle.hay_cluster.specs.Causes.{Counts, EndsRuns, HasFile, IsCaused, LeavesFuses, RoseIn}
 use Rattle.hay_cluster.specs.Draws.{drawn_in}
 use Rattle.hay_cluster.specs.Leaving.{LeavesContents}
-use Rattle.hay_cluster.specs.Needles.{TellsDamage}
+use Rattle.hay_cluster.specs.Needles.{MeetsNeedles, TellsDamage}
 use Rattle.hay_cluster.specs.Outside.{AreSoundBelow, FormatsVoid, IsDamagedDisk, IsKept, IsUndamaged, KeepsContents}
 use Rattle.hay_cluster.specs.Passing.{PassesBefore}
 use Rattle.hay_cluster.specs.Seen.{Answers, OpensSeen, StoreSeen, TellsSeen, store_seen}
@@ -88,19 +88,20 @@ plain_tag number = record { lane = 0; line = number }
 -- The text of another command: a reply with numbers of their types, which the command of this line may be given, which tells of a
 -- disk's failure only where the count that it prints rose, and what a replica shows only where each one that is tried before it was
 -- passed over for its cause, never for an arm that was sure; by which it is known what was seen of the store in memory before it and how
--- it changed that, and which disks have what they had; and the damage that a delete or a compaction tells stands there.
+-- it changed that, and which disks have what they had; and the damage that it tells stands there, and no damage is met without being told.
 pub record IsReplyText (Tells : Type 0) (settings : Settings) (before after : Tally) (command : Command) (number : ℕ) (text : List ℕ) : Type 0 where
   pub plain : (pick : ℕ) → command ≢ asks.Restart pick
   pub said : Reply
   pub fits : FitsReply said
   pub suits : Suits settings number command said
   pub caused : IsCaused settings before.counts.disks after.counts.disks said
-  pub passes : PassesBefore settings (HasSureArm before 0) (plain_tag number) command before.counts after.counts after.seen said
+  pub passes : PassesBefore Tells settings (HasSureArm before 0) after.contents (plain_tag number) command before.counts after.counts after.seen said
   pub answers : Answers settings (plain_tag number) command said before.seen after.seen
   pub sights : LeavesSights settings command said before.seen after.seen
   pub ended : EndsRuns settings said before.seen after.seen before.counts.disks after.counts.disks
   pub contents : Tells → LeavesContents settings command said (before.seen).volumes (after.seen).volumes before.contents after.contents
   pub damaged : Tells → TellsDamage settings before.contents before.seen command said
+  pub told : Tells → MeetsNeedles settings before.contents before.seen after.seen command said
   pub is : text ≡ numbered_line number said
 
 -- The text answers the item, while the counts went from these to those. A fuse is set by its command alone.
@@ -139,7 +140,7 @@ pub record NotReopened (before after : Tally) (asked : List Asked) : Type 0 wher
 -- that is told; each in a lower slot is formatted and not damaged
 abbrev pub IsNoteCaused : Type 0 → Settings → Tally → Tally → Note → Type 0
 IsNoteCaused Tells settings before after (OpenFailed slot count) = (slot < disk_count settings) × RoseIn slot before.counts.disks after.counts.disks count × (Tells → AreSoundBelow settings slot after.contents)
-IsNoteCaused Tells settings before after (OpenDamaged slot file at) = (slot < disk_count settings) × (Tells → IsDamagedDisk settings after.contents slot file at × AreSoundBelow settings slot after.contents)
+IsNoteCaused Tells settings before after (OpenDamaged slot file at) = HasFile settings slot file × (Tells → IsDamagedDisk settings after.contents slot file at × AreSoundBelow settings slot after.contents)
 IsNoteCaused Tells settings before after (OpenShelf count) = ⊥
 IsNoteCaused Tells settings before after (Kept v m line) = ⊥
 IsNoteCaused Tells settings before after (Lost v m line) = ⊥

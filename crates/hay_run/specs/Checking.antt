@@ -8,8 +8,9 @@ use Rattle.hay_mount.specs.Mounts.{InOrder, LeavesAsRead}
 use Rattle.hay_needle.specs.declared.settings.Settings.{Settings}
 use Rattle.hay_reply.specs.declared.Note.{Note}
 use Rattle.hay_reply.specs.declared.Note.TheVariants.{OpenShelf}
+use Rattle.hay_reply.specs.Fits.{FitsNote}
 use Rattle.hay_reply.specs.Replies.{field, header_line, note_line}
-use Rattle.hay_check.specs.Verdicts.{CheckOf, JournalCheckOf}
+use Rattle.hay_check.specs.Verdicts.{CheckOf, IsJournalVerdict, IsReplicaVerdict, JournalCheckOf}
 use Rattle.hay_check.specs.declared.verdict.CheckFault.{CheckFault}
 use Rattle.hay_check.specs.declared.verdict.CheckFault.TheVariants as fault
 use Rattle.hay_check.specs.declared.verdict.Verdict.{Verdict}
@@ -55,9 +56,15 @@ pub record IsVerdictOn (settings : Settings) (slot : ℕ) (contents : Contents) 
   pub journal : slot ≡ 0 → JournalCheckOf (journal_super settings) contents verdict
   pub replica : (v j : ℕ) → v < settings.volumes → j < settings.replicas → slot ≡ slot_of settings v j → CheckOf (super_of settings v j) contents verdict
 
+-- This is a verdict that there is on the disk in a slot, whatever it tells: in slot 0 on the Directory's, in each other on a replica's.
+pub record IsVerdictIn (slot : ℕ) (verdict : Verdict) : Type 0 where
+  pub journal : slot ≡ 0 → IsJournalVerdict verdict
+  pub replica : 0 < slot → IsReplicaVerdict verdict
+
 -- The verdicts on the first disks, one for each in order.
 pub record AreVerdicts (Tells : Type 0) (settings : Settings) (contents : ℕ → Contents) (verdicts : List Verdict) : Type 0 where
   pub few : length verdicts ≤ disk_count settings
+  pub kinds : InOrder IsVerdictIn 0 verdicts
   pub each : Tells → InOrder (λ slot verdict. IsVerdictOn settings slot (contents slot) verdict) 0 verdicts
 
 abbrev pub is_damaged : Verdict → Bool
@@ -75,12 +82,13 @@ ChecksAll settings verdicts status before after =
     × (((status ≡ 0) × (list_any is_damaged verdicts ≡ false)) ⊎ ((status ≡ 8) × (list_any is_damaged verdicts ≡ true)))
     × Wrote before (check_text settings verdicts) after
 
--- the disk in this slot was not checked, as this note tells: the shelf failed, and its count rose to the one that is told; or the
--- disk did
+-- the disk in this slot, which is one of the store's, was not checked, as this note tells, with numbers of their types: the shelf failed, and
+-- its count rose to the one that is told; or the disk did
 abbrev pub IsBreak : Settings → Outside → Outside → ℕ → Note → Type 0
 IsBreak settings taken given slot note =
-    ((count : ℕ) × (note ≡ OpenShelf count) × Rose taken.shelf given.shelf × (count ≡ given.shelf))
-    ⊎ TellsDisk settings taken given note slot
+    FitsNote note × (slot < disk_count settings)
+    × (((count : ℕ) × (note ≡ OpenShelf count) × Rose taken.shelf given.shelf × (count ≡ given.shelf))
+    ⊎ TellsDisk settings taken given note slot)
 
 -- the disk behind those that were checked was not, as the last line tells
 abbrev pub BreaksOff : Settings → Outside → Outside → List Verdict → Option (List ℕ) → Option (List ℕ) → Type 0

@@ -13,6 +13,7 @@ use Rattle.hay_legal.specs.Statuses.{Ending, HoldsNew, RunsTo, read_contents}
 use Rattle.hay_legal.specs.Statuses.Ending.{ReadAll, OutputFault, InputFault, NoMemory, NotOpened, TooLong}
 use Rattle.hay_directory.specs.Rows.{OpensRows}
 use Rattle.hay_logical.specs.Fits.{IsReplica}
+use Rattle.hay_cluster.specs.Causes.{HasFile}
 use Rattle.hay_cluster.specs.Outside.{AreSoundBelow, CountsOn, IsDamagedDisk, IsKept, IsUndamaged, IsUndamagedBelow, IsVoid}
 use Rattle.hay_run.specs.declared.stops.Stop.{Stop}
 use Rattle.hay_run.specs.declared.stops.Stop.TheVariants as stop
@@ -66,7 +67,7 @@ IsFirstRefusal Tells settings taken given note =
     ((count : ℕ) × (note ≡ OpenShelf count) × Rose taken.shelf given.shelf × (count ≡ given.shelf))
     ⊎ ((slot : ℕ) × TellsDisk settings taken given note slot
     × (Tells → IsUndamagedBelow settings slot (read_contents taken) × AreSoundBelow settings slot (read_contents given)))
-    ⊎ ((slot : ℕ) × (file : ℕ) × (at : ℕ) × (note ≡ OpenDamaged slot file at) × (slot < disk_count settings)
+    ⊎ ((slot : ℕ) × (file : ℕ) × (at : ℕ) × (note ≡ OpenDamaged slot file at) × HasFile settings slot file
     × (Tells → IsDamagedDisk settings (read_contents taken) slot file at × IsDamagedDisk settings (read_contents given) slot file at
     × AreSoundBelow settings slot (read_contents given)))
 
@@ -76,7 +77,7 @@ IsFirstRefusal Tells settings taken given note =
 abbrev pub IsLaterRefusal : Type 0 → Settings → Outside → Outside → Note → Type 0
 IsLaterRefusal Tells settings taken given note =
     ((slot : ℕ) × TellsDisk settings taken given note slot × (Tells → AreSoundBelow settings slot (read_contents given)))
-    ⊎ ((slot : ℕ) × (file : ℕ) × (at : ℕ) × (note ≡ OpenDamaged slot file at) × (slot < disk_count settings)
+    ⊎ ((slot : ℕ) × (file : ℕ) × (at : ℕ) × (note ≡ OpenDamaged slot file at) × HasFile settings slot file
     × (Tells → ((k : Known) → IsTaken settings taken k → ⊥) × IsUndamaged settings (read_contents taken) × IsDamagedDisk settings (read_contents given) slot file at
     × AreSoundBelow settings slot (read_contents given)))
 

@@ -19,6 +19,7 @@ use Rattle.hay_legal.specs.Known.{CameUp, FaultsRose, disk_count, fault_count}
 use Rattle.hay_legal.specs.Legal.{Legal}
 use Rattle.hay_legal.specs.Statuses.{IsUnbuiltTurn}
 use Rattle.hay_legal.specs.Transcript.{turn_text}
+use Rattle.hay_cluster.specs.Causes.{HasFile}
 use Rattle.hay_cluster.specs.Outside.{AreSoundBelow, IsDamagedDisk, IsVoid}
 use Rattle.hay_cluster.specs.Store.{Open, contents_in, disks_of}
 use Rattle.hay_run.specs.declared.stops.Stop.{Stop}
@@ -170,7 +171,7 @@ RefusedFor Tells Stands files faults store store' note =
     ((slot : ℕ) × (count : ℕ) × (note ≡ OpenFailed slot count) × (slot < disk_count store.settings)
     × Rose (slice_index (counts_of faults store) slot) (slice_index (counts_of faults store') slot) × (count ≡ slice_index (counts_of faults store') slot)
     × (Tells → AreSoundBelow store.settings slot (contents_in files store')))
-    ⊎ ((slot : ℕ) × (file : ℕ) × (at : ℕ) × (note ≡ OpenDamaged slot file at) × (slot < disk_count store.settings)
+    ⊎ ((slot : ℕ) × (file : ℕ) × (at : ℕ) × (note ≡ OpenDamaged slot file at) × HasFile store.settings slot file
     × (Tells → ((k : Known) → Stands store k → ⊥) × IsDamagedDisk store.settings (contents_in files store') slot file at
     × AreSoundBelow store.settings slot (contents_in files store')))
 

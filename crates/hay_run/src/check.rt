@@ -13,7 +13,7 @@ ghost use Rattle.hay_cluster.specs.Outside.{outside_of, read_of};
 ghost use Rattle.hay_cluster.specs.Store.{IsBuilt};
 ghost use Rattle.hay_run.specs.Turns.{Appends};
 ghost use Rattle.hay_run.specs.Checking as checks;
-ghost use Rattle.hay_run.specs.Checking.{ChecksTo, IsFaultAt, IsUnchanged, IsVerdictOn};
+ghost use Rattle.hay_run.specs.Checking.{ChecksTo, IsFaultAt, IsUnchanged, IsVerdictIn, IsVerdictOn};
 
 use crate::stops::Stop;
 use crate::writing::{write_header, write_refusal, write_text};
@@ -127,6 +127,7 @@ fn check_disk<D: Disk>(
 ) -> Result<Verdict, CheckFault>
     requires { IsBuilt settings.now }
     ensures verdict { D.Tells → IfOk result (IsVerdictOn settings.now slot (λ n. (D.files disk.old n).now)) }
+    ensures kind { IfOk result (IsVerdictIn slot) }
     ensures same { D.Tells → D.files disk.new ≡ D.files disk.old }
     ensures failed { IfErr result (λ fault. (faults : ℕ) → fault ≡ CheckFault.Failed faults → Rose (D.fault_count disk.old) (D.fault_count disk.new) × (faults ≡ D.fault_count disk.new)) }
     ensures counts { D.fault_count disk.old ≤ D.fault_count disk.new }
@@ -159,6 +160,7 @@ fn check_slot<H: Shelf>(
     requires built { IsBuilt settings.now }
     requires disk_in { (H.disks shelf.old slot).is_out ≡ false }
     ensures verdict { H.Disk.Tells → IfOk result (IsVerdictOn settings.now slot (read_of (H.disks shelf.old slot))) }
+    ensures kind { IfOk result (IsVerdictIn slot) }
     ensures fault { IfErr result (IsFaultAt slot (H.fault_count shelf.old) (H.fault_count shelf.new)
         (H.disks shelf.old slot).fault_count (H.disks shelf.new slot).fault_count) }
     ensures unchanged { IsUnchanged H.Disk.Tells (H.disks shelf.old slot) (H.disks shelf.new slot) }

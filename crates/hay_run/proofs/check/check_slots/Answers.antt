@@ -9,7 +9,7 @@ use Rattle.hay_run.specs.declared.stops.Stop.{Stop}
 use Rattle.hay_run.specs.declared.stops.Stop.TheVariants as stop
 use Rattle.hay_legal.specs.Stands.{Outside}
 use Rattle.hay_cluster.specs.Outside.{outside_of, read_of}
-use Rattle.hay_run.specs.Checking.{IsVerdictOn, check_text, verdict_line}
+use Rattle.hay_run.specs.Checking.{IsVerdictIn, IsVerdictOn, check_text, verdict_line}
 use Rattle.hay_run.proofs.Checking.{breaks, damage-snoc, ends_cut, ends_refused, part_more, same_stop, text-first, text-snoc, unchanged_all}
 use Rattle.hay_run.proofs.Turning.{appends_more, wrote_more}
 use Rattle.hay_run.proofs.check.check_slots.Goals as goal
@@ -26,7 +26,7 @@ returns-in_err-write_header-clause-checked g c =
     let wrong : Result Bool Stop = Err c.in_err-write_header.field-0.0 in
     let same : wrong ≡ c.from_residual.result = cc (p.1, p.2) in
     let P : List ℕ → Type 0 = λ text. WrotePart before text after in
-    ends_cut g.H.Disk.Disk.Tells settings outside outside before after [] (record { few = omega arith; each = λ tells. tt })
+    ends_cut g.H.Disk.Disk.Tells settings outside outside before after [] (record { few = omega arith; kinds = tt; each = λ tells. tt })
     (subst P (sym (text-first settings)) c.in_err-write_header.ensures.part)
     c.in_err-write_header.field-0.0 (same_stop c.in_err-write_header.field-0.0 stop.Output stop.NoMemory c.in_err-write_header.ensures.stops) c.from_residual.result same
 
@@ -36,6 +36,7 @@ loop-slot-init g c =
     record {
       verdicts = [];
       count = refl;
+      kinds = tt;
       each = λ tells. tt;
       damage = refl;
       wrote = subst P (sym (text-first c.args.settings.now)) c.in_ok-write_header.ensures.wrote;
@@ -59,11 +60,11 @@ returns-in-Err-clause-checked g c =
     let counted : (old c.loop-slot.slot).fault_count ≡ (g.H.Shelf.disks c.loop-slot.shelf c.loop-slot.slot).fault_count =
     ap (λ (held : HeldDisk). held.fault_count) (sym (loop.rest c.loop-slot.slot (omega arith))) in
     ends_refused g.H.Disk.Disk.Tells settings taken given (g.K.Sink.written c.args.sink.now) (g.K.Sink.written c.write_refusal.new.sink)
-    loop.verdicts (record { few = omega (arith, loop.count, c.loop-slot-test.true, c.disk_count-slot-end.ensures); each = loop.each }) c.loop-slot.slot loop.count
+    loop.verdicts (record { few = omega (arith, loop.count, c.loop-slot-test.true, c.disk_count-slot-end.ensures); kinds = loop.kinds; each = loop.each }) c.loop-slot.slot loop.count
     (g.K.Sink.written c.loop-slot.sink) loop.wrote c.in-Err.fault
     (breaks g.H.Disk.Disk.Tells settings taken given (g.K.Sink.written c.args.sink.now) (g.K.Sink.written c.write_refusal.new.sink)
     c.loop-slot.slot (g.H.Shelf.fault_count c.loop-slot.shelf) (g.H.Shelf.disks c.loop-slot.shelf c.loop-slot.slot).fault_count c.in-Err.fault
-    (omega (arith, c.loop-slot-test.true, c.disk_count-slot-end.ensures)) loop.shelf counted c.in-Err.ensures.fault)
+    (omega (arith, c.loop-slot-test.true, c.disk_count-slot-end.ensures)) loop.shelf counted c.write_refusal.ensures.fits c.in-Err.ensures.fault)
     c.write_refusal.result c.write_refusal.ensures.told c.write_refusal.ensures.part
     (λ none. (let w = c.write_refusal.ensures.wanting none in (w.0, ap g.K.Sink.written w.1))) c.write_refusal.ensures.stops
 
@@ -94,6 +95,7 @@ returns-in_err-write_verdict-clause-checked g c =
     ends_cut g.H.Disk.Disk.Tells settings taken given before after more
     (record {
       few = omega (arith, long, loop.count, c.loop-slot-test.true, c.disk_count-slot-end.ensures);
+      kinds = InOrder-snoc IsVerdictIn 0 loop.verdicts c.in-Ok.verdict loop.kinds (subst (λ k. IsVerdictIn k c.in-Ok.verdict) (omega (arith, loop.count)) c.in-Ok.ensures.kind);
       each = λ tells. InOrder-snoc P 0 loop.verdicts c.in-Ok.verdict (loop.each tells)
           (subst (λ k. P k c.in-Ok.verdict) (omega (arith, loop.count)) (subst (λ held. IsVerdictOn settings c.loop-slot.slot (read_of held) c.in-Ok.verdict) same (c.in-Ok.ensures.verdict tells)));
     })
@@ -131,6 +133,7 @@ loop-slot-preserved g c =
     record {
       verdicts = more;
       count = omega (arith, long, loop.count);
+      kinds = InOrder-snoc IsVerdictIn 0 loop.verdicts c.in-Ok.verdict loop.kinds (subst (λ k. IsVerdictIn k c.in-Ok.verdict) (omega (arith, loop.count)) c.in-Ok.ensures.kind);
       each = λ tells. InOrder-snoc P 0 loop.verdicts c.in-Ok.verdict (loop.each tells)
           (subst (λ k. P k c.in-Ok.verdict) (omega (arith, loop.count)) (subst (λ held. IsVerdictOn settings c.loop-slot.slot (read_of held) c.in-Ok.verdict) same (c.in-Ok.ensures.verdict tells)));
       damage = ap (λ b. c.loop-slot.damaged || b) c.is_damaged-damaged.ensures ∙ damage-snoc c.loop-slot.damaged loop.verdicts c.in-Ok.verdict loop.damage;

@@ -5,13 +5,14 @@ use Rattle.hay_mount.specs.Mounts.{InOrder, SameFrom}
 use Rattle.hay_check.specs.declared.verdict.Verdict.{Verdict}
 use Rattle.hay_cluster.specs.Outside.{read_of}
 use Rattle.hay_run.specs.Turns.{Appends}
-use Rattle.hay_run.specs.Checking.{IsUnchanged, IsVerdictOn, check_text, is_damaged}
+use Rattle.hay_run.specs.Checking.{IsUnchanged, IsVerdictIn, IsVerdictOn, check_text, is_damaged}
 use Rattle.hay_run.proofs.check.check_slots.Given as goal
 
 abbrev pub invariant-loop-slot : goal.invariant-loop-slot
 invariant-loop-slot g l = record {
   verdicts : List Verdict;
   count : length verdicts ≡ l.slot;
+  kinds : InOrder IsVerdictIn 0 verdicts;
   each : g.H.Disk.Disk.Tells → InOrder (λ slot verdict. IsVerdictOn l.settings slot (read_of (g.H.Shelf.disks l.fn.shelf slot)) verdict) 0 verdicts;
   damage : l.damaged ≡ list_any is_damaged verdicts;
   wrote : Wrote (g.K.Sink.written l.fn.sink) (check_text l.settings verdicts) (g.K.Sink.written l.sink);

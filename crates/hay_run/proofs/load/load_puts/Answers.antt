@@ -2,7 +2,7 @@ use Rattle.std.proofs.Common.{◌∙◌, ap, arith}
 use Rattle.hay_disk.specs.Shelf.{HeldArm, HeldDisk}
 use Rattle.hay_legal.specs.Known.{disk_count}
 use Rattle.hay_run.proofs.Giving.{disks_in, none_fell}
-use Rattle.hay_run.proofs.Loading.{ends_so, same_arm, sure_still}
+use Rattle.hay_run.proofs.Loading.{ends_so, read_so, same_arm, sure_still}
 use Rattle.hay_run.proofs.load.load_puts.Goals as goal
 
 pub load_store-requires-clause-limits : goal.load_store-requires-clause-limits
@@ -22,7 +22,17 @@ load_store-requires-clause-disks_in g c = λ slot below. c.requires.disks_in slo
 pub returns-clause-loaded : goal.returns-clause-loaded
 returns-clause-loaded g c =
     let done = c.load_store.ensures in
-    record { loaded = done.loaded; halts = done.halts; halts_over = done.halts_over; ended = done.ended; short = done.short; sound = done.sound; counts = done.counts; other_slots = done.other_slots; lanes = done.lanes }
+    record {
+      loaded = done.loaded;
+      halts = done.halts;
+      halts_over = done.halts_over;
+      ended = done.ended;
+      short = done.short;
+      sound = λ tells opened. done.sound tells (read_so (g.S.Source.left c.args.source.now) (g.S.Source.left c.load_store.new.source) opened);
+      counts = done.counts;
+      other_slots = done.other_slots;
+      lanes = done.lanes;
+    }
 
 pub returns-clause-status : goal.returns-clause-status
 returns-clause-status g c = ends_so c.load_store.result c.load_store.ensures.status
