@@ -343,6 +343,7 @@ module _ {D : Type 0} (Tells : Type 0) (files : D → Files) (drawn : D → ℕ 
     -- and of one that is damaged
     pub record DamagedIn (slot file at : ℕ) : Type 0 where
       pub within : slot < disk_count settings
+      pub file_is : slot ≡ 0 → file ≡ 0
       pub before : Tells → IsDamagedDisk settings (reads_of held) slot file at
       pub behind : Tells → IsDamagedDisk settings (reads_of given) slot file at
       pub sound : Tells → AreSoundBelow settings slot (reads_of given)
@@ -398,6 +399,7 @@ module _ {D : Type 0} (Tells : Type 0) (files : D → Files) (drawn : D → ℕ 
         let low = behind_within one.place one.before one.was in
         subst (λ k. DamagedIn k file at) e.0 (record {
           within = low;
+          file_is = λ first. absurd (omega (arith, first));
           before = λ tells.
               let path = reads_at tells (one.place + 1) one.before one.was in
               damaged_at settings (reads_of held) one.place file at low
@@ -424,15 +426,16 @@ module _ {D : Type 0} (Tells : Type 0) (files : D → Files) (drawn : D → ℕ 
         let fault = journal_damaged file at f.fault e.1 in
         subst (λ k. DamagedIn k file at) e.0 (record {
           within = omega arith;
+          file_is = λ first. f.refused.file file at fault;
           before = λ tells.
               let path = reads_at tells 0 f.before f.was in
               let damage = f.refused.damaged tells file at fault in
-              damaged_first settings (reads_of held) file at damage.0 (subst (λ (c : ℕ → List ℕ). IsDamagedJournal (journal_super settings) (c 0) at) path damage.2)
+              damaged_first settings (reads_of held) file at (f.refused.file file at fault) (subst (λ (c : ℕ → List ℕ). IsDamagedJournal (journal_super settings) (c 0) at) path damage.1)
               (λ rows opens. f.refused.only tells file at fault rows (subst (λ (c : ℕ → List ℕ). OpensRows settings (c 0) rows) (sym path) opens));
           behind = λ tells.
               let damage = f.refused.damaged tells file at fault in
-              let same : (files f.before 0).now ≡ reads_of given 0 0 = sym (ap (λ (x : Files). (x 0).now) (f.refused.disk.same tells damage.1)) ∙ ap (λ (c : ℕ → List ℕ). c 0) (gives_at tells 0 f.after f.is) in
-              damaged_first settings (reads_of given) file at damage.0 (subst (λ (l : List ℕ). IsDamagedJournal (journal_super settings) l at) same damage.2)
+              let same : (files f.before 0).now ≡ reads_of given 0 0 = sym (ap (λ (x : Files). (x 0).now) (f.refused.disk.same tells damage.0)) ∙ ap (λ (c : ℕ → List ℕ). c 0) (gives_at tells 0 f.after f.is) in
+              damaged_first settings (reads_of given) file at (f.refused.file file at fault) (subst (λ (l : List ℕ). IsDamagedJournal (journal_super settings) l at) same damage.1)
               (λ rows opens. f.refused.only tells file at fault rows (subst (λ (l : List ℕ). OpensRows settings l rows) (sym same) opens));
           sound = λ tells. record {
             formatted = λ slot' below. absurd (omega (arith, below));

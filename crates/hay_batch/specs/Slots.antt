@@ -45,7 +45,8 @@ pub record OpensJournal {D : Type 0} (Tells : Type 0) (files : D → Files) (fau
 pub record RefusesJournal {D : Type 0} (Tells : Type 0) (files : D → Files) (fault_count fuse_count : D → ℕ) (settings : Settings) (old new : D) (fault : JournalFault) : Type 0 where
   pub disk : OpensDirectory Tells files fault_count fuse_count old new
   pub failed : (faults : ℕ) → fault ≡ journal.Failed faults → Rose (fault_count old) (fault_count new) × (faults ≡ fault_count new)
-  pub damaged : Tells → (file at : ℕ) → fault ≡ journal.Damaged file at → (file ≡ 0) × (0 < length (files old 0).now) × IsDamagedJournal (journal_super settings) (files old 0).now at
+  pub file : (file at : ℕ) → fault ≡ journal.Damaged file at → file ≡ 0
+  pub damaged : Tells → (file at : ℕ) → fault ≡ journal.Damaged file at → (0 < length (files old 0).now) × IsDamagedJournal (journal_super settings) (files old 0).now at
   pub only : Tells → (file at : ℕ) → fault ≡ journal.Damaged file at → (rows : List DirRow) → OpensRows settings (files old 0).now rows → ⊥
 
 -- THE DISK OF A REPLICA

@@ -19,9 +19,10 @@ returns-in_err-journal-clause-refused g c =
     passed_on c.from_residual.result (RefusesJournal g.D.Disk.Tells g.D.Disk.files g.D.Disk.fault_count g.D.Disk.fuse_count c.args.settings.now c.args.disk.now c.open.new.disk) c.in_err-journal.field-0.0 p.0 p.1 p.2 (record {
       disk = record { same = told.same; nothing = told.nothing; later = told.later; fuses = told.fuses };
       failed = λ faults is. let both = told.failed faults (ap Err is) in (both.1, both.0);
+      file = λ file at is. told.file file at (ap Err is);
       damaged = λ tells file at is.
           let damage = told.damaged tells file at (ap Err is) in
-          (damage.0, damage.1, subst (λ (sup : Super). IsDamagedJournal sup (g.D.Disk.files c.args.disk.now 0).now at) same damage.2);
+          (damage.1, subst (λ (sup : Super). IsDamagedJournal sup (g.D.Disk.files c.args.disk.now 0).now at) same damage.2);
       only = λ tells file at is rows opens. elim opens [
         | inl void ↦ let damage = told.damaged tells file at (ap Err is) in absurd (let some = damage.1 in let none = ap (λ (l : List ℕ). length l) void.0 in omega (arith, some, none))
         | inr journal ↦ told.only tells rows file at (subst (λ (sup : Super). IsJournal (super_bytes sup) sup.settings.volumes (g.D.Disk.files c.args.disk.now 0).now rows) (sym same) journal) (ap Err is)

@@ -188,4 +188,4 @@ returns-in-Err-open_disks-clause-damaged g c =
     let refused = c.in-Err-open_disks.ensures.refused in
     λ slot file at is.
     let f = refused_damaged g.D.Disk.Tells g.D.Disk.files g.D.Disk.drawn g.D.Disk.fault_count g.D.Disk.fuse_count c.args.settings c.requires.limits (g.H.Shelf.disks c.args.shelf.now) c.as_mut_slice.result.now c.open_disks.new.disks count taken many given back c.in-Err-open_disks.fault slot file at refused is in
-    (f.within, λ tells. (f.before tells, f.behind tells, f.sound tells))
+    (f.within, f.file_is, λ tells. (f.before tells, f.behind tells, f.sound tells))
