@@ -1,5 +1,5 @@
 -- How a load ends, by what was answered and by what the shelf has then.
-use Rattle.std.proofs.Common.{◌≡◌, ◌⊎◌, inl, inr, ℕ, ◌≤◌, ◌<◌, List, [], ◌∷◌, ◌++◌, length, All, Option, Some, None, Result, Ok, Err, refl, sym, ap, subst, ◌∙◌, append_assoc, arith}
+use Rattle.std.proofs.Common.{◌≡◌, ◌≢◌, ◌⊎◌, inl, inr, ℕ, ◌≤◌, ◌<◌, List, [], ◌∷◌, ◌++◌, length, All, Option, Some, None, Result, Ok, Err, refl, sym, ap, subst, ◌∙◌, append_assoc, arith}
 use Rattle.std.proofs.lemmas.List.{append-nil}
 use Rattle.hay_needle.specs.declared.settings.Settings.{Settings}
 use Rattle.hay_disk.specs.Counts.{Rose}
@@ -29,7 +29,7 @@ use Rattle.hay_load.proofs.Answering.{may_load, stands_remembers}
 use Rattle.hay_load.proofs.Taking.{answers_more, fit_more, suit_more}
 use Rattle.hay_loading.specs.declared.stops.Stop.{Stop}
 use Rattle.hay_loading.specs.declared.stops.Stop.TheVariants as stop
-use Rattle.hay_loading.specs.Endings.{AllStandIn, Answers, Begins, Breaks, CutsShort, Ends, Halts, HaltsAt, HaltsBehind, MayFailAt, ReadFront, ReadOver, groups_before, IsFront, LoadsAll, MayLeaveSlots, Wants, WroteBoth, WroteThen, load_text, script_groups}
+use Rattle.hay_loading.specs.Endings.{AllStandIn, Answers, Begins, Breaks, CutsShort, Ends, Halts, HaltsAt, HaltsBehind, MayFailAt, ReadFront, ReadOver, ReadsTo, groups_before, IsFront, LoadsAll, MayLeaveSlots, Wants, WroteBoth, WroteThen, load_text, script_groups}
 use Rattle.hay_loading.specs.Lines.{FailsTold, Leaves, ServesAll, ServesUntil, Told}
 use Rattle.hay_loading.proofs.Apart.{front_apart}
 use Rattle.hay_loading.proofs.Showing.{all_stand, answers_same}
@@ -50,6 +50,18 @@ front_first groups next all behind one is front = (
 
 front_both : (groups next all : List Group) → IsFront (groups ++ next) all → IsFront ((groups ++ next) ++ []) all
 front_both groups next all front = (front.0, front.1 ∙ ap (λ (l : List Group). l ++ front.0) (sym (append-nil (groups ++ next))))
+
+-- so it is of the groups of what was read
+reads_first : (settings : Settings) (script : List ℕ) (left : Option (List ℕ)) (groups next behind : List Group) (one : Group) → next ≡ one ∷ behind → ReadsTo settings script left (groups ++ next)
+    → ReadsTo settings script left (groups ++ one ∷ [])
+reads_first settings script left groups next behind one is reads = record {
+  read = reads.read;
+  bytes = reads.bytes;
+  ends = elim reads.ends [
+    | inl front ↦ inl (front_first groups next (groups_before settings reads.read) behind one is front)
+    | inr whole ↦ inr (whole.0, front_first groups next (script_groups settings script) behind one is whole.1)
+  ];
+}
 
 -- TEXTS
 
@@ -137,6 +149,10 @@ module _ {D : Type 0} (Tells : Type 0) (files : D → Files) (drawn : D → ℕ 
       told_whole : Wrote before (load_text settings until.groups until.told.loads.replies) until.middle
       told_whole = lines_behind Tells files settings until.groups store until.mid until.told.text before begun until.middle until.told.loads header until.told.wrote
 
+      -- what was read
+      reads_same : (groups : List Group) → ReadsTo store.settings script left' groups → ReadsTo settings script left' groups
+      reads_same groups reads = subst (λ (x : Settings). ReadsTo x script left' groups) same reads
+
       pub halts_at : store' ≡ until.mid → after ≡ until.middle → HaltsAt Tells settings script old new shelf shelf' before after until.groups
       halts_at is told = record {
         replies = until.told.loads.replies;
@@ -157,25 +173,30 @@ module _ {D : Type 0} (Tells : Type 0) (files : D → Files) (drawn : D → ℕ 
         halts = subst (λ (l : List Group). HaltsAt Tells settings script old new shelf shelf' before after l) (just ∙ ap (λ (x : Settings). groups_before x read) same) (halts_at is told);
       }
 
-      pub wants : Leaves Tells files until.next until.mid store' → after ≡ until.middle → Wants Tells settings script old new shelf shelf' before after
-      wants leaves told = record {
+      pub wants : ReadsTo store.settings script left' (until.groups ++ until.next) → Leaves Tells files until.next until.mid store' → after ≡ until.middle
+          → Wants Tells settings script old new shelf shelf' before after left'
+      wants reads leaves told = record {
         groups = until.groups;
         replies = until.told.loads.replies;
         next = until.next;
+        reads = reads_same (until.groups ++ until.next) reads;
         answers = answers_by until.groups until.next until.mid until.told.text until.told.loads until.settings front_of leaves;
         wrote = subst (λ (w : Option (List ℕ)). Wrote before (load_text settings until.groups until.told.loads.replies) w) (sym told) told_whole;
       }
 
-      pub cuts : Told Tells files WrotePart until.next until.mid store' until.middle after → CutsShort Tells settings script old new shelf shelf' before after
-      cuts last =
+      pub cuts : ReadsTo store.settings script left' (until.groups ++ until.next) → until.next ≢ [] → Told Tells files WrotePart until.next until.mid store' until.middle after
+          → CutsShort Tells settings script old new shelf shelf' before after left'
+      cuts reads some last =
           let loads = last.loads in
           let first = until.told.loads in
           record {
             groups = until.groups;
             replies = first.replies;
             last = until.next;
+            reads = reads_same (until.groups ++ until.next) reads;
             others = loads.replies;
             many = first.many;
+            some = some;
             one = until.one;
             answers = record {
               front = front_both until.groups until.next (script_groups settings script) front_of;
@@ -269,9 +290,10 @@ module _ {D : Type 0} (Tells : Type 0) (files : D → Files) (drawn : D → ℕ 
 
       breaks : (Behind : Option (List ℕ) → List ℕ → List ℕ → Option (List ℕ) → Type 0) (Writes : Option (List ℕ) → List ℕ → Option (List ℕ) → Type 0)
           → ((whole more : List ℕ) → Wrote before whole until.middle → Writes until.middle more after → Behind before whole more after)
-          → FailsTold Tells files faults Writes until.next until.mid store' until.middle after → Breaks Tells settings script old new shelf shelf' before after Behind
+          → ReadsTo store.settings script left' (until.groups ++ until.next) → FailsTold Tells files faults Writes until.next until.mid store' until.middle after
+          → Breaks Tells settings script old new shelf shelf' before after left' Behind
       unfolding answers_by
-      breaks Behind Writes join f =
+      breaks Behind Writes join reads f =
           let x = f.fails in
           let one = Batch x.batch.line x.batch.photos in
           let count = fell x.fails.volume x.slot x.faults x.fails.fails in
@@ -283,6 +305,7 @@ module _ {D : Type 0} (Tells : Type 0) (files : D → Files) (drawn : D → ℕ 
             replies = until.told.loads.replies;
             line = x.batch.line;
             photos = x.batch.photos;
+            reads = reads_first settings script left' until.groups until.next x.behind one x.is (reads_same (until.groups ++ until.next) reads);
             answers = answers_by until.groups (one ∷ []) until.mid until.told.text until.told.loads until.settings
                 (front_first until.groups until.next (script_groups settings script) x.behind one x.is front_of) leaves;
             slot = x.slot;
@@ -303,11 +326,13 @@ module _ {D : Type 0} (Tells : Type 0) (files : D → Files) (drawn : D → ℕ 
                 (subst (λ (l : List ℕ). Writes until.middle l after) x.told f.wrote);
           }
 
-      pub breaks_whole : FailsTold Tells files faults Wrote until.next until.mid store' until.middle after → Breaks Tells settings script old new shelf shelf' before after WroteBoth
-      breaks_whole f = breaks WroteBoth Wrote (λ whole more first second. wrote_more before until.middle after whole more first second) f
+      pub breaks_whole : ReadsTo store.settings script left' (until.groups ++ until.next) → FailsTold Tells files faults Wrote until.next until.mid store' until.middle after
+          → Breaks Tells settings script old new shelf shelf' before after left' WroteBoth
+      breaks_whole reads f = breaks WroteBoth Wrote (λ whole more first second. wrote_more before until.middle after whole more first second) reads f
 
-      pub breaks_part : FailsTold Tells files faults WrotePart until.next until.mid store' until.middle after → Breaks Tells settings script old new shelf shelf' before after WroteThen
-      breaks_part f = breaks WroteThen WrotePart (λ whole more first second. part_more before until.middle after whole more first second) f
+      pub breaks_part : ReadsTo store.settings script left' (until.groups ++ until.next) → FailsTold Tells files faults WrotePart until.next until.mid store' until.middle after
+          → Breaks Tells settings script old new shelf shelf' before after left' WroteThen
+      breaks_part reads f = breaks WroteThen WrotePart (λ whole more first second. part_more before until.middle after whole more first second) reads f
 
     -- how a load ends whose source failed, or whose script is too long
     pub halts_input : (left' : Option (List ℕ)) → ServesUntil Tells files faults fuses stop.Input (Some script) left' store store' begun after
@@ -330,10 +355,10 @@ module _ {D : Type 0} (Tells : Type 0) (files : D → Files) (drawn : D → ℕ 
     ends_open left' (Err stop.Output) served stopped =
         let until = stopped stop.Output refl in
         elim until.stops [
-          | inl told ↦ inr (inr (inl (cuts stop.Output left' until told)))
-          | inr fails ↦ inr (inr (inr (breaks_part stop.Output left' until fails)))
+          | inl told ↦ inr (inr (inl (cuts stop.Output left' until (until.broke script refl) told.1 told.0)))
+          | inr fails ↦ inr (inr (inr (breaks_part stop.Output left' until (until.broke script refl) fails)))
         ]
     ends_open left' (Err stop.Input) served stopped = let until = stopped stop.Input refl in halts stop.Input left' until until.stops.0 until.stops.1
-    ends_open left' (Err stop.NoMemory) served stopped = let until = stopped stop.NoMemory refl in inr (wants stop.NoMemory left' until until.stops.0 until.stops.1)
-    ends_open left' (Err stop.Store) served stopped = let until = stopped stop.Store refl in inr (breaks_whole stop.Store left' until until.stops)
+    ends_open left' (Err stop.NoMemory) served stopped = let until = stopped stop.NoMemory refl in inr (wants stop.NoMemory left' until (until.broke script refl) until.stops.0 until.stops.1)
+    ends_open left' (Err stop.Store) served stopped = let until = stopped stop.Store refl in inr (breaks_whole stop.Store left' until (until.broke script refl) until.stops)
     ends_open left' (Err stop.TooLong) served stopped = let until = stopped stop.TooLong refl in halts stop.TooLong left' until until.stops.0 until.stops.1

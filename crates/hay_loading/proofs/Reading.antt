@@ -191,7 +191,7 @@ taken_most limit left mid after first held held' h k at_first small script told 
     let all = accounts_more left mid after first held held' h k in
     let made : Accounts (Some script) first after held' = rw told at all in (made.0, made.1, omega (arith, made.2, at_first, small))
 
-last_of_none : (a b : List ℕ) → a ++ b ≡ [] → b ≡ []
+pub last_of_none : (a b : List ℕ) → a ++ b ≡ [] → b ≡ []
 last_of_none [] b e = e
 last_of_none (x ∷ a) b e = cc
 

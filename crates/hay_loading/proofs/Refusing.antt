@@ -26,13 +26,13 @@ module _ (Tells : Type 0) (settings : Settings) (script : List ℕ) (old new : �
     (failed : (slot faults : ℕ) → fault ≡ LoadOpenFault.Open slot (OpenFault.Failed faults)
     → (slot < disk_count settings) × Rose (old slot).fault_count (new slot).fault_count × (faults ≡ (new slot).fault_count)
     × (Tells → IsUndamagedBelow settings slot (reads_of old) × AreSoundBelow settings slot (reads_of new)))
-    (damaged : (slot file at : ℕ) → fault ≡ LoadOpenFault.Open slot (OpenFault.Damaged file at) → (slot < disk_count settings)
+    (damaged : (slot file at : ℕ) → fault ≡ LoadOpenFault.Open slot (OpenFault.Damaged file at) → (slot < disk_count settings) × (slot ≡ 0 → file ≡ 0)
     × (Tells → IsDamagedDisk settings (reads_of old) slot file at × IsDamagedDisk settings (reads_of new) slot file at × AreSoundBelow settings slot (reads_of new)))
     (header : Wrote before (header_line settings) begun) where
   why_by : (x : LoadOpenFault) (note : Note) → fault ≡ x → note_of x ≡ Some note → IsRefusal Tells settings script old new shelf shelf' before after note
   why_by (LoadOpenFault.Shelf faults) note is told = let f = by_shelf faults is in inl (faults, cc, f.0, f.1)
   why_by (LoadOpenFault.Open slot (OpenFault.Failed faults)) note is told = let f = failed slot faults is in inr (inl (slot, faults, cc, f.0, f.1, f.2, f.3))
-  why_by (LoadOpenFault.Open slot (OpenFault.Damaged file at)) note is told = let f = damaged slot file at is in inr (inr (slot, file, at, cc, f.0, f.1))
+  why_by (LoadOpenFault.Open slot (OpenFault.Damaged file at)) note is told = let f = damaged slot file at is in inr (inr (slot, file, at, cc, f.0, f.1, f.2))
   why_by (LoadOpenFault.Open slot OpenFault.NoMemory) note is told = absurd cc
   why_by LoadOpenFault.NoMemory note is told = absurd cc
 

@@ -1,5 +1,5 @@
 -- What no load tells, each as a lemma.
-use Rattle.std.proofs.Common.{◌≡◌, ◌≢◌, ◌⊎◌, inl, inr, ℕ, zero, suc, ◌+◌, ◌%◌, ◌<◌, ◌≤◌, List, [], ◌∷◌, ◌++◌, length, map, All, Bool, true, false, Option, Some, None, refl, sym, ap, subst, ◌∙◌, arith}
+use Rattle.std.proofs.Common.{◌≡◌, ◌≢◌, ◌⊎◌, inl, inr, ℕ, zero, suc, ◌+◌, ◌%◌, ◌<◌, ◌≤◌, List, [], ◌∷◌, ◌++◌, length, map, All, Bool, true, false, Option, Some, None, refl, sym, ap, subst, ◌∙◌, length-append, arith}
 use Rattle.std.specs.Prelude.{if◌then◌else◌, nat_eq}
 use Rattle.std.proofs.lemmas.Bool.{cond-true}
 use Rattle.std.proofs.lemmas.List.Elements.{All-append, All-cons, All-nil}
@@ -7,6 +7,12 @@ use Rattle.hay_needle.specs.declared.needle.Pair.{Pair}
 use Rattle.hay_needle.specs.declared.settings.Settings.{Settings}
 use Rattle.hay_needle.specs.Tables.{pair_eq}
 use Rattle.hay_disk.specs.Shelf.{HeldDisk}
+use Rattle.hay_script.specs.declared.Command.TheVariants as command
+use Rattle.hay_script.specs.declared.Line.{Line}
+use Rattle.hay_script.specs.declared.Line.TheVariants as said
+use Rattle.hay_script.specs.Script.{lines_of}
+use Rattle.hay_lines.specs.Lines.{NoFeed, fed_text}
+use Rattle.hay_reply.specs.declared.Note.TheVariants.{OpenDamaged}
 use Rattle.hay_reply.specs.declared.Refused.{Refused}
 use Rattle.hay_reply.specs.declared.Refused.TheVariants.{NoRoom}
 use Rattle.hay_reply.specs.declared.Reply.TheVariants.{BadLine, Full}
@@ -21,9 +27,11 @@ use Rattle.hay_batch.proofs.Lists.{at_there}
 use Rattle.hay_load.specs.declared.reply.LoadReply.{LoadReply}
 use Rattle.hay_load.specs.declared.reply.LoadReply.TheVariants.{Known, Loaded, Other}
 use Rattle.hay_load.specs.Answers.{FitsIn, IsTryIn, Remembered, SuitAll, SuitsBatch, counted}
-use Rattle.hay_load.specs.Gathering.{Bad, Batch, Group, key_of}
+use Rattle.hay_load.specs.Gathering.{Bad, Batch, Group, key_of, line_step}
 use Rattle.hay_load.specs.Replies.{full_reply, refused_of}
-use Rattle.hay_loading.specs.Endings.{Begins, Refuses, WroteBoth}
+use Rattle.hay_loading.specs.Endings.{Begins, Breaks, CutsShort, IsFront, IsRefusal, ReadsTo, Refuses, Wants, WroteBoth, ended_from, groups_before, says, script_groups}
+use Rattle.hay_loading.proofs.Reading.{lines_of-fed}
+use Rattle.hay_loading.proofs.Whole.{fed-feed, fed-none}
 
 -- ROOM
 
@@ -219,3 +227,117 @@ refused_with_a_byte_read Tells settings byte script old new shelf shelf' before 
     let same : script ≡ byte ∷ script = (let is = refuses.unread in cc) in
     let long = ap (λ (l : List ℕ). length l) same in
     omega (arith, long)
+
+-- one whose line tells damage of the Directory's disk, in a file that it has not
+pub damaged_in_no_file : (Tells : Type 0) (settings : Settings) (script : List ℕ) (old new : ℕ → HeldDisk) (shelf shelf' : ℕ) (before after : Option (List ℕ)) (file at : ℕ)
+    → IsRefusal Tells settings script old new shelf shelf' before after (OpenDamaged 0 file at) → file ≢ 0 → ⊥
+damaged_in_no_file Tells settings script old new shelf shelf' before after file at (inl told) other = let is = told.1 in absurd cc
+damaged_in_no_file Tells settings script old new shelf shelf' before after file at (inr (inl told)) other = let is = told.2 in absurd cc
+damaged_in_no_file Tells settings script old new shelf shelf' before after file at (inr (inr told)) other =
+    let is = told.3 in
+    let slot : told.0 ≡ 0 = cc in
+    let same : file ≡ told.1 = cc in
+    other (same ∙ told.5 slot)
+
+-- WHAT WAS READ
+
+none_of : (l : List ℕ) → length l ≡ 0 → l ≡ []
+none_of [] none = refl
+none_of (b ∷ l) none = absurd (omega (arith, none))
+
+no_groups : (group : Group) (groups : List Group) → IsFront (group ∷ groups) [] → ⊥
+no_groups group groups front = let is = front.1 in absurd cc
+
+-- a load that tells of groups, though the source was given back with all that it had
+pub answered_unread : (settings : Settings) (script : List ℕ) (group : Group) (groups : List Group) → ReadsTo settings script (Some script) (group ∷ groups) → ⊥
+answered_unread settings script group groups reads =
+    let bytes = reads.bytes in
+    let same : script ≡ bytes.0 = (let is = bytes.1 in cc) in
+    let long = ap (λ (l : List ℕ). length l) bytes.2 ∙ length-append reads.read bytes.0 in
+    let rest_is = ap (λ (l : List ℕ). length l) same in
+    let nothing : reads.read ≡ [] = none_of reads.read (omega (arith, long, rest_is)) in
+    elim reads.ends [
+      | inl front ↦ no_groups group groups (subst (λ (l : List ℕ). IsFront (group ∷ groups) (groups_before settings l)) nothing front)
+      | inr whole ↦ no_groups group groups (subst (λ (l : List ℕ). IsFront (group ∷ groups) (script_groups settings l)) (sym whole.0 ∙ nothing) whole.1)
+    ]
+
+-- the front of bytes that ends no later than their first line
+first_line : (line more read rest : List ℕ) → NoFeed line → read ++ rest ≡ line ++ 10 ∷ more → length more ≤ length rest → NoFeed read ⊎ (read ≡ line ++ 10 ∷ [])
+first_line line more [] rest free same short = inl tt
+first_line [] more (b ∷ read) rest free same short =
+    let first : b ≡ 10 = cc in
+    let others : read ++ rest ≡ more = cc in
+    let long = sym (length-append read rest) ∙ ap (λ (l : List ℕ). length l) others in
+    inr (ap (λ (c : ℕ). c ∷ read) first ∙ ap (λ (l : List ℕ). 10 ∷ l) (none_of read (omega (arith, long, short))))
+first_line (c ∷ line) more (b ∷ read) rest free same short =
+    let first : b ≡ c = cc in
+    let others : read ++ rest ≡ line ++ 10 ∷ more = cc in
+    elim (first_line line more read rest free.1 others short) [
+      | inl none ↦ inl (λ feed. free.0 (sym first ∙ feed), none)
+      | inr is ↦ inr (ap (λ (d : ℕ). d ∷ read) first ∙ ap (λ (l : List ℕ). c ∷ l) is)
+    ]
+
+-- a put on the first line of a script is answered behind one more line, or at the end
+one_put : (settings : Settings) (line bytes : List ℕ) (pair : Pair) → NoFeed line → says (fed_text line) ≡ said.Plain (command.Put pair bytes) → groups_before settings (line ++ 10 ∷ []) ≡ []
+one_put settings line bytes pair free is =
+    ap (λ (l : List ℕ). ended_from settings 1 None (map says (lines_of l))) (fed-feed line [])
+    ∙ ap (λ (l : List (List ℕ)). ended_from settings 1 None (map says l)) (lines_of-fed line [] free)
+    ∙ ap (λ (s : Line). (line_step settings 1 None s).groups ++ []) is
+
+-- a load that tells of one, though its source was given back with a byte of the next line, and all that comes behind that
+pub answered_on_its_line : (settings : Settings) (line more rest bytes : List ℕ) (pair : Pair) (group : Group) (groups : List Group) → NoFeed line
+    → says (fed_text line) ≡ said.Plain (command.Put pair bytes) → 0 < length more → length more ≤ length rest → ReadsTo settings (line ++ 10 ∷ more) (Some rest) (group ∷ groups) → ⊥
+answered_on_its_line settings line more rest bytes pair group groups free is some short reads =
+    let read = reads.read in
+    let had = reads.bytes in
+    let rest_is : rest ≡ had.0 = (let told = had.1 in cc) in
+    let same : read ++ rest ≡ line ++ 10 ∷ more = ap (λ (l : List ℕ). read ++ l) rest_is ∙ sym had.2 in
+    elim reads.ends [
+      | inl front ↦ elim (first_line line more read rest free same short) [
+        | inl none ↦ no_groups group groups (subst (λ (l : List ℕ). IsFront (group ∷ groups) (ended_from settings 1 None (map says (lines_of l)))) (fed-none read none) front)
+        | inr all ↦ no_groups group groups (subst (λ (l : List Group). IsFront (group ∷ groups) l) (ap (λ (l : List ℕ). groups_before settings l) all ∙ one_put settings line bytes pair free is) front)
+      ]
+      | inr whole ↦
+          let long = sym (length-append read rest) ∙ ap (λ (l : List ℕ). length l) same in
+          let read_is = ap (λ (l : List ℕ). length l) whole.0 in
+          absurd (omega (arith, long, read_is, some, short))
+    ]
+
+-- one that was cut short so, or broke, or wanted memory
+pub cut_short_on_its_line : (Tells : Type 0) (settings : Settings) (line more rest bytes : List ℕ) (old new : ℕ → HeldDisk) (shelf shelf' : ℕ) (before after : Option (List ℕ)) (pair : Pair) → NoFeed line
+    → says (fed_text line) ≡ said.Plain (command.Put pair bytes) → 0 < length more → length more ≤ length rest → CutsShort Tells settings (line ++ 10 ∷ more) old new shelf shelf' before after (Some rest) → ⊥
+cut_short_on_its_line Tells settings line more rest bytes old new shelf shelf' before after pair free is some short cuts =
+    by cuts.groups cuts.last cuts.some cuts.reads
+  where
+    by : (groups last : List Group) → last ≢ [] → ReadsTo settings (line ++ 10 ∷ more) (Some rest) (groups ++ last) → ⊥
+    by [] [] none reads = none refl
+    by [] (group ∷ last) none reads = answered_on_its_line settings line more rest bytes pair group last free is some short reads
+    by (group ∷ groups) last none reads = answered_on_its_line settings line more rest bytes pair group (groups ++ last) free is some short reads
+
+pub broke_on_its_line : (Tells : Type 0) (settings : Settings) (line more rest bytes : List ℕ) (old new : ℕ → HeldDisk) (shelf shelf' : ℕ) (before after : Option (List ℕ)) (pair : Pair)
+    (Writes : Option (List ℕ) → List ℕ → List ℕ → Option (List ℕ) → Type 0) → NoFeed line
+    → says (fed_text line) ≡ said.Plain (command.Put pair bytes) → 0 < length more → length more ≤ length rest
+    → Breaks Tells settings (line ++ 10 ∷ more) old new shelf shelf' before after (Some rest) Writes → ⊥
+broke_on_its_line Tells settings line more rest bytes old new shelf shelf' before after pair Writes free is some short breaks =
+    by breaks.groups breaks.reads
+  where
+    by : (groups : List Group) → ReadsTo settings (line ++ 10 ∷ more) (Some rest) (groups ++ Batch breaks.line breaks.photos ∷ []) → ⊥
+    by [] reads = answered_on_its_line settings line more rest bytes pair (Batch breaks.line breaks.photos) [] free is some short reads
+    by (group ∷ groups) reads = answered_on_its_line settings line more rest bytes pair group (groups ++ Batch breaks.line breaks.photos ∷ []) free is some short reads
+
+pub wanted_behind_an_answer_on_its_line : (Tells : Type 0) (settings : Settings) (line more rest bytes : List ℕ) (old new : ℕ → HeldDisk) (shelf shelf' : ℕ) (before after : Option (List ℕ)) (pair : Pair) → NoFeed line
+    → says (fed_text line) ≡ said.Plain (command.Put pair bytes) → 0 < length more → length more ≤ length rest
+    → (wants : Wants Tells settings (line ++ 10 ∷ more) old new shelf shelf' before after (Some rest)) → wants.groups ≢ [] → ⊥
+wanted_behind_an_answer_on_its_line Tells settings line more rest bytes old new shelf shelf' before after pair free is some short wants answered =
+    by wants.groups answered wants.reads
+  where
+    by : (groups : List Group) → groups ≢ [] → ReadsTo settings (line ++ 10 ∷ more) (Some rest) (groups ++ wants.next) → ⊥
+    by [] some reads = some refl
+    by (group ∷ groups) none reads = answered_on_its_line settings line more rest bytes pair group (groups ++ wants.next) free is some short reads
+
+-- one whose source was given back with bytes that it never had
+pub gave_back_other_bytes : (settings : Settings) (script rest : List ℕ) (groups : List Group) → ((read : List ℕ) → script ≡ read ++ rest → ⊥) → ReadsTo settings script (Some rest) groups → ⊥
+gave_back_other_bytes settings script rest groups other reads =
+    let bytes = reads.bytes in
+    let same : bytes.0 ≡ rest = (let is = bytes.1 in cc) in
+    other reads.read (bytes.2 ∙ ap (λ (l : List ℕ). reads.read ++ l) same)

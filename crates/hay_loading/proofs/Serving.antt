@@ -19,10 +19,10 @@ use Rattle.hay_load.specs.Loads.{held_of}
 use Rattle.hay_loading.specs.declared.stops.Stop.{Stop}
 use Rattle.hay_loading.specs.declared.stops.Stop.TheVariants as stop
 use Rattle.hay_loading.specs.Endings.{IsFront, script_groups}
-use Rattle.hay_loading.specs.Lines.{ComeNext, Makes, ServesAll, ServesUntil, Stops, StopsIn, Takes, Told, TookWhole, rest_groups}
+use Rattle.hay_loading.specs.Lines.{BreaksIn, ComeNext, Makes, ServesAll, ServesUntil, Stops, StopsIn, Takes, Told, TookWhole, rest_groups}
 use Rattle.hay_loading.proofs.Reading.{makes_all, makes_more, next_more}
 use Rattle.hay_loading.proofs.Taking.{count_end, told_more}
-use Rattle.hay_loading.proofs.Whole.{breaks_off, never_off, whole_more}
+use Rattle.hay_loading.proofs.Whole.{breaks_off, breaks_whole, whole_more}
 
 -- COUNTS
 
@@ -86,23 +86,27 @@ module _ {D : Type 0} (Tells : Type 0) (files : D → Files) (first mid : Loadin
 
     pub until_line : (faults fuses : D → ℕ) (why : Stop) (store' : LoadStore D) (written' after : Option (List ℕ)) → IsShaped mid.store → KeepsCounts faults fuses first.store mid.store
         → Stops Tells files faults why mid number rest middle store' written' after → ServesUntil Tells files faults fuses why left after first.store store' written written'
-    until_line faults fuses why store' written' after shape counts s = record {
-      groups = takes.groups;
-      next = s.groups;
-      broke = λ script told. breaks_off first.store.settings why number (held_of mid.held) script takes.groups rest after (whole_first script told) s.broke;
-      front = λ script told.
-          let next = subst (λ (x : Settings). ComeNext x number (held_of mid.held) rest s.groups) same s.next in
-          subst (λ (l : List Group). IsFront (takes.groups ++ s.groups) l) (from_first script)
-          (next_more first.store.settings 1 number (held_of first.held) (held_of mid.held) left rest takes.groups s.groups takes.makes next script told);
-      one = s.one;
-      mid = mid.store;
-      middle = middle;
-      told = takes.told;
-      settings = same;
-      shape = shape;
-      counts = counts;
-      stops = s.stops;
-    }
+    until_line faults fuses why store' written' after shape counts s =
+        let front : (script : List ℕ) → left ≡ Some script → IsFront (takes.groups ++ s.groups) (script_groups first.store.settings script) = λ script told.
+        let next = subst (λ (x : Settings). ComeNext x number (held_of mid.held) rest s.groups) same s.next in
+        subst (λ (l : List Group). IsFront (takes.groups ++ s.groups) l) (from_first script)
+        (next_more first.store.settings 1 number (held_of first.held) (held_of mid.held) left rest takes.groups s.groups takes.makes next script told) in
+        let broke : BreaksIn first.store.settings number (held_of mid.held) s.groups why rest after =
+        subst (λ (x : Settings). BreaksIn x number (held_of mid.held) s.groups why rest after) same s.broke in
+        record {
+          groups = takes.groups;
+          next = s.groups;
+          broke = λ script told. breaks_off first.store.settings why number (held_of mid.held) script takes.groups s.groups rest after (whole_first script told) (front script told) broke;
+          front = front;
+          one = s.one;
+          mid = mid.store;
+          middle = middle;
+          told = takes.told;
+          settings = same;
+          shape = shape;
+          counts = counts;
+          stops = s.stops;
+        }
 
     -- the next line is the last
     module _ (new : Loading D) (number' : ℕ) (rest' middle' : Option (List ℕ)) (ended : Bool) (next : Takes Tells files mid number rest middle new number' rest' middle' ended)
@@ -126,22 +130,26 @@ module _ {D : Type 0} (Tells : Type 0) (files : D → Files) (first mid : Loadin
       }
 
       pub until_end : (faults fuses : D → ℕ) (why : Stop) (store' : LoadStore D) (written' after : Option (List ℕ)) → new.store.settings ≡ first.store.settings → IsShaped new.store
-          → KeepsCounts faults fuses first.store new.store → (why ≡ stop.Output) ⊎ (why ≡ stop.NoMemory) ⊎ (why ≡ stop.Store)
+          → KeepsCounts faults fuses first.store new.store → (why ≡ stop.Output) ⊎ (why ≡ stop.NoMemory) ⊎ (why ≡ stop.Store) → IsReadToEnd left after
           → StopsIn Tells files faults why (closed (held_of new.held)) new.store store' middle' written' → ServesUntil Tells files faults fuses why left after first.store store' written written'
-      until_end faults fuses why store' written' after same' shape counts ends stops = record {
-        groups = takes.groups ++ next.groups;
-        next = closed (held_of new.held);
-        broke = λ script told. never_off first.store.settings why script (takes.groups ++ next.groups) after ends;
-        front = λ script told. ([], groups_all script told ∙ sym (append-nil ((takes.groups ++ next.groups) ++ closed (held_of new.held))));
-        one = count_end (held_of new.held);
-        mid = new.store;
-        middle = middle';
-        told = told_both;
-        settings = same';
-        shape = shape;
-        counts = counts;
-        stops = stops;
-      }
+      until_end faults fuses why store' written' after same' shape counts ends whole stops =
+          let front : (script : List ℕ) → left ≡ Some script → IsFront ((takes.groups ++ next.groups) ++ closed (held_of new.held)) (script_groups first.store.settings script) = λ script told.
+          ([], groups_all script told ∙ sym (append-nil ((takes.groups ++ next.groups) ++ closed (held_of new.held)))) in
+          record {
+            groups = takes.groups ++ next.groups;
+            next = closed (held_of new.held);
+            broke = λ script told. breaks_whole first.store.settings why script (takes.groups ++ next.groups) (closed (held_of new.held)) after ends
+                (subst (λ (l : Option (List ℕ)). IsReadToEnd l after) told whole) (front script told);
+            front = front;
+            one = count_end (held_of new.held);
+            mid = new.store;
+            middle = middle';
+            told = told_both;
+            settings = same';
+            shape = shape;
+            counts = counts;
+            stops = stops;
+          }
 
 -- THE SAME STORE
 

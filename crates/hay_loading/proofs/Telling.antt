@@ -1,5 +1,5 @@
 -- What was told of groups, by what a load of them answered and by what was written.
-use Rattle.std.proofs.Common.{◌≡◌, ◌⊎◌, inl, inr, ℕ, List, [], Option, Result, Ok, Err, refl, subst}
+use Rattle.std.proofs.Common.{◌≡◌, ◌≢◌, ◌⊎◌, inl, inr, ℕ, ◌<◌, List, [], ◌++◌, length, Option, Result, Ok, Err, refl, ap, subst, ◌∙◌, arith}
 use Rattle.std.specs.Prelude.{IsErrOf, IsOk, OnErr, OnOk}
 use Rattle.std.proofs.lemmas.Bool.{false≢true}
 use Rattle.std.proofs.lemmas.Result.{IfErr-at_err}
@@ -7,6 +7,7 @@ use Rattle.hay_disk.specs.Disk.{Files}
 use Rattle.hay_disk.specs.Streams.{Wrote, WrotePart}
 use Rattle.hay_batch.specs.declared.store.LoadStore.{LoadStore}
 use Rattle.hay_load.specs.declared.loading.LoadEnd.{LoadEnd}
+use Rattle.hay_load.specs.Answers.{reply_lines}
 use Rattle.hay_load.specs.Gathering.{Group}
 use Rattle.hay_load.specs.Loads.{FailsFirst, Loads}
 use Rattle.hay_loading.specs.declared.stops.Stop.{Stop}
@@ -48,6 +49,15 @@ module _ {D : Type 0} (Tells : Type 0) (files : D → Files) (fault_count : D �
     wrote = subst (λ (l : List ℕ). Writes written l written') same wrote;
   }
 
+  -- where there was something to write
+  some_of : IsOk told → 0 < length slice → groups ≢ []
+  some_of ok some nothing =
+      let done = ok_gives told (Loads Tells files groups old new empty text) loads ok in
+      let lines : reply_lines groups done.replies ≡ [] = ap (λ (l : List Group). reply_lines l done.replies) nothing in
+      let no_text : text ≡ [] = done.told ∙ ap (λ (l : List ℕ). empty ++ l) lines ∙ ap (λ (l : List ℕ). l ++ []) none in
+      let length_is = ap (λ (l : List ℕ). length l) (same ∙ no_text) in
+      omega (arith, some, length_is)
+
   pub told_all : (r : Answer) → OnOk r (IsOk told × Wrote written slice written') → OnOk r (Told Tells files Wrote groups old new written written')
   told_all (Ok done) w = told_of Wrote w.0 w.1
   told_all (Err why) w = tt
@@ -62,12 +72,12 @@ module _ {D : Type 0} (Tells : Type 0) (files : D → Files) (fault_count : D �
     }
 
     pub stops_in : (r : Answer) → (r ≡ Err stop.Store → IsErrOf told LoadEnd.Failed × Wrote written slice written') → (r ≡ Err stop.NoMemory → written' ≡ written)
-        → (r ≡ Err stop.Output → (IsOk told ⊎ IsErrOf told LoadEnd.Failed) × WrotePart written slice written')
+        → (r ≡ Err stop.Output → (IsOk told ⊎ IsErrOf told LoadEnd.Failed) × WrotePart written slice written' × (0 < length slice))
         → OnErr r ((r ≡ Err stop.Output) ⊎ (r ≡ Err stop.NoMemory) ⊎ (r ≡ Err stop.Store)) → (why : Stop) → r ≡ Err why → StopsIn Tells files fault_count why groups old new written written'
     stops_in r store memory output stops stop.Output is =
         let part = output is in
         elim part.0 [
-          | inl ok ↦ inl (told_of WrotePart ok part.1)
+          | inl ok ↦ inl (told_of WrotePart ok part.1, some_of ok part.2)
           | inr fails ↦ inr (fails_of WrotePart fails part.1)
         ]
     stops_in r store memory output stops stop.NoMemory is = (leaves, memory is)

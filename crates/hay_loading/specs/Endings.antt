@@ -1,5 +1,5 @@
 -- What a load of a script tells, and what it leaves of the disks, at each status.
-use Rattle.std.specs.Prelude.{◌≡◌, ◌⊎◌, ◌<◌, ◌≤◌, ◌+◌, ℕ, List, [], ◌∷◌, ◌++◌, length, take, map, All, Option, Some, None, Result, Ok, Err}
+use Rattle.std.specs.Prelude.{◌≡◌, ◌≢◌, ◌⊎◌, ◌<◌, ◌≤◌, ◌+◌, ℕ, List, [], ◌∷◌, ◌++◌, length, take, map, All, Option, Some, None, Result, Ok, Err}
 use Rattle.std.specs.List.{AllByRecursion}
 use Rattle.hay_needle.specs.declared.settings.Settings.{Settings}
 use Rattle.hay_disk.specs.Counts.{Rose}
@@ -62,6 +62,12 @@ ReadOver script read left = (byte : ℕ) × Took (Some script) (read ++ byte ∷
 -- these are the first of all
 abbrev pub IsFront : List Group → List Group → Type 0
 IsFront front all = (rest : List Group) × (all ≡ front ++ rest)
+
+-- A front of a script was read, and these groups come of it: they end with its lines that a line feed ends, or it is the whole script.
+pub record ReadsTo (settings : Settings) (script : List ℕ) (left : Option (List ℕ)) (groups : List Group) : Type 0 where
+  pub read : List ℕ
+  pub bytes : ReadFront script read left
+  pub ends : IsFront groups (groups_before settings read) ⊎ ((read ≡ script) × IsFront groups (script_groups settings script))
 
 -- how many of them are batches
 abbrev pub batch_count : List Group → ℕ
@@ -171,32 +177,36 @@ module _ (Tells : Type 0) (settings : Settings) (script : List ℕ) (old new : �
     pub bytes : Read read
     pub halts : HaltsAt (groups_before settings read)
 
-  -- The same, but that the next batch may be loaded.
-  pub record Wants : Type 0 where
+  -- The same, but that the next batch may be loaded, of lines that were read.
+  pub record Wants (rest : Option (List ℕ)) : Type 0 where
     pub groups : List Group
     pub replies : List LoadReply
     pub next : List Group
+    pub reads : ReadsTo settings script rest (groups ++ next)
     pub answers : Answers groups replies next
     pub wrote : Wrote before (load_text settings groups replies) after
 
-  -- The first groups were answered, and this was written but for the last lines, of which one is of a batch.
-  pub record CutsShort : Type 0 where
+  -- The first groups, of lines that were read, were answered, and this was written but for the last lines, of which one is of a batch.
+  pub record CutsShort (rest : Option (List ℕ)) : Type 0 where
     pub groups : List Group
     pub replies : List LoadReply
     pub last : List Group
+    pub reads : ReadsTo settings script rest (groups ++ last)
     pub others : List LoadReply
     pub many : length replies ≡ length groups
+    pub some : last ≢ []
     pub one : batch_count last ≤ 1
     pub answers : Answers (groups ++ last) (replies ++ others) []
     pub wrote : WroteThen before (load_text settings groups replies) (reply_lines last others) after
 
   -- The first groups were answered, and a disk failed while the next batch was loaded, where one may by what is remembered then, and by what
-  -- is stored. Its count rose to the one that is told.
-  pub record Breaks (Writes : Option (List ℕ) → List ℕ → List ℕ → Option (List ℕ) → Type 0) : Type 0 where
+  -- is stored. Its count rose to the one that is told. The lines of that batch were read.
+  pub record Breaks (rest : Option (List ℕ)) (Writes : Option (List ℕ) → List ℕ → List ℕ → Option (List ℕ) → Type 0) : Type 0 where
     pub groups : List Group
     pub replies : List LoadReply
     pub line : ℕ
     pub photos : List NewPhoto
+    pub reads : ReadsTo settings script rest (groups ++ Batch line photos ∷ [])
     pub answers : Answers groups replies (Batch line photos ∷ [])
     pub slot : ℕ
     pub faults : ℕ
@@ -212,14 +222,14 @@ module _ (Tells : Type 0) (settings : Settings) (script : List ℕ) (old new : �
 
   -- Why the store was not opened, as it is told: the shelf failed, and its count rose to the one that is told; a disk failed, and
   -- none in a lower slot was damaged; or the disk in a slot is damaged at the place that is told, as it was taken and as it was
-  -- given back. The disks in lower slots are given back formatted and not damaged.
+  -- given back, in the Directory's file where that is its disk. The disks in lower slots are given back formatted and not damaged.
   abbrev pub IsRefusal : Note → Type 0
   IsRefusal note =
       ((count : ℕ) × (note ≡ OpenShelf count) × Rose shelf shelf' × (count ≡ shelf'))
       ⊎ ((slot : ℕ) × (count : ℕ) × (note ≡ OpenFailed slot count) × (slot < disk_count settings)
       × Rose (old slot).fault_count (new slot).fault_count × (count ≡ (new slot).fault_count)
       × (Tells → IsUndamagedBelow settings slot (reads_of old) × AreSoundBelow settings slot (reads_of new)))
-      ⊎ ((slot : ℕ) × (file : ℕ) × (at : ℕ) × (note ≡ OpenDamaged slot file at) × (slot < disk_count settings)
+      ⊎ ((slot : ℕ) × (file : ℕ) × (at : ℕ) × (note ≡ OpenDamaged slot file at) × (slot < disk_count settings) × (slot ≡ 0 → file ≡ 0)
       × (Tells → IsDamagedDisk settings (reads_of old) slot file at × IsDamagedDisk settings (reads_of new) slot file at × AreSoundBelow settings slot (reads_of new)))
 
   -- each disk is as it was, or was void, and whatever a stop leaves of it an opening finds nothing
@@ -244,17 +254,17 @@ module _ (Tells : Type 0) (settings : Settings) (script : List ℕ) (old new : �
   -- what was done, by what the source has left and why the load stopped
   abbrev pub Ends : Option (List ℕ) → Result (Unit {0}) Stop → Type 0
   Ends rest (Ok done) = LoadsAll
-  Ends rest (Err stop.Output) = Unopened rest ⊎ Refuses rest WroteThen ⊎ CutsShort ⊎ Breaks WroteThen
+  Ends rest (Err stop.Output) = Unopened rest ⊎ Refuses rest WroteThen ⊎ CutsShort rest ⊎ Breaks rest WroteThen
   Ends rest (Err stop.Input) = Halts
-  Ends rest (Err stop.NoMemory) = Unopened rest ⊎ Wants
-  Ends rest (Err stop.Store) = Refuses rest WroteBoth ⊎ Breaks WroteBoth
+  Ends rest (Err stop.NoMemory) = Unopened rest ⊎ Wants rest
+  Ends rest (Err stop.Store) = Refuses rest WroteBoth ⊎ Breaks rest WroteBoth
   Ends rest (Err stop.TooLong) = Halts
 
   -- What was done at each status.
   pub record LoadsTo (rest : Option (List ℕ)) (status : ℕ) : Type 0 where
     pub all : status ≡ 0 → LoadsAll
-    pub output : status ≡ 3 → Unopened rest ⊎ Refuses rest WroteThen ⊎ CutsShort ⊎ Breaks WroteThen
+    pub output : status ≡ 3 → Unopened rest ⊎ Refuses rest WroteThen ⊎ CutsShort rest ⊎ Breaks rest WroteThen
     pub input : status ≡ 4 → Halts
-    pub memory : status ≡ 5 → Unopened rest ⊎ Wants
-    pub store : status ≡ 6 → Refuses rest WroteBoth ⊎ Breaks WroteBoth
+    pub memory : status ≡ 5 → Unopened rest ⊎ Wants rest
+    pub store : status ≡ 6 → Refuses rest WroteBoth ⊎ Breaks rest WroteBoth
     pub long : status ≡ 7 → Halts

@@ -1,5 +1,5 @@
 -- Lines of a script that a load has taken, and what came of them.
-use Rattle.std.specs.Prelude.{◌≡◌, ◌⊎◌, ◌≤◌, ℕ, Bool, false, List, [], ◌++◌, map, Option, Some}
+use Rattle.std.specs.Prelude.{◌≡◌, ◌≢◌, ◌⊎◌, ◌≤◌, ℕ, Bool, false, List, [], ◌++◌, map, Option, Some}
 use Rattle.hay_needle.specs.declared.settings.Settings.{Settings}
 use Rattle.hay_disk.specs.Disk.{Files}
 use Rattle.hay_disk.specs.Streams.{Took, Wrote, WrotePart}
@@ -14,7 +14,7 @@ use Rattle.hay_loading.specs.declared.stops.Stop.{Stop}
 use Rattle.hay_loading.specs.declared.stops.Stop.TheVariants as stop
 use Rattle.hay_legal.specs.Items.{fed_part}
 use Rattle.hay_lines.specs.Lines.{TookOver, TookPart}
-use Rattle.hay_loading.specs.Endings.{IsFront, ReadFront, ReadOver, batch_count, ended_from, groups_before, says, script_groups}
+use Rattle.hay_loading.specs.Endings.{IsFront, ReadFront, ReadOver, ReadsTo, batch_count, ended_from, groups_before, says, script_groups}
 
 -- THE LINES THAT ARE LEFT
 
@@ -44,21 +44,27 @@ pub record TookWhole (settings : Settings) (number : ℕ) (held : Option OpenBat
   pub fed : (more : List ℕ) → fed_part (bytes ++ more) ≡ bytes ++ fed_part more
   pub ends : (more : List ℕ) → ended_groups settings number held (bytes ++ more) ≡ groups ++ ended_groups settings number' held' more
 
--- where the source failed, or more came than a script may have, no line was taken whole
-abbrev pub BreaksIn : Stop → Option (List ℕ) → Option (List ℕ) → Type 0
-BreaksIn stop.Output left after = Unit {0}
-BreaksIn stop.Input left after = TookPart left after
-BreaksIn stop.NoMemory left after = Unit {0}
-BreaksIn stop.Store left after = Unit {0}
-BreaksIn stop.TooLong left after = TookOver left after
+-- bytes were taken of those that were left, and these groups end with their lines that a line feed ends, or they are all that was left
+abbrev pub EndsWithin : Settings → ℕ → Option OpenBatch → List Group → Option (List ℕ) → Option (List ℕ) → Type 0
+EndsWithin settings number held groups left after = (rest : List ℕ) → left ≡ Some rest
+    → (bytes : List ℕ) × Took (Some rest) bytes after × (IsFront groups (ended_groups settings number held (fed_part bytes)) ⊎ (bytes ≡ rest))
 
--- and the groups of a script are just those that end with the lines that were read
-abbrev pub BreaksOff : Settings → Stop → List ℕ → List Group → Option (List ℕ) → Type 0
-BreaksOff settings stop.Output script groups after = Unit {0}
-BreaksOff settings stop.Input script groups after = (read : List ℕ) × ReadFront script read after × (groups ≡ groups_before settings read)
-BreaksOff settings stop.NoMemory script groups after = Unit {0}
-BreaksOff settings stop.Store script groups after = Unit {0}
-BreaksOff settings stop.TooLong script groups after = (read : List ℕ) × ReadOver script read after × (groups ≡ groups_before settings read)
+-- Where the source failed, or more came than a script may have, no line was taken whole; otherwise the groups that a load stops with end
+-- within what was taken.
+abbrev pub BreaksIn : Settings → ℕ → Option OpenBatch → List Group → Stop → Option (List ℕ) → Option (List ℕ) → Type 0
+BreaksIn settings number held groups stop.Output left after = EndsWithin settings number held groups left after
+BreaksIn settings number held groups stop.Input left after = TookPart left after
+BreaksIn settings number held groups stop.NoMemory left after = EndsWithin settings number held groups left after
+BreaksIn settings number held groups stop.Store left after = EndsWithin settings number held groups left after
+BreaksIn settings number held groups stop.TooLong left after = TookOver left after
+
+-- so these groups of a script, and the next, are among those of the lines that were read, or the first are just these
+abbrev pub BreaksOff : Settings → Stop → List ℕ → List Group → List Group → Option (List ℕ) → Type 0
+BreaksOff settings stop.Output script groups next after = ReadsTo settings script after (groups ++ next)
+BreaksOff settings stop.Input script groups next after = (read : List ℕ) × ReadFront script read after × (groups ≡ groups_before settings read)
+BreaksOff settings stop.NoMemory script groups next after = ReadsTo settings script after (groups ++ next)
+BreaksOff settings stop.Store script groups next after = ReadsTo settings script after (groups ++ next)
+BreaksOff settings stop.TooLong script groups next after = (read : List ℕ) × ReadOver script read after × (groups ≡ groups_before settings read)
 
 -- what is written of a text, from what a sink held before to what it holds after
 abbrev pub Writing : Type 1
@@ -92,7 +98,7 @@ pub record FailsTold {D : Type 0} (Tells : Type 0) (files : D → Files) (fault_
 -- what was done of these groups by a load that stops with them
 abbrev pub StopsIn : {D : Type 0} → Type 0 → (D → Files) → (D → ℕ) → Stop → List Group → LoadStore D → LoadStore D → Option (List ℕ) → Option (List ℕ) → Type 0
 StopsIn Tells files fault_count stop.Output groups store store' written written' =
-    Told Tells files WrotePart groups store store' written written' ⊎ FailsTold Tells files fault_count WrotePart groups store store' written written'
+    (Told Tells files WrotePart groups store store' written written' × (groups ≢ [])) ⊎ FailsTold Tells files fault_count WrotePart groups store store' written written'
 StopsIn Tells files fault_count stop.Input groups store store' written written' = (store' ≡ store) × (written' ≡ written)
 StopsIn Tells files fault_count stop.NoMemory groups store store' written written' = Leaves Tells files groups store store' × (written' ≡ written)
 StopsIn Tells files fault_count stop.Store groups store store' written written' = FailsTold Tells files fault_count Wrote groups store store' written written'
@@ -112,7 +118,7 @@ pub record Takes {D : Type 0} (Tells : Type 0) (files : D → Files) (load : Loa
 pub record Stops {D : Type 0} (Tells : Type 0) (files : D → Files) (fault_count : D → ℕ) (why : Stop) (load : Loading D) (number : ℕ) (left written : Option (List ℕ))
     (store' : LoadStore D) (written' : Option (List ℕ)) (after : Option (List ℕ)) : Type 0 where
   pub groups : List Group
-  pub broke : BreaksIn why left after
+  pub broke : BreaksIn load.store.settings number (held_of load.held) groups why left after
   pub next : ComeNext load.store.settings number (held_of load.held) left groups
   pub one : batch_count groups ≤ 1
   pub stops : StopsIn Tells files fault_count why groups load.store store' written written'
@@ -130,7 +136,7 @@ pub record ServesUntil {D : Type 0} (Tells : Type 0) (files : D → Files) (faul
     (written written' : Option (List ℕ)) : Type 0 where
   pub groups : List Group
   pub next : List Group
-  pub broke : (script : List ℕ) → left ≡ Some script → BreaksOff store.settings why script groups after
+  pub broke : (script : List ℕ) → left ≡ Some script → BreaksOff store.settings why script groups next after
   pub front : (script : List ℕ) → left ≡ Some script → IsFront (groups ++ next) (script_groups store.settings script)
   pub one : batch_count next ≤ 1
   pub mid : LoadStore D

@@ -2,7 +2,7 @@
 ghost use Rattle.std.specs.Prelude.{◌≡◌, ◌⊎◌, ◌<◌, ◌≤◌, [], false, None, Err, IfOk, IfSome, OnOk, OnErr, IsErrOf};
 ghost use Rattle.hay_disk.specs.Counts.{Rose};
 ghost use Rattle.hay_script.specs.Script.{IsWithinLine};
-ghost use Rattle.hay_lines.specs.Lines.{TookOver, TookPart};
+ghost use Rattle.hay_lines.specs.Lines.{TookOver, TookPart, TookSome};
 ghost use Rattle.hay_lines.specs.Said.{SaysNext};
 ghost use Rattle.hay_lines.specs.Stream.{rest_of, budget, Accounts, IsTooLong};
 
@@ -28,6 +28,7 @@ pub fn next_said<S: Source>(
     ensures limit { script.new.taken ≤ SCRIPT }
     ensures long { IsErrOf result Stop.TooLong → IsTooLong SCRIPT (S.left source.old) script.old (S.left source.new) }
     ensures failed { IsErrOf result Stop.Input → TookPart (rest_of (S.left source.old) script.old) (S.left source.new) }
+    ensures memory { IsErrOf result Stop.NoMemory → TookSome (rest_of (S.left source.old) script.old) (rest_of (S.left source.new) script.new) }
     ensures over { IsErrOf result Stop.TooLong → TookOver (rest_of (S.left source.old) script.old) (S.left source.new) }
     ensures stops { OnErr result ((result ≡ Err Stop.Input) ⊎ (result ≡ Err Stop.NoMemory) ⊎ (result ≡ Err Stop.TooLong)) }
     ensures cause { IsErrOf result Stop.Input → Rose (S.fault_count source.old) (S.fault_count source.new) }

@@ -1,5 +1,5 @@
 //! One line: it is read, what it ends is loaded, and the replies are written.
-ghost use Rattle.std.specs.Prelude.{◌≡◌, ◌⊎◌, ◌+◌, ◌^◌, ◌<◌, ◌≤◌, [], false, true, None, Err, IfOk, OnOk, OnErr, IsOk, IsErrOf};
+ghost use Rattle.std.specs.Prelude.{◌≡◌, ◌⊎◌, ◌+◌, ◌^◌, ◌<◌, ◌≤◌, [], length, false, true, None, Err, IfOk, OnOk, OnErr, IsOk, IsErrOf};
 ghost use Rattle.hay_disk.specs.Counts.{Rose};
 ghost use Rattle.hay_disk.specs.Streams.{Wrote, WrotePart};
 ghost use Rattle.hay_script.specs.Script.{IsWithinLine};
@@ -25,7 +25,7 @@ fn write_told<K: Sink>(told: Result<(), LoadEnd>, text: &[u8], sink: &mut K) -> 
     ensures ok { OnOk result (IsOk told × Wrote (K.written sink.old) text.now (K.written sink.new)) }
     ensures store { IsErrOf result Stop.Store → IsErrOf told LoadEnd.Failed × Wrote (K.written sink.old) text.now (K.written sink.new) }
     ensures memory { IsErrOf result Stop.NoMemory → IsErrOf told LoadEnd.NoMemory × (sink.new ≡ sink.old) }
-    ensures output { IsErrOf result Stop.Output → (IsOk told ⊎ IsErrOf told LoadEnd.Failed) × WrotePart (K.written sink.old) text.now (K.written sink.new) }
+    ensures output { IsErrOf result Stop.Output → (IsOk told ⊎ IsErrOf told LoadEnd.Failed) × WrotePart (K.written sink.old) text.now (K.written sink.new) × (0 < length text.now) }
     ensures stops { OnErr result ((result ≡ Err Stop.Output) ⊎ (result ≡ Err Stop.NoMemory) ⊎ (result ≡ Err Stop.Store)) }
     ensures cause { IsErrOf result Stop.Output → Rose (K.fault_count sink.old) (K.fault_count sink.new) }
     ensures count { K.fault_count sink.old ≤ K.fault_count sink.new }

@@ -1,5 +1,5 @@
 //! What a load writes: the header, lines of replies, and how a refused opening is told.
-ghost use Rattle.std.specs.Prelude.{◌≡◌, ◌⊎◌, ◌≤◌, ◌++◌, Some, None, Err, IfSome, OnOk, OnErr, IsErrOf};
+ghost use Rattle.std.specs.Prelude.{◌≡◌, ◌⊎◌, ◌<◌, ◌≤◌, ◌++◌, length, Some, None, Err, IfSome, OnOk, OnErr, IsErrOf};
 ghost use Rattle.hay_disk.specs.Counts.{Rose};
 ghost use Rattle.hay_disk.specs.Streams.{Wrote, WrotePart};
 ghost use Rattle.hay_reply.specs.declared.Note.{Note};
@@ -21,6 +21,7 @@ use std::alloc::Global;
 pub fn write_text<K: Sink>(sink: &mut K, text: &[u8]) -> Result<(), Stop>
     ensures wrote { OnOk result (Wrote (K.written sink.old) text.now (K.written sink.new)) }
     ensures part { OnErr result (WrotePart (K.written sink.old) text.now (K.written sink.new)) }
+    ensures some { OnErr result (0 < length text.now) }
     ensures stops { OnErr result (result ≡ Err Stop.Output) }
     ensures cause { OnErr result (Rose (K.fault_count sink.old) (K.fault_count sink.new)) }
     ensures count { K.fault_count sink.old ≤ K.fault_count sink.new }

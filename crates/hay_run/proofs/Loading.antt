@@ -1,15 +1,20 @@
 -- A load among the modes of a run.
-use Rattle.std.proofs.Common.{◌≡◌, ◌≢◌, ◌⊎◌, ◌<◌, inl, inr, ℕ, false, List, Option, refl, ap, ◌∙◌, arith}
+use Rattle.std.proofs.Common.{◌≡◌, ◌≢◌, ◌⊎◌, ◌<◌, ◌≤◌, inl, inr, ℕ, false, List, ◌∷◌, ◌++◌, length, Option, Some, refl, ap, ◌∙◌, arith}
 use Rattle.hay_disk.specs.Shelf.{HeldArm, HeldDisk}
+use Rattle.hay_needle.specs.declared.needle.Pair.{Pair}
 use Rattle.hay_needle.specs.declared.settings.Settings.{Settings}
+use Rattle.hay_script.specs.declared.Command.TheVariants as command
+use Rattle.hay_script.specs.declared.Line.TheVariants as said
+use Rattle.hay_lines.specs.Lines.{NoFeed, fed_text}
 use Rattle.hay_open.specs.Stored.{IsVoid}
 use Rattle.hay_batch.specs.Shelves.{IsFirstDamage, reads_of}
 use Rattle.hay_legal.specs.Known.{disk_count}
 use Rattle.hay_legal.specs.Statuses.{Ending, status_of}
 use Rattle.hay_legal.specs.Statuses.Ending.{ReadAll, OutputFault, InputFault, NoMemory, NotOpened, TooLong}
 use Rattle.hay_loading.specs.declared.stops.Stop.TheVariants as stop
-use Rattle.hay_loading.specs.Endings.{IsStatus}
+use Rattle.hay_loading.specs.Endings.{IsStatus, WroteBoth, says}
 use Rattle.hay_loading.proofs.Refusing.{ends_unbegun}
+use Rattle.hay_loading.proofs.Refuted.{broke_on_its_line}
 use Rattle.hay_loading.proofs.Sinks.{wrote_nothing}
 use Rattle.hay_loading.proofs.Statuses.{to_stop}
 use Rattle.hay_run.specs.Loads.{IsLoad}
@@ -47,6 +52,18 @@ pub loaded_past_damage : (Tells : Type 0) (settings : Settings) (status slot fil
     → WasRead left left' → IsLoad Tells settings status disks disks' arms arms' shelf shelf' left left' before after → ⊥
 loaded_past_damage Tells settings status slot file at disks disks' arms arms' shelf shelf' left left' before after tells within some damage read load =
     load.sound tells (inr (inr (inr read))) slot file at within some damage
+
+-- a load that a disk's failure ended, of which no more was read than the line of its first put
+pub failed_on_its_line : (Tells : Type 0) (settings : Settings) (status : ℕ) (line more rest bytes : List ℕ) (pair : Pair) (disks disks' : ℕ → HeldDisk) (arms arms' : ℕ → HeldArm) (shelf shelf' : ℕ)
+    (before after : Option (List ℕ)) → status ≡ 6 → NoFeed line → says (fed_text line) ≡ said.Plain (command.Put pair bytes) → 0 < length more → length more ≤ length rest
+    → length rest < length (line ++ 10 ∷ more) → IsLoad Tells settings status disks disks' arms arms' shelf shelf' (Some (line ++ 10 ∷ more)) (Some rest) before after → ⊥
+failed_on_its_line Tells settings status line more rest bytes pair disks disks' arms arms' shelf shelf' before after six free is some short read load = elim ((load.loaded (line ++ 10 ∷ more) refl).store six) [
+  | inl refuses ↦
+      let same : rest ≡ line ++ 10 ∷ more = (let unread = refuses.unread in cc) in
+      let long = ap (λ (l : List ℕ). length l) same in
+      absurd (omega (arith, long, read))
+  | inr breaks ↦ broke_on_its_line Tells settings line more rest bytes disks disks' shelf shelf' before after pair WroteBoth free is some short breaks
+]
 
 -- memory was wanting for the words
 pub load_nothing : (Tells : Type 0) (settings : Settings) (status : ℕ) (disks : ℕ → HeldDisk) (arms : ℕ → HeldArm) (shelf : ℕ) (left before : Option (List ℕ))

@@ -116,7 +116,9 @@ returns-then-is_ended-clause-stopped g c = λ why is.
     c.step.ensures.shape.1
     (counts_more g.D.Disk.fault_count g.D.Disk.fuse_count c.args.load.now.store c.lines.load.store c.step.new.load.store c.requires.loading.shape inv.loading.shape inv.same
     inv.counts c.step.ensures.counts)
-    (told_stop c.take_end.result why is c.take_end.ensures.stops) (c.take_end.ensures.stopped why is)
+    (told_stop c.take_end.result why is c.take_end.ensures.stops)
+    (read_to_end (left c.args.source.now) (left c.lines.source) (left c.step.new.source) inv.first c.lines.script c.step.new.script inv.accounts (c.in_ok-number.ensures.at_end met))
+    (c.take_end.ensures.stopped why is)
 
 pub returns-then-is_ended-clause-shape : goal.returns-then-is_ended-clause-shape
 returns-then-is_ended-clause-shape g c = (c.take_end.ensures.shape.0 ∙ c.step.ensures.shape.0 ∙ c.lines.invariant.same, c.take_end.ensures.shape.1)

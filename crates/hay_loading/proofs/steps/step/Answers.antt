@@ -11,7 +11,7 @@ use Rattle.hay_loading.specs.declared.stops.Stop.{Stop}
 use Rattle.hay_loading.proofs.Reading.{end_makes, line_makes, line_next, none_next, said_end}
 use Rattle.hay_loading.proofs.Taking.{count_line, told_none}
 use Rattle.hay_loading.proofs.Telling.{read_stops, told_stop}
-use Rattle.hay_loading.proofs.Whole.{never_in, read_broke, whole_line, whole_over}
+use Rattle.hay_loading.proofs.Whole.{line_broke, line_within, none_within, read_broke, whole_line, whole_over}
 use Rattle.hay_loading.proofs.steps.step.Goals as goal
 
 -- NO LINE WAS READ
@@ -25,7 +25,10 @@ returns-in_err-line-clause-stopped g c = λ why is.
     let load = c.args.load.now in
     record {
       groups = [];
-      broke = read_broke c.next_said.result why (rest_of (g.S.Source.left c.args.source.now) c.args.script.now) (g.S.Source.left c.next_said.new.source) same c.next_said.ensures.failed
+      broke = read_broke load.store.settings c.args.number (held_of load.held) c.next_said.result why (rest_of (g.S.Source.left c.args.source.now) c.args.script.now)
+          (g.S.Source.left c.next_said.new.source) same c.next_said.ensures.stops c.next_said.ensures.failed
+          (λ memory. none_within load.store.settings c.args.number (held_of load.held) (rest_of (g.S.Source.left c.args.source.now) c.args.script.now)
+          (g.S.Source.left c.next_said.new.source) c.next_said.new.script (c.next_said.ensures.memory memory))
           c.next_said.ensures.over;
       next = none_next load.store.settings c.args.number (held_of load.held) (rest_of (g.S.Source.left c.args.source.now) c.args.script.now);
       one = omega arith;
@@ -66,7 +69,9 @@ returns-in_err-take_line-clause-stopped g c = λ why is.
     let says : SaysNext None (Some c.in-Some.line) before after c.next_said.new.script.ended = rw c.in-Some.is at c.in_ok-line.ensures.said in
     record {
       groups = (line_step load.store.settings c.args.number (held_of load.held) c.in-Some.line).groups;
-      broke = never_in why before (g.S.Source.left c.next_said.new.source) (told_stop c.take_line.result why same c.take_line.ensures.stops);
+      broke = line_broke load.store.settings c.args.number (held_of load.held) (line_step load.store.settings c.args.number (held_of load.held) c.in-Some.line).groups why before
+          (g.S.Source.left c.next_said.new.source) (told_stop c.take_line.result why same c.take_line.ensures.stops)
+          (line_within load.store.settings c.args.number (held_of load.held) before (g.S.Source.left c.next_said.new.source) c.next_said.new.script c.in-Some.line c.next_said.new.script.ended says);
       next = line_next load.store.settings c.args.number (held_of load.held) c.in-Some.line before after c.next_said.new.script.ended says;
       one = count_line load.store.settings c.args.number (held_of load.held) c.in-Some.line;
       stops = c.take_line.ensures.stopped why same;
