@@ -11,7 +11,7 @@ use Rattle.hay_dirfile.specs.declared.row.DirRow.{DirRow}
 use Rattle.hay_dirfile.specs.Journal.{IsDamagedJournal, IsJournal}
 use Rattle.hay_volume.specs.Cells.{needles_of}
 use Rattle.hay_open.specs.Damage.{IsOpeningDamage}
-use Rattle.hay_open.specs.Stored.{IsStored, IsVoid, OpensAs, Stored, index_file, volume_file}
+use Rattle.hay_open.specs.Stored.{IsReplicaFile, IsStored, IsVoid, OpensAs, Stored}
 use Rattle.hay_check.specs.declared.verdict.Verdict.{Verdict}
 use Rattle.hay_check.specs.declared.verdict.Verdict.TheVariants as verdict
 use Rattle.hay_check.specs.Damage.{IsFirstDamage}
@@ -49,10 +49,6 @@ JournalCheckOf sup contents v =
     ⊎ ((at : ℕ) × (IsVoid contents → ⊥) × IsDamagedJournal sup (contents 0) at × (v ≡ verdict.Damaged 0 at))
 
 -- WHATEVER THE DISK TELLS
-
--- a file that the head or a generation of a replica may name
-abbrev pub IsReplicaFile : ℕ → Type 0
-IsReplicaFile file = (file ≡ 0) ⊎ ((generation : ℕ) × (generation ≤ 65535) × ((file ≡ volume_file generation) ⊎ (file ≡ index_file generation)))
 
 -- the verdicts that there are on a replica's disk: of a whole one the numbers fit each other, and all fit their types
 abbrev pub IsReplicaVerdict : Verdict → Type 0

@@ -2,9 +2,9 @@
 
 ghost use Rattle.std.specs.Prelude.{◌≡◌, ◌⊎◌, ◌≤◌, ◌+◌, ℕ, Err, IfOk, IsErrOf};
 ghost use Rattle.hay_disk.specs.Counts.{IsCounted};
-ghost use Rattle.hay_open.specs.Stored.{Stored, IsStored};
+ghost use Rattle.hay_open.specs.Stored.{Stored, IsReplicaFile, IsStored};
 ghost use Rattle.hay_check.specs.Damage.{IsFirstDamage};
-ghost use Rattle.hay_check.specs.Verdicts.{IsReplicaFile, IsReplicaVerdict, whole_of};
+ghost use Rattle.hay_check.specs.Verdicts.{IsReplicaVerdict, whole_of};
 
 use crate::counts::{live_count, old_count};
 use crate::fault::Refusal;

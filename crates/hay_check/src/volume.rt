@@ -10,9 +10,9 @@ ghost use Rattle.hay_head.specs.Head.{IsDamagedHead, IsHead};
 ghost use Rattle.hay_head.specs.Rows.{IsSuperFaultAt};
 ghost use Rattle.hay_volume.specs.Cells.{HasCells, IsDamagedCell, cell_head};
 ghost use Rattle.hay_volume.specs.Needles.{AreHeadsFrom};
+ghost use Rattle.hay_open.specs.Stored.{IsReplicaFile};
 ghost use Rattle.hay_open.specs.Stored as stored;
 ghost use Rattle.hay_check.specs.Damage.{HoldsCells, IsDamagedFront, IsDamagedVolume};
-ghost use Rattle.hay_check.specs.Verdicts.{IsReplicaFile};
 
 use crate::fault::Refusal;
 use hay_disk::Disk;
@@ -21,9 +21,6 @@ use hay_needle::{CellHead, SUPER_LEN, Super};
 use hay_open::{HEAD_FILE, head_super, volume_file, volume_super};
 use hay_volume::{CellFault, VolumeFile};
 use std::alloc::Global;
-
-// The greatest generation.
-const LAST_GENERATION: u64 = 65_535;
 
 /// The cells of the volume file that the head names.
 #[derive(Drop)]
@@ -45,16 +42,7 @@ fn read_generation<D: Disk>(disk: &mut D, sup: &Super) -> Result<u64, Refusal>
     ensures fuses { D.fuse_count disk.new ≡ D.fuse_count disk.old }
 {
     match Head::read(disk, &head_super(sup)) {
-        Ok(head) => {
-            if head.generation > LAST_GENERATION {
-                // No disk that tells what it holds has a later generation.
-                return Err(Refusal::Damaged {
-                    file: HEAD_FILE,
-                    at: 0,
-                });
-            }
-            Ok(head.generation)
-        }
+        Ok(head) => Ok(head.generation),
         Err(HeadFault::Failed) => Err(Refusal::Failed),
         Err(HeadFault::NoMemory) => Err(Refusal::NoMemory),
         Err(HeadFault::Damaged { at }) => Err(Refusal::Damaged {

@@ -73,6 +73,9 @@ impl Head {
             IfErr result (λ fault. fault ≡ HeadFault.Failed) }
         ensures memory { IsErrOf result HeadFault.NoMemory → ⊥ }
 
+        // Whatever the disk tells, no later generation is read than the last.
+        ensures most { IfOk result (λ head. head.generation ≤ 65535) }
+
         // Where nothing of it is loose or sealed, the next row may be appended.
         ensures next { D.Tells → IsSolid (D.files disk.old 0) → IsFree (D.files disk.old 0) →
             IfOk result (λ head. IsGate head_magic (row_place (head.generation + 1)) (D.files disk.new 0)) }

@@ -1,5 +1,5 @@
 -- What stands on the disk of a replica, and what an opening of it finds.
-use Rattle.std.specs.Prelude.{◌≡◌, ◌⊎◌, ◌≤◌, ℕ, ◌+◌, ◌*◌, true, false, List, [], ◌∷◌, length, map, take, drop, Option, Some, None, if◌then◌else◌, ⊤}
+use Rattle.std.specs.Prelude.{◌≡◌, ◌⊎◌, ◌≤◌, ◌<◌, ℕ, ◌+◌, ◌*◌, true, false, List, [], ◌∷◌, length, map, take, drop, Option, Some, None, if◌then◌else◌, ⊤}
 use Rattle.std.specs.Option.{option_or}
 use Rattle.hay_needle.specs.declared.needle.Cell.{Cell}
 use Rattle.hay_needle.specs.declared.needle.Pair.{Pair}
@@ -27,6 +27,14 @@ volume_file generation = 2 * generation + 1
 
 abbrev pub index_file : ℕ → ℕ
 index_file generation = 2 * generation + 2
+
+-- a file that a replica's head or one of its generations may name
+abbrev pub IsReplicaFile : ℕ → Type 0
+IsReplicaFile file = (file ≡ 0) ⊎ ((generation : ℕ) × (generation ≤ 65535) × ((file ≡ volume_file generation) ⊎ (file ≡ index_file generation)))
+
+-- the same of the disk in a slot of a store: the first is the Directory's, of which file 0 is all
+abbrev pub IsSlotFile : ℕ → ℕ → Type 0
+IsSlotFile slot file = (slot ≡ 0 → file ≡ 0) × (0 < slot → IsReplicaFile file)
 
 -- what stands at the front of each file of the replica of this superblock
 abbrev pub head_super : Super → Super

@@ -9,8 +9,8 @@ use hay_needle::{FileKind, Super};
 /// The head file.
 pub const HEAD_FILE: u32 = 0;
 
-/// The greatest generation that a head file has.
-pub(crate) const LAST_GENERATION: u64 = 65_535;
+// The greatest generation that a head file has.
+const LAST_GENERATION: u64 = 65_535;
 
 /// The volume file of a generation.
 pub fn volume_file(generation: u64) -> u32

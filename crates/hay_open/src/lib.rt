@@ -19,7 +19,7 @@ ghost use Rattle.hay_map.specs.Rows.{last_place};
 ghost use Rattle.hay_needle.specs.Sizes.{needle_total};
 ghost use Rattle.hay_open.specs.Damage.{IsOpeningDamage};
 ghost use Rattle.hay_open.specs.Finds.{ArePlacesWithin, IsReady, MayFlagEach, OpenedAs, ReadsWhole, drawn_most};
-ghost use Rattle.hay_open.specs.Stored.{Stored, IsVoid, OpensAs, PlaceOf, fresh_stored, last_cell};
+ghost use Rattle.hay_open.specs.Stored.{Stored, IsReplicaFile, IsVoid, OpensAs, PlaceOf, fresh_stored, last_cell};
 ghost use Rattle.hay_open.specs.Stored as stored;
 
 mod fault;
@@ -92,7 +92,9 @@ pub fn open_replica<D: Disk>(
     ensures nothing { D.Tells → IsVoid (λ n. (D.files disk.old n).now) → (image : ℕ → List ℕ) → MayLeave (D.files disk.new) image →
         (other : Super) (s : Stored) → OpensAs other image s → s ≡ fresh_stored }
 
-    // Damage comes only where the disk is neither void nor whole, and is named at its place.
+    // Whatever the disk tells, damage is named in a file of a replica. It comes only where the disk is neither void nor
+    // whole, and is named at its place.
+    ensures file { (file at : ℕ) → result ≡ Err (OpenFault.Damaged file at) → IsReplicaFile file }
     ensures damaged { D.Tells → (file at : ℕ) → result ≡ Err (OpenFault.Damaged file at) → IsOpeningDamage sup.now (λ n. (D.files disk.old n).now) file at }
     ensures only { D.Tells → (s : Stored) → OpensAs sup.now (λ n. (D.files disk.old n).now) s →
         (file at : ℕ) → result ≡ Err (OpenFault.Damaged file at) → ⊥ }

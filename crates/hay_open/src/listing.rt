@@ -20,13 +20,11 @@ ghost use Rattle.hay_open.specs.Damage.{FitsNeedle, HasOrphans, IsDamagedFront, 
 ghost use Rattle.hay_open.specs.Damage as damage;
 ghost use Rattle.hay_open.specs.Finds.{drawn_most};
 ghost use Rattle.hay_open.specs.Listing.{IsListing, IsMisfitIn, LiesInRow, ListsCells, head_record};
-ghost use Rattle.hay_open.specs.Stored.{Stored, IsStored};
+ghost use Rattle.hay_open.specs.Stored.{Stored, IsReplicaFile, IsStored};
 ghost use Rattle.hay_open.specs.Stored as stored;
 
 use crate::fault::Refusal;
-use crate::files::{
-    HEAD_FILE, LAST_GENERATION, head_super, index_file, index_super, volume_file, volume_super,
-};
+use crate::files::{HEAD_FILE, head_super, index_file, index_super, volume_file, volume_super};
 use crate::record::fitting_head;
 use hay_disk::Disk;
 use hay_head::{Head, HeadFault, read_front};
@@ -64,6 +62,7 @@ struct Recorded {
 fn read_head_file<D: Disk>(disk: &mut D, sup: &Super) -> Result<Head, Refusal>
     ensures head { D.Tells → IfOk result (λ head. IsHead (super_bytes (stored.head_super sup.now)) (D.files disk.old 0).now head.generation) }
     ensures most { IfOk result (λ head. head.generation ≤ 65535) }
+    ensures file { (file at : ℕ) → result ≡ Err (Refusal.Damaged file at) → file ≡ 0 }
     ensures damaged { D.Tells → (file at : ℕ) → result ≡ Err (Refusal.Damaged file at) → (file ≡ 0) × IsDamagedHead (stored.head_super sup.now) (D.files disk.old 0).now at }
     ensures undamaged { D.Tells → OnOk result ((at : ℕ) → IsDamagedHead (stored.head_super sup.now) (D.files disk.old 0).now at → ⊥) }
     ensures only { D.Tells → (generation : ℕ) → IsHead (super_bytes (stored.head_super sup.now)) (D.files disk.old 0).now generation
@@ -74,16 +73,7 @@ fn read_head_file<D: Disk>(disk: &mut D, sup: &Super) -> Result<Head, Refusal>
     ensures fuses { D.fuse_count disk.new ≡ D.fuse_count disk.old }
 {
     match Head::read(disk, &head_super(sup)) {
-        Ok(head) => {
-            if head.generation > LAST_GENERATION {
-                // No disk that tells what it holds has a later generation.
-                return Err(Refusal::Damaged {
-                    file: HEAD_FILE,
-                    at: 0,
-                });
-            }
-            Ok(head)
-        }
+        Ok(head) => Ok(head),
         Err(HeadFault::Failed) => Err(Refusal::Failed),
         Err(HeadFault::NoMemory) => Err(Refusal::NoMemory),
         Err(HeadFault::Damaged { at }) => Err(Refusal::Damaged {
@@ -96,6 +86,7 @@ fn read_head_file<D: Disk>(disk: &mut D, sup: &Super) -> Result<Head, Refusal>
 // Tests the superblock of the volume file.
 fn check_front<D: Disk>(disk: &mut D, file: u32, sup: &Super) -> Result<(), Refusal>
     ensures begins { D.Tells → OnOk result (take 64 (D.files disk.old file).now ≡ super_bytes sup.now) }
+    ensures file { (number at : ℕ) → result ≡ Err (Refusal.Damaged number at) → number ≡ file }
     ensures damaged { D.Tells → (number at : ℕ) → result ≡ Err (Refusal.Damaged number at) → (number ≡ file) × IsSuperFaultAt sup.now (D.files disk.old file).now at }
     ensures undamaged { D.Tells → OnOk result ((at : ℕ) → IsSuperFaultAt sup.now (D.files disk.old file).now at → ⊥) }
     ensures only { D.Tells → take 64 (D.files disk.old file).now ≡ super_bytes sup.now → (number at : ℕ) → result ≡ Err (Refusal.Damaged number at) → ⊥ }
@@ -120,6 +111,7 @@ fn read_index<D: Disk>(
     ensures made { IfOk result (λ read. read.0 ≡ record { file = file; end = read.0.end; pending = []; frozen = false }) }
     ensures index { D.Tells → IfOk result (λ read. IsIndex (super_bytes sup.now) (D.files disk.old file).now read.1.items read.0.end) }
     ensures row { IfOk result (λ read. AreInRow 64 read.1.items) }
+    ensures file { (number at : ℕ) → result ≡ Err (Refusal.Damaged number at) → number ≡ file }
     ensures damaged { D.Tells → (number at : ℕ) → result ≡ Err (Refusal.Damaged number at) → (number ≡ file) × index_specs.IsDamagedIndex sup.now (D.files disk.old file).now at }
     ensures undamaged { D.Tells → OnOk result ((at : ℕ) → index_specs.IsDamagedIndex sup.now (D.files disk.old file).now at → ⊥) }
     ensures only { D.Tells → (records : List Record) (end : ℕ) → IsIndex (super_bytes sup.now) (D.files disk.old file).now records end
@@ -141,9 +133,10 @@ fn read_index<D: Disk>(
 fn read_recorded<D: Disk>(alloc: Global, disk: &mut D, sup: &Super) -> Result<Recorded, Refusal>
     ensures is { D.Tells → IfOk result (λ read. IsRecorded sup.now (λ n. (D.files disk.old n).now) read.head.generation read.records.items read.index.end) }
     ensures index { IfOk result (λ read. read.index ≡ record { file = read.index.file; end = read.index.end; pending = []; frozen = false }) }
-    ensures number { D.Tells → IfOk result (λ read. read.index.file ≡ stored.index_file read.head.generation) }
+    ensures number { IfOk result (λ read. read.index.file ≡ stored.index_file read.head.generation) }
     ensures row { IfOk result (λ read. AreInRow 64 read.records.items) }
     ensures most { IfOk result (λ read. read.head.generation ≤ 65535) }
+    ensures file { (file at : ℕ) → result ≡ Err (Refusal.Damaged file at) → IsReplicaFile file }
     ensures damaged { D.Tells → (file at : ℕ) → result ≡ Err (Refusal.Damaged file at) → IsDamagedFront sup.now (λ n. (D.files disk.old n).now) file at }
     ensures undamaged { D.Tells → OnOk result ((file at : ℕ) → IsDamagedFront sup.now (λ n. (D.files disk.old n).now) file at → ⊥) }
     ensures only { D.Tells → (generation : ℕ) (records : List Record) (end : ℕ) → IsRecorded sup.now (λ n. (D.files disk.old n).now) generation records end
@@ -181,6 +174,7 @@ fn check_last<D: Disk>(
     records: &[Record],
 ) -> Result<(), Refusal>
     ensures fits { D.Tells → OnOk result (LastFits records.now (D.files disk.old volume).now) }
+    ensures file { (file at : ℕ) → result ≡ Err (Refusal.Damaged file at) → (file ≡ volume) ⊎ (file ≡ index) }
     ensures damaged { D.Tells → (file at : ℕ) → result ≡ Err (Refusal.Damaged file at) →
         (number : ℕ) × (r : Record) × (number + 1 ≡ length records.now) × (slice_get records.now number ≡ Some r)
         × IsMisfitIn (λ n. (D.files disk.old n).now) volume index r number file at }
@@ -221,6 +215,7 @@ fn scan<D: Disk>(
     ensures mark { D.Tells → IfOk result (λ scan. IsClosed needle_magic scan.1 (D.files disk.old file).now) }
     ensures row { IfOk result (λ scan. AreHeadsFrom at scan.0.items scan.1) }
     ensures start { OnOk result (at < 2 ^ 64 - 1) }
+    ensures file { (number k : ℕ) → result ≡ Err (Refusal.Damaged number k) → number ≡ file }
     ensures damaged { D.Tells → (number k : ℕ) → result ≡ Err (Refusal.Damaged number k) → (number ≡ file) × volume_specs.IsDamagedCell at (D.files disk.old file).now k }
     ensures same { D.Tells → D.files disk.new ≡ D.files disk.old }
     ensures drawn { D.Tells → IfOk result (λ scan. D.drawn disk.new file + at ≤ D.drawn disk.old file + scan.1 + 8) }
@@ -277,6 +272,7 @@ pub(crate) fn read_listing<D: Disk>(
     ensures number { IfOk result (λ listing. listing.volume ≡ stored.volume_file listing.head.generation) }
     ensures row { IfOk result LiesInRow }
     ensures from { IfOk result (λ listing. 64 + length listing.index.pending * needle_total 0 ≤ listing.end) }
+    ensures file { (file at : ℕ) → result ≡ Err (Refusal.Damaged file at) → IsReplicaFile file }
     ensures damaged { D.Tells → (file at : ℕ) → result ≡ Err (Refusal.Damaged file at) →
         IsDamagedFront sup.now (λ n. (D.files disk.old n).now) file at
         ⊎ ((generation : ℕ) × (records : List Record) × (end : ℕ) × IsRecorded sup.now (λ n. (D.files disk.old n).now) generation records end

@@ -87,6 +87,7 @@ fn open_orphan<D: Disk>(
     ensures added { OnOk result ((place : Place D.Piece) × (cells.new.items ≡ cells.old.items ++ record { pair = head.pair; place = place } ∷ []) × StandsAt head.at place
         × (D.Tells → (cell : Cell) → StandsCell head.at (D.files disk.old file).now cell → head ≡ cell_head cell → PlaceOf D.Piece.Tells (Some cell) place)) }
     ensures at { OnOk result (AddsAt head.at cells.old.items cells.new.items) }
+    ensures file { (number at : ℕ) → result ≡ Err (Refusal.Damaged number at) → number ≡ file }
     ensures seals { D.Tells → Seals head.at (needle_total head.size) 28 (D.files disk.old file) (D.files disk.new file) }
     ensures others { D.Tells → KeepsOthers file (D.files disk.old) (D.files disk.new) }
     ensures undamaged { D.Tells → (number at : ℕ) → result ≡ Err (Refusal.Damaged number at) → ⊥ }
@@ -123,6 +124,7 @@ fn open_orphans<D: Disk>(
     ensures seen { D.Tells → (orphans : List Cell) (from end : ℕ) → HasCells from (D.files disk.old listing.now.volume).now orphans end → listing.now.orphans.items ≡ map cell_head orphans →
         OnOk result ((seen : List (OpenCell D.Piece)) × (cells.new.items ≡ cells.old.items ++ seen) × AllZip (IsOrphanOf D.Piece.Tells) orphans seen) }
     ensures rows { OnOk result (AreOfRows listing.now.rows.items cells.old.items → AreOfRows listing.now.rows.items cells.new.items) }
+    ensures file { (number at : ℕ) → result ≡ Err (Refusal.Damaged number at) → number ≡ listing.now.volume }
     ensures pieces { D.Tells → GivesPieces listing.now.volume listing.now.rows.items (place_behind 64 listing.now.rows.items) (D.files disk.old) (D.files disk.new) }
     ensures undamaged { D.Tells → (number at : ℕ) → result ≡ Err (Refusal.Damaged number at) → ⊥ }
     ensures drawn { D.Tells → (n : ℕ) → D.drawn disk.new n ≡ D.drawn disk.old n }
@@ -150,6 +152,7 @@ pub(crate) fn open_cells<D: Disk>(
     ensures seen { D.Tells → (orphans : List Cell) (from end : ℕ) → HasCells from (D.files disk.old listing.now.volume).now orphans end → listing.now.orphans.items ≡ map cell_head orphans →
         IfOk result (λ cells. AreCellsOf D.Piece.Tells (take listing.now.recorded listing.now.rows.items) orphans cells.items) }
     ensures rows { IfOk result (λ cells. AreOfRows listing.now.rows.items cells.items) }
+    ensures file { (number at : ℕ) → result ≡ Err (Refusal.Damaged number at) → number ≡ listing.now.volume }
     ensures pieces { D.Tells → GivesPieces listing.now.volume listing.now.rows.items (place_behind 64 listing.now.rows.items) (D.files disk.old) (D.files disk.new) }
     ensures undamaged { D.Tells → (number at : ℕ) → result ≡ Err (Refusal.Damaged number at) → ⊥ }
     ensures drawn { D.Tells → (n : ℕ) → D.drawn disk.new n ≡ D.drawn disk.old n }

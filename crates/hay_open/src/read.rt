@@ -9,7 +9,7 @@ ghost use Rattle.hay_map.specs.Rows.{last_place};
 ghost use Rattle.hay_needle.specs.Sizes.{needle_total};
 ghost use Rattle.hay_open.specs.Damage.{IsDamagedFront, IsReadingDamage};
 ghost use Rattle.hay_open.specs.Finds.{ArePlacesWithin, IsReady, MayFlagEach, OpenedAs, ReadsWhole, drawn_most};
-ghost use Rattle.hay_open.specs.Stored.{Stored, IsStored, PlaceOf, last_cell};
+ghost use Rattle.hay_open.specs.Stored.{Stored, IsReplicaFile, IsStored, PlaceOf, last_cell};
 ghost use Rattle.hay_open.specs.Stored as stored;
 
 use crate::fault::Refusal;
@@ -45,6 +45,7 @@ pub(crate) fn read_disk<D: Disk>(
     ensures within { IfOk result (λ opened. ArePlacesWithin opened.volume.end opened.cells.items) }
     ensures kept { D.Tells → (n : ℕ) → (D.files disk.new n).now ≡ (D.files disk.old n).now }
     ensures solid { D.Tells → (n : ℕ) → IsSolid (D.files disk.new n) }
+    ensures file { (file at : ℕ) → result ≡ Err (Refusal.Damaged file at) → IsReplicaFile file }
     ensures damaged { D.Tells → (file at : ℕ) → result ≡ Err (Refusal.Damaged file at) → IsReadingDamage sup.now (λ n. (D.files disk.old n).now) file at }
     ensures only { D.Tells → (s : Stored) → IsStored sup.now (λ n. (D.files disk.old n).now) s → (file at : ℕ) → result ≡ Err (Refusal.Damaged file at) → ⊥ }
     ensures drawn { D.Tells → IfOk result (λ opened. D.drawn disk.new opened.volume.file ≤ D.drawn disk.old opened.volume.file + drawn_most opened.index.pending) }

@@ -1,6 +1,6 @@
 //! Records and the needles that they name.
 
-ghost use Rattle.std.specs.Prelude.{◌≡◌, ◌≤◌, ◌<◌, ◌+◌, ℕ, List, length, take, drop, Err, IsErr, IsErrOf, IfOk, OnOk, IfSome, IfNone};
+ghost use Rattle.std.specs.Prelude.{◌≡◌, ◌⊎◌, ◌≤◌, ◌<◌, ◌+◌, ℕ, List, length, take, drop, Err, IsErr, IsErrOf, IfOk, OnOk, IfSome, IfNone};
 ghost use Rattle.hay_needle.specs.Needle.{Head, HeadBytes, head_of_cell};
 ghost use Rattle.hay_disk.specs.Counts.{IsCounted};
 ghost use Rattle.hay_disk.specs.Disk.{KeepsOthers};
@@ -85,6 +85,7 @@ pub(crate) fn fitting_head<D: Disk>(
     ensures fits { IfOk result (λ head. head_record head ≡ row.now) }
     ensures size { IfOk result (λ head. head.size ≤ MAX_PHOTO) }
     ensures stands { D.Tells → IfOk result (λ head. HeadBytes (take 36 (drop row.now.at (D.files disk.old volume).now)) (head_of_cell head)) }
+    ensures file { (file at : ℕ) → result ≡ Err (Refusal.Damaged file at) → (file ≡ volume) ⊎ (file ≡ index) }
     ensures damaged { D.Tells → (file at : ℕ) → result ≡ Err (Refusal.Damaged file at) → IsMisfitIn (λ n. (D.files disk.old n).now) volume index row.now number file at }
     ensures drawn { D.Tells → OnOk result (D.drawn disk.new volume ≤ D.drawn disk.old volume + 36) }
     ensures same { D.Tells → D.files disk.new ≡ D.files disk.old }

@@ -103,3 +103,10 @@ returns-in-Ok-read_disk-clause-undamaged_now g c = λ tells file at damage.
     let f = g.D.Disk.files in
     let kept : (λ n. (f c.read_disk.new.disk n).now) ≡ (λ n. (f c.args.disk.now n).now) = fun_ext (λ n. c.read_disk.ensures.kept tells n ∙ ap (λ (fs : Files). (fs n).now) (c.size.ensures.same tells)) in
     returns-in-Ok-read_disk-clause-undamaged g c tells file at (subst (λ contents. IsOpeningDamage c.args.sup.now contents file at) kept damage)
+
+-- WHATEVER THE DISK TELLS
+
+pub returns-in-Err-read_disk-clause-file : goal.returns-in-Err-read_disk-clause-file
+returns-in-Err-read_disk-clause-file g c = λ file at is.
+    let was : c.in-Err-read_disk.refusal ≡ refusal.Damaged file at = told_damaged c.in-Err-read_disk.refusal _ file at c.told-in-Err-read_disk.result c.told-in-Err-read_disk.ensures (cc) in
+    c.in-Err-read_disk.ensures.file file at (ap (λ (r : Refusal). Err r) was)

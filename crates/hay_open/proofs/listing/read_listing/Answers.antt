@@ -42,7 +42,7 @@ returns-in_err-check_last-clause-damaged g c = λ tells file at is.
     let rows : c.as_slice.result.now ≡ r.records.items = c.as_slice.ensures.value in
     let count : last.0 + 1 ≡ length r.records.items = last.2 ∙ ap (λ (l : List Record). length l) rows in
     let row : slice_get r.records.items last.0 ≡ Some last.1 = ap (λ (l : List Record). slice_get l last.0) (sym rows) ∙ last.3 in
-    let misfit = misfit_there (f c.args.disk.now) (f c.read_recorded.new.disk) c.volume_file-volume.result (volume_file generation) r.index.file _ last.0 file at last.1 (c.read_recorded.ensures.same tells) (c.volume_file-volume.ensures read.head.most) (c.in_ok-head.ensures.number tells) last.4 in
+    let misfit = misfit_there (f c.args.disk.now) (f c.read_recorded.new.disk) c.volume_file-volume.result (volume_file generation) r.index.file _ last.0 file at last.1 (c.read_recorded.ensures.same tells) (c.volume_file-volume.ensures read.head.most) (c.in_ok-head.ensures.number) last.4 in
     inr (generation, r.records.items, r.index.end, read, inl (last.0, count, misfit_is c.args.sup.now (λ n. (f c.args.disk.now n).now) generation r.records.items r.index.end last.0 file at last.1 read row misfit))
 
 pub returns-in_err-check_last-clause-only : goal.returns-in_err-check_last-clause-only
@@ -56,7 +56,7 @@ returns-in_err-check_last-clause-only g c = λ tells s stored file at is.
     let read = c.in_ok-head.ensures.is tells in
     let rows : c.as_slice.result.now ≡ r.records.items = c.as_slice.ensures.value in
     let row : slice_get r.records.items last.0 ≡ Some last.1 = ap (λ (l : List Record). slice_get l last.0) (sym rows) ∙ last.3 in
-    let misfit = misfit_there (f c.args.disk.now) (f c.read_recorded.new.disk) c.volume_file-volume.result (volume_file generation) r.index.file _ last.0 file at last.1 (c.read_recorded.ensures.same tells) (c.volume_file-volume.ensures read.head.most) (c.in_ok-head.ensures.number tells) last.4 in
+    let misfit = misfit_there (f c.args.disk.now) (f c.read_recorded.new.disk) c.volume_file-volume.result (volume_file generation) r.index.file _ last.0 file at last.1 (c.read_recorded.ensures.same tells) (c.volume_file-volume.ensures read.head.most) (c.in_ok-head.ensures.number) last.4 in
     let same = stored_same c.args.sup.now (λ n. (f c.args.disk.now n).now) generation r.index.end r.records.items s (λ n. fits c.args.disk.now n tells) read stored in
     fits_is_no_misfit (λ n. (f c.args.disk.now n).now) (volume_file generation) _ last.0 file at last.1 (stored_fits c.args.sup.now (λ n. (f c.args.disk.now n).now) generation last.0 r.records.items last.1 s stored same row) misfit
 
@@ -120,7 +120,7 @@ returns-clause-listing g c = λ tells.
       is = subst (λ n. IsRecorded c.args.sup.now (λ n. (f c.args.disk.now n).now) generation r.records.items n) (sym (ap (λ (i : IndexFile). i.end) noted)) read;
       behind = orphans_found c.scan_start.result c.in_ok-orphans.end (f c.args.disk.now (volume_file generation)).now r.records.items scan.0 (fits c.args.disk.now (volume_file generation) tells) start last has closed;
       volume_number = number;
-      index_number = ap (λ (i : IndexFile). i.file) noted ∙ c.in_ok-head.ensures.number tells;
+      index_number = ap (λ (i : IndexFile). i.file) noted ∙ c.in_ok-head.ensures.number;
       noted = ap (λ (i : IndexFile). i.pending) noted ∙ ap (λ (l : List Record). l ++ map head_record c.as_slice-3.result.now) none ∙ rows_of;
       rows = c.in_ok-note_orphans.ensures.rows ∙ ap (λ (l : List Record). r.records.items ++ l) rows_of;
       recorded = omega (arith, c.len-recorded.ensures, r.records.ok.0);
@@ -174,3 +174,30 @@ returns-clause-from g c =
     ap (λ (i : IndexFile). i.pending) noted ∙ ap (λ (l : List Record). l ++ map head_record c.as_slice-3.result.now) none ∙ ap (λ (l : List CellHead). map head_record l) c.as_slice-3.ensures.value in
     let far = heads_far c.scan_start.result c.in_ok-orphans.end heads c.in_ok-orphans.ensures.row in
     omega (arith, far, c.scan_start.ensures.from, ap (λ (l : List Record). length l) pending, length-map heads head_record)
+
+-- WHATEVER THE DISK TELLS
+
+pub returns-in_err-head-clause-file : goal.returns-in_err-head-clause-file
+returns-in_err-head-clause-file g c = λ file at is.
+    let fault = err_from_is_err_and c.from_residual.result c.from_residual.ensures.1 in
+    c.in_err-head.ensures.file file at (ap (λ x. Err x) (same_refusal c.from_residual.result fault.0 c.in_err-head.field-0.0 file at fault.1 fault.2 is))
+
+pub returns-in_err-check_last-clause-file : goal.returns-in_err-check_last-clause-file
+returns-in_err-check_last-clause-file g c = λ file at is.
+    let read = c.in_ok-head.ensures in
+    let fault = err_from_is_err_and c.from_residual-in_err-check_last.result c.from_residual-in_err-check_last.ensures.1 in
+    inr (
+      c.in_ok-head.field-0.head.generation,
+      read.most,
+      elim (c.in_err-check_last.ensures.file file at (ap (λ x. Err x) (same_refusal c.from_residual-in_err-check_last.result fault.0 c.in_err-check_last.field-0.0 file at fault.1 fault.2 is))) [
+        | inl volume ↦ inl (volume ∙ c.volume_file-volume.ensures read.most)
+        | inr index ↦ inr (index ∙ read.number)
+      ],
+    )
+
+pub returns-in_err-orphans-clause-file : goal.returns-in_err-orphans-clause-file
+returns-in_err-orphans-clause-file g c = λ file at is.
+    let most = c.in_ok-head.ensures.most in
+    let fault = err_from_is_err_and c.from_residual-in_err-orphans.result c.from_residual-in_err-orphans.ensures.1 in
+    let same = c.in_err-orphans.ensures.file file at (ap (λ x. Err x) (same_refusal c.from_residual-in_err-orphans.result fault.0 c.in_err-orphans.field-0.0 file at fault.1 fault.2 is)) in
+    inr (c.in_ok-head.field-0.head.generation, most, inl (same ∙ c.volume_file-volume.ensures most))

@@ -154,3 +154,17 @@ returns-clause-within g c =
     let lies = c.in_ok-listing.ensures.row in
     subst (λ (v : VolumeFile). ArePlacesWithin v.end c.in_ok-cells.cells.items) (sym c.adopt.ensures)
     (within_each listing.rows.items listing.end c.in_ok-cells.cells.items lies.row (omega (arith, lies.ends)) c.in_ok-cells.ensures.rows)
+
+-- WHATEVER THE DISK TELLS
+
+pub returns-in_err-listing-clause-file : goal.returns-in_err-listing-clause-file
+returns-in_err-listing-clause-file g c = λ file at is.
+    let fault = err_from_is_err_and c.from_residual.result c.from_residual.ensures.1 in
+    c.in_err-listing.ensures.file file at (ap (λ x. Err x) (same_refusal c.from_residual.result fault.0 c.in_err-listing.field-0.0 file at fault.1 fault.2 is))
+
+pub returns-in_err-cells-clause-file : goal.returns-in_err-cells-clause-file
+returns-in_err-cells-clause-file g c = λ file at is.
+    let read = c.in_ok-listing.ensures in
+    let fault = err_from_is_err_and c.from_residual-in_err-cells.result c.from_residual-in_err-cells.ensures.1 in
+    let same = c.in_err-cells.ensures.file file at (ap (λ x. Err x) (same_refusal c.from_residual-in_err-cells.result fault.0 c.in_err-cells.field-0.0 file at fault.1 fault.2 is)) in
+    inr (c.in_ok-listing.listing.head.generation, read.most, inl (same ∙ read.number))
