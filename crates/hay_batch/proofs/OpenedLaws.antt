@@ -15,7 +15,7 @@ use Rattle.hay_dirfile.specs.declared.journal.Journal.{Journal}
 use Rattle.hay_open.specs.declared.fault.OpenFault.{OpenFault}
 use Rattle.hay_open.specs.declared.fault.OpenFault.TheVariants as opening
 use Rattle.hay_open.specs.Damage.{IsOpeningDamage}
-use Rattle.hay_open.specs.Stored.{IsVoid, OpensAs, Stored, volume_file, volume_super}
+use Rattle.hay_open.specs.Stored.{IsSlotFile, IsVoid, OpensAs, Stored, volume_file, volume_super}
 use Rattle.hay_volume.specs.Cells.{IsVolume}
 use Rattle.hay_volume.specs.declared.volume.VolumeFile.{VolumeFile}
 use Rattle.hay_batch.specs.declared.fault.LoadOpenFault.{LoadOpenFault}
@@ -343,7 +343,7 @@ module _ {D : Type 0} (Tells : Type 0) (files : D → Files) (drawn : D → ℕ 
     -- and of one that is damaged
     pub record DamagedIn (slot file at : ℕ) : Type 0 where
       pub within : slot < disk_count settings
-      pub file_is : slot ≡ 0 → file ≡ 0
+      pub file_is : IsSlotFile slot file
       pub before : Tells → IsDamagedDisk settings (reads_of held) slot file at
       pub behind : Tells → IsDamagedDisk settings (reads_of given) slot file at
       pub sound : Tells → AreSoundBelow settings slot (reads_of given)
@@ -399,7 +399,7 @@ module _ {D : Type 0} (Tells : Type 0) (files : D → Files) (drawn : D → ℕ 
         let low = behind_within one.place one.before one.was in
         subst (λ k. DamagedIn k file at) e.0 (record {
           within = low;
-          file_is = λ first. absurd (omega (arith, first));
+          file_is = (λ first. absurd (omega (arith, first)), λ behind. one.refused.file file at e.1);
           before = λ tells.
               let path = reads_at tells (one.place + 1) one.before one.was in
               damaged_at settings (reads_of held) one.place file at low
@@ -426,7 +426,7 @@ module _ {D : Type 0} (Tells : Type 0) (files : D → Files) (drawn : D → ℕ 
         let fault = journal_damaged file at f.fault e.1 in
         subst (λ k. DamagedIn k file at) e.0 (record {
           within = omega arith;
-          file_is = λ first. f.refused.file file at fault;
+          file_is = (λ first. f.refused.file file at fault, λ behind. absurd (omega (arith, behind)));
           before = λ tells.
               let path = reads_at tells 0 f.before f.was in
               let damage = f.refused.damaged tells file at fault in

@@ -13,7 +13,7 @@ use Rattle.hay_volume.specs.declared.volume.VolumeFile.{VolumeFile}
 use Rattle.hay_open.specs.declared.fault.OpenFault.{OpenFault}
 use Rattle.hay_open.specs.declared.fault.OpenFault.TheVariants.{Damaged, Failed}
 use Rattle.hay_open.specs.Damage.{IsOpeningDamage}
-use Rattle.hay_open.specs.Stored.{IsVoid, OpensAs, Stored}
+use Rattle.hay_open.specs.Stored.{IsReplicaFile, IsVoid, OpensAs, Stored}
 use Rattle.hay_batch.specs.declared.fault.LoadOpenFault.{LoadOpenFault}
 use Rattle.hay_batch.specs.declared.fault.LoadOpenFault.TheVariants.{NoMemory}
 use Rattle.hay_batch.specs.declared.opening.OpenJournal.{OpenJournal}
@@ -78,6 +78,7 @@ pub record OpensFile {D : Type 0} (Tells : Type 0) (files : D → Files) (fault_
 pub record RefusesFile {D : Type 0} (Tells : Type 0) (files : D → Files) (fault_count fuse_count : D → ℕ) (sup : Super) (old new : D) (fault : OpenFault) : Type 0 where
   pub disk : OpensReplica Tells files fault_count fuse_count old new
   pub failed : (faults : ℕ) → fault ≡ Failed faults → Rose (fault_count old) (fault_count new) × (faults ≡ fault_count new)
+  pub file : (file at : ℕ) → fault ≡ Damaged file at → IsReplicaFile file
   pub damaged : Tells → (file at : ℕ) → fault ≡ Damaged file at → IsOpeningDamage sup (λ n. (files old n).now) file at
   pub only : Tells → (file at : ℕ) → fault ≡ Damaged file at → (s : Stored) → OpensAs sup (λ n. (files old n).now) s → ⊥
 

@@ -4,6 +4,7 @@ ghost use Rattle.std.specs.Prelude.{◌≡◌, ◌≤◌, ◌<◌, ◌+◌, ◌*
 ghost use Rattle.hay_disk.specs.Counts.{Rose};
 ghost use Rattle.hay_mount.specs.Mounts.{AreIn, AreOut, IsGivenDisk, SameFrom};
 ghost use Rattle.hay_open.specs.declared.fault.OpenFault.{OpenFault};
+ghost use Rattle.hay_open.specs.Stored.{IsSlotFile};
 ghost use Rattle.hay_batch.specs.declared.fault.LoadOpenFault.{LoadOpenFault};
 ghost use Rattle.hay_batch.specs.declared.replica.LoadReplica.{LoadReplica};
 ghost use Rattle.hay_batch.specs.declared.store.LoadVolume.{LoadVolume};
@@ -54,7 +55,7 @@ impl<D: Disk> LoadStore<D> {
         ensures failed { IfErr result (λ fault. (slot faults : ℕ) → fault ≡ LoadOpenFault.Open slot (OpenFault.Failed faults) → (slot < disk_count settings)
             × Rose (H.disks shelf.old slot).fault_count (H.disks shelf.new slot).fault_count × (faults ≡ (H.disks shelf.new slot).fault_count)
             × (D.Tells → IsUndamagedBelow settings slot (reads_of (H.disks shelf.old)) × AreSoundBelow settings slot (reads_of (H.disks shelf.new)))) }
-        ensures damaged { IfErr result (λ fault. (slot file at : ℕ) → fault ≡ LoadOpenFault.Open slot (OpenFault.Damaged file at) → (slot < disk_count settings) × (slot ≡ 0 → file ≡ 0)
+        ensures damaged { IfErr result (λ fault. (slot file at : ℕ) → fault ≡ LoadOpenFault.Open slot (OpenFault.Damaged file at) → (slot < disk_count settings) × IsSlotFile slot file
             × (D.Tells → IsDamagedDisk settings (reads_of (H.disks shelf.old)) slot file at × IsDamagedDisk settings (reads_of (H.disks shelf.new)) slot file at
             × AreSoundBelow settings slot (reads_of (H.disks shelf.new)))) }
         ensures memory { IfErr result (λ fault. (slot : ℕ) → fault ≡ LoadOpenFault.Open slot OpenFault.NoMemory → ⊥) }

@@ -7,6 +7,7 @@ use Rattle.hay_disk.specs.Shelf.{HeldDisk}
 use Rattle.hay_disk.specs.Streams.{Wrote, WrotePart}
 use Rattle.hay_mount.specs.Mounts.{AreIn}
 use Rattle.hay_open.specs.declared.fault.OpenFault.{OpenFault}
+use Rattle.hay_open.specs.Stored.{IsSlotFile}
 use Rattle.hay_reply.specs.declared.Note.{Note}
 use Rattle.hay_reply.specs.Fits.{FitsNote}
 use Rattle.hay_reply.specs.Replies.{header_line, note_line}
@@ -26,7 +27,7 @@ module _ (Tells : Type 0) (settings : Settings) (script : List ℕ) (old new : �
     (failed : (slot faults : ℕ) → fault ≡ LoadOpenFault.Open slot (OpenFault.Failed faults)
     → (slot < disk_count settings) × Rose (old slot).fault_count (new slot).fault_count × (faults ≡ (new slot).fault_count)
     × (Tells → IsUndamagedBelow settings slot (reads_of old) × AreSoundBelow settings slot (reads_of new)))
-    (damaged : (slot file at : ℕ) → fault ≡ LoadOpenFault.Open slot (OpenFault.Damaged file at) → (slot < disk_count settings) × (slot ≡ 0 → file ≡ 0)
+    (damaged : (slot file at : ℕ) → fault ≡ LoadOpenFault.Open slot (OpenFault.Damaged file at) → (slot < disk_count settings) × IsSlotFile slot file
     × (Tells → IsDamagedDisk settings (reads_of old) slot file at × IsDamagedDisk settings (reads_of new) slot file at × AreSoundBelow settings slot (reads_of new)))
     (header : Wrote before (header_line settings) begun) where
   why_by : (x : LoadOpenFault) (note : Note) → fault ≡ x → note_of x ≡ Some note → IsRefusal Tells settings script old new shelf shelf' before after note

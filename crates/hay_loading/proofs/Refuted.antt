@@ -17,6 +17,7 @@ use Rattle.hay_reply.specs.declared.Refused.{Refused}
 use Rattle.hay_reply.specs.declared.Refused.TheVariants.{NoRoom}
 use Rattle.hay_reply.specs.declared.Reply.TheVariants.{BadLine, Full}
 use Rattle.hay_dirfile.specs.declared.row.DirRow.{DirRow}
+use Rattle.hay_open.proofs.Faults.{past_the_last}
 use Rattle.hay_batch.specs.declared.fault.FullTry.{FullTry}
 use Rattle.hay_batch.specs.declared.photo.NewPhoto.{NewPhoto}
 use Rattle.hay_batch.specs.Batches.{batch_total, new_row}
@@ -237,7 +238,18 @@ damaged_in_no_file Tells settings script old new shelf shelf' before after file 
     let is = told.3 in
     let slot : told.0 ≡ 0 = cc in
     let same : file ≡ told.1 = cc in
-    other (same ∙ told.5 slot)
+    other (same ∙ told.5.0 slot)
+
+-- one whose line tells damage of a replica's disk, in a file behind those of the last generation
+pub damaged_past_the_last : (Tells : Type 0) (settings : Settings) (script : List ℕ) (old new : ℕ → HeldDisk) (shelf shelf' : ℕ) (before after : Option (List ℕ)) (slot file at : ℕ)
+    → IsRefusal Tells settings script old new shelf shelf' before after (OpenDamaged slot file at) → 0 < slot → 131072 < file → ⊥
+damaged_past_the_last Tells settings script old new shelf shelf' before after slot file at (inl told) behind far = let is = told.1 in absurd cc
+damaged_past_the_last Tells settings script old new shelf shelf' before after slot file at (inr (inl told)) behind far = let is = told.2 in absurd cc
+damaged_past_the_last Tells settings script old new shelf shelf' before after slot file at (inr (inr told)) behind far =
+    let is = told.3 in
+    let own : slot ≡ told.0 = cc in
+    let same : file ≡ told.1 = cc in
+    past_the_last told.1 (omega (arith, far, same)) (told.5.1 (omega (arith, behind, own)))
 
 -- WHAT WAS READ
 

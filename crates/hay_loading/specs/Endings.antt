@@ -15,7 +15,7 @@ use Rattle.hay_reply.specs.Fits.{FitsNote, FitsReply}
 use Rattle.hay_reply.specs.Replies.{header_line, note_line}
 use Rattle.hay_needle.specs.Tables.{look, rows_of}
 use Rattle.hay_volume.specs.Cells.{needles_of}
-use Rattle.hay_open.specs.Stored.{OpensAs, Stored}
+use Rattle.hay_open.specs.Stored.{IsSlotFile, OpensAs, Stored}
 use Rattle.hay_dirfile.specs.declared.row.DirRow.{DirRow}
 use Rattle.hay_batch.specs.declared.photo.NewPhoto.{NewPhoto}
 use Rattle.hay_batch.specs.Batches.{shown_of}
@@ -222,14 +222,14 @@ module _ (Tells : Type 0) (settings : Settings) (script : List ℕ) (old new : �
 
   -- Why the store was not opened, as it is told: the shelf failed, and its count rose to the one that is told; a disk failed, and
   -- none in a lower slot was damaged; or the disk in a slot is damaged at the place that is told, as it was taken and as it was
-  -- given back, in the Directory's file where that is its disk. The disks in lower slots are given back formatted and not damaged.
+  -- given back, in a file that this slot's disk may have. The disks in lower slots are given back formatted and not damaged.
   abbrev pub IsRefusal : Note → Type 0
   IsRefusal note =
       ((count : ℕ) × (note ≡ OpenShelf count) × Rose shelf shelf' × (count ≡ shelf'))
       ⊎ ((slot : ℕ) × (count : ℕ) × (note ≡ OpenFailed slot count) × (slot < disk_count settings)
       × Rose (old slot).fault_count (new slot).fault_count × (count ≡ (new slot).fault_count)
       × (Tells → IsUndamagedBelow settings slot (reads_of old) × AreSoundBelow settings slot (reads_of new)))
-      ⊎ ((slot : ℕ) × (file : ℕ) × (at : ℕ) × (note ≡ OpenDamaged slot file at) × (slot < disk_count settings) × (slot ≡ 0 → file ≡ 0)
+      ⊎ ((slot : ℕ) × (file : ℕ) × (at : ℕ) × (note ≡ OpenDamaged slot file at) × (slot < disk_count settings) × IsSlotFile slot file
       × (Tells → IsDamagedDisk settings (reads_of old) slot file at × IsDamagedDisk settings (reads_of new) slot file at × AreSoundBelow settings slot (reads_of new)))
 
   -- each disk is as it was, or was void, and whatever a stop leaves of it an opening finds nothing

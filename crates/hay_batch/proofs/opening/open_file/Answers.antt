@@ -28,6 +28,7 @@ returns-in-Err-clause-refused g c =
     record {
       disk = record { kept = told.kept; stays = told.stays; nothing = told.nothing; later = told.counts; fuses = told.fuses };
       failed = told.failed;
+      file = λ file at is. told.file file at (ap Err is);
       damaged = λ tells file at is. told.damaged tells file at (ap Err is);
       only = λ tells file at is s opens. told.only tells s opens file at (ap Err is);
     }
