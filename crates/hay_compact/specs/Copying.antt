@@ -1,5 +1,5 @@
 -- What a compaction has made so far of a current volume file.
-use Rattle.std.specs.Prelude.{◌≡◌, ◌≢◌, ◌≤◌, ◌<◌, ◌+◌, ◌^◌, ℕ, zero, suc, Bool, true, false, All, List, [], ◌∷◌, ◌++◌, length, map, take, drop, sum_by, Option, Some, None, option_map, if◌then◌else◌}
+use Rattle.std.specs.Prelude.{◌≡◌, ◌⊎◌, ◌≢◌, ◌≤◌, ◌<◌, ◌+◌, ◌^◌, ℕ, zero, suc, Bool, true, false, All, List, [], ◌∷◌, ◌++◌, length, map, take, drop, sum_by, Option, Some, None, option_map, if◌then◌else◌}
 use Rattle.hay_needle.specs.declared.needle.Cell.{Cell}
 use Rattle.hay_needle.specs.declared.needle.CellHead.{CellHead}
 use Rattle.hay_needle.specs.declared.needle.Needle.{Needle}
@@ -14,6 +14,7 @@ use Rattle.hay_needle.specs.Tables.{flag_last, is_live, lacks}
 use Rattle.hay_disk.specs.Disk.{Files, IsFree}
 use Rattle.hay_volume.specs.declared.volume.VolumeFile.{VolumeFile}
 use Rattle.hay_volume.specs.Cells.{IsCellAt, IsVolume, cell_head, needles_of}
+use Rattle.hay_volume.specs.Needles.{HasNeedleOf}
 use Rattle.hay_index.specs.Records.{IsIndex}
 use Rattle.hay_open.specs.Stored.{Stored, cell_record, index_file, index_super, last_cell, volume_file, volume_super}
 use Rattle.hay_index.specs.declared.index.IndexFile.{IndexFile}
@@ -85,6 +86,10 @@ pub record HasPeeked (end at : ℕ) (head : CellHead) : Type 0 where
 pub record HeadStands (at : ℕ) (head : CellHead) (file : List ℕ) : Type 0 where
   pub place : head.at ≡ at
   pub is : HeadBytes (take 36 (drop at file)) (head_of_cell head)
+
+-- a cell that was examined is deleted, or is not the last of its pair, or its needle stands there
+abbrev pub IsPassedOrStands : ℕ → CellHead → Option ℕ → List ℕ → Type 0
+IsPassedOrStands at cell latest file = (cell.deleted ≡ true) ⊎ (latest ≢ Some at) ⊎ HasNeedleOf cell.size false at file
 
 -- where a compaction met damage: at the next cell, which stands behind the superblock and before `end`
 abbrev pub IsNextWithin : ℕ → ℕ → ℕ → Type 0

@@ -12,9 +12,9 @@ ghost use Rattle.hay_volume.specs.Cells.{IsMarked, IsVolume, StandsCell, cell_he
 ghost use Rattle.hay_volume.specs.declared.fault.CellFault.{CellFault};
 ghost use Rattle.hay_volume.specs.declared.volume.VolumeFile.{VolumeFile};
 ghost use Rattle.hay_open.specs.Stored.{index_file, volume_file};
-ghost use Rattle.hay_volume.specs.Needles.{LacksNeedleWithin};
+ghost use Rattle.hay_volume.specs.Needles.{HasNeedleOf, LacksNeedleWithin};
 ghost use Rattle.hay_compact.specs.Copying.{Copies, Copying, HasPeeked, HeadStands, HasRead, IsCopy, IsHeadOf, IsLatest};
-ghost use Rattle.hay_compact.specs.Copying.{IsMaking, IsNextWithin, KeepsOtherFiles, Making, MovesOn, Repeats, live_among, renewed_needle};
+ghost use Rattle.hay_compact.specs.Copying.{IsMaking, IsNextWithin, IsPassedOrStands, KeepsOtherFiles, Making, MovesOn, Repeats, live_among, renewed_needle};
 
 use crate::standing::{LastCell, Standing};
 use hay_base::NoMemory;
@@ -220,6 +220,8 @@ impl Compactor {
             MovesOn sup (D.files disk.new) old.now self.new current fresh examined c self.old.volume.end copied) }
         // A cell that is deleted, or is not the last of its pair, is passed over, whatever its needle has behind the head.
         ensures passed { (cell.deleted ≡ true) ⊎ (latest ≢ Some self.old.next) → (result ≡ Ok false) × (disk.new ≡ disk.old) }
+        // Where the disk tells, whatever it has, any other one's needle stands there.
+        ensures met { D.Tells → OnOk result (IsPassedOrStands self.old.next cell latest (D.files disk.old old.now.file).now) }
         ensures whole { D.Tells → (sup : Super) (current fresh : List Cell) (examined k : ℕ) (c : Cell) →
             Copying sup (D.files disk.old) old.now self.old current fresh examined →
             drop examined current ≡ c ∷ drop (examined + 1) current →
@@ -265,6 +267,8 @@ impl Compactor {
         ensures read { OnOk result (HasRead self.new.next self.new.bytes head) }
         ensures copy { D.Tells → OnOk result ((cell : Cell) → StandsCell self.old.next (D.files disk.old old.now.file).now cell →
             IsCopy self.new.next self.new.bytes head cell) }
+        // Where the disk tells, whatever it has, the needle stands there.
+        ensures there { D.Tells → OnOk result (HasNeedleOf head.size head.deleted self.old.next (D.files disk.old old.now.file).now) }
         ensures place { (k : ℕ) → result ≡ Err (CellFault.Damaged k) → k ≡ self.old.next }
         ensures whole { D.Tells → (k : ℕ) (cell : Cell) → StandsCell self.old.next (D.files disk.old old.now.file).now cell → head ≡ cell_head cell →
             result ≡ Err (CellFault.Damaged k) → ⊥ }

@@ -19,7 +19,7 @@ use Rattle.hay_open.specs.Damage.{IsOpeningDamage}
 use Rattle.hay_open.specs.declared.fault.OpenFault.{OpenFault}
 use Rattle.hay_open.specs.declared.fault.OpenFault.TheVariants as open_fault
 use Rattle.hay_open.proofs.Formatting.{void_left}
-use Rattle.hay_open.specs.Stored.{OpensAs, Stored, last_cell}
+use Rattle.hay_open.specs.Stored.{IsReplicaFile, OpensAs, Stored, last_cell}
 use Rattle.hay_physical.specs.declared.state.Phase.{Phase}
 use Rattle.hay_physical.specs.declared.state.Phase.TheVariants as phase
 use Rattle.hay_physical.specs.declared.fault.ReplicaFault.{ReplicaFault}
@@ -168,11 +168,12 @@ pub open_cause : {D : Type 0} (DiskTells : Type 0) (files : D → Files) (faults
     → (DiskTells → (file at : ℕ) → f ≡ open_fault.Damaged file at → IsOpeningDamage r.sup (contents_of files r.disk) file at)
     → (DiskTells → (s : Stored) → OpensAs r.sup (contents_of files r.disk) s → (file at : ℕ) → f ≡ open_fault.Damaged file at → ⊥)
     → (DiskTells → (stuck : Bool) (s t : Stored) → physical.Holds files r stuck s t → (file at : ℕ) → f ≡ open_fault.Damaged file at → ⊥)
+    → ((file at : ℕ) → f ≡ open_fault.Damaged file at → IsReplicaFile file)
     → IsOpenFault DiskTells files faults r r' f
-open_cause DiskTells files faults r r' (open_fault.Failed n) failed there only whole = failed n refl
-open_cause DiskTells files faults r r' (open_fault.Damaged file at) failed there only whole =
-    (λ tells. there tells file at refl, λ tells s opens. only tells s opens file at refl, λ tells stuck s t holds. whole tells stuck s t holds file at refl)
-open_cause DiskTells files faults r r' open_fault.NoMemory failed there only whole = tt
+open_cause DiskTells files faults r r' (open_fault.Failed n) failed there only whole names = failed n refl
+open_cause DiskTells files faults r r' (open_fault.Damaged file at) failed there only whole names =
+    (λ tells. there tells file at refl, λ tells s opens. only tells s opens file at refl, λ tells stuck s t holds. whole tells stuck s t holds file at refl, names file at refl)
+open_cause DiskTells files faults r r' open_fault.NoMemory failed there only whole names = tt
 
 like_on : (b : Bool) (s found f : Stored) → physical.IsLike b s found → physical.IsLike false found f → physical.IsLike b s f
 like_on b s found f like next = record {

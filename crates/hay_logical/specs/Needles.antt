@@ -7,14 +7,14 @@ use Rattle.hay_needle.specs.declared.needle.Pair.{Pair}
 use Rattle.hay_disk.specs.Disk.{Files}
 use Rattle.hay_legal.specs.Known.{machine_of}
 use Rattle.hay_volume.specs.Needles.{AreHeadsFrom, HasNeedleOf, LacksNeedleOf, LacksNeedleWithin}
-use Rattle.hay_compact.specs.Copying.{HeadStands}
+use Rattle.hay_compact.specs.Copying.{HeadStands, IsPassedOrStands}
 use Rattle.hay_physical.specs.declared.fault.ReplicaFault.{ReplicaFault}
 use Rattle.hay_physical.specs.declared.fault.ReplicaFault.TheVariants as fault
 use Rattle.hay_physical.specs.Copies.{Copy, volume_bytes}
 use Rattle.hay_map.specs.MapRows.{MapRows}
 use Rattle.hay_logical.specs.Fits.{At}
 use Rattle.hay_logical.specs.Seen.{ReplicaSeen, begun, replica_seen}
-use Rattle.hay_logical.specs.Sights.{DeletesSights, Sight, Sights, sights_of}
+use Rattle.hay_logical.specs.Sights.{DeletesSights, Sight, Sights, latest_sight, sights_of}
 use Rattle.hay_logical.specs.Sights.Sight.{Gone, Live, Never, Unseen}
 
 -- LOOKS
@@ -66,32 +66,38 @@ LacksSeenOn {D} files replicas pair replica place sights = (r : Copy D) → At r
 
 -- COMPACTIONS
 
--- From `next` on so many heads of needles stand, each where the needle of the one before it ends, up to `place`.
-pub record HeadsLead (number next place : ℕ) (file : List ℕ) : Type 0 where
+-- From `next` on so many heads of needles stand, each where the needle of the one before it ends, up to `place`. Each cell is deleted,
+-- or is not the last of its pair on the replica that is seen so, or its whole needle stands there.
+pub record HeadsLead (sights : Sights) (replica number next place : ℕ) (file : List ℕ) : Type 0 where
   pub heads : List CellHead
   pub row : AreHeadsFrom next heads place
   pub stand : AllByRecursion (λ (head : CellHead). HeadStands head.at head file) heads
+  pub met : AllByRecursion (λ (head : CellHead). IsPassedOrStands head.at head (latest_sight (sights head.pair replica)) file) heads
   pub many : length heads ≡ number
 
 -- So they do from the next cell of a compaction on, as far as the end of the cells.
-abbrev pub HeadsLeadOn : ReplicaSeen → List ℕ → Type 0
-HeadsLeadOn r file = (number : ℕ) × (place : ℕ) × (r.end ≤ place) × HeadsLead number r.next place file
+abbrev pub HeadsLeadOn : Sights → ℕ → ReplicaSeen → List ℕ → Type 0
+HeadsLeadOn sights replica r file = (number : ℕ) × (place : ℕ) × (r.end ≤ place) × HeadsLead sights replica number r.next place file
+
+-- and so do fewer than so many, where memory was wanting before they were examined
+abbrev pub HeadsLeadPart : Sights → ℕ → ℕ → ℕ → ℕ → List ℕ → Type 0
+HeadsLeadPart sights replica cells next place file = (number : ℕ) × (number < cells) × HeadsLead sights replica number next place file
 
 -- A compaction that was to examine so many cells met damage here: the heads of fewer lead from its next one to this place, and no needle
 -- that ends before the cells do begins there.
-pub record LacksCell (cells place : ℕ) (r : ReplicaSeen) (file : List ℕ) : Type 0 where
+pub record LacksCell (sights : Sights) (replica cells place : ℕ) (r : ReplicaSeen) (file : List ℕ) : Type 0 where
   pub examined : ℕ
   pub few : examined < cells
-  pub lead : HeadsLead examined r.next place file
+  pub lead : HeadsLead sights replica examined r.next place file
   pub lacks : LacksNeedleWithin r.end place file
 
 -- So did one that was to examine all that are left: there are fewer cells than bytes.
-abbrev pub LacksCellLeft : ℕ → ReplicaSeen → List ℕ → Type 0
-LacksCellLeft place r file = LacksCell r.end place r file
+abbrev pub LacksCellLeft : Sights → ℕ → ℕ → ReplicaSeen → List ℕ → Type 0
+LacksCellLeft sights replica place r file = LacksCell sights replica r.end place r file
 
 -- and one that began with the first cell
-abbrev pub LacksCellAnew : ℕ → ReplicaSeen → List ℕ → Type 0
-LacksCellAnew place r file = LacksCellLeft place (begun r) file
+abbrev pub LacksCellAnew : Sights → ℕ → ℕ → ReplicaSeen → List ℕ → Type 0
+LacksCellAnew sights replica place r file = LacksCellLeft sights replica place (begun r) file
 
 -- It is so of this replica, and of what reads of its volume file give.
 abbrev pub IsDamagedCell : {D : Type 0} → (D → Files) → List (Copy D) → ℕ → (ReplicaSeen → List ℕ → Type 0) → Type 0

@@ -49,6 +49,13 @@ IsLiveSight (Live at) = Unit {0}
 IsLiveSight Gone = ⊥
 IsLiveSight (Unseen at size) = ⊥
 
+-- where the last cell of the pair stands, for all that was seen, unless its photo is gone
+abbrev pub latest_sight : Sight → Option ℕ
+latest_sight Never = None
+latest_sight (Live at) = Some at
+latest_sight Gone = None
+latest_sight (Unseen at size) = Some at
+
 -- it was not looked at yet
 abbrev pub AwaitsLook : Sight → Type 0
 AwaitsLook Never = ⊥

@@ -24,7 +24,7 @@ use Rattle.hay_map.specs.declared.view.OpenCell.{OpenCell}
 use Rattle.hay_open.specs.declared.fault.OpenFault.{OpenFault}
 use Rattle.hay_open.specs.declared.fault.OpenFault.TheVariants as open_fault
 use Rattle.hay_open.specs.Damage.{IsOpeningDamage}
-use Rattle.hay_open.specs.Stored.{Stored, IsSealedCell, PlaceOf, IsVoid, OpensAs, fresh_stored, index_file, last_cell, volume_file}
+use Rattle.hay_open.specs.Stored.{Stored, IsReplicaFile, IsSealedCell, PlaceOf, IsVoid, OpensAs, fresh_stored, index_file, last_cell, volume_file}
 use Rattle.hay_physical.specs.declared.fault.ReplicaFault.{ReplicaFault}
 use Rattle.hay_physical.specs.declared.fault.ReplicaFault.TheVariants as fault
 use Rattle.hay_physical.specs.declared.state.Phase.TheVariants.{Closed}
@@ -573,6 +573,7 @@ IsOpenFault DiskTells files faults r r' (open_fault.Damaged file at) =
     (DiskTells → IsOpeningDamage r.sup (contents_of files r.disk) file at)
     × (DiskTells → (s : Stored) → OpensAs r.sup (contents_of files r.disk) s → ⊥)
     × (DiskTells → (stuck : Bool) (s t : Stored) → physical.Holds files r stuck s t → ⊥)
+    × IsReplicaFile file
 IsOpenFault DiskTells files faults r r' open_fault.NoMemory = Unit {0}
 
 -- Of the replicas before it nothing that was read was damaged, and what stands there now is neither damaged nor void.

@@ -23,7 +23,7 @@ ghost use Rattle.hay_logical.specs.Fits.{At, PlaceStands, super_of};
 ghost use Rattle.hay_logical.specs.Notes.{NotesTell};
 ghost use Rattle.hay_logical.specs.Refusals.{IsUntouchedBy};
 ghost use Rattle.hay_logical.specs.Seen.{AreEnds, BeginRefusedSeen, BeginSeen, ChangesAt, CompactRefusedSeen, CompactSeen, DeleteRefusedSeen, EraseSeen, FinishRefusedSeen, FinishSeen, FlushRefusedSeen, FlushSeen, FreezesSeen, HideSeen, IsEnded, OpenSeen, PutRefusedSeen, PutSeen, ReplicaSeen, RoomRefusedSeen, RoomSeen, StepRefusedSeen, StepSeen, WriteSeen, begun, replica_seen, volume_seen};
-ghost use Rattle.hay_logical.specs.Needles.{AreToldBy, DeletesTold, HeadsLead, HeadsLeadOn, IsDamagedCell, IsDamagedLook, LacksCell, LacksCellAnew, LacksCellLeft, LacksSeenOn};
+ghost use Rattle.hay_logical.specs.Needles.{AreToldBy, DeletesTold, HeadsLead, HeadsLeadOn, HeadsLeadPart, IsDamagedCell, IsDamagedLook, LacksCell, LacksCellAnew, LacksCellLeft, LacksSeenOn};
 ghost use Rattle.hay_logical.specs.Sights.{DeleteRefusedSights, DeletesSights, ErasesSights, FindsPhoto, KeepsSights, LiesWithinEach, LookRefusedSights, LooksAtPair, SeeRefusedSights, SeesPair, StoresSights, SwapsSights, sights_of};
 ghost use Rattle.hay_logical.specs.Steps.{AllIdle, IsRefusedAt, IsSeenBy, KeepsAbove, KeepsDisk, KeepsFiles, KeepsRuns, KeepsStuck, LosesRun, RoomFor, SetsPlaceAt};
 ghost use Rattle.hay_logical.specs.Volumes.{HasAll, HasSupers, IsClosed, IsMachineOf, IsOfSettings, IsOpenVolume, IsSame, KeepsCounts, Volume};
@@ -840,10 +840,13 @@ impl<D: Disk> Logical<D> {
         ensures same { IsSame self.old self.new }
         ensures seen { IfOk result (λ number. StepSeen replica cells number (volume_seen self.old) (volume_seen self.new)) }
         ensures refused_seen { IfErr result (StepRefusedSeen self.old.settings self.old.number replica cells (volume_seen self.old) (volume_seen self.new)) }
-        // Where the disk tells, the heads of the cells that were examined stand one behind another, and no needle is where damage is.
+        // Where the disk tells, the heads of the cells that were examined stand one behind another, also where memory was wanting then,
+        // each with its needle where it was copied, and no needle is where damage is.
         ensures lead { D.Tells → (r r' : Copy D) → At self.old.replicas replica r → At self.new.replicas replica r' →
-            IfOk result (λ number. HeadsLead number (next_of r) (next_of r') (volume_bytes D.files r)) }
-        ensures damaged { D.Tells → (m place : ℕ) → result ≡ Err (LogicalFault.Damaged m place) → IsDamagedCell D.files self.old.replicas replica (LacksCell cells place) }
+            IfOk result (λ number. HeadsLead (sights_of self.old.rows) replica number (next_of r) (next_of r') (volume_bytes D.files r)) }
+        ensures part { D.Tells → (r r' : Copy D) → At self.old.replicas replica r → At self.new.replicas replica r' → result ≡ Err LogicalFault.NoMemory →
+            HeadsLeadPart (sights_of self.old.rows) replica cells (next_of r) (next_of r') (volume_bytes D.files r) }
+        ensures damaged { D.Tells → (m place : ℕ) → result ≡ Err (LogicalFault.Damaged m place) → IsDamagedCell D.files self.old.replicas replica (LacksCell (sights_of self.old.rows) replica cells place) }
     {
         if let Some(machine) = self.frozen {
             return Err(LogicalFault::ReadOnly { machine });
@@ -899,8 +902,8 @@ impl<D: Disk> Logical<D> {
         ensures same { IsSame self.old self.new }
         ensures seen { IfOk result (λ files. FinishSeen replica files.generation files.end (volume_seen self.old) (volume_seen self.new)) }
         ensures refused_seen { IfErr result (FinishRefusedSeen self.old.settings self.old.number replica (volume_seen self.old) (volume_seen self.new)) }
-        ensures lead { D.Tells → OnOk result ((r : Copy D) → At self.old.replicas replica r → HeadsLeadOn (replica_seen r) (volume_bytes D.files r)) }
-        ensures damaged { D.Tells → (m place : ℕ) → result ≡ Err (LogicalFault.Damaged m place) → IsDamagedCell D.files self.old.replicas replica (LacksCellLeft place) }
+        ensures lead { D.Tells → OnOk result ((r : Copy D) → At self.old.replicas replica r → HeadsLeadOn (sights_of self.old.rows) replica (replica_seen r) (volume_bytes D.files r)) }
+        ensures damaged { D.Tells → (m place : ℕ) → result ≡ Err (LogicalFault.Damaged m place) → IsDamagedCell D.files self.old.replicas replica (LacksCellLeft (sights_of self.old.rows) replica place) }
         ensures sights { OnOk result (SwapsSights replica (volume_seen self.new).replicas (sights_of self.old.rows) (sights_of self.new.rows)) }
         ensures refused_sights { OnErr result (KeepsSights (sights_of self.old.rows) (sights_of self.new.rows)) }
     {
@@ -952,8 +955,8 @@ impl<D: Disk> Logical<D> {
         ensures same { IsSame self.old self.new }
         ensures seen { IfOk result (λ generation. (end : ℕ) × FinishSeen replica generation end (volume_seen self.old) (volume_seen self.new)) }
         ensures refused_seen { IfErr result (FinishRefusedSeen self.old.settings self.old.number replica (volume_seen self.old) (volume_seen self.new)) }
-        ensures lead { D.Tells → OnOk result ((r : Copy D) → At self.old.replicas replica r → HeadsLeadOn (replica_seen r) (volume_bytes D.files r)) }
-        ensures damaged { D.Tells → (m place : ℕ) → result ≡ Err (LogicalFault.Damaged m place) → IsDamagedCell D.files self.old.replicas replica (LacksCellLeft place) }
+        ensures lead { D.Tells → OnOk result ((r : Copy D) → At self.old.replicas replica r → HeadsLeadOn (sights_of self.old.rows) replica (replica_seen r) (volume_bytes D.files r)) }
+        ensures damaged { D.Tells → (m place : ℕ) → result ≡ Err (LogicalFault.Damaged m place) → IsDamagedCell D.files self.old.replicas replica (LacksCellLeft (sights_of self.old.rows) replica place) }
         ensures sights { OnOk result (SwapsSights replica (volume_seen self.new).replicas (sights_of self.old.rows) (sights_of self.new.rows)) }
         ensures refused_sights { OnErr result (KeepsSights (sights_of self.old.rows) (sights_of self.new.rows)) }
     {
@@ -996,8 +999,8 @@ impl<D: Disk> Logical<D> {
         ensures same { IsSame self.old self.new }
         ensures seen { IfOk result (λ files. CompactSeen replica files.generation files.end (volume_seen self.old) (volume_seen self.new)) }
         ensures refused_seen { IfErr result (CompactRefusedSeen self.old.settings self.old.number replica (volume_seen self.old) (volume_seen self.new)) }
-        ensures lead { D.Tells → OnOk result ((r : Copy D) → At self.old.replicas replica r → HeadsLeadOn (begun (replica_seen r)) (volume_bytes D.files r)) }
-        ensures damaged { D.Tells → (m place : ℕ) → result ≡ Err (LogicalFault.Damaged m place) → IsDamagedCell D.files self.old.replicas replica (LacksCellAnew place) }
+        ensures lead { D.Tells → OnOk result ((r : Copy D) → At self.old.replicas replica r → HeadsLeadOn (sights_of self.old.rows) replica (begun (replica_seen r)) (volume_bytes D.files r)) }
+        ensures damaged { D.Tells → (m place : ℕ) → result ≡ Err (LogicalFault.Damaged m place) → IsDamagedCell D.files self.old.replicas replica (LacksCellAnew (sights_of self.old.rows) replica place) }
         ensures sights { OnOk result (SwapsSights replica (volume_seen self.new).replicas (sights_of self.old.rows) (sights_of self.new.rows)) }
         ensures refused_sights { OnErr result (KeepsSights (sights_of self.old.rows) (sights_of self.new.rows)) }
     {
@@ -1045,8 +1048,8 @@ impl<D: Disk> Logical<D> {
         ensures same { IsSame self.old self.new }
         ensures seen { IfOk result (λ generation. (end : ℕ) × CompactSeen replica generation end (volume_seen self.old) (volume_seen self.new)) }
         ensures refused_seen { IfErr result (CompactRefusedSeen self.old.settings self.old.number replica (volume_seen self.old) (volume_seen self.new)) }
-        ensures lead { D.Tells → OnOk result ((r : Copy D) → At self.old.replicas replica r → HeadsLeadOn (begun (replica_seen r)) (volume_bytes D.files r)) }
-        ensures damaged { D.Tells → (m place : ℕ) → result ≡ Err (LogicalFault.Damaged m place) → IsDamagedCell D.files self.old.replicas replica (LacksCellAnew place) }
+        ensures lead { D.Tells → OnOk result ((r : Copy D) → At self.old.replicas replica r → HeadsLeadOn (sights_of self.old.rows) replica (begun (replica_seen r)) (volume_bytes D.files r)) }
+        ensures damaged { D.Tells → (m place : ℕ) → result ≡ Err (LogicalFault.Damaged m place) → IsDamagedCell D.files self.old.replicas replica (LacksCellAnew (sights_of self.old.rows) replica place) }
         ensures sights { OnOk result (SwapsSights replica (volume_seen self.new).replicas (sights_of self.old.rows) (sights_of self.new.rows)) }
         ensures refused_sights { OnErr result (KeepsSights (sights_of self.old.rows) (sights_of self.new.rows)) }
     {

@@ -3,7 +3,8 @@ ghost use Rattle.std.specs.Prelude.{◌≡◌, ◌≤◌, ◌<◌, ℕ, if◌the
 ghost use Rattle.hay_map.specs.Places.{place_in};
 ghost use Rattle.hay_physical.specs.Copies.{Copy, IsUp, goal_of, is_frozen, next_of, volume_bytes};
 ghost use Rattle.hay_logical.specs.Fits.{At};
-ghost use Rattle.hay_logical.specs.Needles.{HeadsLead, HeadsLeadOn, IsDamagedCell, LacksCell, LacksCellAnew, LacksCellLeft};
+ghost use Rattle.hay_logical.specs.Needles.{HeadsLead, HeadsLeadOn, HeadsLeadPart, IsDamagedCell, LacksCell, LacksCellAnew, LacksCellLeft};
+ghost use Rattle.hay_logical.specs.Sights.{sights_of};
 ghost use Rattle.hay_logical.specs.Seen.{BeginsTo, BreaksStep, ChangesRun, IsEnded, StepsTo, SwapSeen, begun, replica_seen};
 ghost use Rattle.hay_logical.specs.Steps.Start.{Examined, Fresh, Going};
 ghost use Rattle.hay_logical.specs.Steps.{AllIdle, BeginsAt, CallsOne, ExaminesAt, KeepsPlaces, LosesRun, StaysInReach, StepsAt, SwapsAt, SwapsOne, latest_of, still_gone, still_gone_cell};
@@ -92,8 +93,10 @@ pub(crate) fn step_at<D: Disk>(
     ensures seen { (r r' : Copy D) → At replicas.old at r → At replicas.new at r' → IfOk result (λ number. StepsTo cells number (replica_seen r) (replica_seen r')) }
     ensures left { (r r' : Copy D) → At replicas.old at r → At replicas.new at r' → OnErr result (BreaksStep (replica_seen r) (replica_seen r')) }
     ensures lead { D.Tells → (r r' : Copy D) → At replicas.old at r → At replicas.new at r' →
-        IfOk result (λ number. HeadsLead number (next_of r) (next_of r') (volume_bytes D.files r)) }
-    ensures damaged { D.Tells → (place : ℕ) → result ≡ Err (ReplicaFault.Damaged place) → IsDamagedCell D.files replicas.old at (LacksCell cells place) }
+        IfOk result (λ number. HeadsLead (sights_of rows.now) at number (next_of r) (next_of r') (volume_bytes D.files r)) }
+    ensures part { D.Tells → (r r' : Copy D) → At replicas.old at r → At replicas.new at r' → result ≡ Err ReplicaFault.NoMemory →
+        HeadsLeadPart (sights_of rows.now) at cells (next_of r) (next_of r') (volume_bytes D.files r) }
+    ensures damaged { D.Tells → (place : ℕ) → result ≡ Err (ReplicaFault.Damaged place) → IsDamagedCell D.files replicas.old at (LacksCell (sights_of rows.now) at cells place) }
 {
     step(&mut replicas[at], at as u32, rows, cells)
 }
@@ -118,8 +121,8 @@ pub(crate) fn finish_at<D: Disk>(
     ensures counts { KeepsCounts D.fault_count D.fuse_count replicas.old replicas.new }
     ensures seen { (r r' : Copy D) → At replicas.old at r → At replicas.new at r' → IfOk result (λ files. SwapSeen files.generation files.end (replica_seen r) (replica_seen r')) }
     ensures kept { (r r' : Copy D) → At replicas.old at r → At replicas.new at r' → OnErr result (ChangesRun (replica_seen r) (replica_seen r')) }
-    ensures lead { D.Tells → OnOk result ((r : Copy D) → At replicas.old at r → HeadsLeadOn (replica_seen r) (volume_bytes D.files r)) }
-    ensures damaged { D.Tells → (place : ℕ) → result ≡ Err (Unswapped.Refused (ReplicaFault.Damaged place)) → IsDamagedCell D.files replicas.old at (LacksCellLeft place) }
+    ensures lead { D.Tells → OnOk result ((r : Copy D) → At replicas.old at r → HeadsLeadOn (sights_of rows.old) at (replica_seen r) (volume_bytes D.files r)) }
+    ensures damaged { D.Tells → (place : ℕ) → result ≡ Err (Unswapped.Refused (ReplicaFault.Damaged place)) → IsDamagedCell D.files replicas.old at (LacksCellLeft (sights_of rows.old) at place) }
 {
     let result = finish(&mut replicas[at], at as u32, rows);
     drop_behind(replicas, at);
@@ -145,8 +148,8 @@ pub(crate) fn compact_at<D: Disk>(
     ensures counts { KeepsCounts D.fault_count D.fuse_count replicas.old replicas.new }
     ensures seen { (r r' : Copy D) → At replicas.old at r → At replicas.new at r' → IfOk result (λ files. SwapSeen files.generation files.end (replica_seen r) (replica_seen r')) }
     ensures kept { (r r' : Copy D) → At replicas.old at r → At replicas.new at r' → OnErr result (ChangesRun (replica_seen r) (replica_seen r')) }
-    ensures lead { D.Tells → OnOk result ((r : Copy D) → At replicas.old at r → HeadsLeadOn (begun (replica_seen r)) (volume_bytes D.files r)) }
-    ensures damaged { D.Tells → (place : ℕ) → result ≡ Err (Unswapped.Refused (ReplicaFault.Damaged place)) → IsDamagedCell D.files replicas.old at (LacksCellAnew place) }
+    ensures lead { D.Tells → OnOk result ((r : Copy D) → At replicas.old at r → HeadsLeadOn (sights_of rows.old) at (begun (replica_seen r)) (volume_bytes D.files r)) }
+    ensures damaged { D.Tells → (place : ℕ) → result ≡ Err (Unswapped.Refused (ReplicaFault.Damaged place)) → IsDamagedCell D.files replicas.old at (LacksCellAnew (sights_of rows.old) at place) }
 {
     let result = compact(&mut replicas[at], at as u32, rows, alloc);
     drop_behind(replicas, at);
@@ -182,8 +185,8 @@ fn compact<D: Disk>(
     ensures fuses { D.fuse_count replica.new.disk ≡ D.fuse_count replica.old.disk }
     ensures seen { IfOk result (λ files. SwapSeen files.generation files.end (replica_seen replica.old) (replica_seen replica.new)) }
     ensures kept { OnErr result (ChangesRun (replica_seen replica.old) (replica_seen replica.new)) }
-    ensures lead { D.Tells → OnOk result (HeadsLeadOn (begun (replica_seen replica.old)) (volume_bytes D.files replica.old)) }
-    ensures damaged { D.Tells → (place : ℕ) → result ≡ Err (Unswapped.Refused (ReplicaFault.Damaged place)) → LacksCellAnew place (replica_seen replica.old) (volume_bytes D.files replica.old) }
+    ensures lead { D.Tells → OnOk result (HeadsLeadOn (sights_of rows.old) at (begun (replica_seen replica.old)) (volume_bytes D.files replica.old)) }
+    ensures damaged { D.Tells → (place : ℕ) → result ≡ Err (Unswapped.Refused (ReplicaFault.Damaged place)) → LacksCellAnew (sights_of rows.old) at place (replica_seen replica.old) (volume_bytes D.files replica.old) }
 {
     match replica.begin(alloc) {
         Ok(_) => finish(replica, at, rows),
@@ -207,8 +210,8 @@ fn finish<D: Disk>(
     ensures fuses { D.fuse_count replica.new.disk ≡ D.fuse_count replica.old.disk }
     ensures seen { IfOk result (λ files. SwapSeen files.generation files.end (replica_seen replica.old) (replica_seen replica.new)) }
     ensures kept { OnErr result (ChangesRun (replica_seen replica.old) (replica_seen replica.new)) }
-    ensures lead { D.Tells → OnOk result (HeadsLeadOn (replica_seen replica.old) (volume_bytes D.files replica.old)) }
-    ensures damaged { D.Tells → (place : ℕ) → result ≡ Err (Unswapped.Refused (ReplicaFault.Damaged place)) → LacksCellLeft place (replica_seen replica.old) (volume_bytes D.files replica.old) }
+    ensures lead { D.Tells → OnOk result (HeadsLeadOn (sights_of rows.old) at (replica_seen replica.old) (volume_bytes D.files replica.old)) }
+    ensures damaged { D.Tells → (place : ℕ) → result ≡ Err (Unswapped.Refused (ReplicaFault.Damaged place)) → LacksCellLeft (sights_of rows.old) at place (replica_seen replica.old) (volume_bytes D.files replica.old) }
 {
     // There are fewer cells than bytes.
     let most = replica.end();
@@ -308,8 +311,9 @@ fn step<D: Disk>(
     ensures fuses { D.fuse_count replica.new.disk ≡ D.fuse_count replica.old.disk }
     ensures seen { IfOk result (λ number. StepsTo cells number (replica_seen replica.old) (replica_seen replica.new)) }
     ensures left { OnErr result (BreaksStep (replica_seen replica.old) (replica_seen replica.new)) }
-    ensures lead { D.Tells → IfOk result (λ number. HeadsLead number (next_of replica.old) (next_of replica.new) (volume_bytes D.files replica.old)) }
-    ensures damaged { D.Tells → (place : ℕ) → result ≡ Err (ReplicaFault.Damaged place) → LacksCell cells place (replica_seen replica.old) (volume_bytes D.files replica.old) }
+    ensures lead { D.Tells → IfOk result (λ number. HeadsLead (sights_of rows.now) at number (next_of replica.old) (next_of replica.new) (volume_bytes D.files replica.old)) }
+    ensures part { D.Tells → result ≡ Err ReplicaFault.NoMemory → HeadsLeadPart (sights_of rows.now) at cells (next_of replica.old) (next_of replica.new) (volume_bytes D.files replica.old) }
+    ensures damaged { D.Tells → (place : ℕ) → result ≡ Err (ReplicaFault.Damaged place) → LacksCell (sights_of rows.now) at cells place (replica_seen replica.old) (volume_bytes D.files replica.old) }
 {
     for examined in 0..cells {
         match examine(replica, at, rows) {
@@ -336,8 +340,9 @@ fn examine<D: Disk>(
     ensures seen { IfOk result (λ more. StepsTo 1 (if more then 1 else 0) (replica_seen replica.old) (replica_seen replica.new)) }
     ensures left { OnErr result (BreaksStep (replica_seen replica.old) (replica_seen replica.new)) }
     ensures bytes { D.Tells → volume_bytes D.files replica.new ≡ volume_bytes D.files replica.old }
-    ensures lead { D.Tells → IfOk result (λ more. HeadsLead (if more then 1 else 0) (next_of replica.old) (next_of replica.new) (volume_bytes D.files replica.old)) }
-    ensures damaged { D.Tells → (place : ℕ) → result ≡ Err (ReplicaFault.Damaged place) → LacksCell 1 place (replica_seen replica.old) (volume_bytes D.files replica.old) }
+    ensures lead { D.Tells → IfOk result (λ more. HeadsLead (sights_of rows.now) at (if more then 1 else 0) (next_of replica.old) (next_of replica.new) (volume_bytes D.files replica.old)) }
+    ensures wanting { result ≡ Err ReplicaFault.NoMemory → next_of replica.new ≡ next_of replica.old }
+    ensures damaged { D.Tells → (place : ℕ) → result ≡ Err (ReplicaFault.Damaged place) → LacksCell (sights_of rows.now) at 1 place (replica_seen replica.old) (volume_bytes D.files replica.old) }
 {
     match replica.peek() {
         Ok(None) => Ok(false),

@@ -12,7 +12,7 @@ ghost use Rattle.hay_map.specs.declared.place.Place.TheVariants as place;
 ghost use Rattle.hay_map.specs.Rows.{last_place};
 ghost use Rattle.hay_open.specs.Damage.{IsOpeningDamage};
 ghost use Rattle.hay_open.specs.Finds.{ArePlacesWithin};
-ghost use Rattle.hay_open.specs.Stored.{IsSealedCell, IsVoid, OpensAs, PlaceOf, Stored, fresh_stored, last_cell};
+ghost use Rattle.hay_open.specs.Stored.{IsReplicaFile, IsSealedCell, IsVoid, OpensAs, PlaceOf, Stored, fresh_stored, last_cell};
 ghost use Rattle.hay_physical.specs.declared.state.Phase.TheVariants.{Closed};
 ghost use Rattle.hay_physical.specs.Runs.{HasLastAt, HasRun, Run, longer, loosened};
 ghost use Rattle.std.specs.List.{AllByRecursion};
@@ -111,6 +111,8 @@ impl<D: Disk> Replica<D> {
         ensures nothing { D.Tells → IsVoid (contents_of D.files self.old.disk) → (image : ℕ → List ℕ) → MayLeave (D.files self.new.disk) image →
             (other : Super) (s : Stored) → OpensAs other image s → s ≡ fresh_stored }
         ensures left { D.Tells → (stuck : Bool) (s t : Stored) → Holds D.files self.old stuck s t → OnErr result (Holds D.files self.new stuck s t) }
+        // Whatever the disk tells, damage is named in a file of a replica.
+        ensures file { (file at : ℕ) → result ≡ Err (OpenFault.Damaged file at) → IsReplicaFile file }
         ensures damaged { D.Tells → (file at : ℕ) → result ≡ Err (OpenFault.Damaged file at) → IsOpeningDamage self.old.sup (contents_of D.files self.old.disk) file at }
         ensures only { D.Tells → (s : Stored) → OpensAs self.old.sup (contents_of D.files self.old.disk) s →
             (file at : ℕ) → result ≡ Err (OpenFault.Damaged file at) → ⊥ }

@@ -9,7 +9,7 @@ ghost use Rattle.hay_map.specs.Rows.{last_place};
 ghost use Rattle.hay_volume.specs.Needles.{LacksNeedleWithin};
 ghost use Rattle.hay_open.specs.Finds.{ArePlacesWithin};
 ghost use Rattle.hay_open.specs.Stored.{Stored, index_file, volume_file};
-ghost use Rattle.hay_compact.specs.Copying.{HeadStands, IsLatest, IsNextWithin};
+ghost use Rattle.hay_compact.specs.Copying.{HeadStands, IsLatest, IsNextWithin, IsPassedOrStands};
 ghost use Rattle.hay_compact.specs.Finishing.{ArePhotos, AreThePlaces, IsSeen};
 ghost use Rattle.hay_physical.specs.Copies.{CanBegin, IsFrozen, IsOpenCopy, IsUp, KeepsEnd, bare_of, copied_of, end_of, faults_at_end, generation_of, goal_of, is_frozen, is_stuck, next_of, volume_bytes};
 ghost use Rattle.hay_physical.specs.Faults.{IsBeginFault, IsPeekFault, IsRunFault};
@@ -167,7 +167,9 @@ impl<D: Disk> Replica<D> {
         ensures whole { D.Tells → (s : Stored) (run : Run) → HasNext D.files self.old s run cell →
             (at : ℕ) → result ≡ Err (ReplicaFault.Damaged at) → ⊥ }
         ensures damaged { (at : ℕ) → result ≡ Err (ReplicaFault.Damaged at) → IsNextWithin (end_of self.old) (next_of self.old) at }
-        // Where the disk tells and the head stands there, there is no needle where damage is.
+        // Where the disk tells, whatever it has, the cell is deleted, or is not the last of its pair, or its needle stands there.
+        ensures met { D.Tells → OnOk result (IsPassedOrStands (next_of self.old) cell latest (volume_bytes D.files self.old)) }
+        // Where the head stands there, there is no needle where damage is.
         ensures lacks { D.Tells → HeadStands (next_of self.old) cell (volume_bytes D.files self.old) → (at : ℕ) → result ≡ Err (ReplicaFault.Damaged at) →
             LacksNeedleWithin (end_of self.old) at (volume_bytes D.files self.old) }
         ensures memory { D.Tells → IsErrOf result ReplicaFault.NoMemory → (s : Stored) (run : Run) → HasRun D.files self.old s (Some run) → HasRun D.files self.new s (Some run) }

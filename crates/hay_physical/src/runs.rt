@@ -9,7 +9,7 @@ ghost use Rattle.hay_map.specs.Rows.{last_place};
 ghost use Rattle.hay_volume.specs.Needles.{LacksNeedleWithin};
 ghost use Rattle.hay_open.specs.Finds.{ArePlacesWithin};
 ghost use Rattle.hay_open.specs.Stored.{Stored};
-ghost use Rattle.hay_compact.specs.Copying.{HeadStands, IsLatest, IsNextWithin, KeepsOtherFiles, Stage};
+ghost use Rattle.hay_compact.specs.Copying.{HeadStands, IsLatest, IsNextWithin, IsPassedOrStands, KeepsOtherFiles, Stage};
 ghost use Rattle.hay_compact.specs.Finishing.{ArePhotos, AreThePlaces, IsSeen};
 ghost use Rattle.hay_physical.specs.Copies.{copier_copied, copier_faults, copier_goal, copier_next};
 ghost use Rattle.hay_physical.specs.Faults.{IsBeginFault, IsPeekFault, IsRunFault};
@@ -162,6 +162,7 @@ impl OpenFiles {
         ensures whole { D.Tells → (sup : Super) (s : Stored) (run : Run) → FilesPeek sup (D.files disk.old) self.old s run cell →
             (at : ℕ) → result ≡ Err (ReplicaFault.Damaged at) → ⊥ }
         ensures damaged { (at : ℕ) → result ≡ Err (ReplicaFault.Damaged at) → IsNextWithin self.old.volume.end (copier_next self.old.copier) at }
+        ensures met { D.Tells → OnOk result (IsPassedOrStands (copier_next self.old.copier) cell latest (D.files disk.old self.old.volume.file).now) }
         ensures lacks { D.Tells → HeadStands (copier_next self.old.copier) cell (D.files disk.old self.old.volume.file).now → (at : ℕ) → result ≡ Err (ReplicaFault.Damaged at) →
             LacksNeedleWithin self.old.volume.end at (D.files disk.old self.old.volume.file).now }
         ensures memory { D.Tells → IsErrOf result ReplicaFault.NoMemory → (sup : Super) (s : Stored) (run : Run) → FilesRun sup (D.files disk.old) self.old s run →

@@ -77,6 +77,7 @@ returns-clause-refused g c =
     (λ tells file at e. c.in-Err.ensures.damaged tells file at (ap Err e))
     (λ tells s opens file at e. c.in-Err.ensures.only tells s opens file at (ap Err e))
     (λ tells stuck s t holds file at e. c.in-Err.ensures.whole tells stuck s t holds file at (ap Err e))
+    (λ file at e. c.in-Err.ensures.file file at (ap Err e))
 
 pub returns-in-Ok-load-clause-reach : goal.returns-in-Ok-load-clause-reach
 returns-in-Ok-load-clause-reach g c = λ tells.

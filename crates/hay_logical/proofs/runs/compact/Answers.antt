@@ -13,6 +13,7 @@ use Rattle.hay_physical.proofs.Views.{if_ok_so, on_err_so, on_ok_one}
 use Rattle.hay_logical.proofs.Damages.{heads_anew, lacks_anew, meets_anew}
 use Rattle.hay_logical.proofs.Seen.{changes_through, run_changed, swap_later}
 use Rattle.hay_logical.specs.Seen.{replica_seen}
+use Rattle.hay_logical.specs.Sights.{sights_of}
 use Rattle.hay_logical.proofs.runs.compact.Goals as goal
 use Rattle.hay_logical.proofs.runs.compact.Goals.{After-begin}
 
@@ -89,13 +90,13 @@ returns-in-Err-clause-kept g c = let b = c.begin.ensures in run_changed c.args.r
 pub returns-in-Ok-clause-lead : goal.returns-in-Ok-clause-lead
 returns-in-Ok-clause-lead g c = λ tells.
     on_ok_one c.finish.result _ _
-    (heads_anew (replica_seen c.args.replica.now) (replica_seen c.begin.new.self) (volume_bytes g.D.Disk.files c.args.replica.now) (volume_bytes g.D.Disk.files c.begin.new.self)
+    (heads_anew (sights_of c.args.rows.now) c.args.at (replica_seen c.args.replica.now) (replica_seen c.begin.new.self) (volume_bytes g.D.Disk.files c.args.replica.now) (volume_bytes g.D.Disk.files c.begin.new.self)
     c.in-Ok.ensures.first c.begin.ensures.stays.1 (c.begin.ensures.bytes tells))
     (c.finish.ensures.lead tells)
 
 pub returns-in-Ok-clause-damaged : goal.returns-in-Ok-clause-damaged
 returns-in-Ok-clause-damaged g c = λ tells place is.
-    lacks_anew place (replica_seen c.args.replica.now) (replica_seen c.begin.new.self) (volume_bytes g.D.Disk.files c.args.replica.now) (volume_bytes g.D.Disk.files c.begin.new.self)
+    lacks_anew (sights_of c.args.rows.now) c.args.at place (replica_seen c.args.replica.now) (replica_seen c.begin.new.self) (volume_bytes g.D.Disk.files c.args.replica.now) (volume_bytes g.D.Disk.files c.begin.new.self)
     c.in-Ok.ensures.first c.begin.ensures.stays.1 (c.begin.ensures.bytes tells) (c.finish.ensures.damaged tells place is)
 
 pub returns-in-Err-clause-damaged : goal.returns-in-Err-clause-damaged

@@ -1,21 +1,23 @@
-use Rattle.std.proofs.Common.{◌≡◌, ◌<◌, Err, sym, ap, subst, ◌∙◌}
+use Rattle.std.proofs.Common.{◌≡◌, ◌<◌, ℕ, Err, sym, ap, subst, ◌∙◌}
 use Rattle.hay_physical.specs.declared.fault.ReplicaFault.{ReplicaFault}
 use Rattle.hay_physical.specs.declared.fault.ReplicaFault.TheVariants as fault
+use Rattle.std.proofs.Common.{Option}
 use Rattle.hay_map.specs.Places.{place_in}
+use Rattle.hay_logical.specs.Sights.{latest_sight, sights_of}
 use Rattle.hay_open.specs.Stored.{last_cell}
-use Rattle.hay_compact.specs.Copying.{IsLatest}
+use Rattle.hay_compact.specs.Copying.{IsLatest, IsPassedOrStands}
 use Rattle.hay_physical.specs.Copies.{Copy, end_of, goal_of, next_of, volume_bytes}
 use Rattle.hay_physical.proofs.Laws.{next_left}
 use Rattle.hay_logical.specs.Fits.{PhotoAt}
-use Rattle.hay_logical.specs.Steps.{GoesOn, IsStepFault}
+use Rattle.hay_logical.specs.Steps.{GoesOn, IsStepFault, latest_of}
 use Rattle.std.proofs.lemmas.Bool.{true≢false}
 use Rattle.hay_logical.proofs.Calls.{still_up}
 use Rattle.hay_logical.proofs.Examining.{examine_cause, goes_after, latest_is, leaves_none, peeked_fits, peeked_small, step_ends, step_later}
 use Rattle.hay_logical.proofs.runs.examine.Given as given
 use Rattle.std.proofs.Common.{arith}
-use Rattle.hay_physical.specs.Runs.{IsPeeked}
+use Rattle.hay_physical.specs.Runs.{EndsRun, IsPeeked}
 use Rattle.hay_logical.specs.Seen.{ChangesRun, replica_seen}
-use Rattle.hay_logical.proofs.Damages.{heads_none, heads_one, lacks_next, lacks_there, meets_later}
+use Rattle.hay_logical.proofs.Damages.{heads_none, heads_one, lacks_next, latest_seen, lacks_there, meets_later}
 use Rattle.hay_logical.proofs.Seen.{changes_through, run_changed, steps_end, steps_one}
 use Rattle.hay_logical.proofs.runs.examine.Goals as goal
 use Rattle.hay_logical.proofs.runs.examine.Goals.{After-peek, After-copy}
@@ -178,15 +180,18 @@ returns-in-Err-clause-bytes g c = c.peek.ensures.bytes
 
 pub returns-in-Ok-None-clause-lead : goal.returns-in-Ok-None-clause-lead
 returns-in-Ok-None-clause-lead g c = λ tells.
-    heads_none (next_of c.args.replica.now) (next_of c.peek.new.self) (volume_bytes g.D.Disk.files c.args.replica.now) (c.peek.ensures.place c.in-Ok-None.ensures.goal)
+    heads_none (sights_of c.args.rows.now) c.args.at (next_of c.args.replica.now) (next_of c.peek.new.self) (volume_bytes g.D.Disk.files c.args.replica.now) (c.peek.ensures.place c.in-Ok-None.ensures.goal)
 
 pub returns-in-Ok-clause-lead : goal.returns-in-Ok-clause-lead
 returns-in-Ok-clause-lead g c = λ tells.
     let r : Copy g.row.D.Denot = c.args.replica.now in
     let x : Copy g.row.D.Denot = c.peek.new.self in
     let head = rw c.in-Ok-Some.field-0-is at (c.in-Ok-Some.ensures.head tells) in
-    heads_one (next_of r) (next_of x) (next_of c.copy.new.self) (volume_bytes g.D.Disk.files r) (volume_bytes g.D.Disk.files x) c.in-Ok-Some.cell
-    (c.peek.ensures.place c.in-Ok-Some.ensures.goal) (c.peek.ensures.bytes tells) c.in-Ok.ensures.moved head
+    let latest : c.latest_in-latest.result ≡ latest_sight (sights_of c.args.rows.now c.in-Ok-Some.cell.pair c.args.at) =
+    c.latest_in-latest.ensures ∙ ap (λ row. latest_of (place_in row c.args.at)) c.row.ensures.row ∙ latest_seen c.args.rows.now c.in-Ok-Some.cell.pair c.args.at in
+    let met = subst (λ (l : Option ℕ). IsPassedOrStands (next_of x) c.in-Ok-Some.cell l (volume_bytes g.D.Disk.files x)) latest (c.in-Ok.ensures.met tells) in
+    heads_one (sights_of c.args.rows.now) c.args.at (next_of r) (next_of x) (next_of c.copy.new.self) (volume_bytes g.D.Disk.files r) (volume_bytes g.D.Disk.files x) c.in-Ok-Some.cell
+    (c.peek.ensures.place c.in-Ok-Some.ensures.goal) (c.peek.ensures.bytes tells) c.in-Ok.ensures.moved head met
 
 pub returns-in-Err-copy-clause-damaged : goal.returns-in-Err-copy-clause-damaged
 returns-in-Err-copy-clause-damaged g c = λ tells place is.
@@ -195,13 +200,26 @@ returns-in-Err-copy-clause-damaged g c = λ tells place is.
     let head = rw c.in-Ok-Some.field-0-is at (c.in-Ok-Some.ensures.head tells) in
     let same : c.in-Err-copy.fault ≡ fault.Damaged place = cc in
     let here = c.copy.ensures.damaged place (c.in-Err-copy.is ∙ ap (λ (f : ReplicaFault). Err f) same) in
-    lacks_there 1 place (replica_seen r) (replica_seen x) (volume_bytes g.D.Disk.files r) (volume_bytes g.D.Disk.files x)
+    lacks_there (sights_of c.args.rows.now) c.args.at 1 place (replica_seen r) (replica_seen x) (volume_bytes g.D.Disk.files r) (volume_bytes g.D.Disk.files x)
     (c.peek.ensures.place c.in-Ok-Some.ensures.goal) c.peek.ensures.stays.1 (c.peek.ensures.bytes tells)
-    (lacks_next place (replica_seen x) (volume_bytes g.D.Disk.files x) here.0 (c.in-Err-copy.ensures.lacks tells head place (ap (λ (f : ReplicaFault). Err f) same)))
+    (lacks_next (sights_of c.args.rows.now) c.args.at place (replica_seen x) (volume_bytes g.D.Disk.files x) here.0 (c.in-Err-copy.ensures.lacks tells head place (ap (λ (f : ReplicaFault). Err f) same)))
 
 pub returns-in-Err-clause-damaged : goal.returns-in-Err-clause-damaged
 returns-in-Err-clause-damaged g c = λ tells place is.
     let same : c.in-Err.fault ≡ fault.Damaged place = cc in
     let here = c.peek.ensures.damaged place (c.in-Err.is ∙ ap (λ (f : ReplicaFault). Err f) same) in
-    lacks_next place (replica_seen c.args.replica.now) (volume_bytes g.D.Disk.files c.args.replica.now) here.0
+    lacks_next (sights_of c.args.rows.now) c.args.at place (replica_seen c.args.replica.now) (volume_bytes g.D.Disk.files c.args.replica.now) here.0
     (c.in-Err.ensures.lacks tells place (ap (λ (f : ReplicaFault). Err f) same))
+
+pub returns-in-Err-copy-clause-wanting : goal.returns-in-Err-copy-clause-wanting
+returns-in-Err-copy-clause-wanting g c = λ is.
+    let x : Copy g.row.D.Denot = c.peek.new.self in
+    let y : Copy g.row.D.Denot = c.copy.new.self in
+    let same : c.in-Err-copy.fault ≡ fault.NoMemory = cc in
+    let stays = subst (λ (f : ReplicaFault). EndsRun (g.D.Disk.fault_count y.disk) x y f) same c.in-Err-copy.ensures.ends in
+    c.in-Err-copy.ensures.place stays ∙ c.peek.ensures.place c.in-Ok-Some.ensures.goal
+
+pub returns-in-Err-clause-wanting : goal.returns-in-Err-clause-wanting
+returns-in-Err-clause-wanting g c = λ is.
+    let same : c.in-Err.fault ≡ fault.NoMemory = cc in
+    absurd (c.peek.ensures.memory (c.in-Err.is ∙ ap (λ (f : ReplicaFault). Err f) same))

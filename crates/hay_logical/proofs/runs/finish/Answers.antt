@@ -12,6 +12,7 @@ use Rattle.hay_logical.proofs.runs.finish.Given as given
 use Rattle.hay_physical.proofs.Views.{if_ok_so, on_err_so}
 use Rattle.hay_logical.proofs.Seen.{changes_through, run_changed, steps_change, swap_later}
 use Rattle.hay_logical.specs.Needles.{LacksCell}
+use Rattle.hay_logical.specs.Sights.{sights_of}
 use Rattle.hay_logical.proofs.Damages.{heads_all}
 use Rattle.hay_physical.proofs.Looks.{always_ok}
 use Rattle.hay_physical.specs.Copies.{volume_bytes}
@@ -99,7 +100,7 @@ returns-in-Ok-clause-lead g c = λ tells.
     let r : ReplicaSeen = replica_seen c.args.replica.now in
     let x : ReplicaSeen = replica_seen c.step.new.replica in
     always_ok c.swap.result _
-    (heads_all c.in-Ok.field-0 r x (volume_bytes g.D.Disk.files c.args.replica.now) (subst (λ n. StepsTo n c.in-Ok.field-0 r x) c.end-most.ensures.is c.in-Ok.ensures.seen) (c.in-Ok.ensures.lead tells))
+    (heads_all (sights_of c.args.rows.now) c.args.at c.in-Ok.field-0 r x (volume_bytes g.D.Disk.files c.args.replica.now) (subst (λ n. StepsTo n c.in-Ok.field-0 r x) c.end-most.ensures.is c.in-Ok.ensures.seen) (c.in-Ok.ensures.lead tells))
 
 pub returns-in-Ok-clause-damaged : goal.returns-in-Ok-clause-damaged
 returns-in-Ok-clause-damaged g c = λ tells place is. absurd (c.swap.ensures.undamaged place is)
@@ -107,5 +108,5 @@ returns-in-Ok-clause-damaged g c = λ tells place is. absurd (c.swap.ensures.und
 pub returns-in-Err-clause-damaged : goal.returns-in-Err-clause-damaged
 returns-in-Err-clause-damaged g c = λ tells place is.
     let same : c.in-Err.fault ≡ ReplicaFault.Damaged place = cc in
-    subst (λ n. LacksCell n place (replica_seen c.args.replica.now) (volume_bytes g.D.Disk.files c.args.replica.now)) c.end-most.ensures.is
+    subst (λ n. LacksCell (sights_of c.args.rows.now) c.args.at n place (replica_seen c.args.replica.now) (volume_bytes g.D.Disk.files c.args.replica.now)) c.end-most.ensures.is
     (c.in-Err.ensures.damaged tells place (ap (λ (f : ReplicaFault). Err f) same))

@@ -3,6 +3,7 @@ use Rattle.std.specs.Prelude.{slice_index_or, slice_set}
 use Rattle.hay_physical.specs.Copies.{Copy, volume_bytes}
 use Rattle.hay_logical.specs.Fits.{At}
 use Rattle.hay_logical.specs.Needles.{HeadsLeadOn, LacksCellLeft}
+use Rattle.hay_logical.specs.Sights.{sights_of}
 use Rattle.hay_physical.proofs.Views.{on_ok_one}
 use Rattle.hay_logical.specs.Steps.Start.{Going}
 use Rattle.hay_logical.proofs.Calls.{one_counts}
@@ -76,12 +77,12 @@ pub returns-clause-damaged : goal.returns-clause-damaged
 returns-clause-damaged g c = λ tells place is r e.
     let here : Copy g.row.D.Denot = slice_index_or c.args.replicas.now c.args.at c.index-replicas-at.result in
     let there : At c.args.replicas.now c.args.at here = at_read c.args.replicas.now c.args.at c.index-replicas-at.result c.requires.within in
-    subst (λ (x : Copy g.row.D.Denot). LacksCellLeft place (replica_seen x) (volume_bytes g.D.Disk.files x)) (at_same c.args.replicas.now c.args.at here r there e) (c.finish-result.ensures.damaged tells place is)
+    subst (λ (x : Copy g.row.D.Denot). LacksCellLeft (sights_of c.args.rows.now) c.args.at place (replica_seen x) (volume_bytes g.D.Disk.files x)) (at_same c.args.replicas.now c.args.at here r there e) (c.finish-result.ensures.damaged tells place is)
 
 pub returns-clause-lead : goal.returns-clause-lead
 returns-clause-lead g c = λ tells.
     let here : Copy g.row.D.Denot = slice_index_or c.args.replicas.now c.args.at c.index-replicas-at.result in
     let there : At c.args.replicas.now c.args.at here = at_read c.args.replicas.now c.args.at c.index-replicas-at.result c.requires.within in
     on_ok_one c.finish-result.result _ _
-    (λ lead r e. subst (λ (x : Copy g.row.D.Denot). HeadsLeadOn (replica_seen x) (volume_bytes g.D.Disk.files x)) (at_same c.args.replicas.now c.args.at here r there e) lead)
+    (λ lead r e. subst (λ (x : Copy g.row.D.Denot). HeadsLeadOn (sights_of c.args.rows.now) c.args.at (replica_seen x) (volume_bytes g.D.Disk.files x)) (at_same c.args.replicas.now c.args.at here r there e) lead)
     (c.finish-result.ensures.lead tells)

@@ -9,6 +9,7 @@ use Rattle.hay_logical.proofs.Seen.{steps_break, steps_more, steps_none, steps_s
 use Rattle.hay_logical.specs.Seen.{ReplicaSeen, StepsTo, replica_seen}
 use Rattle.hay_logical.proofs.Damages.{heads_more, heads_none, lacks_behind, meets_behind}
 use Rattle.hay_logical.specs.Needles.{HeadsLead}
+use Rattle.hay_logical.specs.Sights.{sights_of}
 use Rattle.hay_physical.specs.Copies.{next_of, volume_bytes}
 use Rattle.hay_logical.proofs.runs.step.Goals as goal
 
@@ -19,7 +20,7 @@ loop-examined-init g c = record {
   seen = steps_none c.args.replica.now c.requires.standing;
   counts = omega arith;
   bytes = λ tells. refl;
-  lead = λ tells. heads_none (next_of c.args.replica.now) (next_of c.args.replica.now) (volume_bytes g.D.Disk.files c.args.replica.now) refl;
+  lead = λ tells. heads_none (sights_of c.args.rows.now) c.args.at (next_of c.args.replica.now) (next_of c.args.replica.now) (volume_bytes g.D.Disk.files c.args.replica.now) refl;
   fuses = refl;
   stepped = λ tells s run stands has places. ((let low : 0 ≤ run.left = omega arith in low), subst (λ (x : Run). HasRun g.D.Disk.files c.args.replica.now s (Some x)) (sym (step_none run)) has);
 }
@@ -36,9 +37,9 @@ loop-examined-preserved g c =
       counts = (let low = was.counts in omega (arith, low, counts));
       bytes = λ tells. c.examine.ensures.bytes tells ∙ was.bytes tells;
       lead = λ tells.
-          heads_more c.loop-examined.examined 1 (next_of c.args.replica.now) (next_of c.loop-examined.replica) (next_of c.examine.new.replica) (volume_bytes g.D.Disk.files c.args.replica.now) (was.lead tells)
-          (subst (λ more. HeadsLead (if more then 1 else 0) (next_of c.loop-examined.replica) (next_of c.examine.new.replica) (volume_bytes g.D.Disk.files c.args.replica.now)) c.in-Ok-true.field-0-test
-          (subst (λ (l : List ℕ). HeadsLead (if c.in-Ok-true.field-0 then 1 else 0) (next_of c.loop-examined.replica) (next_of c.examine.new.replica) l) (was.bytes tells) (c.in-Ok-true.ensures.lead tells)));
+          heads_more (sights_of c.args.rows.now) c.args.at c.loop-examined.examined 1 (next_of c.args.replica.now) (next_of c.loop-examined.replica) (next_of c.examine.new.replica) (volume_bytes g.D.Disk.files c.args.replica.now) (was.lead tells)
+          (subst (λ more. HeadsLead (sights_of c.args.rows.now) c.args.at (if more then 1 else 0) (next_of c.loop-examined.replica) (next_of c.examine.new.replica) (volume_bytes g.D.Disk.files c.args.replica.now)) c.in-Ok-true.field-0-test
+          (subst (λ (l : List ℕ). HeadsLead (sights_of c.args.rows.now) c.args.at (if c.in-Ok-true.field-0 then 1 else 0) (next_of c.loop-examined.replica) (next_of c.examine.new.replica) l) (was.bytes tells) (c.in-Ok-true.ensures.lead tells)));
       fuses = c.examine.ensures.fuses ∙ was.fuses;
       stepped = λ tells s run stands has places.
           let so_far = was.stepped tells s run stands has places in
@@ -127,7 +128,7 @@ returns-in-Err-clause-damaged g c = λ tells place is.
     let was = c.loop-examined.invariant in
     let same : c.in-Err.fault ≡ fault.Damaged place = cc in
     let test = c.loop-examined-test.true in
-    lacks_behind c.args.cells c.loop-examined.examined place (replica_seen c.args.replica.now) (replica_seen c.loop-examined.replica)
+    lacks_behind (sights_of c.args.rows.now) c.args.at c.args.cells c.loop-examined.examined place (replica_seen c.args.replica.now) (replica_seen c.loop-examined.replica)
     (volume_bytes g.D.Disk.files c.args.replica.now) (volume_bytes g.D.Disk.files c.loop-examined.replica) (omega (arith, test)) (was.lead tells)
     (ap (λ (s : ReplicaSeen). s.end) was.seen.only) (was.bytes tells)
     (c.in-Err.ensures.damaged tells place (ap (λ (f : ReplicaFault). Err f) same))
@@ -137,9 +138,19 @@ returns-in-Ok-false-clause-lead g c = λ tells.
     let was = c.loop-examined.invariant in
     let same : next_of c.examine.new.replica ≡ next_of c.loop-examined.replica =
     (subst (λ more. StepsTo 1 (if more then 1 else 0) (replica_seen c.loop-examined.replica) (replica_seen c.examine.new.replica)) c.in-Ok-false.field-0-test c.in-Ok-false.ensures.seen).none refl in
-    subst (λ n. HeadsLead c.loop-examined.examined (next_of c.args.replica.now) n (volume_bytes g.D.Disk.files c.args.replica.now)) (sym same) (was.lead tells)
+    subst (λ n. HeadsLead (sights_of c.args.rows.now) c.args.at c.loop-examined.examined (next_of c.args.replica.now) n (volume_bytes g.D.Disk.files c.args.replica.now)) (sym same) (was.lead tells)
 
 pub returns-clause-lead : goal.returns-clause-lead
 returns-clause-lead g c = λ tells.
     let done : c.loop-examined.examined ≡ c.args.cells = omega arith in
-    subst (λ n. HeadsLead n (next_of c.args.replica.now) (next_of c.loop-examined.replica) (volume_bytes g.D.Disk.files c.args.replica.now)) done (c.loop-examined.invariant.lead tells)
+    subst (λ n. HeadsLead (sights_of c.args.rows.now) c.args.at n (next_of c.args.replica.now) (next_of c.loop-examined.replica) (volume_bytes g.D.Disk.files c.args.replica.now)) done (c.loop-examined.invariant.lead tells)
+
+pub returns-in-Err-clause-part : goal.returns-in-Err-clause-part
+returns-in-Err-clause-part g c = λ tells is.
+    let was = c.loop-examined.invariant in
+    let same : c.in-Err.fault ≡ fault.NoMemory = cc in
+    let stays = c.in-Err.ensures.wanting (ap (λ (f : ReplicaFault). Err f) same) in (
+      c.loop-examined.examined,
+      (let test = c.loop-examined-test.true in omega (arith, test)),
+      subst (λ n. HeadsLead (sights_of c.args.rows.now) c.args.at c.loop-examined.examined (next_of c.args.replica.now) n (volume_bytes g.D.Disk.files c.args.replica.now)) (sym stays) (was.lead tells),
+    )

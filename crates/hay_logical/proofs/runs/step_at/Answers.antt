@@ -2,7 +2,8 @@ use Rattle.std.proofs.Common.{◌<◌, refl, sym, subst, arith}
 use Rattle.std.specs.Prelude.{slice_index_or}
 use Rattle.hay_physical.specs.Copies.{Copy, next_of, volume_bytes}
 use Rattle.hay_logical.specs.Fits.{At}
-use Rattle.hay_logical.specs.Needles.{HeadsLead, LacksCell}
+use Rattle.hay_logical.specs.Needles.{HeadsLead, HeadsLeadPart, LacksCell}
+use Rattle.hay_logical.specs.Sights.{sights_of}
 use Rattle.hay_logical.specs.Steps.{StepsAt}
 use Rattle.hay_logical.proofs.Calls.{one_counts}
 use Rattle.hay_logical.proofs.Lists.{at_read, at_same, one_same}
@@ -63,12 +64,20 @@ pub returns-clause-damaged : goal.returns-clause-damaged
 returns-clause-damaged g c = λ tells place is r e.
     let here : Copy g.row.D.Denot = slice_index_or c.args.replicas.now c.args.at c.index-replicas-at.result in
     let there : At c.args.replicas.now c.args.at here = at_read c.args.replicas.now c.args.at c.index-replicas-at.result c.requires.within in
-    subst (λ (x : Copy g.row.D.Denot). LacksCell c.args.cells place (replica_seen x) (volume_bytes g.D.Disk.files x)) (at_same c.args.replicas.now c.args.at here r there e) (c.step.ensures.damaged tells place is)
+    subst (λ (x : Copy g.row.D.Denot). LacksCell (sights_of c.args.rows.now) c.args.at c.args.cells place (replica_seen x) (volume_bytes g.D.Disk.files x)) (at_same c.args.replicas.now c.args.at here r there e) (c.step.ensures.damaged tells place is)
 
 pub returns-clause-lead : goal.returns-clause-lead
 returns-clause-lead g c = λ tells r r' e f.
     let here : Copy g.row.D.Denot = slice_index_or c.args.replicas.now c.args.at c.index-replicas-at.result in
     let there : At c.args.replicas.now c.args.at here = at_read c.args.replicas.now c.args.at c.index-replicas-at.result c.requires.within in
     let same = one_same c.args.replicas.now c.args.at here c.step.new.replica r r' there e f in
-    subst (λ x. IfOk c.step.result (λ number. HeadsLead number (next_of x) (next_of r') (volume_bytes g.D.Disk.files x))) (sym same.0)
-    (subst (λ x. IfOk c.step.result (λ number. HeadsLead number (next_of here) (next_of x) (volume_bytes g.D.Disk.files here))) (sym same.1) (c.step.ensures.lead tells))
+    subst (λ x. IfOk c.step.result (λ number. HeadsLead (sights_of c.args.rows.now) c.args.at number (next_of x) (next_of r') (volume_bytes g.D.Disk.files x))) (sym same.0)
+    (subst (λ x. IfOk c.step.result (λ number. HeadsLead (sights_of c.args.rows.now) c.args.at number (next_of here) (next_of x) (volume_bytes g.D.Disk.files here))) (sym same.1) (c.step.ensures.lead tells))
+
+pub returns-clause-part : goal.returns-clause-part
+returns-clause-part g c = λ tells r r' e f is.
+    let here : Copy g.row.D.Denot = slice_index_or c.args.replicas.now c.args.at c.index-replicas-at.result in
+    let there : At c.args.replicas.now c.args.at here = at_read c.args.replicas.now c.args.at c.index-replicas-at.result c.requires.within in
+    let same = one_same c.args.replicas.now c.args.at here c.step.new.replica r r' there e f in
+    subst (λ x. HeadsLeadPart (sights_of c.args.rows.now) c.args.at c.args.cells (next_of x) (next_of r') (volume_bytes g.D.Disk.files x)) (sym same.0)
+    (subst (λ x. HeadsLeadPart (sights_of c.args.rows.now) c.args.at c.args.cells (next_of here) (next_of x) (volume_bytes g.D.Disk.files here)) (sym same.1) (c.step.ensures.part tells is))

@@ -2,6 +2,7 @@ use Rattle.std.proofs.Common.{◌≡◌, ◌∙◌, ◌+◌, ℕ, List, drop, So
 use Rattle.std.proofs.lemmas.Result.{err_from_is_err_and}
 use Rattle.hay_needle.specs.Needle.{BeginsWithNeedle}
 use Rattle.hay_volume.proofs.ReadLaws.{same_fault}
+use Rattle.hay_volume.specs.Needles.{HasNeedleOf}
 use Rattle.hay_compact.specs.Copying.{IsLatest, MovesOn, Stage}
 use Rattle.hay_compact.proofs.Copyings.{needle_cell, needle_head, needle_stands, next_stands}
 use Rattle.hay_compact.proofs.Copied.{copy_skips, copying_read, is_next, making_read, not_next, same_error}
@@ -72,3 +73,14 @@ returns-in_err-read-clause-lacks g c = λ tells head k wrong n begins within.
     let file : List ℕ = (g.D.Disk.files c.args.disk.now c.args.old.now.file).now in
     let here : BeginsWithNeedle (drop c.args.self.now.next file) n = subst (λ j. BeginsWithNeedle (drop j file) n) at begins in
     c.in_err-read.ensures.whole tells k (needle_cell c.args.self.now.next n) (needle_stands c.args.self.now.next file n here) (needle_head c.args.self.now.next file c.args.cell n head here) was
+
+pub returns-then-cell-clause-met : goal.returns-then-cell-clause-met
+returns-then-cell-clause-met g c = λ tells. elim c.then-cell.branch [
+  | then-cell-via-then-cell w ↦ inl w.if-cell.true
+  | then-cell-via-else-cell+then-ne w ↦ inr (inl (not_next c.args.latest c.self.inside.next c.args.self.now.next w.if-ne.ensures (ap (λ (s : Stage). s.next) c.self.view_is)))
+]
+
+pub returns-clause-met : goal.returns-clause-met
+returns-clause-met g c = λ tells.
+    let file : List ℕ = (g.D.Disk.files c.args.disk.now c.args.old.now.file).now in
+    inr (inr (subst (λ deleted. HasNeedleOf c.args.cell.size deleted c.args.self.now.next file) c.if-cell.false (c.in_ok-read.ensures.there tells)))

@@ -3,6 +3,7 @@ use Rattle.std.proofs.lemmas.Result.{err_from_is_err_and}
 use Rattle.hay_volume.proofs.ReadLaws.{same_fault}
 use Rattle.hay_volume.proofs.Readings.{cell_begins}
 use Rattle.hay_volume.specs.Cells.{StandsCell, cell_head}
+use Rattle.hay_volume.specs.Needles.{HasNeedleOf}
 use Rattle.hay_needle.specs.Needle.{needle_of_cell}
 use Rattle.hay_needle.specs.declared.needle.Cell.{Cell}
 use Rattle.hay_needle.specs.declared.needle.CellHead.{CellHead}
@@ -44,3 +45,16 @@ returns-then-ne-clause-whole g c = λ tells k there stands heads wrong.
     let same = read_cell c.self.inside.next file c.cell_within.new.out.items cell.0 there cell.1 (c.in_ok-read.ensures.stands tells) here in
     let read : c.in_ok-read.read ≡ c.args.head = cell.2 ∙ ap cell_head same ∙ sym heads in
     search rules
+
+pub returns-clause-there : goal.returns-clause-there
+returns-clause-there g c = λ tells.
+    let cell = c.in_ok-read.ensures.cell in
+    let head : c.args.head ≡ cell_head cell.0 = sym (same_head g c) ∙ cell.2 in
+    let file = (g.D.Disk.files c.args.disk.now c.args.old.now.file).now in
+    let there : HasNeedleOf c.args.head.size c.args.head.deleted c.self.inside.next file = record {
+      cell = cell.0;
+      stands = record { needle = c.cell_within.new.out.items; is = cell.1; stand = c.in_ok-read.ensures.stands tells };
+      size_is = sym (ap (λ (x : CellHead). x.size) head);
+      deleted_is = sym (ap (λ (x : CellHead). x.deleted) head);
+    } in
+    subst (λ (s : Stage). HasNeedleOf c.args.head.size c.args.head.deleted s.next file) c.self.view_is there

@@ -3,7 +3,7 @@ use Rattle.std.specs.Vec.{with_items}
 use Rattle.std.proofs.lemmas.List.{with_items_is}
 use Rattle.hay_map.specs.Rows.{ChangesRows, row_at}
 use Rattle.hay_map.specs.declared.view.MapOp.TheVariants as op
-use Rattle.hay_physical.specs.Copies.{Copy, IsUp, end_of, is_stuck}
+use Rattle.hay_physical.specs.Copies.{Copy, IsUp, end_of, is_stuck, volume_bytes}
 use Rattle.hay_logical.specs.Answers.{CompactRefused, HasSizes, IsCompacted}
 use Rattle.hay_logical.specs.Answers as answers
 use Rattle.hay_logical.specs.Fits.{At}
@@ -28,7 +28,7 @@ use Rattle.std.specs.Prelude.{map, IfOk, OnErr}
 use Rattle.hay_physical.specs.Copies.{goal_of}
 use Rattle.hay_logical.proofs.Lists.{at_map}
 use Rattle.hay_logical.specs.Refusals.{unfinished_by}
-use Rattle.hay_logical.specs.Seen.{ChangesRun, CompactRefusedSeen, CompactsTo, ReplicaSeen, SwapSeen, VolumeSeen, replica_seen, volume_seen}
+use Rattle.hay_logical.specs.Seen.{ChangesRun, CompactRefusedSeen, CompactsTo, ReplicaSeen, SwapSeen, VolumeSeen, begun, replica_seen, volume_seen}
 use Rattle.hay_logical.proofs.Seen.{changes_one, longer_seen, many_seen, map_at, same_one}
 use Rattle.hay_logical.proofs.SeenSwaps.{calls_set, compact_refused_seen, idle_seen}
 use Rattle.hay_logical.proofs.logical.Logical.compact_files.Given as given
@@ -39,7 +39,7 @@ use Rattle.hay_logical.proofs.SightChanges.{sights_kept}
 use Rattle.hay_logical.specs.declared.runs.Unswapped.{Unswapped}
 use Rattle.hay_logical.specs.declared.runs.Unswapped.TheVariants.{Refused}
 use Rattle.hay_physical.specs.declared.fault.ReplicaFault.TheVariants as fault
-use Rattle.hay_logical.specs.Needles.{IsDamagedCell, LacksCellAnew}
+use Rattle.hay_logical.specs.Needles.{HeadsLeadOn, IsDamagedCell, LacksCellAnew}
 use Rattle.hay_logical.proofs.SeenSwaps.{refused_longer, unfinished_damaged}
 use Rattle.std.proofs.Common.{Err}
 use Rattle.hay_logical.proofs.logical.Logical.compact_files.Goals as goal
@@ -341,9 +341,10 @@ returns-in-Err-clause-damaged g c = λ tells m place e.
     let is : c.in-Err.unswapped ≡ Refused (fault.Damaged place) =
     unfinished_damaged c.self.inside.settings c.self.inside.number c.args.replica c.in-Err.unswapped m place (ap (λ (u : Unfinished). u.fault) (sym c.unfinished_by-unfinished.ensures) ∙ by) in
     let here = c.compact_at.ensures.damaged tells place (c.in-Err.is ∙ ap (λ (u : Unswapped). Err u) is) in
-    subst (λ v. IsDamagedCell g.D.Disk.files v.replicas c.args.replica (LacksCellAnew place)) c.self.view_is
-    (subst (λ xs. IsDamagedCell g.D.Disk.files xs c.args.replica (LacksCellAnew place)) c.as_mut_slice.ensures.value here)
+    subst (λ v. IsDamagedCell g.D.Disk.files v.replicas c.args.replica (LacksCellAnew (sights_of v.rows) c.args.replica place)) c.self.view_is
+    (subst (λ xs. IsDamagedCell g.D.Disk.files xs c.args.replica (LacksCellAnew (sights_of c.self.inside.rows) c.args.replica place)) c.as_mut_slice.ensures.value here)
 
 pub returns-in-Ok-clause-lead : goal.returns-in-Ok-clause-lead
 returns-in-Ok-clause-lead g c = λ tells r e.
-    c.in-Ok.ensures.lead tells r (subst (λ xs. At xs c.args.replica r) (sym c.as_mut_slice.ensures.value) (subst (λ v. At v.replicas c.args.replica r) (sym c.self.view_is) e))
+    subst (λ v. HeadsLeadOn (sights_of v.rows) c.args.replica (begun (replica_seen r)) (volume_bytes g.D.Disk.files r)) c.self.view_is
+    (c.in-Ok.ensures.lead tells r (subst (λ xs. At xs c.args.replica r) (sym c.as_mut_slice.ensures.value) (subst (λ v. At v.replicas c.args.replica r) (sym c.self.view_is) e)))

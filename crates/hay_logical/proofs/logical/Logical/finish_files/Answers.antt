@@ -4,7 +4,7 @@ use Rattle.std.specs.Vec.{with_items}
 use Rattle.std.proofs.lemmas.List.{with_items_is}
 use Rattle.hay_map.specs.Rows.{ChangesRows, row_at}
 use Rattle.hay_map.specs.declared.view.MapOp.TheVariants as op
-use Rattle.hay_physical.specs.Copies.{Copy, IsUp, end_of, goal_of, is_stuck}
+use Rattle.hay_physical.specs.Copies.{Copy, IsUp, end_of, goal_of, is_stuck, volume_bytes}
 use Rattle.hay_logical.specs.Answers.{FinishRefused, HasSizes, IsFinished}
 use Rattle.hay_logical.specs.Answers as answers
 use Rattle.hay_logical.specs.Fits.{At}
@@ -43,7 +43,7 @@ use Rattle.hay_logical.proofs.SightChanges.{sights_kept}
 use Rattle.hay_logical.specs.declared.runs.Unswapped.{Unswapped}
 use Rattle.hay_logical.specs.declared.runs.Unswapped.TheVariants.{Refused}
 use Rattle.hay_physical.specs.declared.fault.ReplicaFault.TheVariants as fault
-use Rattle.hay_logical.specs.Needles.{IsDamagedCell, LacksCellLeft}
+use Rattle.hay_logical.specs.Needles.{HeadsLeadOn, IsDamagedCell, LacksCellLeft}
 use Rattle.hay_logical.proofs.SeenSwaps.{refused_longer, unfinished_damaged}
 use Rattle.std.proofs.Common.{Err}
 use Rattle.hay_logical.proofs.logical.Logical.finish_files.Goals as goal
@@ -406,9 +406,10 @@ returns-in-Err-clause-damaged g c = λ tells m place e.
     let is : c.in-Err.unswapped ≡ Refused (fault.Damaged place) =
     unfinished_damaged c.self.inside.settings c.self.inside.number c.args.replica c.in-Err.unswapped m place (ap (λ (u : Unfinished). u.fault) (sym c.unfinished_by-unfinished.ensures) ∙ by) in
     let here = c.finish_at.ensures.damaged tells place (c.in-Err.is ∙ ap (λ (u : Unswapped). Err u) is) in
-    subst (λ v. IsDamagedCell g.D.Disk.files v.replicas c.args.replica (LacksCellLeft place)) c.self.view_is
-    (subst (λ xs. IsDamagedCell g.D.Disk.files xs c.args.replica (LacksCellLeft place)) c.as_mut_slice.ensures.value here)
+    subst (λ v. IsDamagedCell g.D.Disk.files v.replicas c.args.replica (LacksCellLeft (sights_of v.rows) c.args.replica place)) c.self.view_is
+    (subst (λ xs. IsDamagedCell g.D.Disk.files xs c.args.replica (LacksCellLeft (sights_of c.self.inside.rows) c.args.replica place)) c.as_mut_slice.ensures.value here)
 
 pub returns-in-Ok-clause-lead : goal.returns-in-Ok-clause-lead
 returns-in-Ok-clause-lead g c = λ tells r e.
-    c.in-Ok.ensures.lead tells r (subst (λ xs. At xs c.args.replica r) (sym c.as_mut_slice.ensures.value) (subst (λ v. At v.replicas c.args.replica r) (sym c.self.view_is) e))
+    subst (λ v. HeadsLeadOn (sights_of v.rows) c.args.replica (replica_seen r) (volume_bytes g.D.Disk.files r)) c.self.view_is
+    (c.in-Ok.ensures.lead tells r (subst (λ xs. At xs c.args.replica r) (sym c.as_mut_slice.ensures.value) (subst (λ v. At v.replicas c.args.replica r) (sym c.self.view_is) e)))

@@ -31,7 +31,8 @@ use Rattle.std.proofs.Common.{None, Option, ◌≤◌}
 use Rattle.hay_logical.specs.Seen.{BreaksStep, EndsAlone, StepRefusedSeen, StepSeen, StepsPartly, StepsTo, VolumeSeen, replica_seen, volume_seen}
 use Rattle.hay_logical.proofs.Lists.{at_map}
 use Rattle.hay_physical.specs.declared.fault.ReplicaFault.{ReplicaFault}
-use Rattle.hay_logical.specs.Needles.{HeadsLead, IsDamagedCell, LacksCell}
+use Rattle.hay_logical.specs.Needles.{HeadsLead, HeadsLeadPart, IsDamagedCell, LacksCell}
+use Rattle.hay_logical.specs.Sights.{sights_of}
 use Rattle.hay_logical.proofs.Sighting.{damaged_answer}
 use Rattle.hay_logical.proofs.Seen.{changes_one, no_goal, run_ended, sees_before, step_refused_seen}
 use Rattle.hay_logical.proofs.logical.Logical.step.Goals as goal
@@ -414,8 +415,8 @@ returns-clause-damaged g c = λ tells m place e. elim c.match-step_at.branch [
       let by : w.answer_at.result ≡ logical.Damaged m place = cc in
       let is = damaged_answer c.machine_of-machine.result w.in-Err.fault m place (sym w.answer_at.ensures ∙ by) in
       let here = c.step_at.ensures.damaged tells place (w.in-Err.is ∙ ap (λ (f : ReplicaFault). Err f) is) in
-      subst (λ v. IsDamagedCell g.D.Disk.files v.replicas c.args.replica (LacksCell c.args.cells place)) c.self.view_is
-      (subst (λ xs. IsDamagedCell g.D.Disk.files xs c.args.replica (LacksCell c.args.cells place)) c.as_mut_slice.ensures.value here)
+      subst (λ v. IsDamagedCell g.D.Disk.files v.replicas c.args.replica (LacksCell (sights_of v.rows) c.args.replica c.args.cells place)) c.self.view_is
+      (subst (λ xs. IsDamagedCell g.D.Disk.files xs c.args.replica (LacksCell (sights_of c.self.inside.rows) c.args.replica c.args.cells place)) c.as_mut_slice.ensures.value here)
 ]
 
 pub returns-clause-lead : goal.returns-clause-lead
@@ -426,7 +427,23 @@ returns-clause-lead g c = λ tells r r' e f.
     let lead = c.step_at.ensures.lead tells r r' was (subst (λ xs. At xs c.args.replica r') kept f) in
     elim c.match-step_at.branch [
       | in-Ok w ↦
-          subst (λ x. IfOk x (λ number. HeadsLead number (next_of r) (next_of r') (volume_bytes g.D.Disk.files r))) (sym w.result-is)
-          (subst (λ x. IfOk x (λ number. HeadsLead number (next_of r) (next_of r') (volume_bytes g.D.Disk.files r))) w.in-Ok.is lead)
+          subst (λ x. IfOk x (λ number. HeadsLead (sights_of c.args.self.now.rows) c.args.replica number (next_of r) (next_of r') (volume_bytes g.D.Disk.files r))) (sym w.result-is)
+          (subst (λ v. HeadsLead (sights_of v.rows) c.args.replica w.in-Ok.number (next_of r) (next_of r') (volume_bytes g.D.Disk.files r)) c.self.view_is
+          (subst (λ x. IfOk x (λ number. HeadsLead (sights_of c.self.inside.rows) c.args.replica number (next_of r) (next_of r') (volume_bytes g.D.Disk.files r))) w.in-Ok.is lead))
       | in-Err w ↦ rw w.result-is tt
+    ]
+
+pub returns-clause-part : goal.returns-clause-part
+returns-clause-part g c = λ tells r r' e f said.
+    let now = c.as_mut_slice.ensures.value in
+    let kept = with_items_is c.self.inside.replicas c.step_at.new.replicas (c.step_at.auto.replicas ∙ c.as_mut_slice.ensures.len) in
+    let was : At c.as_mut_slice.result.now c.args.replica r = subst (λ xs. At xs c.args.replica r) (sym now) (subst (λ v. At v.replicas c.args.replica r) (sym c.self.view_is) e) in
+    let there : At c.step_at.new.replicas c.args.replica r' = subst (λ xs. At xs c.args.replica r') kept f in
+    elim c.match-step_at.branch [
+      | in-Ok w ↦ let wrong : Ok w.in-Ok.number ≡ Err logical.NoMemory = sym w.result-is ∙ said in absurd cc
+      | in-Err w ↦
+          let both : Err w.answer_at.result ≡ Err logical.NoMemory = sym w.result-is ∙ said in
+          let memory : w.in-Err.fault ≡ fault.NoMemory = answered_memory c.machine_of-machine.result w.in-Err.fault (sym w.answer_at.ensures ∙ (let same : w.answer_at.result ≡ logical.NoMemory = cc in same)) in
+          subst (λ v. HeadsLeadPart (sights_of v.rows) c.args.replica c.args.cells (next_of r) (next_of r') (volume_bytes g.D.Disk.files r)) c.self.view_is
+          (c.step_at.ensures.part tells r r' was there (w.in-Err.is ∙ ap (λ (f : ReplicaFault). Err f) memory))
     ]

@@ -10,7 +10,7 @@ use Rattle.hay_needle.specs.Sizes.{needle_total}
 use Rattle.hay_physical.specs.Copies.{copier_next, next_of, phase_end, phase_next, volume_bytes}
 use Rattle.hay_physical.proofs.Views.{on_err_so}
 use Rattle.hay_physical.proofs.RunViews.{bytes_beside, files_bounded, files_bytes, files_goal, files_say}
-use Rattle.hay_compact.specs.Copying.{HeadStands, IsNextWithin}
+use Rattle.hay_compact.specs.Copying.{HeadStands, IsNextWithin, IsPassedOrStands}
 use Rattle.hay_physical.proofs.replica.Replica.copy.Goals as goal
 
 pub returns-clause-run : goal.returns-clause-run
@@ -94,3 +94,16 @@ returns-clause-bytes g c = λ tells.
     let was = c.self.inside in
     bytes_beside g.D.Disk.files c.args.self.now was.sup was.disk c.copy.new.disk was.phase c.in-Open.files c.copy.new.self c.self.view_is c.in-Open.is c.copy.ensures.keeps
     (c.copy.ensures.others tells (volume_file c.in-Open.files.head.generation) (λ e. omega arith) (λ e. omega arith))
+
+pub returns-clause-met : goal.returns-clause-met
+returns-clause-met g c = λ tells.
+    let was = c.self.inside in
+    let opened = c.in-Open.files in
+    let capacity = was.sup.settings.capacity in
+    let files = g.D.Disk.files in
+    let bytes = files_bytes files c.args.self.now was.sup was.disk was.phase opened capacity c.self.view_is c.in-Open.is (files_bounded capacity was.phase opened c.in-Open.is c.self.invariant.2) in
+    let next = files_say phase_next c.args.self.now was.sup was.disk was.phase opened c.self.view_is c.in-Open.is in
+    let there = (files was.disk opened.volume.file).now in
+    on_ok_one c.copy.result (IsPassedOrStands (copier_next opened.copier) c.args.cell c.args.latest there) (IsPassedOrStands (next_of c.args.self.now) c.args.cell c.args.latest (volume_bytes files c.args.self.now))
+    (λ met. subst (λ n. IsPassedOrStands n c.args.cell c.args.latest (volume_bytes files c.args.self.now)) next (subst (λ (l : List ℕ). IsPassedOrStands (copier_next opened.copier) c.args.cell c.args.latest l) bytes met))
+    (c.copy.ensures.met tells)

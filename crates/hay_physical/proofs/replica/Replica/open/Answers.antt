@@ -24,6 +24,11 @@ returns-in_err-head-clause-left g c = λ tells stuck s t holds.
     let void = finds_not_void was.sup (files was.disk) stuck s t (λ n. left n tells) finds in
     on_any c.from_residual.result _ (finds_kept was.sup (files was.disk) (files c.open_replica.new.disk) stuck s t (λ n. left n tells) (c.in_err-head.ensures.kept tells void) (c.in_err-head.ensures.stays tells void) finds)
 
+pub returns-in_err-head-clause-file : goal.returns-in_err-head-clause-file
+returns-in_err-head-clause-file g c = λ file at is.
+    let fault = err_from_is_err_and c.from_residual.result c.from_residual.ensures.1 in
+    c.in_err-head.ensures.file file at (ap (λ x. Err x) (same_fault c.from_residual.result fault.0 c.in_err-head.field-0.0 file at fault.1 fault.2 is))
+
 pub returns-in_err-head-clause-damaged : goal.returns-in_err-head-clause-damaged
 returns-in_err-head-clause-damaged g c = λ tells file at is.
     let fault = err_from_is_err_and c.from_residual.result c.from_residual.ensures.1 in

@@ -1,4 +1,4 @@
-use Rattle.hay_compact.specs.Copying.{HeadStands, IsHeadOf, IsNextWithin, Stage}
+use Rattle.hay_compact.specs.Copying.{HeadStands, IsHeadOf, IsNextWithin, IsPassedOrStands, Stage}
 use Rattle.hay_volume.specs.Needles.{LacksNeedleWithin}
 use Rattle.hay_physical.specs.declared.state.Copier.TheVariants.{Standing}
 use Rattle.hay_physical.proofs.RunLaws.{bounded_next, examined_within, gone}
@@ -85,3 +85,8 @@ returns-in-Err-clause-lacks g c = λ tells head at is.
     let same : k ≡ at = (let known = (c.broken_off.ensures.damaged k damaged).0 in cc) in
     let stands = subst (λ n. HeadStands n c.args.cell file) (ap copier_next c.in-Standing.is) head in
     subst (λ n. LacksNeedleWithin end n file) same (c.in-Err.ensures.lacks tells stands k (ap (λ x. Err x) damaged)))
+
+pub returns-in-Ok-clause-met : goal.returns-in-Ok-clause-met
+returns-in-Ok-clause-met g c = λ tells.
+    let file = (g.D.Disk.files c.args.disk.now c.args.self.now.volume.file).now in
+    subst (λ n. IsPassedOrStands n c.args.cell c.args.latest file) (sym (ap copier_next c.in-Standing.is)) (c.in-Ok.ensures.met tells)
