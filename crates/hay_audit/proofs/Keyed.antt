@@ -1,6 +1,6 @@
 -- Lists that are looked up by pair, with one item more.
 use Rattle.std.proofs.Common.{◌≡◌, ℕ, zero, suc, ◌<◌, Bool, true, false, cond, List, [], ◌∷◌, ◌++◌, length, map, Option, Some, None, refl, sym, ap, subst, ◌∙◌, arith, length-append}
-use Rattle.std.specs.Prelude.{slice_get}
+use Rattle.std.specs.Prelude.{is_none, slice_get}
 use Rattle.std.specs.List.{AllZip}
 use Rattle.hay_needle.specs.declared.needle.Pair.{Pair}
 use Rattle.hay_needle.specs.declared.needle.Outcome.{Outcome}
@@ -36,6 +36,22 @@ home_by rows row other none false apart = other_home rows row other apart
 pub homes_more : (old new : Entries) (rows : List HomeRow) (row : HomeRow) → AreHomes old rows → home_in rows row.pair ≡ None → Sets row.pair row.volume old new → AreHomes new (rows ++ row ∷ [])
 homes_more old new rows row are none sets = λ pair.
     sets pair ∙ ap (λ (o : Option ℕ). cond (pair_eq row.pair pair) (Some row.volume) o) (are pair) ∙ sym (home_by rows row pair none (pair_eq row.pair pair) refl)
+
+some_home : (b : Bool) (v : ℕ) (o p : Option ℕ) → ((is_none o ≡ false) → p ≡ o) → is_none (cond b (Some v) o) ≡ false → cond b (Some v) p ≡ cond b (Some v) o
+some_home true v o p same h = refl
+some_home false v o p same h = same h
+
+kept_home : (rows more : List HomeRow) (pair : Pair) → is_none (home_in rows pair) ≡ false → home_in (rows ++ more) pair ≡ home_in rows pair
+kept_home [] more pair h = absurd (let lie : true ≡ false = h in cc)
+kept_home (first ∷ rows) more pair h = some_home (pair_eq first.pair pair) first.volume (home_in rows pair) (home_in (rows ++ more) pair) (λ g. kept_home rows more pair g) h
+
+beside_by : (rows : List HomeRow) (row : HomeRow) (other : Pair) → is_none (home_in rows row.pair) ≡ false → (b : Bool) → pair_eq row.pair other ≡ b → home_in (rows ++ row ∷ []) other ≡ home_in rows other
+beside_by rows row other some true same =
+    kept_home rows (row ∷ []) other (subst (λ (p : Pair). is_none (home_in rows p) ≡ false) (pair_same row.pair other same) some)
+beside_by rows row other some false apart = other_home rows row other apart
+
+pub homes_beside : (homes : Entries) (rows more : List HomeRow) (row : HomeRow) → AreHomes homes rows → is_none (home_in rows row.pair) ≡ false → more ≡ rows ++ row ∷ [] → AreHomes homes more
+homes_beside homes rows more row are some is = subst (λ (rs : List HomeRow). AreHomes homes rs) (sym is) (λ pair. are pair ∙ sym (beside_by rows row pair some (pair_eq row.pair pair) refl))
 
 -- THE LOG
 

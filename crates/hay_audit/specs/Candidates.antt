@@ -1,77 +1,65 @@
 -- What a judge keeps of a transcript.
-use Rattle.std.specs.Prelude.{◌≡◌, ◌≤◌, ◌⊎◌, ℕ, List, [], ◌∷◌, ◌++◌, drop, take, length, map, slice_get, Some, None}
+use Rattle.std.specs.Prelude.{◌≡◌, ◌≤◌, ℕ, List, [], ◌∷◌, ◌++◌, drop, length, map, Some, None}
 use Rattle.std.specs.List.{AllByRecursion as Each}
 use Rattle.hay_needle.specs.declared.settings.Settings.{Settings}
-use Rattle.hay_legal.specs.declared.known.Known.{Known}
-use Rattle.hay_legal.specs.Items.{items_of}
 use Rattle.hay_script.specs.declared.Line.{Line}
 use Rattle.hay_legal.specs.declared.turn.Item.{Item}
-use Rattle.hay_legal.specs.Items.{Asked, OpenBlock, outside}
-use Rattle.hay_legal.specs.Items.Asked.{Alone, Block}
-use Rattle.hay_reply.specs.declared.Reply.{Reply}
-use Rattle.hay_reply.specs.Replies.{numbered_line}
-use Rattle.hay_audit_steps.specs.Judged.{Begins, Fits, FitsWhole, IsGreatest}
-use Rattle.hay_audit_steps.specs.Reached.{Candidate as Kept, Is, Reached}
-use Rattle.hay_audit_steps.specs.Steps.{AnyOf}
+use Rattle.hay_legal.specs.declared.turn.Item.TheVariants as item
+use Rattle.hay_legal.specs.Items.{OpenBlock, outside}
+use Rattle.hay_legal.specs.Items.Asked.{Alone}
+use Rattle.hay_audit_steps.specs.BoxPlain.{IsBoxOf}
+use Rattle.hay_audit_steps.specs.Boxes.{Box, Has}
+use Rattle.hay_audit_steps.specs.Judged as judged
+use Rattle.hay_audit_steps.specs.Reached.{Candidate as Kept, IsAdvance}
 use Rattle.hay_audit.specs.declared.judge.Candidate.{Candidate}
-use Rattle.hay_audit.specs.declared.judge.Verdict.{Verdict}
-use Rattle.hay_audit.specs.declared.judge.Verdict.TheVariants.{Lawful, Unlawful, Undecided}
+use Rattle.hay_audit.specs.declared.judge.Judgement.{Judgement}
+use Rattle.hay_audit.specs.declared.judge.Judgement.TheVariants.{Lawful, Open, Unlawful}
 use Rattle.hay_audit.specs.declared.judge.Said.{Said}
-use Rattle.hay_audit.specs.declared.judge.Said.TheVariants.{Nothing, Judged, Other}
-use Rattle.hay_audit.specs.Outside.{IsInside, IsNotJudged, IsOutside, IsTooLarge, IsWithinItem}
+use Rattle.hay_audit.specs.declared.judge.Said.TheVariants.{Asks, Lanes, Nothing}
+use Rattle.hay_audit.specs.Outside.{IsWithinItem}
+use Rattle.hay_audit.specs.Sizes.{IsSmall}
 
 -- a candidate, with what is left of the transcript
-abbrev pub standing : List ℕ → Candidate → Kept Known
+abbrev pub standing : List ℕ → Candidate → Kept Box
 standing transcript c = record { state = c.state; rest = drop c.at transcript }
 
-abbrev pub all_standing : List ℕ → List Candidate → List (Kept Known)
+abbrev pub all_standing : List ℕ → List Candidate → List (Kept Box)
 all_standing transcript cs = map (standing transcript) cs
 
 -- a state, at a place of the transcript
-abbrev pub placed : ℕ → Known → Candidate
-placed at k = record { state = k; at = at }
+abbrev pub placed : ℕ → Box → Candidate
+placed at box = record { state = box; at = at }
 
-abbrev pub AreWithin : List ℕ → List Candidate → Type 0
-AreWithin transcript cs = Each (λ c. c.at ≤ length transcript) cs
+-- a line begins there
+abbrev pub IsLineStart : List ℕ → ℕ → Type 0
+IsLineStart transcript at = (front : List ℕ) × (transcript ≡ front ++ 10 ∷ drop at transcript)
 
--- the line has a reply of a kind that is not judged
-abbrev pub HasElse : List ℕ → ℕ → Item → Type 0
-HasElse transcript line asked =
-    (reply : Reply) × (front : List ℕ) × (rest : List ℕ) × (transcript ≡ front ++ (numbered_line line reply ++ rest)) × IsNotJudged asked reply
+-- a candidate of such a store, behind whole lines
+pub record IsKept (settings : Settings) (transcript : List ℕ) (c : Candidate) : Type 0 where
+  pub within : c.at ≤ length transcript
+  pub start : IsLineStart transcript c.at
+  pub of : IsBoxOf settings c.state
 
--- so has the item of this number
-abbrev pub IsNotSaid : List ℕ → List ℕ → ℕ → Type 0
-IsNotSaid script transcript n =
-    (line : ℕ) × (asked : Item) × (slice_get (items_of script) n ≡ Some (Alone line asked)) × HasElse transcript line asked
+abbrev pub AreKept : Settings → List ℕ → List Candidate → Type 0
+AreKept settings transcript cs = Each (IsKept settings transcript) cs
 
--- why a candidate does not advance
-abbrev pub Stops : Settings → List ℕ → ℕ → Item → Candidate → Type 0
-Stops settings transcript line asked c = HasElse transcript line asked ⊎ IsTooLarge settings c.state
+-- their sizes can still be added to
+abbrev pub AreSmall : List Candidate → Type 0
+AreSmall cs = Each (λ c. IsSmall c.state) cs
 
--- the item of this number is a restart or a block
-abbrev pub IsElse : Asked → Type 0
-IsElse (Alone number asked) = IsOutside asked
-IsElse (Block lines) = Unit {0}
-
-abbrev pub IsNotAsked : List ℕ → ℕ → Type 0
-IsNotAsked script n = (asked : Asked) × (slice_get (items_of script) n ≡ Some asked) × IsElse asked
-
--- a store may stand so behind n items that its sizes are too large
-abbrev pub MayBeTooLarge : Settings → List ℕ → List ℕ → ℕ → Type 0
-MayBeTooLarge settings script transcript n =
-    (c : Kept Known) × (cs : List (Kept Known)) × Begins Is settings transcript c × Reached Is settings (take n (items_of script)) c cs × AnyOf (λ (d : Kept Known). IsTooLarge settings d.state) cs
+-- What a candidate comes to: the kept ones that are added, and that it advances to them.
+abbrev pub Goes : Settings → ℕ → Item → List ℕ → Candidate → List Candidate → List Candidate → Type 0
+Goes settings line asked transcript c old new =
+    (next : List (Kept Box)) × (all_standing transcript new ≡ all_standing transcript old ++ next) × IsAdvance Has settings (Alone line asked) (standing transcript c) next
 
 -- what a line outside of a block asks for
 abbrev pub SaidBy : Line → Said → Type 0
 SaidBy line Nothing = (number : ℕ) → outside number line ≡ ([], None)
-SaidBy line (Judged asked) = ((number : ℕ) → outside number line ≡ (Alone number asked ∷ [], None)) × IsInside asked × IsWithinItem asked
-SaidBy line Other =
-    (number : ℕ) → ((block : OpenBlock) × (outside number line ≡ ([], Some block)))
-    ⊎ ((asked : Item) × (outside number line ≡ (Alone number asked ∷ [], None)) × IsOutside asked)
+SaidBy line (Asks asked) = ((number : ℕ) → outside number line ≡ (Alone number asked ∷ [], None)) × IsWithinItem asked
+SaidBy line Lanes = (number : ℕ) → (block : OpenBlock) × (outside number line ≡ ([], Some block))
 
--- the script's turns have the transcript as their text, or the first so many and no more, or so many at least
-abbrev pub Says : Settings → List ℕ → List ℕ → Verdict → Type 0
-Says settings script transcript (Lawful turns) = (turns ≡ length (items_of script)) × FitsWhole settings (items_of script) transcript
-Says settings script transcript (Unlawful turns) = IsGreatest settings (items_of script) transcript turns × (FitsWhole settings (items_of script) transcript → ⊥)
-Says settings script transcript (Undecided turns) =
-    Fits settings (items_of script) transcript turns × (IsNotAsked script turns ⊎ IsNotSaid script transcript turns ⊎ MayBeTooLarge settings script transcript turns)
+-- the judgement
+abbrev pub judged_as : Judgement → judged.Judgement
+judged_as (Lawful turns) = judged.Judgement.Lawful turns
+judged_as (Unlawful turns) = judged.Judgement.Unlawful turns
+judged_as (Open turns) = judged.Judgement.Open turns

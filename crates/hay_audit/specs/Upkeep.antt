@@ -2,7 +2,7 @@
 use Rattle.std.specs.Prelude.{ℕ, ◌+◌, ◌==◌, ◌&&◌, Bool, false, List}
 use Rattle.hay_needle.specs.declared.settings.Settings.{Settings}
 use Rattle.hay_reply.specs.declared.Reply.{Reply}
-use Rattle.hay_reply.specs.declared.Reply.TheVariants.{Busy, Compacted, Idle, ReadOnly, Worn}
+use Rattle.hay_reply.specs.declared.Reply.TheVariants.{Busy, Compacted, Flushed, Idle, ReadOnly, Stepped, Worn}
 use Rattle.hay_legal.specs.declared.known.Known.{Known}
 use Rattle.hay_legal.specs.Plain.{change_replica, replica_of, with_run}
 use Rattle.hay_audit_steps.specs.Next as next
@@ -40,11 +40,10 @@ next_work settings b v m (Step cells) j reply = next.next_step settings b v m j 
 next_work settings b v m Finish j reply = next.next_finish settings b v m j reply
 next_work settings b v m (Fuse calls) j reply = next.next_fuse settings b v m j calls reply
 
-abbrev pub IsNotCompacted : Reply → Type 0
-IsNotCompacted (Compacted v m g) = ⊥
-IsNotCompacted reply = Unit {0}
-
--- a compaction in one command was not answered that it is done
-abbrev pub IsExactWork : Work → Reply → Type 0
-IsExactWork Compact reply = IsNotCompacted reply
-IsExactWork work reply = Unit {0}
+-- a reply that tells no sizes but those that change with all else
+abbrev pub IsSizelessWork : Work → Reply → Type 0
+IsSizelessWork Flush (Flushed v m n) = ⊥
+IsSizelessWork Compact (Compacted v m g) = ⊥
+IsSizelessWork (Step cells) (Stepped v m n) = ⊥
+IsSizelessWork Finish (Compacted v m g) = ⊥
+IsSizelessWork work reply = Unit {0}

@@ -1,16 +1,13 @@
 //! The replies of a transcript.
 
-ghost use Rattle.std.specs.Prelude.{◌≡◌, ◌≢◌, ◌<◌, ◌≤◌, ℕ, List, ◌++◌, length, drop, IfOk, IfSome, IfNone, IsTrue, IsFalse, codes, decimal};
+ghost use Rattle.std.specs.Prelude.{◌≡◌, ◌≢◌, ◌<◌, ◌≤◌, ℕ, List, ◌++◌, length, drop, IfOk, IfSome, IfNone, codes, decimal};
 ghost use Rattle.hay_reply.specs.declared.Reply.{Reply as ReplyOf};
 ghost use Rattle.hay_reply.specs.Fits.{FitsReply};
 ghost use Rattle.hay_reply.specs.Replies as texts;
 ghost use Rattle.hay_audit.specs.Feeds as feeds;
-ghost use Rattle.hay_audit.specs.Outside.{Compacts, IsNotJudged};
 
 use hay_base::NoMemory;
-use hay_legal::turn::Item;
 use hay_reply::{Reply, read_reply};
-use hay_script::Command;
 use std::alloc::Global;
 
 /// A reply, and the place behind its line.
@@ -20,29 +17,7 @@ pub(crate) struct Answer {
     pub behind: usize,
 }
 
-fn compacts(item: &Item) -> bool
-    ensures yes { IsTrue result → Compacts item.now }
-    ensures no { IsFalse result → Compacts item.now → ⊥ }
-{
-    match item {
-        Item::Command(Command::Compact { .. } | Command::Finish { .. }) => true,
-        Item::Bad | Item::Command(_) => false,
-    }
-}
-
-/// Whether this reply to the item is judged.
-pub(crate) fn is_judged(item: &Item, reply: &Reply) -> bool
-    ensures yes { IsTrue result → IsNotJudged item.now reply.now → ⊥ }
-    ensures no { IsFalse result → IsNotJudged item.now reply.now }
-{
-    match reply {
-        Reply::NoMem => false,
-        Reply::Compacted { .. } => !compacts(item),
-        _ => true,
-    }
-}
-
-fn find_feed(text: &[u8]) -> Option<usize>
+pub(crate) fn find_feed(text: &[u8]) -> Option<usize>
     ensures is { feeds.feed_at text.now ≡ result }
     ensures within { IfSome result (λ n. n < length text.now) }
 {

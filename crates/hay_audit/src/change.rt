@@ -5,7 +5,7 @@ ghost use Rattle.std.specs.List.{AllByRecursion as Each};
 ghost use Rattle.hay_legal.specs.Known as known;
 ghost use Rattle.hay_legal.specs.Plain as plain;
 ghost use Rattle.hay_core.specs.declared.entry.Entry.TheVariants as entry;
-ghost use Rattle.hay_audit.specs.Sizes.{MayGrow, RunMayGrow};
+ghost use Rattle.hay_audit.specs.Sizes.{MayGrow, RunMayGrow, VolumeMayGrow};
 ghost use Rattle.hay_audit_steps.specs.Next as next;
 
 use crate::freezes::frozen_by;
@@ -86,7 +86,7 @@ fn with_put(
     size: u32,
 ) -> Result<VolumeState, NoMemory>
     requires size { size ≡ length bytes }
-    requires grow { Each MayGrow volume.replicas }
+    requires grow { VolumeMayGrow volume }
     ensures { IfOk result (λ after. after ≡ plain.with_put volume tag pair cookie bytes) }
 {
     let VolumeState {
@@ -123,7 +123,7 @@ pub(crate) fn no_volume(alloc: Global) -> VolumeState
 }
 
 /// The volumes, with a photo put on one of them.
-#[tactic(auto, using(crate::proofs::Lists::set_twice))]
+#[tactic(auto, using(crate::proofs::Lists::set_twice, crate::proofs::Lists::set_beyond))]
 fn put_on(
     alloc: Global,
     volumes: Listed<VolumeState>,
@@ -135,12 +135,14 @@ fn put_on(
     cookie: Cookie,
 ) -> Result<Listed<VolumeState>, NoMemory>
     requires size { size ≡ length bytes }
-    requires within { number < length volumes }
-    requires grow { Each (λ volume. Each MayGrow volume.replicas) volumes }
+    requires grow { Each VolumeMayGrow volumes }
     ensures { IfOk result (λ after. after ≡ slice_set volumes number (plain.with_put (slice_index_or volumes number known.empty_volume) tag pair cookie bytes)) }
 {
     let at = number as usize;
     let mut volumes = volumes.into_vec();
+    if at >= volumes.len() {
+        return Ok(Listed::from_vec(volumes));
+    }
     let volume = mem::replace(&mut volumes[at], no_volume(alloc));
     volumes[at] = with_put(alloc, volume, tag, pair, cookie, bytes, size)?;
     Ok(Listed::from_vec(volumes))
@@ -158,8 +160,7 @@ pub fn stored(
     cookie: Cookie,
 ) -> Result<State, NoMemory>
     requires size { size ≡ length bytes }
-    requires within { number < length state.volumes }
-    requires grow { Each (λ volume. Each MayGrow volume.replicas) state.volumes }
+    requires grow { Each VolumeMayGrow state.volumes }
     ensures { IfOk result (λ after. after ≡ next.stored state tag pair bytes number cookie) }
 {
     let State {

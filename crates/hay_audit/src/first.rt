@@ -5,6 +5,7 @@ ghost use Rattle.hay_legal.specs.Known as known;
 
 use crate::pairs::{Log, Rows};
 use crate::state::{Directory, ReplicaState, State, VolumeState};
+use crate::table::Table;
 use hay_base::{Listed, NoMemory};
 use hay_needle::Settings;
 use std::alloc::Global;
@@ -13,7 +14,7 @@ pub(crate) fn fresh_replica(alloc: Global) -> ReplicaState
     ensures { result ≡ known.empty_replica }
 {
     ReplicaState {
-        base: Listed::new(alloc),
+        base: Table::new(alloc),
         end: 64,
         cells: 0,
         bare: 0,
@@ -63,7 +64,7 @@ fn zeros(alloc: Global, count: usize) -> Result<Listed<u64>, NoMemory>
     Ok(Listed::from_vec(vec![in alloc; 0u64; count]?))
 }
 
-fn undrained(alloc: Global, count: usize) -> Result<Listed<bool>, NoMemory>
+pub(crate) fn undrained(alloc: Global, count: usize) -> Result<Listed<bool>, NoMemory>
     ensures { IfOk result (λ drained. drained ≡ replicate count false) }
 {
     Ok(Listed::from_vec(vec![in alloc; false; count]?))

@@ -9,11 +9,11 @@ ghost use Rattle.hay_audit.specs.Kinds.{IsChange, IsRefusal, IsShort, IsSight, I
 use hay_reply::{Cause, ClosedBy, Passed, Refused, Reply};
 use hay_url::Url;
 
-fn small(_number: u32)
+pub(crate) fn small(_number: u32)
     ensures { IsSmall _number }
 {}
 
-fn large(_number: u64)
+pub(crate) fn large(_number: u64)
     ensures { IsLarge _number }
 {}
 

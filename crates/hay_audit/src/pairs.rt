@@ -51,6 +51,12 @@ impl Rows {
         self.rows.len()
     }
 
+    pub(crate) fn as_slice(&self) -> &[HomeRow]
+        ensures { result.now ≡ self.now }
+    {
+        self.rows.as_slice()
+    }
+
     /// The volume of the first row of a pair: one look-up.
     pub(crate) fn home(&self, pair: Pair) -> Option<u32>
         ensures { result ≡ known.home_in self.now pair }
@@ -69,6 +75,18 @@ impl Rows {
         } = self;
         rows.push(row)?;
         homes.insert((row.pair.key, row.pair.alt), row.volume)?;
+        Ok(Rows { rows, homes })
+    }
+
+    /// The rows, and one behind them.
+    pub(crate) fn add(self, row: HomeRow) -> Result<Rows, NoMemory>
+        ensures { IfOk result (λ rows. rows ≡ self ++ row ∷ []) }
+    {
+        if self.home(row.pair).is_none() {
+            return self.with(row);
+        }
+        let Rows { mut rows, homes } = self;
+        rows.push(row)?;
         Ok(Rows { rows, homes })
     }
 }
@@ -135,6 +153,12 @@ impl Log {
         ensures { result ≡ length self.now }
     {
         self.entries.len()
+    }
+
+    pub(crate) fn as_slice(&self) -> &[Logged]
+        ensures { result.now ≡ self.now }
+    {
+        self.entries.as_slice()
     }
 
     /// The last entry of a pair: one look-up.

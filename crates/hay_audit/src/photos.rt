@@ -2,7 +2,8 @@
 
 ghost use Rattle.std.specs.Prelude.{◌≡◌, map};
 ghost use Rattle.hay_needle.specs.declared.needle.Outcome.TheVariants as outcome;
-ghost use Rattle.hay_needle.specs.Tables.{look_after, outcome_at};
+ghost use Rattle.std.specs.Option.{option_copied};
+ghost use Rattle.hay_needle.specs.Tables.{look_after, outcome_at, outcome_by};
 ghost use Rattle.hay_core.specs.Entries.{entry_row, logged_row};
 ghost use Rattle.std.specs.List.{list_any};
 ghost use Rattle.hay_legal.specs.Known as known;
@@ -10,7 +11,7 @@ ghost use Rattle.hay_legal.specs.Plain as plain;
 ghost use Rattle.hay_audit_steps.specs.Next as next;
 ghost use Rattle.hay_audit.specs.Wanted.{fits};
 
-use crate::looks::{is_same, volume_of};
+use crate::looks::volume_of;
 use crate::pairs::Log;
 use crate::state::{ReplicaState, State, VolumeState};
 use hay_core::Entry;
@@ -56,23 +57,22 @@ fn entry_fits(wanted: &Wanted<'_>, entry: &Entry) -> bool
     }
 }
 
-fn base_fits(wanted: &Wanted<'_>, base: &[(Pair, Photo)], pair: Pair) -> bool
-    ensures { result ≡ fits wanted.now (outcome_at base.now pair) }
+fn base_fits(wanted: &Wanted<'_>, base: Option<&Photo>) -> bool
+    ensures { result ≡ fits wanted.now (outcome_by (option_copied base.entry)) }
 {
-    for (other, photo) in base {
-        if is_same(pair, *other) {
-            return fits_photo(wanted, photo.cookie, photo.bytes.as_slice());
-        }
+    match base {
+        Some(photo) => fits_photo(wanted, photo.cookie, photo.bytes.as_slice()),
+        None => fits_nothing(wanted),
     }
-    fits_nothing(wanted)
 }
 
-fn log_fits(wanted: &Wanted<'_>, log: &Log, base: &[(Pair, Photo)], pair: Pair) -> bool
-    ensures { result ≡ fits wanted.now (look_after (map logged_row log.now) pair (outcome_at base.now pair)) }
+/// Whether this stands at the pair behind a log, where `base` stood before.
+fn log_fits(wanted: &Wanted<'_>, log: &Log, base: Option<&Photo>, pair: Pair) -> bool
+    ensures { result ≡ fits wanted.now (look_after (map logged_row log.now) pair (outcome_by (option_copied base.entry))) }
 {
     match log.last_of(pair) {
         Some(logged) => entry_fits(wanted, &logged.entry),
-        None => base_fits(wanted, base, pair),
+        None => base_fits(wanted, base),
     }
 }
 
@@ -80,7 +80,7 @@ fn log_fits(wanted: &Wanted<'_>, log: &Log, base: &[(Pair, Photo)], pair: Pair) 
 fn has_pair(volume: &VolumeState, replica: &ReplicaState, pair: Pair) -> bool
     ensures { result ≡ plain.has_pair volume.now pair replica.now }
 {
-    log_fits(&Wanted::Any, &volume.log, replica.base.as_slice(), pair)
+    log_fits(&Wanted::Any, &volume.log, replica.base.get(pair), pair)
 }
 
 fn some_has_pair(volume: &VolumeState, pair: Pair) -> bool
@@ -104,12 +104,13 @@ pub(crate) fn stands_there(state: &State, pair: Pair, volume: u32) -> bool
     }
 }
 
-fn base_of(volume: &VolumeState, replica: u32) -> &[(Pair, Photo)]
-    ensures { result.now ≡ (known.replica_at volume.now replica).base }
+/// What stood at the pair on a replica before the log.
+fn base_of(volume: &VolumeState, replica: usize, pair: Pair) -> Option<&Photo>
+    ensures { outcome_by (option_copied result) ≡ outcome_at (known.replica_at volume.now replica).base pair }
 {
-    match volume.replicas.as_slice().get(replica as usize) {
-        Some(replica) => replica.base.as_slice(),
-        None => &[],
+    match volume.replicas.as_slice().get(replica) {
+        Some(replica) => replica.base.get(pair),
+        None => None,
     }
 }
 
@@ -125,7 +126,19 @@ pub(crate) fn stands(
     ensures { result ≡ fits wanted.now (outcome_at (known.now (known.volume_at state.now volume) (known.replica_at (known.volume_at state.now volume) replica)) pair) }
 {
     match volume_of(state, volume) {
-        Some(volume) => log_fits(wanted, &volume.log, base_of(volume, replica), pair),
+        Some(volume) => {
+            let base = base_of(volume, replica as usize, pair);
+            log_fits(wanted, &volume.log, base, pair)
+        }
         None => fits_nothing(wanted),
     }
+}
+
+/// Whether a photo stands at the pair on the replica of this number.
+#[tactic(auto, using(crate::proofs::Tables::stands_now))]
+pub(crate) fn has_pair_at(volume: &VolumeState, replica: usize, pair: Pair) -> bool
+    ensures { result ≡ plain.has_pair volume.now pair (known.replica_at volume.now replica) }
+{
+    let base = base_of(volume, replica, pair);
+    log_fits(&Wanted::Any, &volume.log, base, pair)
 }

@@ -1,14 +1,14 @@
 //! The states behind a plain line.
 
-ghost use Rattle.std.specs.Prelude.{◌≡◌, ◌<◌, ◌^◌, IfOk, IfSome, IfNone, length, ◌⊎◌};
+ghost use Rattle.std.specs.Prelude.{◌≡◌, ◌<◌, IfOk};
+ghost use Rattle.hay_audit_steps.specs.BoxNext.{IsSizeless};
 ghost use Rattle.hay_audit_steps.specs.Next as next;
-ghost use Rattle.hay_audit.specs.Outside.{IsNamed, IsNotJudged, IsOutside, IsTooLarge, IsUnnamed, IsWithinItem};
+ghost use Rattle.hay_audit.specs.Outside.{IsNamed, IsUnnamed};
 ghost use Rattle.hay_legal.specs.declared.turn.Item.TheVariants as item_of;
 
 use crate::del::next_del;
 use crate::fuses::{next_drain, next_fuse_dir, next_undrain};
 use crate::looks::{home_of, rows_of};
-use crate::puts::next_put;
 use crate::shows::next_show;
 use crate::spread::start_of;
 use crate::state::State;
@@ -56,7 +56,7 @@ fn next_named(
 ) -> Result<Listed<State>, NoMemory>
     requires machines { 0 < settings.now.machines }
     requires named { IsNamed command.now }
-    requires judged { IsNotJudged (item_of.Command command.now) reply.now → ⊥ }
+    requires sizeless { IsSizeless (item_of.Command command.now) reply.now }
     ensures { IfOk result (λ states. states ≡ next.next_plain settings.now line (item_of.Command command.now) reply.now state) }
 {
     match command {
@@ -142,44 +142,32 @@ fn next_command(
     line: u64,
     command: &Command,
     reply: &Reply,
-) -> Result<Option<Listed<State>>, NoMemory>
+) -> Result<Listed<State>, NoMemory>
     requires machines { 0 < settings.now.machines }
-    requires volumes { 0 < settings.now.volumes }
     requires replicas { 0 < settings.now.replicas }
-    requires within { IsWithinItem (item_of.Command command.now) }
-    requires judged { IsNotJudged (item_of.Command command.now) reply.now → ⊥ }
-    ensures some { IfOk result (λ made. IfSome made (λ states. states ≡ next.next_plain settings.now line (item_of.Command command.now) reply.now state)) }
-    ensures none { IfOk result (λ made. IfNone made (IsOutside (item_of.Command command.now) ⊎ IsTooLarge settings.now state)) }
+    requires sizeless { IsSizeless (item_of.Command command.now) reply.now }
+    ensures { IfOk result (λ states. states ≡ next.next_plain settings.now line (item_of.Command command.now) reply.now state) }
 {
     match command {
-        Command::Put { pair, photo } => {
-            let tag = CoreTag { lane: 0, line };
-            next_put(alloc, settings, state, tag, *pair, photo, reply)
-        }
         Command::Read { .. }
         | Command::Get { .. }
         | Command::Del { .. }
         | Command::Url { .. }
         | Command::Drain { .. }
         | Command::Undrain { .. }
-        | Command::FuseDir { .. } => {
-            let states = next_unnamed(alloc, settings, state, line, command, reply)?;
-            Ok(Some(states))
-        }
+        | Command::FuseDir { .. } => { next_unnamed(alloc, settings, state, line, command, reply) }
         Command::Flush { .. }
         | Command::Compact { .. }
         | Command::Begin { .. }
         | Command::Step { .. }
         | Command::Finish { .. }
-        | Command::Fuse { .. } => {
-            let states = next_named(alloc, settings, state, line, command, reply)?;
-            Ok(Some(states))
-        }
-        Command::Restart { .. } => Ok(None),
+        | Command::Fuse { .. } => next_named(alloc, settings, state, line, command, reply),
+        Command::Restart { .. } => Ok(Listed::new(alloc)),
+        Command::Put { .. } => unreachable!(),
     }
 }
 
-/// The states behind a plain line that was answered so, unless it is a restart, or a size is too large.
+/// The states behind a plain line whose reply looks at no sizes.
 pub(crate) fn next_plain(
     alloc: Global,
     settings: &Settings,
@@ -187,20 +175,14 @@ pub(crate) fn next_plain(
     line: u64,
     item: &Item,
     reply: &Reply,
-) -> Result<Option<Listed<State>>, NoMemory>
+) -> Result<Listed<State>, NoMemory>
     requires machines { 0 < settings.now.machines }
-    requires volumes { 0 < settings.now.volumes }
     requires replicas { 0 < settings.now.replicas }
-    requires within { IsWithinItem item.now }
-    requires judged { IsNotJudged item.now reply.now → ⊥ }
-    ensures some { IfOk result (λ made. IfSome made (λ states. states ≡ next.next_plain settings.now line item.now reply.now state)) }
-    ensures none { IfOk result (λ made. IfNone made (IsOutside item.now ⊎ IsTooLarge settings.now state)) }
+    requires sizeless { IsSizeless item.now reply.now }
+    ensures { IfOk result (λ states. states ≡ next.next_plain settings.now line item.now reply.now state) }
 {
     match item {
-        Item::Bad => {
-            let states = keep_if(alloc, matches!(reply, Reply::BadLine), state)?;
-            Ok(Some(states))
-        }
+        Item::Bad => keep_if(alloc, matches!(reply, Reply::BadLine), state),
         Item::Command(command) => { next_command(alloc, settings, state, line, command, reply) }
     }
 }

@@ -1,26 +1,27 @@
 //! Behind a put.
 
-ghost use Rattle.std.specs.Prelude.{◌≡◌, ◌<◌, ◌^◌, ◌+◌, ◌==◌, ◌&&◌, length, IfOk, IfSome, IfNone, IsTrue, ◌↔◌};
+ghost use Rattle.std.specs.Prelude.{◌≡◌, ◌<◌, ◌^◌, ◌+◌, ◌==◌, ◌&&◌, length, IfOk, IsTrue, ◌↔◌};
 ghost use Rattle.std.specs.List.{AllByRecursion as Each};
 ghost use Rattle.hay_legal.specs.Known as known;
 ghost use Rattle.hay_audit_steps.specs.Next as next;
-ghost use Rattle.hay_audit.specs.Putting as putting;
-ghost use Rattle.hay_audit.specs.Sizes.{MayGrow, RunMayGrow};
-ghost use Rattle.hay_audit.specs.Outside.{IsTooLarge};
-ghost use Rattle.hay_reply.specs.declared.Reply.TheVariants as reply_of;
+ghost use Rattle.hay_audit_steps.specs.BoxNext as box_next;
+ghost use Rattle.hay_audit_steps.specs.Rooms as rooms;
+ghost use Rattle.hay_audit.specs.Sizes.{VolumeMayGrow};
 ghost use Rattle.hay_url.specs.Url as url;
 
+use crate::boxes::{BoxState, push_boxes, ranged_all};
 use crate::change::{put_frozen, row_pending, stored};
 use crate::closed::taker_of;
+use crate::cuts::try_cuts;
 use crate::faults::{rises_to, with_fault};
 use crate::looks::{front_of, home_of, rows_of};
 use crate::plain::keep_if;
-use crate::refusals::{as_closed, refuse_so, want_room};
+use crate::refusals::{as_closed, tries_of, want_room};
+use crate::rooms::refused_boxes;
 use crate::spread::{replica_on, slot_of};
 use crate::state::{ReplicaState, State, VolumeState};
 use hay_base::{Duplicate, Listed, NoMemory};
 use hay_core::CoreTag;
-use hay_legal::known::Run;
 use hay_needle::{Bytes, Cookie, Pair, Settings};
 use hay_reply::Reply;
 use hay_url::cookie_of;
@@ -56,46 +57,6 @@ fn is_dir_open(state: &State, pair: Pair) -> bool
     home_of(state, pair).is_some() || !state.directory.frozen
 }
 
-fn run_may_grow(run: Option<Run>) -> bool
-    ensures { IsTrue result ↔ RunMayGrow run }
-{
-    match run {
-        None => true,
-        Some(run) => run.left < 1 << 63,
-    }
-}
-
-fn may_grow(replica: &ReplicaState) -> bool
-    ensures { IsTrue result ↔ MayGrow replica.now }
-{
-    replica.end < 1 << 63
-        && replica.cells < 1 << 63
-        && replica.bare < 1 << 63
-        && run_may_grow(replica.run)
-}
-
-fn volume_may_grow(replicas: &[ReplicaState]) -> bool
-    ensures { IsTrue result ↔ Each MayGrow replicas.now }
-{
-    for replica in replicas {
-        if !may_grow(replica) {
-            return false;
-        }
-    }
-    true
-}
-
-fn all_may_grow(volumes: &[VolumeState]) -> bool
-    ensures { IsTrue result ↔ Each (λ volume. Each MayGrow volume.replicas) volumes.now }
-{
-    for volume in volumes {
-        if !volume_may_grow(volume.replicas.as_slice()) {
-            return false;
-        }
-    }
-    true
-}
-
 /// How many rows there are, once the pair has a home.
 fn settled_rows(state: &State, pair: Pair, volume: u32) -> u128
     ensures { result ≡ length (known.settled state.now.directory.rows pair volume) }
@@ -118,42 +79,41 @@ fn is_stored_so(settings: &Settings, state: &State, pair: Pair, told: Told) -> b
                 && u128::from(told.rows) == settled_rows(state, pair, told.volume)))
 }
 
-/// Behind a put that was answered stored, unless a size is too large.
-#[tactic(auto, using(crate::proofs::Takers::taker_within))]
-pub(crate) fn next_stored(
+/// The state behind a put that was answered stored, by the volume that takes it.
+fn stored_if(
     alloc: Global,
     settings: &Settings,
     state: State,
     tag: CoreTag,
     pair: Pair,
-    bytes: Bytes,
+    photo: &Bytes,
     told: Told,
-) -> Result<Option<Listed<State>>, NoMemory>
-    requires machines { 0 < settings.now.machines }
-    requires volumes { 0 < settings.now.volumes }
-    requires size { length bytes < 2 ^ 32 }
-    ensures some { IfOk result (λ made. IfSome made (λ states. states ≡ next.next_put settings.now state tag pair bytes (reply_of.Stored told.volume told.position told.rows told.cookie))) }
-    ensures none { IfOk result (λ made. IfNone made (IsTooLarge settings.now state)) }
+    taker: Option<u32>,
+) -> Result<Listed<State>, NoMemory>
+    requires size { length photo.now < 2 ^ 32 }
+    requires grow { Each VolumeMayGrow state.volumes }
+    ensures { IfOk result (λ states. states ≡ box_next.stored_if settings.now state tag pair photo.now told.volume told.position told.rows told.cookie taker) }
 {
+    if !is_at(taker, told.volume) || !is_stored_so(settings, &state, pair, told) {
+        return Ok(Listed::new(alloc));
+    }
+    let bytes = photo.duplicate(alloc)?;
     let size = bytes.len() as u32;
-    let Some(taker) = taker_of(settings, &state, pair, size) else {
-        return Ok(Some(Listed::new(alloc)));
-    };
-    if taker != told.volume || !is_stored_so(settings, &state, pair, told) {
-        return Ok(Some(Listed::new(alloc)));
-    }
-    if taker >= settings.volumes || state.volumes.len() != settings.volumes as usize {
-        return Ok(None);
-    }
-    if !all_may_grow(state.volumes.as_slice()) {
-        return Ok(None);
-    }
-    let after = stored(alloc, state, tag, pair, bytes, size, taker, told.cookie)?;
-    Ok(Some(Listed::one(alloc, after)?))
+    let after = stored(
+        alloc,
+        state,
+        tag,
+        pair,
+        bytes,
+        size,
+        told.volume,
+        told.cookie,
+    )?;
+    Listed::one(alloc, after)
 }
 
-/// Behind a put that failed on a replica.
-fn next_failed(
+/// The state behind a put that failed on a replica, by the volume that would take it.
+fn failed_if(
     alloc: Global,
     settings: &Settings,
     state: State,
@@ -163,21 +123,16 @@ fn next_failed(
     volume: u32,
     machine: u32,
     faults: u64,
+    taker: Option<u32>,
 ) -> Result<Listed<State>, NoMemory>
-    requires machines { 0 < settings.now.machines }
-    requires volumes { 0 < settings.now.volumes }
-    requires size { length photo.now < 2 ^ 32 }
-    ensures { IfOk result (λ states. states ≡ next.put_failed_by settings.now state tag pair photo.now volume machine faults (known.replica_on settings.now volume machine)) }
+    requires { 0 < settings.now.machines }
+    ensures { IfOk result (λ states. states ≡ rooms.failed_if settings.now state tag pair photo.now volume machine faults taker (known.replica_on settings.now volume machine)) }
 {
-    let size = photo.len() as u32;
     let Some(replica) = replica_on(settings, volume, machine) else {
         return Ok(Listed::new(alloc));
     };
     let slot = slot_of(settings, volume, replica);
-    if !is_at(taker_of(settings, &state, pair, size), volume)
-        || !is_dir_open(&state, pair)
-        || !rises_to(&state, slot, faults)
-    {
+    if !is_at(taker, volume) || !is_dir_open(&state, pair) || !rises_to(&state, slot, faults) {
         return Ok(Listed::new(alloc));
     }
     let bytes = photo.duplicate(alloc)?;
@@ -208,8 +163,8 @@ fn next_row_failed(
     }
 }
 
-/// Behind a put that was not stored.
-fn next_unstored(
+/// The states behind a put that no try refused, by the volume that takes it.
+fn put_by(
     alloc: Global,
     settings: &Settings,
     state: State,
@@ -217,26 +172,29 @@ fn next_unstored(
     pair: Pair,
     photo: &Bytes,
     reply: &Reply,
+    taker: Option<u32>,
 ) -> Result<Listed<State>, NoMemory>
     requires machines { 0 < settings.now.machines }
-    requires volumes { 0 < settings.now.volumes }
     requires size { length photo.now < 2 ^ 32 }
-    ensures { IfOk result (λ states. states ≡ putting.next_unstored settings.now state tag pair photo.now reply.now) }
+    requires grow { Each VolumeMayGrow state.volumes }
+    ensures { IfOk result (λ states. states ≡ rooms.put_by settings.now state tag pair photo.now reply.now taker) }
 {
-    let size = photo.len() as u32;
     match reply {
-        Reply::Full { tries } => {
-            let refused = tries.as_slice();
-            let so = refuse_so(alloc, settings, &state, pair, size, refused)?;
-            keep_if(alloc, so && want_room(refused), state)
-        }
-        Reply::ReadOnly { tries } => {
-            let refused = as_closed(alloc, tries.as_slice())?;
-            let so = refuse_so(alloc, settings, &state, pair, size, refused.as_slice())?;
-            keep_if(alloc, so, state)
+        Reply::Stored {
+            volume,
+            position,
+            rows,
+            cookie,
+        } => {
+            let told = Told {
+                volume: *volume,
+                position: *position,
+                rows: *rows,
+                cookie: *cookie,
+            };
+            stored_if(alloc, settings, state, tag, pair, photo, told, taker)
         }
         Reply::ReadOnlyDir => {
-            let taker = taker_of(settings, &state, pair, size);
             let test = home_of(&state, pair).is_none()
                 && (taker.is_some() && state.directory.frozen);
             keep_if(alloc, test, state)
@@ -245,49 +203,92 @@ fn next_unstored(
             volume,
             machine,
             faults,
-        } => next_failed(
-            alloc, settings, state, tag, pair, photo, *volume, *machine, *faults,
+        } => failed_if(
+            alloc, settings, state, tag, pair, photo, *volume, *machine, *faults, taker,
         ),
-        Reply::FailedDir { faults } => {
-            let taker = taker_of(settings, &state, pair, size);
-            next_row_failed(alloc, state, tag, pair, *faults, taker)
-        }
+        Reply::FailedDir { faults } => { next_row_failed(alloc, state, tag, pair, *faults, taker) }
         _ => Ok(Listed::new(alloc)),
     }
 }
 
-/// Behind a put, unless a size is too large.
-pub(crate) fn next_put(
+/// The boxes behind a put that no try refused.
+fn taken_boxes(
     alloc: Global,
     settings: &Settings,
-    state: State,
+    state: BoxState,
     tag: CoreTag,
     pair: Pair,
     photo: &Bytes,
     reply: &Reply,
-) -> Result<Option<Listed<State>>, NoMemory>
+) -> Result<Listed<BoxState>, NoMemory>
     requires machines { 0 < settings.now.machines }
     requires volumes { 0 < settings.now.volumes }
     requires size { length photo.now < 2 ^ 32 }
-    ensures some { IfOk result (λ made. IfSome made (λ states. states ≡ next.next_put settings.now state tag pair photo.now reply.now)) }
-    ensures none { IfOk result (λ made. IfNone made (IsTooLarge settings.now state)) }
+    requires grow { Each VolumeMayGrow state.base.volumes }
+    ensures { IfOk result (λ made. made ≡ rooms.taken_boxes settings.now tag pair photo.now reply.now state) }
 {
-    if let Reply::Stored {
-        volume,
-        position,
-        rows,
-        cookie,
-    } = reply
-    {
-        let told = Told {
-            volume: *volume,
-            position: *position,
-            rows: *rows,
-            cookie: *cookie,
-        };
-        let bytes = photo.duplicate(alloc)?;
-        return next_stored(alloc, settings, state, tag, pair, bytes, told);
+    let taker = taker_of(settings, &state, pair, photo.len() as u32);
+    let BoxState { base, low, high } = state;
+    let states = put_by(alloc, settings, base, tag, pair, photo, reply, taker)?;
+    ranged_all(alloc, states, low, high)
+}
+
+/// Behind a put of a box of which each state takes the photo, or refuses it, in one way.
+fn put_box(
+    alloc: Global,
+    settings: &Settings,
+    state: BoxState,
+    tag: CoreTag,
+    pair: Pair,
+    photo: &Bytes,
+    reply: &Reply,
+) -> Result<Listed<BoxState>, NoMemory>
+    requires machines { 0 < settings.now.machines }
+    requires volumes { 0 < settings.now.volumes }
+    requires size { length photo.now < 2 ^ 32 }
+    requires grow { Each VolumeMayGrow state.base.volumes }
+    ensures { IfOk result (λ made. made ≡ rooms.put_box settings.now tag pair photo.now reply.now state) }
+{
+    let size = photo.len() as u32;
+    match reply {
+        Reply::Full { tries } => {
+            let refused = tries.as_slice();
+            let rest = want_room(refused);
+            refused_boxes(alloc, settings, pair, size, refused, rest, state)
+        }
+        Reply::ReadOnly { tries } => {
+            let refused = as_closed(alloc, tries.as_slice())?;
+            refused_boxes(alloc, settings, pair, size, refused.as_slice(), true, state)
+        }
+        _ => taken_boxes(alloc, settings, state, tag, pair, photo, reply),
     }
-    let states = next_unstored(alloc, settings, state, tag, pair, photo, reply)?;
-    Ok(Some(states))
+}
+
+/// Behind a put.
+#[tactic(auto, using(crate::proofs::Parting::parts_grow))]
+pub(crate) fn put_boxes(
+    alloc: Global,
+    settings: &Settings,
+    state: BoxState,
+    tag: CoreTag,
+    pair: Pair,
+    photo: &Bytes,
+    reply: &Reply,
+) -> Result<Listed<BoxState>, NoMemory>
+    requires machines { 0 < settings.now.machines }
+    requires volumes { 0 < settings.now.volumes }
+    requires size { length photo.now < 2 ^ 32 }
+    requires grow { Each VolumeMayGrow state.base.volumes }
+    ensures { IfOk result (λ made. made ≡ rooms.put_boxes settings.now tag pair photo.now reply.now state) }
+{
+    let tries = tries_of(alloc, settings, &state.base, pair)?;
+    let parts = try_cuts(alloc, settings, photo.len() as u32, tries.as_slice(), state)?;
+    let mut made = Listed::new(alloc);
+    for part in parts.into_vec() {
+        push_boxes(
+            put_box(alloc, settings, part, tag, pair, photo, reply)?,
+            &mut made,
+        )?;
+    }
+    Ok(made)
 }

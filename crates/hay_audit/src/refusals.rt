@@ -5,9 +5,10 @@ ghost use Rattle.std.specs.List.{list_any};
 ghost use Rattle.hay_legal.specs.Known as known;
 ghost use Rattle.hay_legal.specs.Plain as plain;
 ghost use Rattle.hay_audit_steps.specs.Next as next;
-ghost use Rattle.hay_audit.specs.Refusing as refusing;
+ghost use Rattle.hay_audit_steps.specs.Rooms as rooms;
 
-use crate::closed::refusal_of;
+use crate::boxes::BoxState;
+use crate::closed::refuses;
 use crate::looks::home_of;
 use crate::spread::try_at;
 use crate::state::State;
@@ -29,7 +30,7 @@ fn all_tries(alloc: Global, settings: &Settings, pair: Pair) -> Result<Listed<u3
 }
 
 /// The volumes that a put of the pair tries.
-fn tries_of(
+pub(crate) fn tries_of(
     alloc: Global,
     settings: &Settings,
     state: &State,
@@ -44,73 +45,23 @@ fn tries_of(
     }
 }
 
-fn is_same(a: &Refused, b: &Refused) -> bool
-    ensures { result ≡ next.same_refused a.now b.now }
-{
-    match (a, b) {
-        (
-            Refused::NoRoom {
-                volume,
-                machine,
-                end,
-                need,
-            },
-            Refused::NoRoom {
-                volume: told_volume,
-                machine: told_machine,
-                end: told_end,
-                need: told_need,
-            },
-        ) => {
-            volume == told_volume
-                && (machine == told_machine && (end == told_end && need == told_need))
-        }
-        (
-            Refused::Closed { volume, machine },
-            Refused::Closed {
-                volume: told_volume,
-                machine: told_machine,
-            },
-        ) => volume == told_volume && machine == told_machine,
-        (Refused::NoRoom { .. }, Refused::Closed { .. })
-        | (Refused::Closed { .. }, Refused::NoRoom { .. }) => false,
-    }
-}
-
-/// The volume refuses just so.
-fn is_refused_so(
-    settings: &Settings,
-    state: &State,
-    size: u32,
-    volume: u32,
-    refused: &Refused,
-) -> bool
-    requires { 0 < settings.now.machines }
-    ensures { result ≡ refusing.refuses (known.refusal_of settings.now state.now size volume) refused.now }
-{
-    match refusal_of(settings, state, size, volume) {
-        Some(refusal) => is_same(&refusal, refused),
-        None => false,
-    }
-}
-
 /// Each try refuses, and so.
 #[tactic(auto, using(crate::proofs::Refusing::other_length, crate::proofs::Refusing::refused_next))]
 fn are_refused_so(
     settings: &Settings,
-    state: &State,
+    state: &BoxState,
     size: u32,
     tries: &[u32],
     refused: &[Refused],
 ) -> bool
     requires { 0 < settings.now.machines }
-    ensures { result ≡ next.refuse_so (map (known.refusal_of settings.now state.now size) tries.now) refused.now }
+    ensures { result ≡ next.refuse_so (map (known.refusal_of settings.now (rooms.lowest state.now) size) tries.now) refused.now }
 {
     if tries.len() != refused.len() {
         return false;
     }
     for (i, refusal) in refused.iter().enumerate() {
-        if !is_refused_so(settings, state, size, tries[i], refusal) {
+        if !refuses(settings, state, size, tries[i], refusal) {
             return false;
         }
     }
@@ -120,16 +71,16 @@ fn are_refused_so(
 pub(crate) fn refuse_so(
     alloc: Global,
     settings: &Settings,
-    state: &State,
+    state: &BoxState,
     pair: Pair,
     size: u32,
     refused: &[Refused],
 ) -> Result<bool, NoMemory>
     requires machines { 0 < settings.now.machines }
     requires volumes { 0 < settings.now.volumes }
-    ensures { IfOk result (λ so. so ≡ next.refuse_so (map (known.refusal_of settings.now state.now size) (known.tries_of settings.now state.now pair)) refused.now) }
+    ensures { IfOk result (λ so. so ≡ next.refuse_so (map (known.refusal_of settings.now (rooms.lowest state.now) size) (known.tries_of settings.now state.now.base pair)) refused.now) }
 {
-    let tries = tries_of(alloc, settings, state, pair)?;
+    let tries = tries_of(alloc, settings, &state.base, pair)?;
     Ok(are_refused_so(settings, state, size, tries.as_slice(), refused))
 }
 

@@ -33,6 +33,17 @@ pub(crate) enum Change {
     NoRun,
     /// It stands before a swap or behind it.
     Poised,
+    /// A run came by some cells.
+    Copied {
+        cells: u64,
+        run: Run,
+    },
+    /// It has a new file.
+    Swapped {
+        end: u64,
+        cells: u64,
+        generation: u64,
+    },
 }
 
 fn standing_by(replica: &ReplicaState) -> Standing
@@ -87,6 +98,22 @@ pub(crate) fn changed(change: Change, replica: ReplicaState) -> ReplicaState
         Change::Run(run) => replica.run = Some(run),
         Change::NoRun => replica.run = None,
         Change::Poised => replica.poised = true,
+        Change::Copied { cells, run } => {
+            replica.cells = cells;
+            replica.run = Some(run);
+        }
+        Change::Swapped {
+            end,
+            cells,
+            generation,
+        } => {
+            replica.end = end;
+            replica.cells = cells;
+            replica.bare = 0;
+            replica.generation = generation;
+            replica.stuck = false;
+            replica.run = None;
+        }
     }
     replica
 }

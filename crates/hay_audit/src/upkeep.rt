@@ -1,12 +1,12 @@
 //! Behind a line that keeps up one replica: flushes, compactions and fuses.
 
-ghost use Rattle.std.specs.Prelude.{◌≡◌, ◌≢◌, ◌<◌, IfOk};
+ghost use Rattle.std.specs.Prelude.{◌≡◌, ◌<◌, IfOk, IfSome, option_map};
 ghost use Rattle.hay_legal.specs.Known as known;
 ghost use Rattle.hay_legal.specs.Plain as plain;
 ghost use Rattle.hay_audit_steps.specs.Next as next;
 ghost use Rattle.hay_audit.specs.Upkeep as upkeep;
-ghost use Rattle.hay_audit.specs.Upkeep.{IsExactWork, IsNotCompacted};
-ghost use Rattle.hay_reply.specs.declared.Reply.TheVariants as reply_of;
+ghost use Rattle.hay_audit.specs.Upkeep.{IsSizelessWork};
+ghost use Rattle.hay_audit.specs.declared.upkeep.Work.TheVariants as work_of;
 ghost use Rattle.hay_audit.specs.Replicas as replicas;
 
 use crate::faults::{fault_if, rises_to, with_fault};
@@ -43,13 +43,13 @@ pub(crate) enum Work {
     Fuse { calls: u32 },
 }
 
-fn is_named(spot: Spot, volume: u32, machine: u32) -> bool
+pub(crate) fn is_named(spot: Spot, volume: u32, machine: u32) -> bool
     ensures { result ≡ next.names spot.volume spot.machine volume machine }
 {
     volume == spot.volume && machine == spot.machine
 }
 
-fn is_open(state: &State, volume: u32) -> bool
+pub(crate) fn is_open(state: &State, volume: u32) -> bool
     ensures { result ≡ next.is_open state.now volume }
 {
     frozen_of(state, volume).is_none()
@@ -83,7 +83,7 @@ fn is_idle(state: &State, spot: Spot) -> bool
     standing_of(state, spot.volume, spot.replica).run.is_none()
 }
 
-fn is_resting(state: &State, spot: Spot) -> bool
+pub(crate) fn is_resting(state: &State, spot: Spot) -> bool
     ensures { result ≡ next.is_resting state.now spot.volume spot.replica }
 {
     is_idle(state, spot) && standing_of(state, spot.volume, spot.replica).generation < 65535
@@ -170,19 +170,11 @@ fn next_flush(
     spot: Spot,
     reply: &Reply,
 ) -> Result<Listed<State>, NoMemory>
+    requires { IsSizelessWork work_of.Flush reply.now }
     ensures { IfOk result (λ states. states ≡ next.next_flush settings.now state spot.volume spot.machine spot.replica reply.now) }
 {
     let here = standing_of(&state, spot.volume, spot.replica);
     match reply {
-        Reply::Flushed {
-            volume,
-            machine,
-            records,
-        } => {
-            let test = is_named(spot, *volume, *machine)
-                && (is_open(&state, spot.volume) && (!here.stuck && *records == here.bare));
-            change_if(alloc, test, state, spot, Change::Flushed)
-        }
         Reply::ReadOnly { tries } => {
             let by = tries.as_slice();
             let test = is_frozen_by(&state, spot, by) || is_stuck_on(&state, spot, by);
@@ -291,29 +283,6 @@ fn next_begin(
     }
 }
 
-fn next_stepped(
-    alloc: Global,
-    state: State,
-    spot: Spot,
-    asked: u32,
-    run: Option<Run>,
-    cells: u64,
-) -> Result<Listed<State>, NoMemory>
-    ensures { IfOk result (λ states. states ≡ next.stepped_by state spot.volume spot.replica asked cells run) }
-{
-    let Some(run) = run else {
-        return Ok(Listed::new(alloc));
-    };
-    if cells != run.left.min(u64::from(asked)) {
-        return Ok(Listed::new(alloc));
-    }
-    let rest = Run {
-        goal: run.goal,
-        left: run.left - cells,
-    };
-    change_if(alloc, true, state, spot, Change::Run(rest))
-}
-
 fn next_step(
     alloc: Global,
     settings: &Settings,
@@ -322,21 +291,11 @@ fn next_step(
     asked: u32,
     reply: &Reply,
 ) -> Result<Listed<State>, NoMemory>
+    requires { IsSizelessWork (work_of.Step asked) reply.now }
     ensures { IfOk result (λ states. states ≡ next.next_step settings.now state spot.volume spot.machine spot.replica asked reply.now) }
 {
     let here = standing_of(&state, spot.volume, spot.replica);
     match reply {
-        Reply::Stepped {
-            volume,
-            machine,
-            cells,
-        } => {
-            if is_named(spot, *volume, *machine) && is_open(&state, spot.volume) {
-                next_stepped(alloc, state, spot, asked, here.run, *cells)
-            } else {
-                Ok(Listed::new(alloc))
-            }
-        }
         Reply::Failed {
             volume,
             machine,
@@ -377,7 +336,7 @@ fn next_compact(
     spot: Spot,
     reply: &Reply,
 ) -> Result<Listed<State>, NoMemory>
-    requires { IsNotCompacted reply.now }
+    requires { IsSizelessWork work_of.Compact reply.now }
     ensures { IfOk result (λ states. states ≡ next.next_compact settings.now state spot.volume spot.machine spot.replica reply.now) }
 {
     match reply {
@@ -460,7 +419,7 @@ fn next_work(
     work: Work,
     reply: &Reply,
 ) -> Result<Listed<State>, NoMemory>
-    requires { IsExactWork work reply.now }
+    requires { IsSizelessWork work reply.now }
     ensures { IfOk result (λ states. states ≡ upkeep.next_work settings.now state spot.volume spot.machine work spot.replica reply.now) }
 {
     match work {
@@ -471,6 +430,20 @@ fn next_work(
         Work::Finish => next_finish(alloc, settings, state, spot, reply),
         Work::Fuse { calls } => next_fuse(alloc, settings, state, spot, calls, reply),
     }
+}
+
+/// The replica of a volume on a machine, if there is one.
+pub(crate) fn spot_on(settings: &Settings, volume: u32, machine: u32) -> Option<Spot>
+    requires { 0 < settings.now.machines }
+    ensures replica { option_map (λ spot. spot.replica) result ≡ known.replica_on settings.now volume machine }
+    ensures named { IfSome result (λ spot. (spot.volume ≡ volume) × (spot.machine ≡ machine)) }
+{
+    let replica = replica_on(settings, volume, machine)?;
+    Some(Spot {
+        volume,
+        machine,
+        replica,
+    })
 }
 
 /// Behind a line that names a replica by its volume and a machine.
@@ -484,16 +457,11 @@ pub(crate) fn next_on_replica(
     reply: &Reply,
 ) -> Result<Listed<State>, NoMemory>
     requires machines { 0 < settings.now.machines }
-    requires exact { IsExactWork work reply.now }
+    requires sizeless { IsSizelessWork work reply.now }
     ensures { IfOk result (λ states. states ≡ next.on_replica state (known.replica_on settings.now volume machine) (upkeep.next_work settings.now state volume machine work) reply.now) }
 {
-    let Some(replica) = replica_on(settings, volume, machine) else {
+    let Some(spot) = spot_on(settings, volume, machine) else {
         return keep_if(alloc, matches!(reply, Reply::Nowhere), state);
-    };
-    let spot = Spot {
-        volume,
-        machine,
-        replica,
     };
     next_work(alloc, settings, state, spot, work, reply)
 }

@@ -192,7 +192,7 @@ one_reply line r other rest behind fits f e =
 a_row : (row : LineVolume) → FitsRow row → Fine (row_text row)
 a_row row h = on (field row.line) (colon row.volume) (a_field row.line h.0) (a_colon row.volume (wide row.volume h.1))
 
-fine_note : (n : Note) → FitsNote n → Fine (note_text n)
+pub fine_note : (n : Note) → FitsNote n → Fine (note_text n)
 fine_note (note.Kept v m n) h = three (codes "kept") v m n refl h.0 h.1 h.2
 fine_note (note.Lost v m n) h = three (codes "lost") v m n refl h.0 h.1 h.2
 fine_note (note.KeptDir n) h = one (codes "kept dir") n refl h
@@ -207,10 +207,10 @@ fine_note (note.OpenDamaged slot file n) h = fields_small (codes "open damaged")
     fields_small : (head : List ℕ) (v p d : ℕ) → Fine head → IsSmall v → IsSmall p → IsLarge d → Fine (head ++ field v ++ field p ++ field d)
     fields_small head v p d h a b c = fields head v p d h a (wide p b) c
 
-note_text_line : (n : Note) (rest : List ℕ) → note_line n ++ rest ≡ note_text n ++ 10 ∷ rest
+pub note_text_line : (n : Note) (rest : List ℕ) → note_line n ++ rest ≡ note_text n ++ 10 ∷ rest
 note_text_line n rest = append_assoc (note_text n) (codes "\n") rest
 
-one_note : (n other : Note) (rest behind : List ℕ) → FitsNote n → FitsNote other → note_line other ++ behind ≡ note_line n ++ rest → (other ≡ n) × (behind ≡ rest)
+pub one_note : (n other : Note) (rest behind : List ℕ) → FitsNote n → FitsNote other → note_line other ++ behind ≡ note_line n ++ rest → (other ≡ n) × (behind ≡ rest)
 one_note n other rest behind fits f e =
     let both : note_text other ++ 10 ∷ behind ≡ note_text n ++ 10 ∷ rest = sym (note_text_line other behind) ∙ e ∙ note_text_line n rest in
     let cut = cut_once (note_text other) (note_text n) behind rest (fine_note other f) (fine_note n fits) both in

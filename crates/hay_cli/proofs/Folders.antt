@@ -1,13 +1,14 @@
 -- The folder that a scan finds is the one that the options give.
 use Rattle.std.proofs.Common.{◌≡◌, ◌∙◌, ◌||◌, ◌++◌, true, false, refl, sym, ap, ℕ, Bool, List, [], ◌∷◌, Option, Some, None, true≢false}
-use Rattle.std.specs.Prelude.{codes, cond, slice_get, find, option_map, unwrap_or, ◌==◌}
+use Rattle.std.specs.Prelude.{codes, cond, slice_get, find, is_some, option_map, unwrap_or, ◌==◌}
 use Rattle.std.specs.Str.{bytes_eq}
 use Rattle.clap.specs.Lexer.{long_of}
 use Rattle.std.proofs.Common.{◌<◌, ◌+◌, zero, suc, length, map, drop, arith}
 use Rattle.std.specs.Prelude.{String, string_bytes}
 use Rattle.std.specs.List.{slice_index_or}
 use Rattle.hay_cli.specs.Reading.{folder_step}
-use Rattle.hay_cli.specs.Commands.{Text, Given, is_flag, is_named, has_option, value_of}
+use Rattle.std.proofs.lemmas.Slice.Eq.{bytes_eq-Decides}
+use Rattle.hay_cli.specs.Commands.{Text, Given, AreOptions, is_flag, is_named, has_option, value_of}
 use Rattle.hay_cli.specs.Reading.{value_met, option_met, options_from, folder_in}
 
 pub some≢none : {X : Type 0} {x : X} → None ≡ Some x → ⊥
@@ -169,3 +170,17 @@ folder_at (x ∷ xs) (suc i) w lt is =
     let next : i < length xs = omega arith in
     let sum : suc i + 1 ≡ suc (i + 1) = omega arith in
     rw sum (folder_at xs i w next is)
+
+-- an option of another name than the names is not given
+pub absent : (names : List Text) (name : Text) → is_named names name ≡ false → (given before : List Given) (words : List Text) → AreOptions names before given words → value_of given name ≡ None
+absent names name none [] before words are = refl
+absent names name none (option ∷ more) before words are =
+    go (bytes_eq option.0 name) refl (absent names name none more (before ++ option ∷ []) are.2.0 are.2.2)
+  where
+    go : (b : Bool) → bytes_eq option.0 name ≡ b → value_of more name ≡ None → value_of (option ∷ more) name ≡ None
+    go true e later = absurd (true≢false (sym are.0 ∙ ap (λ (n : Text). is_named names n) ((bytes_eq-Decides option.0 name).0 e) ∙ none))
+    go false e later = rw e later
+
+pub none_mapped : {A B : Type 0} (r : Option A) (f : A → B) → option_map f r ≡ None → is_some r ≡ false
+none_mapped None f e = refl
+none_mapped (Some a) f e = absurd (some≢none (sym e))

@@ -24,7 +24,7 @@ use Rattle.clap.specs.declared.error.Error.{Error}
 use Rattle.clap.specs.declared.error.kind.ErrorKind.TheVariants.{OutOfMemory}
 use Rattle.clap.specs.declared.parser.matches.ArgMatches.{ArgMatches}
 use Rattle.clap.specs.Simple.{App, entered, is_simple, matches_of}
-use Rattle.hay_cli.specs.Commands.{Text, Given, is_named, is_flag, has_option, value_of, run_names}
+use Rattle.hay_cli.specs.Commands.{Text, Given, is_named, is_flag, has_option, value_of}
 use Rattle.hay_cli.specs.Reading.{options_from, option_met, value_met, options_of, store_of, settings_of}
 use Rattle.std.specs.Prelude.{option_and_then}
 use Rattle.hay_cli.specs.Parsed.{raw, options_app, is_dashes, has_dashes, GivesOptions}
@@ -205,11 +205,10 @@ more_names mode xs i name lt is = ap (λ (rs : List Rule). record { top = record
         rw sum (ap (λ (rs : List Rule). raw x.now ∷ rs) (go xs i next is))
 
 -- what a parse of the options of a store says
-pub store_said : (names words : List Text) (m : ArgMatches) → names ≡ run_names → GivesOptions names words m
-    → store_of (drop 1 words) ≡ settings_of (first_value (found_of m))
-store_said names words m names_are says =
-    ap (λ (o : Option (List Given)). option_and_then (λ had. settings_of (value_of had)) o)
-    (ap (λ (ns : List Text). options_of ns (drop 1 words)) (sym names_are) ∙ says.are)
+pub store_said : (names words : List Text) (m : ArgMatches) → GivesOptions names words m
+    → store_of names (drop 1 words) ≡ settings_of (first_value (found_of m))
+store_said names words m says =
+    ap (λ (o : Option (List Given)). option_and_then (λ had. settings_of (value_of had)) o) says.are
     ∙ ap (λ (f : Text → Option Text). settings_of f) (λ i id. sym (says.values id) i)
 
 -- the test of strings is that of their texts

@@ -8,11 +8,11 @@ use Rattle.std.proofs.lemmas.Bool.Decides.{Decides-eqb, nat_tests}
 use Rattle.clap.specs.Lexer.{long_of, name_and_value, has_byte}
 use Rattle.clap.proofs.CutLemmas.{Lacks}
 use Rattle.clap.proofs.LexerLemmas.{name_and_value-at, name_and_value-without}
-use Rattle.hay_cli.specs.Commands.{AreSettings, IsRun, number_or, secret_or, folder_passes, Text, Given, is_flag, is_named, has_option, AreOptions, run_names, value_of, number_in, Says}
+use Rattle.hay_cli.specs.Commands.{AreSettings, IsStore, number_or, secret_or, folder_passes, Text, Given, is_flag, is_named, has_option, AreOptions, run_names, audit_names, value_of, number_in, Says}
 use Rattle.hay_cli.specs.Reading.{settings_by, value_met, option_met, options_from, options_of, settings_of, store_of, drill_of, mode_of}
 use Rattle.hay_needle.specs.declared.settings.Settings.{Settings}
 use Rattle.hay_cli.specs.declared.Mode.{Mode}
-use Rattle.hay_cli.specs.declared.Mode.TheVariants.{Run, Check, Load, Drill}
+use Rattle.hay_cli.specs.declared.Mode.TheVariants.{Run, Check, Load, Audit, Drill}
 use Rattle.hay_cli.proofs.Folders.{some≢none, same_all}
 
 -- ---- one option in its word
@@ -211,6 +211,9 @@ options_read names plain (o ∷ more) had words h =
 pub run_plain : list_all is_plain run_names ≡ true
 run_plain = refl
 
+pub audit_plain : list_all is_plain audit_names ≡ true
+audit_plain = refl
+
 value_is : {X : Type 0} {a b : X} → Some a ≡ Some b → a ≡ b
 value_is {X} {a} {b} e = ap (λ (o : Option X). unwrap_or o a) e
 
@@ -253,33 +256,40 @@ settings_read value settings h =
     let order : nat_le settings.replicas settings.machines ≡ true = let le = h.no_more in grind (arith, nat_tests) in
     rw (h.folder, h.machines, h.volumes, h.replicas, h.capacity, h.secret, order) refl
 
-store_spelled : (words : List Text) (settings : Settings) → store_of words ≡ Some settings → IsRun words settings
-store_spelled words settings is = go (options_of run_names words) refl is
+store_spelled : (names words : List Text) (settings : Settings) → store_of names words ≡ Some settings → IsStore names words settings
+store_spelled names words settings is = go (options_of names words) refl is
   where
-    go : (o : Option (List Given)) → options_of run_names words ≡ o → option_and_then (λ had. settings_of (value_of had)) o ≡ Some settings → IsRun words settings
+    go : (o : Option (List Given)) → options_of names words ≡ o → option_and_then (λ had. settings_of (value_of had)) o ≡ Some settings → IsStore names words settings
     go None e is = absurd (some≢none is)
-    go (Some had) e is = (had, options_spelled run_names words had e, settings_are (value_of had) settings is)
+    go (Some had) e is = (had, options_spelled names words had e, settings_are (value_of had) settings is)
 
-run_spelled : (words : List Text) (mode : Mode) → option_map Run (store_of words) ≡ Some mode → Says (codes "run" ∷ words) mode
-run_spelled words mode is = go (store_of words) refl is
+run_spelled : (words : List Text) (mode : Mode) → option_map Run (store_of run_names words) ≡ Some mode → Says (codes "run" ∷ words) mode
+run_spelled words mode is = go (store_of run_names words) refl is
   where
-    go : (o : Option Settings) → store_of words ≡ o → option_map Run o ≡ Some mode → Says (codes "run" ∷ words) mode
+    go : (o : Option Settings) → store_of run_names words ≡ o → option_map Run o ≡ Some mode → Says (codes "run" ∷ words) mode
     go None e is = absurd (some≢none is)
-    go (Some settings) e is = subst (λ m. Says (codes "run" ∷ words) m) (value_is is) (refl, store_spelled words settings e)
+    go (Some settings) e is = subst (λ m. Says (codes "run" ∷ words) m) (value_is is) (refl, store_spelled run_names words settings e)
 
-check_spelled : (words : List Text) (mode : Mode) → option_map Check (store_of words) ≡ Some mode → Says (codes "check" ∷ words) mode
-check_spelled words mode is = go (store_of words) refl is
+check_spelled : (words : List Text) (mode : Mode) → option_map Check (store_of run_names words) ≡ Some mode → Says (codes "check" ∷ words) mode
+check_spelled words mode is = go (store_of run_names words) refl is
   where
-    go : (o : Option Settings) → store_of words ≡ o → option_map Check o ≡ Some mode → Says (codes "check" ∷ words) mode
+    go : (o : Option Settings) → store_of run_names words ≡ o → option_map Check o ≡ Some mode → Says (codes "check" ∷ words) mode
     go None e is = absurd (some≢none is)
-    go (Some settings) e is = subst (λ m. Says (codes "check" ∷ words) m) (value_is is) (refl, store_spelled words settings e)
+    go (Some settings) e is = subst (λ m. Says (codes "check" ∷ words) m) (value_is is) (refl, store_spelled run_names words settings e)
 
-load_spelled : (words : List Text) (mode : Mode) → option_map Load (store_of words) ≡ Some mode → Says (codes "load" ∷ words) mode
-load_spelled words mode is = go (store_of words) refl is
+load_spelled : (words : List Text) (mode : Mode) → option_map Load (store_of run_names words) ≡ Some mode → Says (codes "load" ∷ words) mode
+load_spelled words mode is = go (store_of run_names words) refl is
   where
-    go : (o : Option Settings) → store_of words ≡ o → option_map Load o ≡ Some mode → Says (codes "load" ∷ words) mode
+    go : (o : Option Settings) → store_of run_names words ≡ o → option_map Load o ≡ Some mode → Says (codes "load" ∷ words) mode
     go None e is = absurd (some≢none is)
-    go (Some settings) e is = subst (λ m. Says (codes "load" ∷ words) m) (value_is is) (refl, store_spelled words settings e)
+    go (Some settings) e is = subst (λ m. Says (codes "load" ∷ words) m) (value_is is) (refl, store_spelled run_names words settings e)
+
+audit_spelled : (words : List Text) (mode : Mode) → option_map Audit (store_of audit_names words) ≡ Some mode → Says (codes "audit" ∷ words) mode
+audit_spelled words mode is = go (store_of audit_names words) refl is
+  where
+    go : (o : Option Settings) → store_of audit_names words ≡ o → option_map Audit o ≡ Some mode → Says (codes "audit" ∷ words) mode
+    go None e is = absurd (some≢none is)
+    go (Some settings) e is = subst (λ m. Says (codes "audit" ∷ words) m) (value_is is) (refl, store_spelled audit_names words settings e)
 
 drill_spelled : (words : List Text) (mode : Mode) → drill_of words ≡ Some mode → Says (codes "drill" ∷ words) mode
 drill_spelled [] mode is = absurd (some≢none is)
@@ -295,15 +305,19 @@ drill_spelled (a ∷ b ∷ []) mode is = go (number_in 1 1000 a) refl (number_in
 
 pub mode_spelled : (words : List Text) (mode : Mode) → mode_of words ≡ Some mode → Says words mode
 mode_spelled [] mode is = absurd (some≢none is)
-mode_spelled (word ∷ words) mode is = go (bytes_eq word (codes "run")) refl (bytes_eq word (codes "check")) refl (bytes_eq word (codes "load")) refl (bytes_eq word (codes "drill")) refl is
+mode_spelled (word ∷ words) mode is =
+    go (bytes_eq word (codes "run")) refl (bytes_eq word (codes "check")) refl (bytes_eq word (codes "load")) refl (bytes_eq word (codes "audit")) refl (bytes_eq word (codes "drill")) refl is
   where
-    go : (b : Bool) → bytes_eq word (codes "run") ≡ b → (c : Bool) → bytes_eq word (codes "check") ≡ c → (l : Bool) → bytes_eq word (codes "load") ≡ l → (d : Bool) → bytes_eq word (codes "drill") ≡ d
-        → cond b (option_map Run (store_of words)) (cond c (option_map Check (store_of words)) (cond l (option_map Load (store_of words)) (cond d (drill_of words) None))) ≡ Some mode → Says (word ∷ words) mode
-    go true e c f l k d g is = subst (λ w. Says (w ∷ words) mode) (sym ((bytes_eq-Decides word (codes "run")).0 e)) (run_spelled words mode is)
-    go false e true f l k d g is = subst (λ w. Says (w ∷ words) mode) (sym ((bytes_eq-Decides word (codes "check")).0 f)) (check_spelled words mode is)
-    go false e false f true k d g is = subst (λ w. Says (w ∷ words) mode) (sym ((bytes_eq-Decides word (codes "load")).0 k)) (load_spelled words mode is)
-    go false e false f false k true g is = subst (λ w. Says (w ∷ words) mode) (sym ((bytes_eq-Decides word (codes "drill")).0 g)) (drill_spelled words mode is)
-    go false e false f false k false g is = absurd (some≢none is)
+    go : (b : Bool) → bytes_eq word (codes "run") ≡ b → (c : Bool) → bytes_eq word (codes "check") ≡ c → (l : Bool) → bytes_eq word (codes "load") ≡ l
+        → (a : Bool) → bytes_eq word (codes "audit") ≡ a → (d : Bool) → bytes_eq word (codes "drill") ≡ d
+        → cond b (option_map Run (store_of run_names words)) (cond c (option_map Check (store_of run_names words)) (cond l (option_map Load (store_of run_names words))
+        (cond a (option_map Audit (store_of audit_names words)) (cond d (drill_of words) None)))) ≡ Some mode → Says (word ∷ words) mode
+    go true e c f l k a j d g is = subst (λ w. Says (w ∷ words) mode) (sym ((bytes_eq-Decides word (codes "run")).0 e)) (run_spelled words mode is)
+    go false e true f l k a j d g is = subst (λ w. Says (w ∷ words) mode) (sym ((bytes_eq-Decides word (codes "check")).0 f)) (check_spelled words mode is)
+    go false e false f true k a j d g is = subst (λ w. Says (w ∷ words) mode) (sym ((bytes_eq-Decides word (codes "load")).0 k)) (load_spelled words mode is)
+    go false e false f false k true j d g is = subst (λ w. Says (w ∷ words) mode) (sym ((bytes_eq-Decides word (codes "audit")).0 j)) (audit_spelled words mode is)
+    go false e false f false k false j true g is = subst (λ w. Says (w ∷ words) mode) (sym ((bytes_eq-Decides word (codes "drill")).0 g)) (drill_spelled words mode is)
+    go false e false f false k false j false g is = absurd (some≢none is)
 
 pub mode_read : (words : List Text) (mode : Mode) → Says words mode → mode_of words ≡ Some mode
 mode_read [] mode h = absurd h
@@ -313,6 +327,8 @@ mode_read (word ∷ words) (Check settings) h =
     rw (h.0, options_read run_names run_plain h.1.0 [] words h.1.1, settings_read (value_of h.1.0) settings h.1.2) refl
 mode_read (word ∷ words) (Load settings) h =
     rw (h.0, options_read run_names run_plain h.1.0 [] words h.1.1, settings_read (value_of h.1.0) settings h.1.2) refl
+mode_read (word ∷ words) (Audit settings) h =
+    rw (h.0, options_read audit_names audit_plain h.1.0 [] words h.1.1, settings_read (value_of h.1.0) settings h.1.2) refl
 mode_read (word ∷ words) (Drill count first) h =
     let d = h.1 in
     rw (h.0, d.words_are, d.count_is, d.first_is) refl

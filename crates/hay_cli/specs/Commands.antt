@@ -8,7 +8,7 @@ use Rattle.std.specs.Result.{result_ok}
 use Rattle.hex.specs.Hex.{decode_of}
 use Rattle.hay_needle.specs.declared.settings.Settings.{Settings}
 use Rattle.hay_cli.specs.declared.Mode.{Mode}
-use Rattle.hay_cli.specs.declared.Mode.TheVariants.{Run, Check, Load, Drill}
+use Rattle.hay_cli.specs.declared.Mode.TheVariants.{Run, Check, Load, Audit, Drill}
 
 -- WORDS
 
@@ -82,6 +82,10 @@ folder_passes (Some path) = nat_lt 0 (length path)
 abbrev pub run_names : List Text
 run_names = codes "machines" ∷ codes "volumes" ∷ codes "replicas" ∷ codes "capacity" ∷ codes "secret" ∷ codes "folder" ∷ []
 
+-- and those of an audit, which opens no disk
+abbrev pub audit_names : List Text
+audit_names = codes "machines" ∷ codes "volumes" ∷ codes "replicas" ∷ codes "capacity" ∷ codes "secret" ∷ []
+
 -- the values of these options, which are within their limits
 pub record AreSettings (value : Text → Option Text) (settings : Settings) : Type 0 where
   pub machines : number_or 1 1 16 (value (codes "machines")) ≡ Some settings.machines
@@ -92,9 +96,9 @@ pub record AreSettings (value : Text → Option Text) (settings : Settings) : Ty
   pub secret : secret_or (value (codes "secret")) ≡ Some settings.secret
   pub folder : folder_passes (value (codes "folder")) ≡ true
 
--- the words behind `run`, `check` or `load` are options with these settings
-abbrev pub IsRun : List Text → Settings → Type 0
-IsRun words settings = (given : List Given) × AreOptions run_names [] given words × AreSettings (value_of given) settings
+-- the words behind a mode are options with these settings, each of one of the names
+abbrev pub IsStore : List Text → List Text → Settings → Type 0
+IsStore names words settings = (given : List Given) × AreOptions names [] given words × AreSettings (value_of given) settings
 
 -- the words behind `drill` are two numbers
 pub record IsDrill (words : List Text) (count first : ℕ) : Type 0 where
@@ -107,7 +111,8 @@ pub record IsDrill (words : List Text) (count first : ℕ) : Type 0 where
 -- the words are a command of this mode
 abbrev pub Says : List Text → Mode → Type 0
 Says [] mode = ⊥
-Says (word ∷ words) (Run settings) = (word ≡ codes "run") × IsRun words settings
-Says (word ∷ words) (Check settings) = (word ≡ codes "check") × IsRun words settings
-Says (word ∷ words) (Load settings) = (word ≡ codes "load") × IsRun words settings
+Says (word ∷ words) (Run settings) = (word ≡ codes "run") × IsStore run_names words settings
+Says (word ∷ words) (Check settings) = (word ≡ codes "check") × IsStore run_names words settings
+Says (word ∷ words) (Load settings) = (word ≡ codes "load") × IsStore run_names words settings
+Says (word ∷ words) (Audit settings) = (word ≡ codes "audit") × IsStore audit_names words settings
 Says (word ∷ words) (Drill count first) = (word ≡ codes "drill") × IsDrill words count first

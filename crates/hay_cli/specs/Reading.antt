@@ -4,8 +4,8 @@ use Rattle.std.specs.Str.{bytes_eq}
 use Rattle.clap.specs.Lexer.{long_of}
 use Rattle.hay_needle.specs.declared.settings.Settings.{Settings}
 use Rattle.hay_cli.specs.declared.Mode.{Mode}
-use Rattle.hay_cli.specs.declared.Mode.TheVariants.{Run, Check, Load, Drill}
-use Rattle.hay_cli.specs.Commands.{Text, is_flag, Given, has_option, is_named, value_of, number_in, number_or, secret_or, folder_passes, run_names}
+use Rattle.hay_cli.specs.declared.Mode.TheVariants.{Run, Check, Load, Audit, Drill}
+use Rattle.hay_cli.specs.Commands.{Text, is_flag, Given, has_option, is_named, value_of, number_in, number_or, secret_or, folder_passes, run_names, audit_names}
 
 -- the option with its value stands behind those that were given, once
 abbrev pub value_met : List Given → Text → Text → (List Given → Option Text → Option (List Given)) → Option (List Given)
@@ -49,8 +49,8 @@ settings_of value = if folder_passes (value (codes "folder"))
     (number_or 1 1 16 (value (codes "machines")))
     else None
 
-abbrev pub store_of : List Text → Option Settings
-store_of words = option_and_then (λ had. settings_of (value_of had)) (options_of run_names words)
+abbrev pub store_of : List Text → List Text → Option Settings
+store_of names words = option_and_then (λ had. settings_of (value_of had)) (options_of names words)
 
 -- two numbers
 abbrev pub drill_by : Option Text → Option Text → Option Mode
@@ -65,9 +65,10 @@ drill_of _ = None
 -- what the words say, where they are a command
 abbrev pub mode_of : List Text → Option Mode
 mode_of [] = None
-mode_of (mode ∷ words) = if bytes_eq mode (codes "run") then option_map Run (store_of words)
-    else if bytes_eq mode (codes "check") then option_map Check (store_of words)
-    else if bytes_eq mode (codes "load") then option_map Load (store_of words)
+mode_of (mode ∷ words) = if bytes_eq mode (codes "run") then option_map Run (store_of run_names words)
+    else if bytes_eq mode (codes "check") then option_map Check (store_of run_names words)
+    else if bytes_eq mode (codes "load") then option_map Load (store_of run_names words)
+    else if bytes_eq mode (codes "audit") then option_map Audit (store_of audit_names words)
     else if bytes_eq mode (codes "drill") then drill_of words
     else None
 

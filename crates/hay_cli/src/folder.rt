@@ -1,5 +1,5 @@
 //! The folder that the words name.
-ghost use Rattle.std.specs.Prelude.{◌≡◌, List, map, drop, slice_get, [], option_map, codes, string_bytes};
+ghost use Rattle.std.specs.Prelude.{◌≡◌, List, map, drop, slice_get, [], IsNone, option_map, codes, string_bytes};
 ghost use Rattle.clap.specs.Lexer.{strip_byte, name_and_value, long_of};
 ghost use Rattle.hay_cli.specs.Commands as commands;
 ghost use Rattle.hay_cli.specs.Reading as reading;
@@ -62,11 +62,13 @@ fn find_folder(words: &[String]) -> Option<&str>
     None
 }
 
-/// The value of the first option `folder` of the words, as `--folder VALUE` or `--folder=VALUE`. Of words that are a command it is their folder.
+/// The value of the first option `folder` of the words, as `--folder VALUE` or `--folder=VALUE`. Of words that are a command it is
+/// their folder, and an audit has none.
 pub fn folder_of(words: &[String]) -> Option<&str>
     ensures scan { option_map (λ s. s.now) result ≡ reading.folder_in (drop 1 (map string_bytes words.now)) }
     ensures same { (given : List Given) → commands.AreOptions commands.run_names [] given (drop 1 (map string_bytes words.now))
         → option_map (λ s. s.now) result ≡ commands.value_of given (codes "folder") }
+    ensures audit { (given : List Given) → commands.AreOptions commands.audit_names [] given (drop 1 (map string_bytes words.now)) → IsNone result }
 {
     find_folder(words)
 }

@@ -18,7 +18,7 @@ ghost use Rattle.hay_cli.specs.Reading as reading;
 use drill::read_drill;
 pub use folder::folder_of;
 use hay_needle::Settings;
-use run::read_store;
+use run::{read_audit, read_store};
 use std::alloc::{AllocError, Global};
 
 /// What the words ask for.
@@ -30,6 +30,8 @@ pub enum Mode {
     Check(Settings),
     /// Loads the photos of a script into a store with these settings.
     Load(Settings),
+    /// Judges a transcript by the rules of a store with these settings.
+    Audit(Settings),
     /// Runs a script of its own over `count` photos, 1 to 1,000, from the key `first` upwards.
     Drill { count: u32, first: u64 },
 }
@@ -54,7 +56,7 @@ impl From<AllocError> for CliFault {
 
 /// What the words behind the program's name ask for.
 ///
-/// The first word is `run`, `check`, `load` or `drill`. Options follow `run`, `check` and `load`, each at most once, as
+/// The first word is `run`, `check`, `load`, `audit` or `drill`. Options follow `run`, `check`, `load` and `audit`, each at most once, as
 /// `--name VALUE` or `--name=VALUE`:
 ///
 /// | option | value | if left out |
@@ -64,7 +66,7 @@ impl From<AllocError> for CliFault {
 /// | `replicas` | 1 to 4, and no more than the machines | 1 |
 /// | `capacity` | 4,096 to 1,073,741,824 bytes | 67,108,864 |
 /// | `secret` | 64 hexadecimal digits of either case | all zero |
-/// | `folder` | a path of at least one byte | no folder |
+/// | `folder`, but not behind `audit` | a path of at least one byte | no folder |
 ///
 /// Two numbers follow `drill`: the photos, 1 to 1,000, and the first key, of 64 bits. A number is 1 to 20 decimal digits.
 pub fn read_words(alloc: Global, words: &[String]) -> Result<Mode, CliFault>
@@ -89,6 +91,7 @@ fn mode_of_words(alloc: Global, words: &[String]) -> Result<Mode, CliFault>
         "run" => Ok(Mode::Run(read_store(alloc, "run", words)?)),
         "check" => Ok(Mode::Check(read_store(alloc, "check", words)?)),
         "load" => Ok(Mode::Load(read_store(alloc, "load", words)?)),
+        "audit" => Ok(Mode::Audit(read_audit(alloc, words)?)),
         "drill" => read_drill(alloc, words),
         _ => Err(CliFault::Usage),
     }

@@ -15,6 +15,8 @@ static RUN_NAMES: [&str; 6] = [
     "machines", "volumes", "replicas", "capacity", "secret", "folder",
 ];
 
+static AUDIT_NAMES: [&str; 5] = ["machines", "volumes", "replicas", "capacity", "secret"];
+
 /// The settings, where the values are within their limits.
 fn read_settings(matches: &ArgMatches<'_>) -> Option<Settings>
     ensures { result ≡ reading.settings_of (first_value (found_of matches.now)) }
@@ -44,14 +46,35 @@ fn read_settings(matches: &ArgMatches<'_>) -> Option<Settings>
     })
 }
 
-/// The settings that the options behind the word of a mode give.
-pub fn read_store(alloc: Global, mode: &str, words: &[String]) -> Result<Settings, CliFault>
-    ensures said { IfOk result (λ settings. reading.store_of (drop 1 (map string_bytes words.now)) ≡ Some settings) }
-    ensures usage { IsErrOf result CliFault.Usage → reading.store_of (drop 1 (map string_bytes words.now)) ≡ None }
+/// The settings that options of these names behind the word of a mode give.
+fn read_options<'a>(
+    alloc: Global,
+    mode: &'a str,
+    names: &[&'a str],
+    words: &'a [String],
+) -> Result<Settings, CliFault>
+    ensures said { IfOk result (λ settings. reading.store_of (map (λ s. s.now) names.now) (drop 1 (map string_bytes words.now)) ≡ Some settings) }
+    ensures usage { IsErrOf result CliFault.Usage → reading.store_of (map (λ s. s.now) names.now) (drop 1 (map string_bytes words.now)) ≡ None }
 {
-    let matches = parse_options(alloc, mode, RUN_NAMES.as_slice(), words)?;
+    let matches = parse_options(alloc, mode, names, words)?;
     match read_settings(&matches) {
         Some(settings) => Ok(settings),
         None => Err(CliFault::Usage),
     }
+}
+
+/// The settings that the options behind the word of a mode give.
+pub fn read_store(alloc: Global, mode: &str, words: &[String]) -> Result<Settings, CliFault>
+    ensures said { IfOk result (λ settings. reading.store_of commands.run_names (drop 1 (map string_bytes words.now)) ≡ Some settings) }
+    ensures usage { IsErrOf result CliFault.Usage → reading.store_of commands.run_names (drop 1 (map string_bytes words.now)) ≡ None }
+{
+    read_options(alloc, mode, RUN_NAMES.as_slice(), words)
+}
+
+/// The settings that the options behind `audit` give.
+pub fn read_audit(alloc: Global, words: &[String]) -> Result<Settings, CliFault>
+    ensures said { IfOk result (λ settings. reading.store_of commands.audit_names (drop 1 (map string_bytes words.now)) ≡ Some settings) }
+    ensures usage { IsErrOf result CliFault.Usage → reading.store_of commands.audit_names (drop 1 (map string_bytes words.now)) ≡ None }
+{
+    read_options(alloc, "audit", AUDIT_NAMES.as_slice(), words)
 }

@@ -137,6 +137,27 @@ fn checks(rt: HostRuntime) -> Result<(), Fail> {
     Ok(())
 }
 
+/// An audit has the options of a run, but no folder.
+#[test]
+fn audits(rt: HostRuntime) -> Result<(), Fail> {
+    let alloc = rt.alloc();
+    assert_eq!(rt;
+        mode_of(alloc, "audit")?,
+        Ok(Mode::Audit(settings(1, 1, 1, 67_108_864)))
+    );
+    assert_eq!(rt;
+        mode_of(
+            alloc,
+            "audit|--machines|3|--volumes=3|--replicas|2|--capacity=8192"
+        )?,
+        Ok(Mode::Audit(settings(3, 3, 2, 8_192)))
+    );
+    for line in ["audit|--folder|store", "audit|--folder=store", "audit|3"] {
+        assert_eq!(rt; mode_of(alloc, line)?, Err(CliFault::Usage), "{line}");
+    }
+    Ok(())
+}
+
 #[test]
 fn usage(rt: HostRuntime) -> Result<(), Fail> {
     let alloc = rt.alloc();

@@ -1,4 +1,5 @@
-use Rattle.hay_audit.proofs.Stopping.{lanes_by}
+use Rattle.std.proofs.Common.{refl}
+use Rattle.hay_audit.proofs.Walking.{lanes_by, within_item}
 use Rattle.hay_audit.proofs.judge.said_by.Goals as goal
 
 pub returns-in-Lanes : goal.returns-in-Lanes

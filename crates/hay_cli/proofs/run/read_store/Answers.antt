@@ -1,15 +1,16 @@
-use Rattle.std.proofs.Common.{rules, ◌≡◌, ◌∙◌, sym, map}
-use Rattle.std.specs.Prelude.{string_bytes}
-use Rattle.hay_cli.specs.Commands.{run_names}
-use Rattle.hay_cli.proofs.Parses.{store_said}
+use Rattle.std.proofs.Common.{rules, ◌≡◌, ◌∙◌, Some, List, ap, map, drop, subst, sym}
+use Rattle.std.specs.Prelude.{IfOk, string_bytes}
+use Rattle.hay_needle.specs.declared.settings.Settings.{Settings}
+use Rattle.hay_cli.specs.Commands.{Text, run_names}
+use Rattle.hay_cli.specs.Reading.{store_of}
 use Rattle.hay_cli.proofs.run.read_store.Goals as goal
 
-pub returns-in-Some-clause-said : goal.returns-in-Some-clause-said
-returns-in-Some-clause-said c =
+pub returns-clause-said : goal.returns-clause-said
+returns-clause-said c =
     let names_are : map (λ s. s.now) c.as_slice.result.now ≡ run_names = search rules in
-    store_said _ (map string_bytes c.args.words.now) c.in_ok-matches.matches names_are c.in_ok-matches.ensures.ok ∙ (sym c.read_settings.ensures ∙ c.in-Some.is)
+    subst (λ (names : List Text). IfOk c.read_options.result (λ (settings : Settings). store_of names (drop 1 (map string_bytes c.args.words.now)) ≡ Some settings)) names_are c.read_options.ensures.said
 
 pub returns-clause-usage : goal.returns-clause-usage
 returns-clause-usage c = λ usage.
     let names_are : map (λ s. s.now) c.as_slice.result.now ≡ run_names = search rules in
-    store_said _ (map string_bytes c.args.words.now) c.in_ok-matches.matches names_are c.in_ok-matches.ensures.ok ∙ (sym c.read_settings.ensures ∙ c.in-None.is)
+    ap (λ (names : List Text). store_of names (drop 1 (map string_bytes c.args.words.now))) (sym names_are) ∙ c.read_options.ensures.usage usage
