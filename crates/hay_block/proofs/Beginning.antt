@@ -17,12 +17,12 @@ use Rattle.hay_meeting.specs.Locks.{LockSight}
 use Rattle.hay_lanes.proofs.Results.{unmapped}
 use Rattle.hay_lane.specs.declared.lane.Lane.{Lane}
 use Rattle.hay_lane.specs.declared.lane.Shared.{Shared}
-use Rattle.hay_lane.specs.Tellings.{StoreVolume}
+use Rattle.hay_shared_volume.specs.Tellings.{StoreVolume}
 use Rattle.hay_block.specs.declared.block.Locked.{Locked}
 use Rattle.hay_block.specs.declared.worker.Job.{Job}
 use Rattle.hay_block.specs.declared.frame.Frame.{Frame}
 use Rattle.hay_block.specs.Frames.{AreFit, AreSameLocks, IsBack, IsFrame, IsSameStore, RanAll, RanFrom, shared_by}
-use Rattle.hay_block.specs.Making.{AreSeated}
+use Rattle.hay_shared_volume.specs.Making.{AreSeated}
 use Rattle.hay_block.specs.Stores.{AreStill, AreVolumes}
 use Rattle.hay_block.proofs.Lists.{each_at, each_by, each_unmapped, map_same, mapped, ok_weaker, reversed_at}
 use Rattle.hay_block.proofs.Staying.{still_reversed}

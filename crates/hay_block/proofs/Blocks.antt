@@ -28,15 +28,17 @@ use Rattle.hay_meeting.specs.Sights.{stood}
 use Rattle.hay_meeting.proofs.Closing.{there}
 use Rattle.hay_lane.specs.declared.lane.Lane.{Lane}
 use Rattle.hay_lane.specs.declared.lane.Shared.{Shared}
-use Rattle.hay_lane.specs.Tellings.{StoreVolume}
+use Rattle.hay_shared_volume.specs.Tellings.{StoreVolume}
 use Rattle.hay_block.specs.declared.store.BlockNotes.{BlockNotes}
 use Rattle.hay_block.specs.declared.worker.Job.{Job}
-use Rattle.hay_block.specs.Behind.{AreBySlot, CountsBehind, entered_lines, known_behind, log_notes_of, row_note_of}
-use Rattle.hay_block.specs.Ends.{Ended, IsSettled, OpensAt}
+use Rattle.hay_block.specs.Behind.{AreBySlot, CountsBehind, known_behind, log_notes_of, row_note_of}
+use Rattle.hay_shared_volume.specs.Ends.{Ended, entered_lines}
+use Rattle.hay_block.specs.Ends.{IsSettled, OpensAt}
 use Rattle.hay_block.specs.Frames.{AreFit, RanAll, VolumeTook, shared_by}
 use Rattle.hay_block.specs.Lanes.{EndsAt, LanesRan}
 use Rattle.hay_block.specs.Lines.{AreItems, IsServed, SitsAt}
-use Rattle.hay_block.specs.Making.{AreAtRows, AreUnseen, IsRegularDirectory, IsRegularVolume, LeavesDirectory, rows_standing, standing}
+use Rattle.hay_block.specs.Making.{AreAtRows, IsRegularDirectory, LeavesDirectory, rows_standing}
+use Rattle.hay_shared_volume.specs.Making.{AreUnseen, IsRegularVolume, standing}
 use Rattle.hay_block.specs.Seats.{HasNewSeats}
 use Rattle.hay_block.specs.Parts.{NotesTell}
 use Rattle.hay_block.specs.Stores.{RanLegally, StoreStands, by_slot, line_of_tag, notes_from}

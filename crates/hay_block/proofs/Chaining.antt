@@ -33,7 +33,7 @@ use Rattle.hay_holdings.specs.Sights.{no_doings}
 use Rattle.hay_lane.specs.declared.lane.Lane.{Lane}
 use Rattle.hay_lane.specs.declared.lane.Shared.{Shared}
 use Rattle.hay_lane.specs.Lanes.{sight}
-use Rattle.hay_lane.specs.Tellings.{StoreVolume}
+use Rattle.hay_shared_volume.specs.Tellings.{StoreVolume}
 use Rattle.hay_block.specs.declared.worker.Job.{Job}
 use Rattle.hay_block.specs.Lines.{Answers, AreItems, IsServed, SitsAt, answered_line, answered_lines}
 use Rattle.hay_block.proofs.Lists.{each_at, mapped}

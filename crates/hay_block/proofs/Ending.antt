@@ -15,7 +15,8 @@ use Rattle.hay_legal.specs.declared.known.Known.{Known}
 use Rattle.hay_meeting.proofs.Opening.{lanes_begin, nothing_yet}
 use Rattle.std.specs.List.{AllByRecursion as Each}
 use Rattle.hay_history.proofs.Lists.{each_weaker}
-use Rattle.hay_block.specs.Ends.{Ended, IsNew, LocksEnded, OpensAt, unseen}
+use Rattle.hay_shared_volume.specs.Ends.{Ended, unseen}
+use Rattle.hay_block.specs.Ends.{IsNew, LocksEnded, OpensAt}
 use Rattle.hay_block.proofs.Lists.{each_at, mapped}
 
 -- WHERE LOCKS END

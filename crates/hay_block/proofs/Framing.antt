@@ -24,13 +24,13 @@ use Rattle.hay_meeting.proofs.Closing.{there}
 use Rattle.hay_lane.specs.declared.lane.Lane.{Lane}
 use Rattle.hay_lane.specs.declared.lane.Shared.{Shared}
 use Rattle.hay_lane.specs.Lanes.{IsSeated}
-use Rattle.hay_lane.specs.Tellings.{StoreVolume}
+use Rattle.hay_shared_volume.specs.Tellings.{StoreVolume}
 use Rattle.hay_block.specs.declared.frame.Frame.{Frame}
 use Rattle.hay_block.specs.declared.worker.Job.{Job}
-use Rattle.hay_block.specs.Ends.{Ended}
+use Rattle.hay_shared_volume.specs.Ends.{Ended}
 use Rattle.hay_block.specs.Frames.{AreSameLocks, HasFirst, HaveFirst, HaveRoom, IsFrame, RanFrom, SitsFirst, framed, with_locks}
 use Rattle.hay_block.specs.Lines.{Answers}
-use Rattle.hay_block.specs.Making.{AreSeated, AreUnseen}
+use Rattle.hay_shared_volume.specs.Making.{AreSeated, AreUnseen}
 use Rattle.hay_block.specs.Seats.{AreSeatsAt, HasMore, HaveMore}
 use Rattle.hay_block.proofs.Chaining.{lanes_stay}
 use Rattle.hay_block.proofs.Giving.{added_at, before_added}

@@ -9,7 +9,8 @@ use Rattle.hay_meeting.specs.Locks.{LockSight}
 use Rattle.hay_meeting.specs.Sights.{Sight}
 use Rattle.hay_lane.specs.declared.lane.Lane.{Lane}
 use Rattle.hay_lane.specs.Lanes.{known_by, sight}
-use Rattle.hay_block.specs.Ends.{IsNew, unseen}
+use Rattle.hay_block.specs.Ends.{IsNew}
+use Rattle.hay_shared_volume.specs.Ends.{unseen}
 use Rattle.hay_block.specs.Seats.{AreSeatsAt, HasNewSeats}
 
 module _ {S T A : Type 0} (of : S → LockSight VolumeAct Entry) (of_rows : T → LockSight DirAct HomeRow) (arm_faults : A → ℕ) where

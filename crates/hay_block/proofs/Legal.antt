@@ -17,7 +17,8 @@ use Rattle.hay_meeting.specs.Law.{cut_of}
 use Rattle.hay_meeting.specs.Sights.{Sight, StandsAt, history_of, rows_stood, stood}
 use Rattle.hay_meeting.proofs.Meeting.{lanes_make_blocks}
 use Rattle.hay_meeting.proofs.Opening.{nothing_yet}
-use Rattle.hay_block.specs.Behind.{known_behind, log_note_from, entered_lines, log_notes_of, row_note_of}
+use Rattle.hay_block.specs.Behind.{known_behind, log_note_from, log_notes_of, row_note_of}
+use Rattle.hay_shared_volume.specs.Ends.{entered_lines}
 use Rattle.hay_block.specs.Law.{BlockRan, BlocksAreLegal}
 use Rattle.hay_block.proofs.Ending.{locks_whole, new_lanes_begin, opened_there}
 use Rattle.hay_block.proofs.Noting.{flat_same, rows_noted, volume_note}

@@ -15,3 +15,4 @@ pub mod Telling
 pub mod Slots
 pub mod Blocks
 pub mod Whole
+pub mod Sending

@@ -1,11 +1,13 @@
 -- What stands where in lists.
 use Rattle.std.proofs.Common.{◌≡◌, ◌<◌, ◌-◌, ◌∙◌, ◌++◌, ℕ, zero, suc, List, [], ◌∷◌, map, length, take, refl, sym, ap, subst, arith, Some, Result, Ok, Err, slice_get, length-append, reverse}
-use Rattle.std.specs.Prelude.{IfOk, OnErr}
+use Rattle.std.specs.Prelude.{◌==◌, Bool, true, IfOk, OnErr}
 use Rattle.std.specs.List.{AllByRecursion as Each, AllZip}
 use Rattle.std.proofs.lemmas.List.{get_or-reverse, length-reverse}
 use Rattle.std.proofs.lemmas.Option.{slice_get-get_or}
 use Rattle.hay_meeting.proofs.Closing.{there}
 use Rattle.hay_block.proofs.Giving.{added_at}
+use Rattle.std.proofs.lemmas.Bool.Decides.{nat_tests}
+use Rattle.hay_volume_lock.proofs.Opening.{none_left}
 
 -- what stands in an image is the image of what stands there
 pub mapped : {A B : Type 0} (f : A → B) (xs : List A) (i : ℕ) (x : A) → slice_get xs i ≡ Some x → slice_get (map f xs) i ≡ Some (f x)
@@ -140,3 +142,7 @@ ok_at P r x is of = subst (λ z. IfOk z P) is of
 
 pub err_at : {X E : Type 0} (P : Type 0) (r : Result X E) (e : E) → r ≡ Err e → OnErr r P → P
 err_at P r e is of = subst (λ z. OnErr z P) is of
+
+-- a list of which it was told that it has no elements
+pub none_there : {X : Type 0} (xs : List X) (n : ℕ) (b : Bool) → b ≡ (n == 0) → b ≡ true → n ≡ length xs → xs ≡ []
+none_there xs n b is so many = let none : n ≡ 0 = grind (arith, nat_tests, is, so) in none_left xs (omega (arith, none, many))

@@ -21,7 +21,8 @@ use Rattle.hay_meeting.specs.declared.act.VolumeDid.TheVariants as act
 use Rattle.hay_meeting.specs.Acts.{did_of, row_lock, rows_left_by, volume_lock}
 use Rattle.hay_meeting.specs.Locks.{left, replayed}
 use Rattle.hay_meeting.proofs.Standings.{extends, logged_of}
-use Rattle.hay_block.specs.Behind.{added_row, entered_line, entered_lines, log_note_from}
+use Rattle.hay_block.specs.Behind.{added_row, log_note_from}
+use Rattle.hay_shared_volume.specs.Ends.{entered_line, entered_lines}
 
 -- VOLUMES
 

@@ -13,7 +13,7 @@ use Rattle.hay_history.specs.Steps.{Standing}
 use Rattle.hay_meeting.specs.declared.act.VolumeAct.{VolumeAct}
 use Rattle.hay_meeting.specs.Acts.{volume_lock}
 use Rattle.hay_meeting.specs.Locks.{LockSight, left}
-use Rattle.hay_block.specs.Making.{LeavesVolume, standing}
+use Rattle.hay_shared_volume.specs.Making.{LeavesVolume, standing}
 use Rattle.hay_block.specs.Stores.{AreStill, IsStill}
 use Rattle.hay_block.proofs.Giving.{added_at, before_added}
 use Rattle.hay_block.proofs.Lists.{reversed_at, same_item}

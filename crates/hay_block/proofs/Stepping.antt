@@ -15,12 +15,12 @@ use Rattle.hay_meeting.specs.Acts.{Start, volume_lock}
 use Rattle.hay_meeting.specs.Locks.{LockSight}
 use Rattle.hay_meeting.proofs.Closing.{there}
 use Rattle.hay_lane.specs.declared.lane.Lane.{Lane}
-use Rattle.hay_lane.specs.Tellings.{StoreVolume}
+use Rattle.hay_shared_volume.specs.Tellings.{StoreVolume}
 use Rattle.hay_block.specs.declared.frame.Frame.{Frame}
 use Rattle.hay_block.specs.declared.worker.Job.{Job}
-use Rattle.hay_block.specs.Ends as ends_of
+use Rattle.hay_shared_volume.specs.Ends as ends_of
 use Rattle.hay_block.specs.Frames.{AreSameLocks, EndsLast, HaveFirst, IsBack, IsFrame, RanFrom, VolumeTook, framed, with_locks}
-use Rattle.hay_block.specs.Making.{AreAt, AreUnseen, IsRegularVolume, LeavesVolume}
+use Rattle.hay_shared_volume.specs.Making.{AreAt, AreUnseen, IsRegularVolume, LeavesVolume}
 use Rattle.hay_block.specs.Seats.{AreSeatsAt, HaveMore}
 use Rattle.hay_block.specs.Stores.{AreStill, IsStill}
 use Rattle.hay_block.proofs.Framing.{all_first, have_first, nothing_made, seats_at}

@@ -20,12 +20,13 @@ use Rattle.hay_meeting.specs.Locks.{LockSight}
 use Rattle.hay_meeting.proofs.Closing.{there}
 use Rattle.hay_lane.specs.declared.lane.Lane.{Lane}
 use Rattle.hay_lane.specs.Lanes.{IsLaterArm}
-use Rattle.hay_lane.specs.Tellings.{StoreVolume}
+use Rattle.hay_shared_volume.specs.Tellings.{StoreVolume}
 use Rattle.hay_lane.proofs.Arms.{later_on, later_same}
 use Rattle.hay_block.specs.declared.worker.Job.{Job}
 use Rattle.hay_block.specs.Frames.{RanAll, shared_by}
 use Rattle.hay_block.specs.Lines.{Answers, AnswersBad}
-use Rattle.hay_block.specs.Making.{AreSeated, AreUnseen, LeavesDirectory}
+use Rattle.hay_shared_volume.specs.Making.{AreSeated, AreUnseen}
+use Rattle.hay_block.specs.Making.{LeavesDirectory}
 use Rattle.hay_block.specs.Stores.{AreStill, CountsRise}
 use Rattle.hay_block.proofs.Framing.{nothing_made}
 use Rattle.hay_block.proofs.Lists.{each_by, same_item, zip_by, zip_mapped, zip_same}

@@ -18,11 +18,12 @@ use Rattle.hay_meeting.specs.Locks.{LockSight}
 use Rattle.hay_meeting.specs.Sights.{Sight}
 use Rattle.hay_lane.specs.declared.lane.Lane.{Lane}
 use Rattle.hay_lane.specs.declared.lane.Shared.{Shared}
-use Rattle.hay_lane.specs.Tellings.{StoreVolume}
+use Rattle.hay_shared_volume.specs.Tellings.{StoreVolume}
 use Rattle.hay_lanes.proofs.Results.{unmapped}
 use Rattle.hay_block.specs.declared.worker.Job.{Job}
 use Rattle.hay_block.specs.Behind.{CountsBehind, known_behind}
-use Rattle.hay_block.specs.Ends.{IsNew, LocksEnded, RowsEnded, VolumeEnded, unseen}
+use Rattle.hay_block.specs.Ends.{IsNew, LocksEnded, RowsEnded, VolumeEnded}
+use Rattle.hay_shared_volume.specs.Ends.{unseen}
 use Rattle.hay_block.specs.Law.{BlockRan}
 use Rattle.hay_block.specs.Lines.{AreItems}
 use Rattle.hay_block.specs.Seats.{HasNewSeats}

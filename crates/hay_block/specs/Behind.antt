@@ -2,7 +2,6 @@
 use Rattle.std.specs.Prelude.{◌≡◌, ℕ, ◌-◌, ◌^◌, ◌<◌, ◌≤◌, List, [], ◌∷◌, length, map, filter_map, slice_index, Option, Some, None}
 use Rattle.std.specs.List.{AllByRecursion as Each, flat_map}
 use Rattle.hay_needle.specs.declared.settings.Settings.{Settings}
-use Rattle.hay_core.specs.declared.entry.Entry.{Entry}
 use Rattle.hay_reply.specs.declared.LineVolume.{LineVolume}
 use Rattle.hay_legal.specs.declared.known.HomeRow.{HomeRow}
 use Rattle.hay_legal.specs.declared.known.Known.{Known}
@@ -10,9 +9,9 @@ use Rattle.hay_legal.specs.declared.turn.LogNote.{LogNote}
 use Rattle.hay_legal.specs.declared.turn.RowNote.{RowNote}
 use Rattle.hay_legal.specs.Known.{arm_count, disk_count, slot_of, volume_at, volumes_of}
 use Rattle.hay_meeting.specs.declared.act.DirAct.{DirAct}
-use Rattle.hay_meeting.specs.declared.act.VolumeAct.{VolumeAct}
-use Rattle.hay_meeting.specs.Acts.{Happened, Start, entry_of, row_of}
+use Rattle.hay_meeting.specs.Acts.{Happened, Start, row_of}
 use Rattle.hay_meeting.specs.Sights.{rows_stood, stood}
+use Rattle.hay_shared_volume.specs.Ends.{entered_lines}
 
 -- COUNTS
 
@@ -43,17 +42,6 @@ known_behind settings start h faults fuses arms = record {
 }
 
 -- NOTES
-
--- the lines whose changes were entered, in their order
-abbrev pub entered_line : VolumeAct → Option ℕ
-entered_line act = line_if (entry_of act.did)
-  where
-    line_if : Option Entry → Option ℕ
-    line_if (Some change) = Some ((act.tag).line)
-    line_if None = None
-
-abbrev pub entered_lines : List VolumeAct → List ℕ
-entered_lines acts = filter_map entered_line acts
 
 -- the note on a volume, if a change was entered there, behind so many
 abbrev pub log_note_from : ℕ → ℕ → List ℕ → List LogNote

@@ -1,7 +1,6 @@
 -- What stands where the locks of a block are made, and what they tell where they end.
-use Rattle.std.specs.Prelude.{◌≡◌, ℕ, ◌<◌, ◌≤◌, List, [], length, map, slice_get, Some}
+use Rattle.std.specs.Prelude.{◌≡◌, ℕ, ◌<◌, ◌≤◌, List, [], length, map}
 use Rattle.std.specs.List.{AllByRecursion as Each}
-use mathlib.Core.List.{IsPrefix}
 use Rattle.hay_needle.specs.declared.settings.Settings.{Settings}
 use Rattle.hay_core.specs.declared.entry.Entry.{Entry}
 use Rattle.hay_legal.specs.declared.known.HomeRow.{HomeRow}
@@ -11,12 +10,12 @@ use Rattle.hay_legal.specs.Subject.{IsOf}
 use Rattle.hay_history.specs.Commands.{IsRegular}
 use Rattle.hay_history.specs.Histories.{first_of, first_rows}
 use Rattle.hay_history.specs.Steps.{Follows, FollowsRows}
-use Rattle.hay_turn.specs.Acts.{acts_of, AllBelow}
 use Rattle.hay_meeting.specs.declared.act.DirAct.{DirAct}
 use Rattle.hay_meeting.specs.declared.act.VolumeAct.{VolumeAct}
 use Rattle.hay_meeting.specs.Acts.{Happened, IsSized, Start, row_lock, volume_lock}
-use Rattle.hay_meeting.specs.Locks.{Lock, LockSight, entries, replayed}
+use Rattle.hay_meeting.specs.Locks.{LockSight, replayed}
 use Rattle.hay_meeting.specs.Sights.{Agrees, Sight}
+use Rattle.hay_shared_volume.specs.Ends.{Ended, unseen}
 
 -- BEFORE THE LINES
 
@@ -32,24 +31,12 @@ pub record OpensAt (settings : Settings) (start : Start) (k : Known) : Type 0 wh
   pub volumes : (v : ℕ) → v < settings.volumes → Agrees settings.replicas (first_of settings k v) (start.volumes v)
   pub rows : first_rows k ≡ start.directory
 
--- what a seat knows of a lock that was just made
-abbrev pub unseen : {E X : Type 0} → LockSight E X
-unseen = record { seen = []; own = []; shown = [] }
-
 -- what a lane knows whose seats are new
 pub record IsNew (sight : Sight) : Type 0 where
   pub volumes : (v : ℕ) → sight.volumes v ≡ unseen
   pub directory : sight.directory ≡ unseen
 
 -- WHERE THE LOCKS END
-
--- All acts at a lock that ends with these seats, in the order of their lanes: it begins with what each has seen, and shows what each was
--- shown; each act is an own one of a seat, and each own one stands in it once.
-pub record Ended {S E X T : Type 0} (lock : Lock S E X T) (seats : List (LockSight E X)) (history : List E) : Type 0 where
-  pub own : (lane : ℕ) (s : LockSight E X) → slice_get seats lane ≡ Some s → acts_of lock.seat lane history ≡ s.own
-  pub below : AllBelow lock.seat (length seats) history
-  pub seen : (lane : ℕ) (s : LockSight E X) → slice_get seats lane ≡ Some s → IsPrefix s.seen history
-  pub shown : (lane : ℕ) (s : LockSight E X) → slice_get seats lane ≡ Some s → IsPrefix s.shown (entries lock history)
 
 -- of volume v
 pub record VolumeEnded (settings : Settings) (start : Start) (v : ℕ) (seats : List (LockSight VolumeAct Entry)) (history : List VolumeAct) : Type 0 where

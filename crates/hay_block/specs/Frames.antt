@@ -16,13 +16,13 @@ use Rattle.hay_meeting.specs.Locks.{LockSight}
 use Rattle.hay_lane.specs.declared.lane.Lane.{Lane}
 use Rattle.hay_lane.specs.declared.lane.Shared.{Shared}
 use Rattle.hay_lane.specs.Lanes.{IsSeated}
-use Rattle.hay_lane.specs.Tellings.{StoreVolume}
+use Rattle.hay_shared_volume.specs.Tellings.{StoreVolume}
 use Rattle.hay_block.specs.declared.block.Locked.{Locked}
 use Rattle.hay_block.specs.declared.block.Rooms.{Rooms}
 use Rattle.hay_block.specs.declared.frame.Frame.{Frame}
 use Rattle.hay_block.specs.declared.worker.Job.{Job}
 use Rattle.hay_block.specs.Lines.{Answers}
-use Rattle.hay_block.specs.Making.{AreAt, AreUnseen, IsRegularVolume, LeavesVolume}
+use Rattle.hay_shared_volume.specs.Making.{AreAt, AreUnseen, IsRegularVolume, LeavesVolume}
 use Rattle.hay_block.specs.Seats.{AreSeatsAt, HaveMore}
 use Rattle.hay_block.specs.Stores.{AreStill}
 

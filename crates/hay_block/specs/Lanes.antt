@@ -16,7 +16,7 @@ use Rattle.hay_meeting.specs.Acts.{Happened, Start}
 use Rattle.hay_meeting.specs.Locks.{LockSight}
 use Rattle.hay_lane.specs.declared.lane.Lane.{Lane}
 use Rattle.hay_lane.specs.declared.lane.Shared.{Shared}
-use Rattle.hay_lane.specs.Tellings.{StoreVolume}
+use Rattle.hay_shared_volume.specs.Tellings.{StoreVolume}
 use Rattle.hay_block.specs.declared.worker.Job.{Job}
 use Rattle.hay_block.specs.Behind.{CountsBehind, known_behind, log_notes_of, row_note_of}
 use Rattle.hay_block.specs.Ends.{IsSettled, OpensAt, RowsEnded, VolumeEnded}

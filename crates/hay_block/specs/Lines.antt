@@ -20,7 +20,7 @@ use Rattle.hay_meeting.specs.Replies.{AnsweredHere}
 use Rattle.hay_lane.specs.declared.lane.Lane.{Lane}
 use Rattle.hay_lane.specs.declared.lane.Shared.{Shared}
 use Rattle.hay_lane.specs.Lanes.{IsLaterArm, IsOf, IsSeated, sight}
-use Rattle.hay_lane.specs.Tellings.{StoreVolume}
+use Rattle.hay_shared_volume.specs.Tellings.{StoreVolume}
 use Rattle.hay_block.specs.declared.worker.Job.{Job}
 
 -- a line that a block may have

@@ -7,7 +7,7 @@ use Rattle.hay_meeting.specs.declared.act.DirAct.{DirAct}
 use Rattle.hay_meeting.specs.declared.act.VolumeAct.{VolumeAct}
 use Rattle.hay_meeting.specs.Locks.{LockSight}
 use Rattle.hay_lane.specs.declared.lane.Lane.{Lane}
-use Rattle.hay_block.specs.Ends.{unseen}
+use Rattle.hay_shared_volume.specs.Ends.{unseen}
 
 -- the lanes have these seats at the volume, in the lanes' order
 abbrev pub AreSeatsAt : {S T A : Type 0} → ℕ → List (Lane S T A) → List S → Type 0

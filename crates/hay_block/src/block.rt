@@ -3,21 +3,24 @@ ghost use Rattle.std.specs.Prelude.{◌≡◌, ◌<◌, ◌≤◌, ◌^◌, [], 
 ghost use Rattle.std.specs.List.{AllByRecursion};
 ghost use Rattle.hay_block.specs.Frames.{AreFit, HasRoom, IsFrame, IsSameStore, RanAll};
 ghost use Rattle.hay_block.specs.Lines.{IsServed};
-ghost use Rattle.hay_block.specs.Making.{AreSeated};
+ghost use Rattle.hay_shared_volume.specs.Making.{AreSeated, IsVolumeOf, VolumeStands, count_of};
 ghost use Rattle.hay_block.specs.Stores.{AreVolumes};
+ghost use Rattle.hay_shared_volume.specs.Seats.{IsSeatOf, WasAt, sight_of};
 
 use crate::frame::{Frame, run_from};
-use crate::locks::VolumeLocks;
 use crate::parts::{apart, joined, seat_rooms};
 use crate::worker::Job;
 use hay_base::NoMemory;
-use hay_disk::{Arm, Piece};
+use hay_disk::{Arm, Disk, Piece};
 use hay_front::Tag;
 use hay_lane::{DirectoryCalls, Lane, Shared};
 use hay_lanes::Gate;
+use hay_logical::Logical;
 use hay_needle::Settings;
 use hay_reader::LaneSeat;
 use hay_reply::Reply;
+use hay_shared_volume::SharedVolume;
+use hay_volume_lock::VolumeSeat;
 use std::alloc::Global;
 use std::sync::Wait;
 use std::thread::Threads;
@@ -81,32 +84,29 @@ pub(crate) struct Locked<D, T: Drop, A, W> {
 }
 
 // The frame in which no volume has a lock yet.
-fn frame_of<V, D, S, T, P, A, W, Q>(
+fn frame_of<D, P, L, T, A>(
     settings: Settings,
     drained: Vec<bool>,
-    locks: Vec<V>,
+    locks: Vec<SharedVolume<D, P>>,
     tags: Vec<Vec<Tag>>,
-    lanes: Vec<Lane<S, T, A>>,
-    lock: D,
-    mut volumes: Vec<W>,
-) -> Frame<V, D, S, T, A, W>
+    lanes: Vec<Lane<VolumeSeat<D, P>, T, A>>,
+    lock: L,
+    mut volumes: Vec<Logical<D>>,
+) -> Frame<SharedVolume<D, P>, L, VolumeSeat<D, P>, T, A, Logical<D>>
 where
-    V: VolumeLocks<Seat = S, Piece = P, Volume = W, Room = Q>,
-    D: DirectoryCalls<Seat = T>,
-    S: Drop,
-    T: Drop,
+    D: Disk<Piece = P>,
     P: Piece,
+    L: DirectoryCalls<Seat = T>,
+    T: Drop,
     A: Arm<P>,
-    W: Drop,
-    Q: Drop,
     requires fit { AreFit settings }
     requires drains { length drained.items ≡ settings.machines }
     requires locks { (locks.items ≡ []) × (settings.volumes ≤ vec_capacity locks) }
     requires tags { (tags.items ≡ []) × (settings.volumes ≤ vec_capacity tags) }
     requires blank { AllByRecursion (λ l. l.volumes.items ≡ []) lanes.items }
-    requires seats { AreSeated D.fits lock settings (length lanes.items) (map (λ l. l.directory) lanes.items) }
-    requires volumes { AreVolumes V.is_of settings volumes.items }
-    ensures frame { IsFrame V.fits D.fits V.is_of result }
+    requires seats { AreSeated L.fits lock settings (length lanes.items) (map (λ l. l.directory) lanes.items) }
+    requires volumes { AreVolumes IsVolumeOf settings volumes.items }
+    ensures frame { IsFrame IsSeatOf L.fits IsVolumeOf result }
     ensures shared { result.shared ≡ record { settings = settings; volumes = locks; directory = lock; drained = drained } }
     ensures lanes { result.lanes ≡ lanes }
     ensures tags { result.tags ≡ tags }
@@ -128,48 +128,45 @@ where
 
 /// Makes the locks of all volumes, answers all lines of all lanes, and ends those locks. Behind `NoMemory` all stands as it stood, and no
 /// line was answered. Else the tags of the changes of each volume stand beside the replies.
-pub(crate) fn run_locked<V, D, S, T, P, A, W, Q, G, R>(
+pub(crate) fn run_locked<D, P, L, T, A, G, R>(
     rt: &R,
     alloc: Global,
     settings: Settings,
     drained: Vec<bool>,
-    rooms: Rooms<V, S, T, A>,
-    locked: Locked<D, T, A, W>,
+    rooms: Rooms<SharedVolume<D, P>, VolumeSeat<D, P>, T, A>,
+    locked: Locked<L, T, A, Logical<D>>,
     jobs: &[Vec<Job>],
     gate: &G,
 ) -> (
-    Locked<D, T, A, W>,
+    Locked<L, T, A, Logical<D>>,
     Vec<Vec<Tag>>,
     Result<Vec<Vec<Reply>>, NoMemory>,
 )
 where
-    V: VolumeLocks<Seat = S, Piece = P, Volume = W, Room = Q> + Send + Sync,
-    D: DirectoryCalls<Seat = T> + Send + Sync,
-    S: Send + Drop,
-    T: Send + Drop,
+    D: Disk<Piece = P> + Send + Sync,
     P: Piece + Send + Sync,
+    L: DirectoryCalls<Seat = T> + Send + Sync,
+    T: Send + Drop,
     A: Arm<P> + Send + Drop,
-    W: Drop,
-    Q: Drop,
     G: Gate + Sync,
     R: Threads + Wait + Sync,
     requires fit { AreFit settings }
     requires drains { length drained.items ≡ settings.machines }
     requires room { HasRoom (length jobs.now) settings.volumes rooms }
-    requires volumes { AreVolumes V.is_of settings locked.volumes.items }
-    requires seats { AreSeated D.fits locked.lock settings (length jobs.now) locked.seats.items }
+    requires volumes { AreVolumes IsVolumeOf settings locked.volumes.items }
+    requires seats { AreSeated L.fits locked.lock settings (length jobs.now) locked.seats.items }
     requires arms { length locked.arms.items ≡ length jobs.now }
     requires some { 0 < length jobs.now }
     requires few { length jobs.now ≤ 8 }
     requires served { AllByRecursion (λ js. AllByRecursion (λ job. IsServed job.item) js.items) jobs.now }
     ensures lock { result.0.lock ≡ locked.lock }
-    ensures volumes { AreVolumes V.is_of settings result.0.volumes.items }
-    ensures seats { AreSeated D.fits locked.lock settings (length jobs.now) result.0.seats.items }
+    ensures volumes { AreVolumes IsVolumeOf settings result.0.volumes.items }
+    ensures seats { AreSeated L.fits locked.lock settings (length jobs.now) result.0.seats.items }
     ensures arms { length result.0.arms.items ≡ length jobs.now }
-    ensures answered { IfOk result.2 (λ replies. RanAll V.fits D.fits V.is_at D.is_at V.sight D.sight A.is_sure A.fault_count V.stands V.faults V.fuses
+    ensures answered { IfOk result.2 (λ replies. RanAll (IsSeatOf {P = P}) L.fits (WasAt D.Tells D.files P.Tells D.fault_count D.fuse_count) L.is_at sight_of L.sight A.is_sure A.fault_count (VolumeStands D.Tells D.files P.Tells) (count_of D.fault_count) (count_of D.fuse_count)
         settings locked.lock drained locked.volumes.items locked.seats.items locked.arms.items
         result.0.volumes.items result.1.items result.0.seats.items result.0.arms.items (map (λ js. js.items) jobs.now) (map (λ rs. rs.items) replies.items)) }
-    ensures refused { OnErr result.2 (IsSameStore V.stands V.faults V.fuses settings locked result.0) }
+    ensures refused { OnErr result.2 (IsSameStore (VolumeStands D.Tells D.files P.Tells) (count_of D.fault_count) (count_of D.fuse_count) settings locked result.0) }
 {
     let Rooms {
         locks,
@@ -186,9 +183,7 @@ where
         arms,
     } = locked;
     let lanes = joined(seat_rooms, seats, arms, lanes);
-    let frame = frame_of::<V, D, S, T, P, A, W, Q>(
-        settings, drained, locks, tags, lanes, lock, volumes,
-    );
+    let frame = frame_of::<D, P, L, T, A>(settings, drained, locks, tags, lanes, lock, volumes);
     let (frame, answer) = run_from(rt, alloc, frame, jobs, gate);
     let (locked, tags) = locked_of(frame, directory, arm_room);
     (locked, tags, answer)

@@ -1,79 +1,19 @@
-//! How the locks of a block are made, and how they end.
-ghost use Rattle.std.specs.Prelude.{◌≡◌, ◌<◌, ◌≤◌, ℕ, Bool, List, length, IfErr, IfOk, IfSome};
+//! How the lock of the Directory is made, and how it ends.
+ghost use Rattle.std.specs.Prelude.{◌≡◌, ◌<◌, ℕ, Bool, List, length, IfErr, IfOk};
 ghost use Rattle.hay_needle.specs.declared.settings.Settings.{Settings};
 ghost use Rattle.hay_legal.specs.declared.known.DirKnown.{DirKnown};
-ghost use Rattle.hay_legal.specs.declared.known.VolumeKnown.{VolumeKnown};
 ghost use Rattle.hay_legal.specs.Known.{home_in};
-ghost use Rattle.hay_block.specs.Making.{AreAt, AreAtRows, AreSeated, AreUnseen, IsRegularDirectory, IsRegularVolume, LeavesDirectory, LeavesVolume};
+ghost use Rattle.hay_block.specs.Making.{AreAtRows, IsRegularDirectory, LeavesDirectory};
+ghost use Rattle.hay_shared_volume.specs.Making.{AreSeated, AreUnseen};
 
 use hay_base::NoMemory;
 use hay_front::Tag;
-use hay_lane::{DirectoryCalls, VolumeCalls};
+use hay_lane::DirectoryCalls;
 use hay_needle::{Pair, Settings};
 use std::alloc::Global;
 use std::sync::Wait;
 
-/// The lock of a volume, which is made for one block and ends with it.
-pub trait VolumeLocks: VolumeCalls {
-    /// A volume without a lock.
-    type Volume: Drop;
-
-    /// Room for all seats, for when the lock ends.
-    type Room: Drop;
-
-    /// This is known of the volume, whose disks tell what they have.
-    ghost stands: { Self.Volume → VolumeKnown → Type 0 };
-
-    /// How many calls of the disk of each replica have failed, and how many fuses were set on it.
-    ghost faults: { Self.Volume → ℕ → ℕ };
-
-    ghost fuses: { Self.Volume → ℕ → ℕ };
-
-    /// It is the open volume of this number of a store of these settings.
-    ghost is_of: { Self.Volume → Settings → ℕ → Type 0 };
-
-    /// The lock and its room were made of this volume, of this number, for so many lanes.
-    ghost is_made: { Self → Self.Room → Self.Volume → Settings → ℕ → ℕ → Type 0 };
-
-    /// How many changes it has behind it.
-    fn front(volume: &Self::Volume) -> u64
-        ensures { (known : VolumeKnown) → stands volume.now known → result ≡ length known.log };
-
-    /// The lock of a volume, and a seat for each lane, in their order. `NoMemory` gives the volume back as it was.
-    fn new<R: Wait>(
-        rt: &R,
-        alloc: Global,
-        settings: Settings,
-        volume: Self::Volume,
-        lanes: u32,
-    ) -> Result<(Self, Vec<Self::Seat>, Self::Room), (Self::Volume, NoMemory)>
-        requires some { 0 < lanes }
-        requires few { lanes ≤ 8 }
-        requires of { (number : ℕ) × is_of volume settings number }
-        ensures made { IfOk result (λ made. (number : ℕ) → is_of volume settings number → is_made made.0 made.2 volume settings number lanes) }
-        ensures seated { IfOk result (λ made. AreSeated Self.fits made.0 settings lanes made.1.items) }
-        ensures unseen { IfOk result (λ made. AreUnseen Self.sight made.1.items) }
-        ensures told { IfOk result (λ made. (number : ℕ) → is_of volume settings number → AreAt Self.is_at stands faults fuses settings number volume made.1.items) }
-        ensures regular { (number : ℕ) → is_of volume settings number → (known : VolumeKnown) → stands volume known → IsRegularVolume settings known }
-        ensures refused { IfErr result (λ back. back.0 ≡ volume) };
-
-    /// Ends the lock with all its seats, and gives the volume back, and the tags of the changes that were entered. It may wait for looks
-    /// that are under way, behind which none returns.
-    fn close<R: Wait>(
-        self,
-        rt: &R,
-        seats: Vec<Self::Seat>,
-        room: Self::Room,
-    ) -> (Self::Volume, Vec<Tag>)
-        requires made { (volume : Self.Volume) × (settings : Settings) × (number : ℕ)
-            × is_made self room volume settings number (length seats.items) × AreSeated Self.fits self settings (length seats.items) seats.items }
-        ensures left { (volume : Self.Volume) (settings : Settings) (number : ℕ) → is_made self room volume settings number (length seats.items) →
-            AreSeated Self.fits self settings (length seats.items) seats.items →
-            LeavesVolume Self.sight stands faults fuses settings number volume seats.items result.0 result.1.items }
-        ensures of { (volume : Self.Volume) (settings : Settings) (number : ℕ) → is_made self room volume settings number (length seats.items) → is_of result.0 settings number };
-}
-
-/// The lock of the Directory, likewise.
+/// The lock of the Directory, which is made for one block and ends with it.
 pub trait DirectoryLocks: DirectoryCalls {
     /// A Directory without a lock.
     type Directory: Drop;

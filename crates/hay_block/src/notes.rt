@@ -3,23 +3,25 @@ ghost use Rattle.std.specs.Prelude.{◌≡◌, ◌<◌, ◌≤◌, ◌^◌, leng
 ghost use Rattle.std.specs.List.{AllZip};
 ghost use Rattle.hay_legal.specs.declared.known.VolumeKnown.{VolumeKnown};
 ghost use Rattle.hay_block.specs.Stores.{line_of_tag, notes_from};
+ghost use Rattle.hay_shared_volume.specs.Making.{VolumeStands};
 
-use crate::locks::VolumeLocks;
 use hay_base::{Listed, NoMemory};
+use hay_disk::Disk;
 use hay_front::Tag;
 use hay_legal::turn::LogNote;
+use hay_logical::Logical;
 use std::alloc::Global;
 
 /// How many changes each volume has behind it.
-pub(crate) fn fronts_of<V: VolumeLocks>(
+pub(crate) fn fronts_of<D: Disk>(
     alloc: Global,
-    volumes: &[V::Volume],
+    volumes: &[Logical<D>],
 ) -> Result<Vec<u64>, NoMemory>
-    ensures { IfOk result (λ fronts. AllZip (λ volume front. (known : VolumeKnown) → V.stands volume known → front ≡ length known.log) volumes.now fronts.items) }
+    ensures { IfOk result (λ fronts. AllZip (λ volume front. (known : VolumeKnown) → VolumeStands D.Tells D.files D.Piece.Tells volume known → front ≡ length known.log) volumes.now fronts.items) }
 {
     let mut fronts = Vec::with_capacity(alloc, volumes.len())?;
     for volume in volumes {
-        fronts.push_reserved(V::front(volume));
+        fronts.push_reserved(volume.front());
     }
     Ok(fronts)
 }

@@ -5,23 +5,26 @@ ghost use Rattle.hay_lanes.specs.Lanes.{AnswersLanes};
 ghost use Rattle.hay_lane.specs.Lanes.{IsSeated};
 ghost use Rattle.hay_block.specs.Lines.{Answers, IsServed};
 ghost use Rattle.hay_block.specs.Workers.{at_locks, parts_of};
+ghost use Rattle.hay_shared_volume.specs.Seats.{IsSeatOf, WasAt, sight_of};
 
 use crate::worker::{Job, LaneWorker};
 use hay_base::NoMemory;
-use hay_disk::{Arm, Piece};
-use hay_lane::{DirectoryCalls, Lane, Shared, VolumeCalls};
+use hay_disk::{Arm, Disk, Piece};
+use hay_lane::{DirectoryCalls, Lane, Shared};
 use hay_lanes::{Gate, run_lanes};
 use hay_reply::Reply;
+use hay_shared_volume::SharedVolume;
+use hay_volume_lock::VolumeSeat;
 use std::alloc::Global;
 use std::sync::Wait;
 use std::thread::Threads;
 
 // The workers of lanes.
-fn workers_of<'a, V, D, S: Drop, T: Drop, A: Drop>(
-    shared: &'a Shared<V, D>,
-    lanes: Vec<Lane<S, T, A>>,
-    mut workers: Vec<LaneWorker<'a, V, D, S, T, A>>,
-) -> Vec<LaneWorker<'a, V, D, S, T, A>>
+fn workers_of<'a, D: Disk<Piece = P>, P: Piece, L, T: Drop, A: Drop>(
+    shared: &'a Shared<SharedVolume<D, P>, L>,
+    lanes: Vec<Lane<VolumeSeat<D, P>, T, A>>,
+    mut workers: Vec<LaneWorker<'a, D, P, L, T, A>>,
+) -> Vec<LaneWorker<'a, D, P, L, T, A>>
     requires { (workers.items ≡ []) × (vec_len lanes ≤ vec_capacity workers) }
     ensures { map parts_of result.items ≡ map (at_locks shared.now) lanes.items }
 {
@@ -32,10 +35,10 @@ fn workers_of<'a, V, D, S: Drop, T: Drop, A: Drop>(
 }
 
 // The lanes of workers.
-fn lanes_of<V, D, S: Drop, T: Drop, A: Drop>(
-    workers: Vec<LaneWorker<V, D, S, T, A>>,
-    mut lanes: Vec<Lane<S, T, A>>,
-) -> Vec<Lane<S, T, A>>
+fn lanes_of<D: Disk<Piece = P>, P: Piece, L, T: Drop, A: Drop>(
+    workers: Vec<LaneWorker<D, P, L, T, A>>,
+    mut lanes: Vec<Lane<VolumeSeat<D, P>, T, A>>,
+) -> Vec<Lane<VolumeSeat<D, P>, T, A>>
     requires { (lanes.items ≡ []) × (vec_len workers ≤ vec_capacity lanes) }
     ensures { result.items ≡ map (λ w. w.lane) workers.entry.items }
 {
@@ -48,28 +51,30 @@ fn lanes_of<V, D, S: Drop, T: Drop, A: Drop>(
 
 /// Answers all lines of all lanes: lane `i` those of list `i`, in their order. `NoMemory` gives the lanes back, and no line was
 /// answered.
-pub fn run_lines<V, D, S, T, P, A, G, R>(
+pub fn run_lines<D, P, L, T, A, G, R>(
     rt: &R,
     alloc: Global,
-    shared: &Shared<V, D>,
-    lanes: Vec<Lane<S, T, A>>,
+    shared: &Shared<SharedVolume<D, P>, L>,
+    lanes: Vec<Lane<VolumeSeat<D, P>, T, A>>,
     jobs: &[Vec<Job>],
     gate: &G,
-) -> Result<(Vec<Lane<S, T, A>>, Vec<Vec<Reply>>), (Vec<Lane<S, T, A>>, NoMemory)>
+) -> Result<
+    (Vec<Lane<VolumeSeat<D, P>, T, A>>, Vec<Vec<Reply>>),
+    (Vec<Lane<VolumeSeat<D, P>, T, A>>, NoMemory),
+>
 where
-    V: VolumeCalls<Seat = S, Piece = P> + Send + Sync,
-    D: DirectoryCalls<Seat = T> + Send + Sync,
-    S: Send + Drop,
-    T: Send + Drop,
+    D: Disk<Piece = P> + Send + Sync,
     P: Piece + Send + Sync,
+    L: DirectoryCalls<Seat = T> + Send + Sync,
+    T: Send + Drop,
     A: Arm<P> + Send + Drop,
     G: Gate + Sync,
     R: Threads + Wait + Sync,
     requires lanes { vec_len lanes ≡ length jobs.now }
     requires few { length jobs.now < 2 ^ 32 }
-    requires seated { (lane : ℕ) (l : _) → slice_get lanes.items lane ≡ Some l → IsSeated V.fits D.fits shared.now lane l }
+    requires seated { (lane : ℕ) (l : _) → slice_get lanes.items lane ≡ Some l → IsSeated IsSeatOf L.fits shared.now lane l }
     requires served { AllByRecursion (λ js. AllByRecursion (λ job. IsServed job.item) js.items) jobs.now }
-    ensures answered { IfOk result (λ r. AnswersLanes (λ old lane job new reply. Answers V.fits D.fits V.is_at D.is_at V.sight D.sight A.is_sure A.fault_count shared.now lane job old new reply)
+    ensures answered { IfOk result (λ r. AnswersLanes (λ old lane job new reply. Answers IsSeatOf L.fits (WasAt D.Tells D.files P.Tells D.fault_count D.fuse_count) L.is_at sight_of L.sight A.is_sure A.fault_count shared.now lane job old new reply)
         lanes.items (map (λ js. js.items) jobs.now) r.0.items (map (λ rs. rs.items) r.1.items)) }
     ensures refused { IfErr result (λ r. r.0.items ≡ lanes.items) }
 {

@@ -12,22 +12,26 @@ ghost use Rattle.hay_legal.specs.Known.{EachPair};
 ghost use Rattle.hay_lane.specs.Lanes.{IsLaterArm};
 ghost use Rattle.hay_block.specs.Frames.{AreFit, HasRoom};
 ghost use Rattle.hay_block.specs.Lines.{AnswersBad, AreItems, IsServed};
-ghost use Rattle.hay_block.specs.Making.{AreSeated, LeavesDirectory};
+ghost use Rattle.hay_shared_volume.specs.Making.{AreSeated, IsVolumeOf, VolumeStands, count_of};
+ghost use Rattle.hay_block.specs.Making.{LeavesDirectory};
 ghost use Rattle.hay_block.specs.Stores.{AreVolumes, CountsRise, RanLegally, StoreStands, line_of_tag, notes_from};
 ghost use Rattle.hay_block.specs.Parts.{IsSameParts, NotesTell};
 
 use crate::block::{Locked, Rooms, run_locked};
-use crate::locks::{DirectoryLocks, VolumeLocks};
+use crate::locks::DirectoryLocks;
 use crate::notes::{fronts_of, log_notes};
 use crate::worker::Job;
 use hay_base::NoMemory;
-use hay_disk::{Arm, Piece};
+use hay_disk::{Arm, Disk, Piece};
 use hay_front::Tag;
 use hay_lanes::Gate;
 use hay_legal::turn::LogNote;
+use hay_logical::Logical;
 use hay_needle::Settings;
 use hay_reader::LaneSeat;
 use hay_reply::Reply;
+use hay_shared_volume::SharedVolume;
+use hay_volume_lock::VolumeSeat;
 use std::alloc::Global;
 use std::sync::Wait;
 use std::thread::Threads;
@@ -62,31 +66,28 @@ struct Ready<V, S: Drop, T: Drop, A> {
     rooms: Rooms<V, S, T, A>,
 }
 
-fn ready_for<V, D, S, T, P, A, W, F, Q, U>(
+fn ready_for<D, L, V, S, T, A, F, U>(
     alloc: Global,
-    parts: &StoreParts<W, F, A>,
+    parts: &StoreParts<Logical<D>, F, A>,
     lanes: usize,
 ) -> Result<Ready<V, S, T, A>, NoMemory>
 where
-    V: VolumeLocks<Seat = S, Piece = P, Volume = W, Room = Q>,
-    D: DirectoryLocks<Seat = T, Directory = F, Room = U>,
+    D: Disk,
+    L: DirectoryLocks<Seat = T, Directory = F, Room = U>,
     S: Drop,
     T: Drop,
-    P: Piece,
-    A: Arm<P>,
-    W: Drop,
+    A: Drop,
     F: Drop,
-    Q: Drop,
     U: Drop,
-    ensures long { IfOk result (λ r. (settings : Settings) → D.is_of parts.now.directory settings → length r.drained.items ≡ settings.machines) }
-    ensures drained { IfOk result (λ r. (known : DirKnown) (drained : List Bool) → D.stands parts.now.directory known drained → r.drained.items ≡ drained) }
-    ensures rows { IfOk result (λ r. (known : DirKnown) (drained : List Bool) → D.stands parts.now.directory known drained → r.rows ≡ length known.rows) }
-    ensures fronts { IfOk result (λ r. AllZip (λ volume front. (known : VolumeKnown) → V.stands volume known → front ≡ length known.log) parts.now.volumes.items r.fronts.items) }
+    ensures long { IfOk result (λ r. (settings : Settings) → L.is_of parts.now.directory settings → length r.drained.items ≡ settings.machines) }
+    ensures drained { IfOk result (λ r. (known : DirKnown) (drained : List Bool) → L.stands parts.now.directory known drained → r.drained.items ≡ drained) }
+    ensures rows { IfOk result (λ r. (known : DirKnown) (drained : List Bool) → L.stands parts.now.directory known drained → r.rows ≡ length known.rows) }
+    ensures fronts { IfOk result (λ r. AllZip (λ volume front. (known : VolumeKnown) → VolumeStands D.Tells D.files D.Piece.Tells volume known → front ≡ length known.log) parts.now.volumes.items r.fronts.items) }
     ensures room { IfOk result (λ r. HasRoom lanes (length parts.now.volumes.items) r.rooms) }
 {
-    let drained = D::drained(alloc, &parts.directory)?;
-    let fronts = fronts_of::<V>(alloc, parts.volumes.as_slice())?;
-    let rows = D::rows(&parts.directory);
+    let drained = L::drained(alloc, &parts.directory)?;
+    let fronts = fronts_of::<D>(alloc, parts.volumes.as_slice())?;
+    let rows = L::rows(&parts.directory);
     let rooms = Rooms::new(alloc, lanes, parts.volumes.len())?;
     Ok(Ready {
         drained,
@@ -97,26 +98,26 @@ where
 }
 
 // Ends the Directory's lock.
-fn unlocked<D, T, A, W, F, U, R>(
+fn unlocked<L, T, A, W, F, U, R>(
     rt: &R,
-    locked: Locked<D, T, A, W>,
+    locked: Locked<L, T, A, W>,
     room: U,
 ) -> (StoreParts<W, F, A>, Vec<Tag>)
 where
-    D: DirectoryLocks<Seat = T, Directory = F, Room = U>,
+    L: DirectoryLocks<Seat = T, Directory = F, Room = U>,
     T: Drop,
     A: Drop,
     W: Drop,
     F: Drop,
     U: Drop,
     R: Wait,
-    requires made { (directory : F) × (settings : Settings) × D.is_made locked.lock room directory settings (length locked.seats.items)
-        × AreSeated D.fits locked.lock settings (length locked.seats.items) locked.seats.items }
+    requires made { (directory : F) × (settings : Settings) × L.is_made locked.lock room directory settings (length locked.seats.items)
+        × AreSeated L.fits locked.lock settings (length locked.seats.items) locked.seats.items }
     ensures volumes { result.0.volumes ≡ locked.volumes }
     ensures arms { result.0.arms ≡ locked.arms }
-    ensures left { (directory : F) (settings : Settings) → D.is_made locked.lock room directory settings (length locked.seats.items) →
-        AreSeated D.fits locked.lock settings (length locked.seats.items) locked.seats.items →
-        LeavesDirectory D.sight D.stands D.faults D.fuses directory locked.seats.items result.0.directory result.1.items × D.is_of result.0.directory settings }
+    ensures left { (directory : F) (settings : Settings) → L.is_made locked.lock room directory settings (length locked.seats.items) →
+        AreSeated L.fits locked.lock settings (length locked.seats.items) locked.seats.items →
+        LeavesDirectory L.sight L.stands L.faults L.fuses directory locked.seats.items result.0.directory result.1.items × L.is_of result.0.directory settings }
 {
     let Locked {
         lock,
@@ -163,56 +164,57 @@ fn read_counts<P: Piece, A: Arm<P>>(arms: &[LaneSeat<A>])
 
 /// Answers all lines of all lanes, lane `i` those of list `i` with arm `i`, by locks that are made of the volumes and of the Directory for
 /// them, and end behind them. Behind `NoMemory` all stands as it stood, and no line was answered.
-pub fn run_block<V, D, S, T, P, A, W, F, Q, U, G, R>(
+pub fn run_block<D, P, L, T, A, F, U, G, R>(
     rt: &R,
     alloc: Global,
     settings: Settings,
-    parts: StoreParts<W, F, A>,
+    parts: StoreParts<Logical<D>, F, A>,
     jobs: &[Vec<Job>],
     gate: &G,
-) -> (StoreParts<W, F, A>, Result<BlockAnswers, NoMemory>)
+) -> (StoreParts<Logical<D>, F, A>, Result<BlockAnswers, NoMemory>)
 where
-    V: VolumeLocks<Seat = S, Piece = P, Volume = W, Room = Q> + Send + Sync,
-    D: DirectoryLocks<Seat = T, Directory = F, Room = U> + Send + Sync,
-    S: Send + Drop,
-    T: Send + Drop,
+    D: Disk<Piece = P> + Send + Sync,
     P: Piece + Send + Sync,
+    L: DirectoryLocks<Seat = T, Directory = F, Room = U> + Send + Sync,
+    T: Send + Drop,
     A: Arm<P> + Send + Drop,
-    W: Drop,
     F: Drop,
-    Q: Drop,
     U: Drop,
     G: Gate + Sync,
     R: Threads + Wait + Sync,
     requires fit { AreFit settings }
-    requires volumes { AreVolumes V.is_of settings parts.volumes.items }
-    requires directory { D.is_of parts.directory settings }
+    requires volumes { AreVolumes IsVolumeOf settings parts.volumes.items }
+    requires directory { L.is_of parts.directory settings }
     requires arms { length parts.arms.items ≡ length jobs.now }
     requires some { 0 < length jobs.now }
     requires few { length jobs.now ≤ 8 }
     requires served { AllByRecursion (λ js. AllByRecursion (λ job. IsServed job.item) js.items) jobs.now }
-    ensures volumes { AreVolumes V.is_of settings result.0.volumes.items }
-    ensures directory { D.is_of result.0.directory settings }
+    ensures volumes { AreVolumes IsVolumeOf settings result.0.volumes.items }
+    ensures directory { L.is_of result.0.directory settings }
     ensures arms { length result.0.arms.items ≡ length jobs.now }
-    ensures refused { OnErr result.1 (IsSameParts V.stands V.faults V.fuses settings parts result.0) }
+    ensures refused { OnErr result.1 (IsSameParts (VolumeStands D.Tells D.files P.Tells) (count_of D.fault_count) (count_of D.fuse_count) settings parts result.0) }
     // Whatever the disks tell, each line is answered, by a reply that there is, and no count of a disk or of an arm falls. An arm that
     // was sure is so still, with the same count.
     ensures replies { IfOk result.1 (λ answers. AllZip (λ js rs. length js.items ≡ length rs.items) jobs.now answers.replies.items) }
     ensures bad { IfOk result.1 (λ answers. AllZip (λ js rs. AllZip AnswersBad js.items rs.items) jobs.now answers.replies.items) }
     ensures fits { IfOk result.1 (λ answers. AllByRecursion (λ rs. AllByRecursion FitsReply rs.items) answers.replies.items) }
     ensures arms_rise { AllZip (IsLaterArm A.is_sure A.fault_count) parts.arms.items result.0.arms.items }
-    ensures rises { CountsRise settings V.faults D.faults parts.volumes.items parts.directory result.0.volumes.items result.0.directory }
+    ensures rises { CountsRise settings (count_of D.fault_count) L.faults parts.volumes.items parts.directory result.0.volumes.items result.0.directory }
     // Where the disks tell, the lines are a legal block of what was known, in any order that keeps each lane's own, with these notes, and
     // the parts stand for what is known behind it.
     ensures legal { IfOk result.1 (λ answers. (k : Known) (others : List ℕ) →
-        StoreStands V.stands V.faults V.fuses D.stands D.faults D.fuses A.fault_count settings parts.volumes.items parts.directory parts.arms.items others k →
+        StoreStands (VolumeStands D.Tells D.files P.Tells) (count_of D.fault_count) (count_of D.fuse_count) L.stands L.faults L.fuses A.fault_count settings parts.volumes.items parts.directory parts.arms.items others k →
         AllByRecursion (λ f. f ≤ 2 ^ 64 - 1) others → (items : List LaneItem) →
         AreItems (map (λ js. js.items) jobs.now) (map (λ rs. rs.items) answers.replies.items) items → EachPair (λ a b. a.line ≢ b.line) items →
         (logs : List LogNote) × (rows : RowNote) × IfOk answers.notes (NotesTell logs rows)
-        × RanLegally V.stands V.faults V.fuses D.stands D.faults D.fuses A.fault_count settings k items logs rows
+        × RanLegally (VolumeStands D.Tells D.files P.Tells) (count_of D.fault_count) (count_of D.fuse_count) L.stands L.faults L.fuses A.fault_count settings k items logs rows
         result.0.volumes.items result.0.directory result.0.arms.items others) }
 {
-    let Ok(ready) = ready_for::<V, D, S, T, P, A, W, F, Q, U>(alloc, &parts, jobs.len()) else {
+    let Ok(ready) = ready_for::<D, L, SharedVolume<D, P>, VolumeSeat<D, P>, T, A, F, U>(
+        alloc,
+        &parts,
+        jobs.len(),
+    ) else {
         return (parts, Err(NoMemory));
     };
     let Ready {
@@ -226,7 +228,7 @@ where
         directory,
         arms,
     } = parts;
-    match D::new(rt, alloc, settings, directory, jobs.len() as u32) {
+    match L::new(rt, alloc, settings, directory, jobs.len() as u32) {
         Ok((lock, seats, room)) => {
             let locked = Locked {
                 lock,
@@ -234,10 +236,10 @@ where
                 volumes,
                 arms,
             };
-            let (locked, tags, answer) = run_locked::<V, D, S, T, P, A, W, Q, G, R>(
+            let (locked, tags, answer) = run_locked::<D, P, L, T, A, G, R>(
                 rt, alloc, settings, drained, rooms, locked, jobs, gate,
             );
-            let (parts, added) = unlocked::<D, T, A, W, F, U, R>(rt, locked, room);
+            let (parts, added) = unlocked::<L, T, A, Logical<D>, F, U, R>(rt, locked, room);
             read_counts::<P, A>(parts.arms.as_slice());
             match answer {
                 Ok(replies) => {

@@ -2,13 +2,16 @@
 ghost use Rattle.std.specs.Prelude.{◌≡◌};
 ghost use Rattle.hay_lane.specs.Lanes.{IsSeated};
 ghost use Rattle.hay_block.specs.Lines.{Answers, IsServed};
+ghost use Rattle.hay_shared_volume.specs.Seats.{IsSeatOf, WasAt, sight_of};
 
 use hay_core::CoreTag;
-use hay_disk::{Arm, Piece};
-use hay_lane::{DirectoryCalls, Lane, Shared, VolumeCalls};
+use hay_disk::{Arm, Disk, Piece};
+use hay_lane::{DirectoryCalls, Lane, Shared};
 use hay_lanes::{Gate, Work};
 use hay_legal::turn::Item;
 use hay_reply::Reply;
+use hay_shared_volume::SharedVolume;
+use hay_volume_lock::VolumeSeat;
 use std::alloc::Global;
 use std::sync::Wait;
 
@@ -21,27 +24,26 @@ pub struct Job {
 
 /// A lane, and the locks that it shares with all others.
 #[derive(Drop)]
-pub struct LaneWorker<'a, V, D, S: Drop, T: Drop, A> {
-    pub shared: &'a Shared<V, D>,
-    pub lane: Lane<S, T, A>,
+pub struct LaneWorker<'a, D: Disk<Piece = P>, P: Piece, L, T: Drop, A> {
+    pub shared: &'a Shared<SharedVolume<D, P>, L>,
+    pub lane: Lane<VolumeSeat<D, P>, T, A>,
 }
 
-impl<'a, V, D, S, T, P, A> Work for LaneWorker<'a, V, D, S, T, A>
+impl<'a, D, P, L, T, A> Work for LaneWorker<'a, D, P, L, T, A>
 where
-    V: VolumeCalls<Seat = S, Piece = P> + Send + Sync,
-    D: DirectoryCalls<Seat = T> + Send + Sync,
-    S: Send + Drop,
-    T: Send + Drop,
+    D: Disk<Piece = P> + Send + Sync,
     P: Piece + Send + Sync,
+    L: DirectoryCalls<Seat = T> + Send + Sync,
+    T: Send + Drop,
     A: Arm<P> + Send + Drop,
 {
     type Job = Job;
 
     type Out = Reply;
 
-    ghost may_answer = { λ w lane job. IsSeated V.fits D.fits w.shared.now lane w.lane × IsServed job.item };
+    ghost may_answer = { λ w lane job. IsSeated IsSeatOf L.fits w.shared.now lane w.lane × IsServed job.item };
 
-    ghost answers = { λ w lane job after out. (after.shared.now ≡ w.shared.now) × Answers V.fits D.fits V.is_at D.is_at V.sight D.sight A.is_sure A.fault_count w.shared.now lane job w.lane after.lane out };
+    ghost answers = { λ w lane job after out. (after.shared.now ≡ w.shared.now) × Answers IsSeatOf L.fits (WasAt D.Tells D.files P.Tells D.fault_count D.fuse_count) L.is_at sight_of L.sight A.is_sure A.fault_count w.shared.now lane job w.lane after.lane out };
 
     fn line(job: &Job) -> u64 {
         job.line
@@ -53,14 +55,16 @@ where
         alloc: Global,
         lane: u32,
         job: &Job,
-        _gate: &G,
+        gate: &G,
     ) -> Reply {
         let tag = CoreTag {
             lane,
             line: job.line,
         };
         match &job.item {
-            Item::Command(command) => self.shared.answer(rt, alloc, &mut self.lane, tag, command),
+            Item::Command(command) => self
+                .shared
+                .answer(rt, alloc, &mut self.lane, tag, command, gate),
             Item::Bad => Reply::BadLine,
         }
     }

@@ -19,10 +19,10 @@ use Rattle.hay_holdings.proofs.DelAnswers as del
 use Rattle.hay_holdings.proofs.Finding.{sees}
 use Rattle.hay_holdings.proofs.Going.{quiet_went}
 use Rattle.hay_holdings.proofs.Unchanged.{idle_unchanged, unchanged_more, wants_memory}
-use Rattle.hay_lane.specs.declared.answers.Delete.{Delete}
-use Rattle.hay_lane.specs.declared.answers.Delete.TheVariants as delete
+use Rattle.hay_shared_volume.specs.declared.answers.Delete.{Delete}
+use Rattle.hay_shared_volume.specs.declared.answers.Delete.TheVariants as delete
 use Rattle.hay_lane.specs.Replies.{IsDeleteReply, IsReadOnly}
-use Rattle.hay_lane.specs.Tellings.{DeleteTells, FrozenTells, StoreVolume}
+use Rattle.hay_shared_volume.specs.Tellings.{DeleteTells, FrozenTells, StoreVolume}
 use Rattle.hay_lane.proofs.Maintained.{call_as}
 
 -- what a look showed

@@ -13,12 +13,12 @@ use Rattle.hay_holdings.specs.Volumes as calls
 use Rattle.hay_holdings.proofs.CompactAnswers as work
 use Rattle.hay_holdings.proofs.Going.{quiet_went}
 use Rattle.hay_holdings.proofs.Unchanged.{call_unchanged, idle_unchanged, wants_memory}
-use Rattle.hay_lane.specs.declared.answers.Begin.{Begin}
-use Rattle.hay_lane.specs.declared.answers.Begin.TheVariants as begin
-use Rattle.hay_lane.specs.declared.answers.Compaction.{Compaction}
-use Rattle.hay_lane.specs.declared.answers.Compaction.TheVariants as compaction
+use Rattle.hay_shared_volume.specs.declared.answers.Begin.{Begin}
+use Rattle.hay_shared_volume.specs.declared.answers.Begin.TheVariants as begin
+use Rattle.hay_shared_volume.specs.declared.answers.Compaction.{Compaction}
+use Rattle.hay_shared_volume.specs.declared.answers.Compaction.TheVariants as compaction
 use Rattle.hay_lane.specs.Replies.{IsBeginReply, IsCompactionReply}
-use Rattle.hay_lane.specs.Tellings.{BeginTells, CompactionTells, EndTells, StoreVolume}
+use Rattle.hay_shared_volume.specs.Tellings.{BeginTells, CompactionTells, EndTells, StoreVolume}
 use Rattle.hay_lane.proofs.Maintained.{call_as}
 
 module _ (settings : Settings) (start : Start) (drained : List Bool) (tag : CoreTag) (v m j : ℕ) (there : replica_on settings v m ≡ Some j) (below : v < settings.volumes) where
@@ -69,6 +69,7 @@ module _ (settings : Settings) (start : Start) (drained : List Bool) (tag : Core
           subst (λ w. AtVolume v (calls.SwapFailed settings start v tag j tag w f) k b) on (call_as _ (calls.SwapFailed settings start v tag j tag (machine_of settings v j) f) x x.is) in
           subst (CompactAnswered a b) (sym is) (work.compact_poised settings start drained tag v j m there below run poised)
       ended_answered (compaction.Damaged at) r x is = absurd x.is
+      ended_answered compaction.Idle r x is = absurd x.is
       ended_answered compaction.NoMemory r x is =
           subst (CompactAnswered a b) (sym is) (elim x.is [
             | inl ended ↦ work.compact_wanted settings start drained tag v j m there below run (call_as _ (calls.RunWanted settings start v tag j tag) x ended)

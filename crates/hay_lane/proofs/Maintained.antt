@@ -15,16 +15,16 @@ use Rattle.hay_holdings.specs.Volumes as calls
 use Rattle.hay_holdings.proofs.Going.{quiet_went}
 use Rattle.hay_holdings.proofs.Unchanged.{call_unchanged, idle_unchanged, wants_memory}
 use Rattle.hay_holdings.proofs.WorkAnswers as work
-use Rattle.hay_lane.specs.declared.answers.Flush.{Flush}
-use Rattle.hay_lane.specs.declared.answers.Flush.TheVariants as flush
-use Rattle.hay_lane.specs.declared.answers.Begin.{Begin}
-use Rattle.hay_lane.specs.declared.answers.Begin.TheVariants as begin
-use Rattle.hay_lane.specs.declared.answers.Step.{Step}
-use Rattle.hay_lane.specs.declared.answers.Step.TheVariants as step
-use Rattle.hay_lane.specs.declared.answers.Finish.{Finish}
-use Rattle.hay_lane.specs.declared.answers.Finish.TheVariants as finish
+use Rattle.hay_shared_volume.specs.declared.answers.Flush.{Flush}
+use Rattle.hay_shared_volume.specs.declared.answers.Flush.TheVariants as flush
+use Rattle.hay_shared_volume.specs.declared.answers.Begin.{Begin}
+use Rattle.hay_shared_volume.specs.declared.answers.Begin.TheVariants as begin
+use Rattle.hay_shared_volume.specs.declared.answers.Step.{Step}
+use Rattle.hay_shared_volume.specs.declared.answers.Step.TheVariants as step
+use Rattle.hay_shared_volume.specs.declared.answers.Finish.{Finish}
+use Rattle.hay_shared_volume.specs.declared.answers.Finish.TheVariants as finish
 use Rattle.hay_lane.specs.Replies.{IsBeginReply, IsFinishReply, IsFlushReply, IsReadOnly, IsStepReply}
-use Rattle.hay_lane.specs.Tellings.{BeginTells, FinishTells, FlushTells, FrozenTells, Own, StepTells, StoreVolume}
+use Rattle.hay_shared_volume.specs.Tellings.{BeginTells, FinishTells, FlushTells, FrozenTells, Own, StepTells, StoreVolume}
 
 -- the same call, of which something else is known
 pub call_as : {v : ℕ} (Is Is' : calls.VolumeCall) {a b : Sight} (x : AtVolume v Is a b) → Is' (a.volumes v) (b.volumes v) → AtVolume v Is' a b

@@ -25,13 +25,14 @@ use Rattle.hay_holdings.proofs.PutAnswers as puts
 use Rattle.hay_holdings.proofs.Unchanged.{idle_unchanged, wants_memory}
 use Rattle.hay_directory.specs.declared.fault.DirFault.{DirFault}
 use Rattle.hay_directory.specs.declared.fault.DirFault.TheVariants as settling
-use Rattle.hay_lane.specs.declared.answers.Put.{Put}
-use Rattle.hay_lane.specs.declared.answers.Put.TheVariants as put
-use Rattle.hay_lane.specs.declared.answers.Room.{Room}
-use Rattle.hay_lane.specs.declared.answers.Room.TheVariants as room
+use Rattle.hay_shared_volume.specs.declared.answers.Put.{Put}
+use Rattle.hay_shared_volume.specs.declared.answers.Put.TheVariants as put
+use Rattle.hay_shared_volume.specs.declared.answers.Room.{Room}
+use Rattle.hay_shared_volume.specs.declared.answers.Room.TheVariants as room
 use Rattle.hay_lane.specs.Puts.{IsPutReply, IsRefusal, TryTells, room_refusal, settle_reply}
 use Rattle.hay_lane.specs.Replies.{IsReadOnly}
-use Rattle.hay_lane.specs.Tellings.{PutTells, RoomTells, SettleTells}
+use Rattle.hay_shared_volume.specs.Tellings.{PutTells, RoomTells}
+use Rattle.hay_lane.specs.Tellings.{SettleTells}
 use Rattle.hay_lane.proofs.Changed.{closes_refuses}
 use Rattle.hay_lane.proofs.Maintained.{call_as}
 

@@ -37,11 +37,12 @@ use Rattle.hay_reader.specs.declared.trial.Shown.TheVariants as shown
 use Rattle.hay_reader.proofs.Outcomes.{Says, passed_for_arm, says_outcome, stops_unseen}
 use Rattle.hay_reader.proofs.Passing.{all_weaken, first_more, no_shorter}
 use Rattle.hay_base.specs.declared.memory.NoMemory.{NoMemory}
-use Rattle.hay_lane.specs.declared.answers.Looked.{Looked}
-use Rattle.hay_lane.specs.declared.answers.SightFault.{SightFault}
-use Rattle.hay_lane.specs.declared.answers.SightFault.TheVariants as fault
-use Rattle.hay_lane.specs.Reads.{FrozeBehind, IsNext, IsOther, IsSightCause, LookTells, PassedFirst, PlacesTell, ReadTells, RowMeans, SeeTells, ShownBy, StopsBehind, WasSeen, causes_in, replicas_in}
-use Rattle.hay_lane.specs.Tellings.{StoreVolume}
+use Rattle.hay_shared_volume.specs.declared.answers.Looked.{Looked}
+use Rattle.hay_shared_volume.specs.declared.answers.SightFault.{SightFault}
+use Rattle.hay_shared_volume.specs.declared.answers.SightFault.TheVariants as fault
+use Rattle.hay_lane.specs.Reads.{FrozeBehind, IsNext, IsOther, IsSightCause, PassedFirst, ReadTells, RowMeans, ShownBy, StopsBehind, causes_in, replicas_in}
+use Rattle.hay_shared_volume.specs.Looks.{LookTells, PlacesTell, SeeTells, WasSeen}
+use Rattle.hay_shared_volume.specs.Tellings.{StoreVolume}
 use Rattle.hay_lane.proofs.Maintained.{call_as}
 
 -- CAUSES

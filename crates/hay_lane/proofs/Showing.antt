@@ -27,7 +27,7 @@ use Rattle.hay_holdings.proofs.Unchanged.{wants_memory}
 use Rattle.hay_reader.specs.declared.causes.PassedReplica.{PassedReplica}
 use Rattle.hay_reader.specs.declared.seat.ReadReply.{ReadReply}
 use Rattle.hay_reader.specs.declared.seat.ReadReply.TheVariants as read
-use Rattle.hay_lane.specs.declared.answers.Looked.{Looked}
+use Rattle.hay_shared_volume.specs.declared.answers.Looked.{Looked}
 use Rattle.hay_lane.specs.declared.reads.Found.{Found}
 use Rattle.hay_lane.specs.declared.reads.Found.TheVariants as found
 use Rattle.hay_lane.specs.Reads.{AllPassed, FoundTells, HasFound, HasRead, IsFoundAs, IsFoundReply, IsOther, ReadTells, ShowTells, ShownBy, causes_in, passed_at, replicas_in}

@@ -18,7 +18,7 @@ use Rattle.hay_holdings.specs.Volumes.{VolumeCall}
 use Rattle.hay_lane.specs.declared.lane.Lane.{Lane}
 use Rattle.hay_lane.specs.declared.lane.Shared.{Shared}
 use Rattle.hay_lane.specs.Lanes.{IsOf, IsSeated, known_by, sight}
-use Rattle.hay_lane.specs.Tellings.{Stays, StoreVolume}
+use Rattle.hay_shared_volume.specs.Tellings.{Stays, StoreVolume}
 use Rattle.hay_lane.proofs.Lists.{get_read, get_set, get_set_other, length_set}
 
 module _ {V D S T A : Type 0} (fits : V → Settings → ℕ → S → Type 0) (fits_rows : D → Settings → ℕ → T → Type 0) (shared : Shared V D) (number : ℕ) (lane : Lane S T A)

@@ -20,10 +20,10 @@ use Rattle.hay_holdings.specs.Sights.{AtVolume, Idle}
 use Rattle.hay_holdings.specs.Volumes.{RoomFits}
 use Rattle.hay_directory.specs.declared.fault.DirFault.{DirFault}
 use Rattle.hay_directory.specs.declared.fault.DirFault.TheVariants as settling
-use Rattle.hay_lane.specs.declared.answers.Put.{Put}
-use Rattle.hay_lane.specs.declared.answers.Put.TheVariants as put
-use Rattle.hay_lane.specs.declared.answers.Room.{Room}
-use Rattle.hay_lane.specs.declared.answers.Room.TheVariants as room
+use Rattle.hay_shared_volume.specs.declared.answers.Put.{Put}
+use Rattle.hay_shared_volume.specs.declared.answers.Put.TheVariants as put
+use Rattle.hay_shared_volume.specs.declared.answers.Room.{Room}
+use Rattle.hay_shared_volume.specs.declared.answers.Room.TheVariants as room
 use Rattle.hay_lane.specs.declared.put.Tries.{Tries}
 use Rattle.hay_lane.specs.declared.put.Tries.TheVariants as tries
 use Rattle.hay_lane.specs.Replies.{IsReadOnly}

@@ -2,18 +2,18 @@
 use Rattle.std.specs.Prelude.{◌≡◌, ◌⊎◌, ℕ, [], ◌∷◌}
 use Rattle.hay_reply.specs.declared.Reply.{Reply}
 use Rattle.hay_reply.specs.declared.Reply.TheVariants as reply
-use Rattle.hay_lane.specs.declared.answers.Delete.{Delete}
-use Rattle.hay_lane.specs.declared.answers.Delete.TheVariants as delete
-use Rattle.hay_lane.specs.declared.answers.Flush.{Flush}
-use Rattle.hay_lane.specs.declared.answers.Flush.TheVariants as flush
-use Rattle.hay_lane.specs.declared.answers.Begin.{Begin}
-use Rattle.hay_lane.specs.declared.answers.Begin.TheVariants as begin
-use Rattle.hay_lane.specs.declared.answers.Step.{Step}
-use Rattle.hay_lane.specs.declared.answers.Step.TheVariants as step
-use Rattle.hay_lane.specs.declared.answers.Finish.{Finish}
-use Rattle.hay_lane.specs.declared.answers.Finish.TheVariants as finish
-use Rattle.hay_lane.specs.declared.answers.Compaction.{Compaction}
-use Rattle.hay_lane.specs.declared.answers.Compaction.TheVariants as compaction
+use Rattle.hay_shared_volume.specs.declared.answers.Delete.{Delete}
+use Rattle.hay_shared_volume.specs.declared.answers.Delete.TheVariants as delete
+use Rattle.hay_shared_volume.specs.declared.answers.Flush.{Flush}
+use Rattle.hay_shared_volume.specs.declared.answers.Flush.TheVariants as flush
+use Rattle.hay_shared_volume.specs.declared.answers.Begin.{Begin}
+use Rattle.hay_shared_volume.specs.declared.answers.Begin.TheVariants as begin
+use Rattle.hay_shared_volume.specs.declared.answers.Step.{Step}
+use Rattle.hay_shared_volume.specs.declared.answers.Step.TheVariants as step
+use Rattle.hay_shared_volume.specs.declared.answers.Finish.{Finish}
+use Rattle.hay_shared_volume.specs.declared.answers.Finish.TheVariants as finish
+use Rattle.hay_shared_volume.specs.declared.answers.Compaction.{Compaction}
+use Rattle.hay_shared_volume.specs.declared.answers.Compaction.TheVariants as compaction
 
 -- volume v is closed by this machine, if there is memory to say so
 abbrev pub IsReadOnly : ℕ → ℕ → Reply → Type 0
@@ -70,3 +70,4 @@ IsCompactionReply v m (compaction.Failed f) r = r ≡ reply.Failed v m f
 IsCompactionReply v m (compaction.Poised f) r = r ≡ reply.Failed v m f
 IsCompactionReply v m (compaction.Damaged at) r = r ≡ reply.Damaged v m at
 IsCompactionReply v m compaction.NoMemory r = r ≡ reply.NoMem
+IsCompactionReply v m compaction.Idle r = r ≡ reply.Idle v m

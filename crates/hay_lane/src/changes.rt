@@ -8,35 +8,38 @@ ghost use Rattle.hay_holdings.specs.Lines.{Closes, IsAnswered, Sees};
 ghost use Rattle.hay_holdings.specs.Sights.{AtVolume};
 ghost use Rattle.hay_lane.specs.Lanes.{IsOf, IsSeated, sight};
 ghost use Rattle.hay_reply.specs.Fits.{FitsReply};
+ghost use Rattle.hay_shared_volume.specs.Seats.{IsSeatOf, WasAt, sight_of};
 
-use crate::calls::{DirectoryCalls, VolumeCalls};
+use crate::calls::DirectoryCalls;
 use crate::lane::{Lane, Shared};
 use crate::places::{drained_by, start_of};
 use crate::replies::{delete_reply, read_only};
 use hay_core::CoreTag;
 use hay_directory::machine_of;
-use hay_disk::Arm;
+use hay_disk::{Arm, Disk, Piece};
 use hay_needle::Pair;
 use hay_reply::Reply;
+use hay_shared_volume::SharedVolume;
 use hay_url::{Url, cookie_of};
+use hay_volume_lock::VolumeSeat;
 use std::alloc::Global;
 use std::sync::Wait;
 
-impl<V: VolumeCalls, D: DirectoryCalls> Shared<V, D> {
+impl<D: Disk<Piece = P>, P: Piece, L: DirectoryCalls> Shared<SharedVolume<D, P>, L> {
     /// The URL by which a photo is read.
-    pub fn url<R: Wait, A: Arm<V::Piece>>(
+    pub fn url<R: Wait, A: Arm<P>>(
         &self,
         rt: &R,
-        lane: &mut Lane<V::Seat, D::Seat, A>,
+        lane: &mut Lane<VolumeSeat<D, P>, L::Seat, A>,
         tag: CoreTag,
         pair: Pair,
     ) -> Reply
-        requires seated { IsSeated V.fits D.fits self.now tag.lane lane.old }
-        ensures seated { IsSeated V.fits D.fits self.now tag.lane lane.new }
-        ensures same { (start : Start) → IsOf V.is_at D.is_at self.now.settings start lane.old → IsOf V.is_at D.is_at self.now.settings start lane.new }
+        requires seated { IsSeated IsSeatOf L.fits self.now tag.lane lane.old }
+        ensures seated { IsSeated IsSeatOf L.fits self.now tag.lane lane.new }
+        ensures same { (start : Start) → IsOf (WasAt D.Tells D.files P.Tells D.fault_count D.fuse_count) L.is_at self.now.settings start lane.old → IsOf (WasAt D.Tells D.files P.Tells D.fault_count D.fuse_count) L.is_at self.now.settings start lane.new }
         ensures arm { lane.new.arm ≡ lane.old.arm }
-        ensures answered { (start : Start) → IsOf V.is_at D.is_at self.now.settings start lane.old →
-            IsAnswered self.now.settings start self.now.drained.items tag (asks.Url pair) result (sight V.sight D.sight A.fault_count lane.old) (sight V.sight D.sight A.fault_count lane.new) }
+        ensures answered { (start : Start) → IsOf (WasAt D.Tells D.files P.Tells D.fault_count D.fuse_count) L.is_at self.now.settings start lane.old →
+            IsAnswered self.now.settings start self.now.drained.items tag (asks.Url pair) result (sight sight_of L.sight A.fault_count lane.old) (sight sight_of L.sight A.fault_count lane.new) }
         ensures fits { FitsReply result }
     {
         let (rows, home) = self.home_in_view(rt, lane, tag, pair);
@@ -56,20 +59,20 @@ impl<V: VolumeCalls, D: DirectoryCalls> Shared<V, D> {
     }
 
     /// Deletes the photo of a pair.
-    pub fn delete<R: Wait, A: Arm<V::Piece>>(
+    pub fn delete<R: Wait, A: Arm<P>>(
         &self,
         rt: &R,
         alloc: Global,
-        lane: &mut Lane<V::Seat, D::Seat, A>,
+        lane: &mut Lane<VolumeSeat<D, P>, L::Seat, A>,
         tag: CoreTag,
         pair: Pair,
     ) -> Reply
-        requires seated { IsSeated V.fits D.fits self.now tag.lane lane.old }
-        ensures seated { IsSeated V.fits D.fits self.now tag.lane lane.new }
-        ensures same { (start : Start) → IsOf V.is_at D.is_at self.now.settings start lane.old → IsOf V.is_at D.is_at self.now.settings start lane.new }
+        requires seated { IsSeated IsSeatOf L.fits self.now tag.lane lane.old }
+        ensures seated { IsSeated IsSeatOf L.fits self.now tag.lane lane.new }
+        ensures same { (start : Start) → IsOf (WasAt D.Tells D.files P.Tells D.fault_count D.fuse_count) L.is_at self.now.settings start lane.old → IsOf (WasAt D.Tells D.files P.Tells D.fault_count D.fuse_count) L.is_at self.now.settings start lane.new }
         ensures arm { lane.new.arm ≡ lane.old.arm }
-        ensures answered { (start : Start) → IsOf V.is_at D.is_at self.now.settings start lane.old →
-            IsAnswered self.now.settings start self.now.drained.items tag (asks.Del pair) result (sight V.sight D.sight A.fault_count lane.old) (sight V.sight D.sight A.fault_count lane.new) }
+        ensures answered { (start : Start) → IsOf (WasAt D.Tells D.files P.Tells D.fault_count D.fuse_count) L.is_at self.now.settings start lane.old →
+            IsAnswered self.now.settings start self.now.drained.items tag (asks.Del pair) result (sight sight_of L.sight A.fault_count lane.old) (sight sight_of L.sight A.fault_count lane.new) }
         ensures fits { FitsReply result }
     {
         let (rows, home) = self.home_in_view(rt, lane, tag, pair);
@@ -80,24 +83,24 @@ impl<V: VolumeCalls, D: DirectoryCalls> Shared<V, D> {
     }
 
     // Deletes the photo of a pair from its home, which the lane saw at so many rows.
-    fn delete_home<R: Wait, A: Arm<V::Piece>>(
+    fn delete_home<R: Wait, A: Arm<P>>(
         &self,
         rt: &R,
         alloc: Global,
-        lane: &mut Lane<V::Seat, D::Seat, A>,
+        lane: &mut Lane<VolumeSeat<D, P>, L::Seat, A>,
         tag: CoreTag,
         pair: Pair,
         volume: u32,
         rows: u64,
     ) -> Reply
-        requires seated { IsSeated V.fits D.fits self.now tag.lane lane.old }
+        requires seated { IsSeated IsSeatOf L.fits self.now tag.lane lane.old }
         requires volume { volume < self.now.settings.volumes }
-        ensures seated { IsSeated V.fits D.fits self.now tag.lane lane.new }
-        ensures same { (start : Start) → IsOf V.is_at D.is_at self.now.settings start lane.old → IsOf V.is_at D.is_at self.now.settings start lane.new }
+        ensures seated { IsSeated IsSeatOf L.fits self.now tag.lane lane.new }
+        ensures same { (start : Start) → IsOf (WasAt D.Tells D.files P.Tells D.fault_count D.fuse_count) L.is_at self.now.settings start lane.old → IsOf (WasAt D.Tells D.files P.Tells D.fault_count D.fuse_count) L.is_at self.now.settings start lane.new }
         ensures arm { lane.new.arm ≡ lane.old.arm }
-        ensures answered { (start : Start) (a : Sight) → IsOf V.is_at D.is_at self.now.settings start lane.old →
-            Sees self.now.settings start self.now.drained.items tag pair rows (Some volume) a (sight V.sight D.sight A.fault_count lane.old) →
-            IsAnswered self.now.settings start self.now.drained.items tag (asks.Del pair) result a (sight V.sight D.sight A.fault_count lane.new) }
+        ensures answered { (start : Start) (a : Sight) → IsOf (WasAt D.Tells D.files P.Tells D.fault_count D.fuse_count) L.is_at self.now.settings start lane.old →
+            Sees self.now.settings start self.now.drained.items tag pair rows (Some volume) a (sight sight_of L.sight A.fault_count lane.old) →
+            IsAnswered self.now.settings start self.now.drained.items tag (asks.Del pair) result a (sight sight_of L.sight A.fault_count lane.new) }
         ensures fits { FitsReply result }
     {
         let Some(machine) = drained_by(&self.settings, self.drained.as_slice(), volume) else {
@@ -109,22 +112,22 @@ impl<V: VolumeCalls, D: DirectoryCalls> Shared<V, D> {
     }
 
     /// The machine by which a volume is closed to changes of which this machine is drained: a freeze goes before a drain.
-    pub(crate) fn closed_at<R: Wait, A: Arm<V::Piece>>(
+    pub(crate) fn closed_at<R: Wait, A: Arm<P>>(
         &self,
         rt: &R,
-        lane: &mut Lane<V::Seat, D::Seat, A>,
+        lane: &mut Lane<VolumeSeat<D, P>, L::Seat, A>,
         tag: CoreTag,
         volume: u32,
         machine: u32,
     ) -> u32
-        requires seated { IsSeated V.fits D.fits self.now tag.lane lane.old }
+        requires seated { IsSeated IsSeatOf L.fits self.now tag.lane lane.old }
         requires volume { volume < self.now.settings.volumes }
         requires drained { drained_in self.now.settings self.now.drained.items volume ≡ Some machine }
-        ensures seated { IsSeated V.fits D.fits self.now tag.lane lane.new }
-        ensures same { (start : Start) → IsOf V.is_at D.is_at self.now.settings start lane.old → IsOf V.is_at D.is_at self.now.settings start lane.new }
+        ensures seated { IsSeated IsSeatOf L.fits self.now tag.lane lane.new }
+        ensures same { (start : Start) → IsOf (WasAt D.Tells D.files P.Tells D.fault_count D.fuse_count) L.is_at self.now.settings start lane.old → IsOf (WasAt D.Tells D.files P.Tells D.fault_count D.fuse_count) L.is_at self.now.settings start lane.new }
         ensures arm { lane.new.arm ≡ lane.old.arm }
-        ensures tells { (start : Start) → IsOf V.is_at D.is_at self.now.settings start lane.old →
-            AtVolume volume (Closes self.now.settings start self.now.drained.items volume tag result) (sight V.sight D.sight A.fault_count lane.old) (sight V.sight D.sight A.fault_count lane.new) }
+        ensures tells { (start : Start) → IsOf (WasAt D.Tells D.files P.Tells D.fault_count D.fuse_count) L.is_at self.now.settings start lane.old →
+            AtVolume volume (Closes self.now.settings start self.now.drained.items volume tag result) (sight sight_of L.sight A.fault_count lane.old) (sight sight_of L.sight A.fault_count lane.new) }
     {
         match self.frozen_at(rt, lane, tag, volume) {
             Some(frozen) => frozen,

@@ -6,36 +6,38 @@ ghost use Rattle.hay_meeting.specs.Acts.{Start};
 ghost use Rattle.hay_holdings.specs.Lines.{IsAnswered};
 ghost use Rattle.hay_lane.specs.Lanes.{IsOf, IsSeated, sight};
 ghost use Rattle.hay_reply.specs.Fits.{FitsReply};
+ghost use Rattle.hay_shared_volume.specs.Seats.{IsSeatOf, WasAt, sight_of};
 
-use crate::answers::Begin;
-use crate::calls::{DirectoryCalls, VolumeCalls};
+use crate::calls::DirectoryCalls;
 use crate::lane::{Lane, Shared};
 use crate::places::replica_on;
 use crate::replies::{begin_reply, compaction_reply};
 use hay_core::CoreTag;
-use hay_disk::Arm;
+use hay_disk::{Arm, Disk, Piece};
 use hay_reply::Reply;
+use hay_shared_volume::{Begin, SharedVolume};
+use hay_volume_lock::VolumeSeat;
 use std::alloc::Global;
 use std::sync::Wait;
 
-impl<V: VolumeCalls, D: DirectoryCalls> Shared<V, D> {
+impl<D: Disk<Piece = P>, P: Piece, L: DirectoryCalls> Shared<SharedVolume<D, P>, L> {
     /// Begins a compaction and finishes it. Other lanes may come between.
-    pub fn compact<R: Wait, A: Arm<V::Piece>>(
+    pub fn compact<R: Wait, A: Arm<P>>(
         &self,
         rt: &R,
         alloc: Global,
-        lane: &mut Lane<V::Seat, D::Seat, A>,
+        lane: &mut Lane<VolumeSeat<D, P>, L::Seat, A>,
         tag: CoreTag,
         volume: u32,
         machine: u32,
     ) -> Reply
-        requires seated { IsSeated V.fits D.fits self.now tag.lane lane.old }
-        ensures seated { IsSeated V.fits D.fits self.now tag.lane lane.new }
-        ensures same { (start : Start) → IsOf V.is_at D.is_at self.now.settings start lane.old → IsOf V.is_at D.is_at self.now.settings start lane.new }
+        requires seated { IsSeated IsSeatOf L.fits self.now tag.lane lane.old }
+        ensures seated { IsSeated IsSeatOf L.fits self.now tag.lane lane.new }
+        ensures same { (start : Start) → IsOf (WasAt D.Tells D.files P.Tells D.fault_count D.fuse_count) L.is_at self.now.settings start lane.old → IsOf (WasAt D.Tells D.files P.Tells D.fault_count D.fuse_count) L.is_at self.now.settings start lane.new }
         ensures arm { lane.new.arm ≡ lane.old.arm }
-        ensures answered { (start : Start) → IsOf V.is_at D.is_at self.now.settings start lane.old →
+        ensures answered { (start : Start) → IsOf (WasAt D.Tells D.files P.Tells D.fault_count D.fuse_count) L.is_at self.now.settings start lane.old →
             IsAnswered self.now.settings start self.now.drained.items tag (asks.Compact volume machine) result
-            (sight V.sight D.sight A.fault_count lane.old) (sight V.sight D.sight A.fault_count lane.new) }
+            (sight sight_of L.sight A.fault_count lane.old) (sight sight_of L.sight A.fault_count lane.new) }
         ensures fits { FitsReply result }
     {
         let Some(replica) = replica_on(&self.settings, volume, machine) else {
@@ -45,27 +47,27 @@ impl<V: VolumeCalls, D: DirectoryCalls> Shared<V, D> {
     }
 
     // The same of the replica on the machine.
-    fn compact_replica<R: Wait, A: Arm<V::Piece>>(
+    fn compact_replica<R: Wait, A: Arm<P>>(
         &self,
         rt: &R,
         alloc: Global,
-        lane: &mut Lane<V::Seat, D::Seat, A>,
+        lane: &mut Lane<VolumeSeat<D, P>, L::Seat, A>,
         tag: CoreTag,
         volume: u32,
         machine: u32,
         replica: u32,
     ) -> Reply
-        requires seated { IsSeated V.fits D.fits self.now tag.lane lane.old }
+        requires seated { IsSeated IsSeatOf L.fits self.now tag.lane lane.old }
         requires volume { volume < self.now.settings.volumes }
         requires replica { replica < self.now.settings.replicas }
         requires there { known.replica_on self.now.settings volume machine ≡ Some replica }
         requires on { known.machine_of self.now.settings volume replica ≡ machine }
-        ensures seated { IsSeated V.fits D.fits self.now tag.lane lane.new }
-        ensures same { (start : Start) → IsOf V.is_at D.is_at self.now.settings start lane.old → IsOf V.is_at D.is_at self.now.settings start lane.new }
+        ensures seated { IsSeated IsSeatOf L.fits self.now tag.lane lane.new }
+        ensures same { (start : Start) → IsOf (WasAt D.Tells D.files P.Tells D.fault_count D.fuse_count) L.is_at self.now.settings start lane.old → IsOf (WasAt D.Tells D.files P.Tells D.fault_count D.fuse_count) L.is_at self.now.settings start lane.new }
         ensures arm { lane.new.arm ≡ lane.old.arm }
-        ensures answered { (start : Start) → IsOf V.is_at D.is_at self.now.settings start lane.old →
+        ensures answered { (start : Start) → IsOf (WasAt D.Tells D.files P.Tells D.fault_count D.fuse_count) L.is_at self.now.settings start lane.old →
             IsAnswered self.now.settings start self.now.drained.items tag (asks.Compact volume machine) result
-            (sight V.sight D.sight A.fault_count lane.old) (sight V.sight D.sight A.fault_count lane.new) }
+            (sight sight_of L.sight A.fault_count lane.old) (sight sight_of L.sight A.fault_count lane.new) }
         ensures fits { FitsReply result }
     {
         let answer = self.begin_at(rt, alloc, lane, tag, volume, replica);

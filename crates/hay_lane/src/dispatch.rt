@@ -6,42 +6,47 @@ ghost use Rattle.hay_meeting.specs.Acts.{Start};
 ghost use Rattle.hay_holdings.specs.Lines.{IsAnswered};
 ghost use Rattle.hay_lane.specs.Lanes.{IsLaterArm, IsOf, IsSeated, sight};
 ghost use Rattle.hay_reply.specs.Fits.{FitsReply};
+ghost use Rattle.hay_shared_volume.specs.Seats.{IsSeatOf, WasAt, sight_of};
 
-use crate::calls::{DirectoryCalls, VolumeCalls};
+use crate::calls::DirectoryCalls;
 use crate::lane::{Lane, Shared};
 use hay_core::CoreTag;
-use hay_disk::Arm;
+use hay_disk::{Arm, Disk, Piece};
+use hay_lanes::Gate;
 use hay_reply::Reply;
 use hay_script::Command;
+use hay_shared_volume::SharedVolume;
+use hay_volume_lock::VolumeSeat;
 use std::alloc::Global;
 use std::sync::Wait;
 
-impl<V: VolumeCalls, D: DirectoryCalls> Shared<V, D> {
-    /// Answers a line of this command.
-    pub fn answer<R: Wait, A: Arm<V::Piece>>(
+impl<D: Disk<Piece = P>, P: Piece, L: DirectoryCalls> Shared<SharedVolume<D, P>, L> {
+    /// Answers a line of this command. The gate is passed behind a read's look, and where a put holds the home that its pair had.
+    pub fn answer<R: Wait, A: Arm<P>, G: Gate>(
         &self,
         rt: &R,
         alloc: Global,
-        lane: &mut Lane<V::Seat, D::Seat, A>,
+        lane: &mut Lane<VolumeSeat<D, P>, L::Seat, A>,
         tag: CoreTag,
         command: &Command,
+        gate: &G,
     ) -> Reply
-        requires seated { IsSeated V.fits D.fits self.now tag.lane lane.old }
+        requires seated { IsSeated IsSeatOf L.fits self.now tag.lane lane.old }
         requires within { IsWithin command.now }
         requires no_restart { (pick : ℕ) → command.now ≢ asks.Restart pick }
-        ensures seated { IsSeated V.fits D.fits self.now tag.lane lane.new }
-        ensures same { (start : Start) → IsOf V.is_at D.is_at self.now.settings start lane.old → IsOf V.is_at D.is_at self.now.settings start lane.new }
+        ensures seated { IsSeated IsSeatOf L.fits self.now tag.lane lane.new }
+        ensures same { (start : Start) → IsOf (WasAt D.Tells D.files P.Tells D.fault_count D.fuse_count) L.is_at self.now.settings start lane.old → IsOf (WasAt D.Tells D.files P.Tells D.fault_count D.fuse_count) L.is_at self.now.settings start lane.new }
         ensures arm { IsLaterArm A.is_sure A.fault_count lane.old.arm lane.new.arm }
-        ensures answered { (start : Start) → IsOf V.is_at D.is_at self.now.settings start lane.old →
-            IsAnswered self.now.settings start self.now.drained.items tag command.now result (sight V.sight D.sight A.fault_count lane.old) (sight V.sight D.sight A.fault_count lane.new) }
+        ensures answered { (start : Start) → IsOf (WasAt D.Tells D.files P.Tells D.fault_count D.fuse_count) L.is_at self.now.settings start lane.old →
+            IsAnswered self.now.settings start self.now.drained.items tag command.now result (sight sight_of L.sight A.fault_count lane.old) (sight sight_of L.sight A.fault_count lane.new) }
         ensures fits { FitsReply result }
     {
         match command {
             Command::Put { pair, photo } => {
-                self.put(rt, alloc, lane, tag, *pair, photo.as_slice())
+                self.put(rt, alloc, lane, tag, *pair, photo.as_slice(), gate)
             }
-            Command::Read { pair, cookie } => self.read(rt, alloc, lane, tag, *pair, *cookie),
-            Command::Get { url } => self.get(rt, alloc, lane, tag, url),
+            Command::Read { pair, cookie } => self.read(rt, alloc, lane, tag, *pair, *cookie, gate),
+            Command::Get { url } => self.get(rt, alloc, lane, tag, url, gate),
             Command::Del { pair } => self.delete(rt, alloc, lane, tag, *pair),
             Command::Url { pair } => self.url(rt, lane, tag, *pair),
             Command::Flush { volume, machine } => self.flush(

@@ -9,19 +9,22 @@ ghost use Rattle.hay_holdings.specs.Lines.{HasTaker, IsAnswered, Sees, Settled};
 ghost use Rattle.hay_lane.specs.Lanes.{IsOf, IsSeated, sight};
 ghost use Rattle.hay_lane.specs.Puts.{IsPutReply, IsRefusal, TriesTell, TryTells, room_refusal, settle_reply};
 ghost use Rattle.hay_reply.specs.Fits.{FitsClosed, FitsRefused, FitsReply};
+ghost use Rattle.hay_shared_volume.specs.Seats.{IsSeatOf, WasAt, sight_of};
 
-use crate::answers::{Put, Room};
-use crate::calls::{DirectoryCalls, VolumeCalls};
+use crate::calls::DirectoryCalls;
 use crate::lane::{Lane, Shared};
 use crate::places::drained_by;
 use crate::replies::read_only;
 use hay_base::{Listed, NoMemory};
 use hay_core::CoreTag;
 use hay_directory::{DirFault, tries};
-use hay_disk::Arm;
+use hay_disk::{Arm, Disk, Piece};
+use hay_lanes::{Gate, OpenGate};
 use hay_needle::{Cookie, MAX_PHOTO, Pair};
 use hay_reply::{ClosedBy, Refused, Reply};
+use hay_shared_volume::{Put, Room, SharedVolume};
 use hay_url::cookie_of;
+use hay_volume_lock::VolumeSeat;
 use std::alloc::Global;
 use std::sync::Wait;
 
@@ -35,52 +38,54 @@ pub enum Tries {
     NoMemory,
 }
 
-impl<V: VolumeCalls, D: DirectoryCalls> Shared<V, D> {
-    /// Stores a photo in its pair's home, or in the first of its tries that takes it.
-    pub fn put<R: Wait, A: Arm<V::Piece>>(
+impl<D: Disk<Piece = P>, P: Piece, L: DirectoryCalls> Shared<SharedVolume<D, P>, L> {
+    /// Stores a photo in its pair's home, or in the first of its tries that takes it. The gate is passed where the home of a pair that
+    /// had one is held.
+    pub fn put<R: Wait, A: Arm<P>, G: Gate>(
         &self,
         rt: &R,
         alloc: Global,
-        lane: &mut Lane<V::Seat, D::Seat, A>,
+        lane: &mut Lane<VolumeSeat<D, P>, L::Seat, A>,
         tag: CoreTag,
         pair: Pair,
         bytes: &[u8],
+        gate: &G,
     ) -> Reply
-        requires seated { IsSeated V.fits D.fits self.now tag.lane lane.old }
+        requires seated { IsSeated IsSeatOf L.fits self.now tag.lane lane.old }
         requires size { length bytes.now ≤ MAX_PHOTO }
-        ensures seated { IsSeated V.fits D.fits self.now tag.lane lane.new }
-        ensures same { (start : Start) → IsOf V.is_at D.is_at self.now.settings start lane.old → IsOf V.is_at D.is_at self.now.settings start lane.new }
+        ensures seated { IsSeated IsSeatOf L.fits self.now tag.lane lane.new }
+        ensures same { (start : Start) → IsOf (WasAt D.Tells D.files P.Tells D.fault_count D.fuse_count) L.is_at self.now.settings start lane.old → IsOf (WasAt D.Tells D.files P.Tells D.fault_count D.fuse_count) L.is_at self.now.settings start lane.new }
         ensures arm { lane.new.arm ≡ lane.old.arm }
-        ensures answered { (start : Start) → IsOf V.is_at D.is_at self.now.settings start lane.old →
+        ensures answered { (start : Start) → IsOf (WasAt D.Tells D.files P.Tells D.fault_count D.fuse_count) L.is_at self.now.settings start lane.old →
             IsAnswered self.now.settings start self.now.drained.items tag (asks.Put pair bytes.now) result
-            (sight V.sight D.sight A.fault_count lane.old) (sight V.sight D.sight A.fault_count lane.new) }
+            (sight sight_of L.sight A.fault_count lane.old) (sight sight_of L.sight A.fault_count lane.new) }
         ensures fits { FitsReply result }
     {
         let (rows, home) = self.home_in_view(rt, lane, tag, pair);
         match home {
-            Some(volume) => self.put_home(rt, alloc, lane, tag, pair, bytes, volume, rows),
+            Some(volume) => self.put_home(rt, alloc, lane, tag, pair, bytes, volume, rows, gate),
             None => self.put_first(rt, alloc, lane, tag, pair, bytes),
         }
     }
 
     // Stores a photo of a pair that the lane saw without a home.
-    fn put_first<R: Wait, A: Arm<V::Piece>>(
+    fn put_first<R: Wait, A: Arm<P>>(
         &self,
         rt: &R,
         alloc: Global,
-        lane: &mut Lane<V::Seat, D::Seat, A>,
+        lane: &mut Lane<VolumeSeat<D, P>, L::Seat, A>,
         tag: CoreTag,
         pair: Pair,
         bytes: &[u8],
     ) -> Reply
-        requires seated { IsSeated V.fits D.fits self.now tag.lane lane.old }
+        requires seated { IsSeated IsSeatOf L.fits self.now tag.lane lane.old }
         requires size { length bytes.now ≤ MAX_PHOTO }
-        ensures seated { IsSeated V.fits D.fits self.now tag.lane lane.new }
-        ensures same { (start : Start) → IsOf V.is_at D.is_at self.now.settings start lane.old → IsOf V.is_at D.is_at self.now.settings start lane.new }
+        ensures seated { IsSeated IsSeatOf L.fits self.now tag.lane lane.new }
+        ensures same { (start : Start) → IsOf (WasAt D.Tells D.files P.Tells D.fault_count D.fuse_count) L.is_at self.now.settings start lane.old → IsOf (WasAt D.Tells D.files P.Tells D.fault_count D.fuse_count) L.is_at self.now.settings start lane.new }
         ensures arm { lane.new.arm ≡ lane.old.arm }
-        ensures answered { (start : Start) (d : ℕ) (a : Sight) → IsOf V.is_at D.is_at self.now.settings start lane.old →
-            Sees self.now.settings start self.now.drained.items tag pair d None a (sight V.sight D.sight A.fault_count lane.old) →
-            IsAnswered self.now.settings start self.now.drained.items tag (asks.Put pair bytes.now) result a (sight V.sight D.sight A.fault_count lane.new) }
+        ensures answered { (start : Start) (d : ℕ) (a : Sight) → IsOf (WasAt D.Tells D.files P.Tells D.fault_count D.fuse_count) L.is_at self.now.settings start lane.old →
+            Sees self.now.settings start self.now.drained.items tag pair d None a (sight sight_of L.sight A.fault_count lane.old) →
+            IsAnswered self.now.settings start self.now.drained.items tag (asks.Put pair bytes.now) result a (sight sight_of L.sight A.fault_count lane.new) }
         ensures fits { FitsReply result }
     {
         match self.find_taker(rt, alloc, lane, tag, pair, bytes.len() as u32) {
@@ -91,25 +96,25 @@ impl<V: VolumeCalls, D: DirectoryCalls> Shared<V, D> {
     }
 
     // The first of a pair's tries that takes a photo of this size, or why none does.
-    fn find_taker<R: Wait, A: Arm<V::Piece>>(
+    fn find_taker<R: Wait, A: Arm<P>>(
         &self,
         rt: &R,
         alloc: Global,
-        lane: &mut Lane<V::Seat, D::Seat, A>,
+        lane: &mut Lane<VolumeSeat<D, P>, L::Seat, A>,
         tag: CoreTag,
         pair: Pair,
         size: u32,
     ) -> Tries
-        requires seated { IsSeated V.fits D.fits self.now tag.lane lane.old }
+        requires seated { IsSeated IsSeatOf L.fits self.now tag.lane lane.old }
         requires size { size ≤ MAX_PHOTO }
-        ensures seated { IsSeated V.fits D.fits self.now tag.lane lane.new }
-        ensures same { (start : Start) → IsOf V.is_at D.is_at self.now.settings start lane.old → IsOf V.is_at D.is_at self.now.settings start lane.new }
+        ensures seated { IsSeated IsSeatOf L.fits self.now tag.lane lane.new }
+        ensures same { (start : Start) → IsOf (WasAt D.Tells D.files P.Tells D.fault_count D.fuse_count) L.is_at self.now.settings start lane.old → IsOf (WasAt D.Tells D.files P.Tells D.fault_count D.fuse_count) L.is_at self.now.settings start lane.new }
         ensures arm { lane.new.arm ≡ lane.old.arm }
         ensures within { (volume : ℕ) → result ≡ Tries.Taker volume → volume < self.now.settings.volumes }
         ensures fits { (refused : List Refused) → result ≡ Tries.Nobody refused → AllByRecursion FitsRefused refused }
-        ensures tried { (start : Start) (d : ℕ) (a : Sight) → IsOf V.is_at D.is_at self.now.settings start lane.old →
-            Sees self.now.settings start self.now.drained.items tag pair d None a (sight V.sight D.sight A.fault_count lane.old) →
-            TriesTell self.now.settings start self.now.drained.items tag pair size result a (sight V.sight D.sight A.fault_count lane.new) }
+        ensures tried { (start : Start) (d : ℕ) (a : Sight) → IsOf (WasAt D.Tells D.files P.Tells D.fault_count D.fuse_count) L.is_at self.now.settings start lane.old →
+            Sees self.now.settings start self.now.drained.items tag pair d None a (sight sight_of L.sight A.fault_count lane.old) →
+            TriesTell self.now.settings start self.now.drained.items tag pair size result a (sight sight_of L.sight A.fault_count lane.new) }
     {
         let mut refused = Listed::new(alloc);
         for turn in 0..self.settings.volumes {
@@ -126,22 +131,22 @@ impl<V: VolumeCalls, D: DirectoryCalls> Shared<V, D> {
     }
 
     // Why a volume does not take a photo of this size, if it does not.
-    fn refusal<R: Wait, A: Arm<V::Piece>>(
+    fn refusal<R: Wait, A: Arm<P>>(
         &self,
         rt: &R,
-        lane: &mut Lane<V::Seat, D::Seat, A>,
+        lane: &mut Lane<VolumeSeat<D, P>, L::Seat, A>,
         tag: CoreTag,
         volume: u32,
         size: u32,
     ) -> Option<Refused>
-        requires seated { IsSeated V.fits D.fits self.now tag.lane lane.old }
+        requires seated { IsSeated IsSeatOf L.fits self.now tag.lane lane.old }
         requires volume { volume < self.now.settings.volumes }
         requires size { size ≤ MAX_PHOTO }
-        ensures seated { IsSeated V.fits D.fits self.now tag.lane lane.new }
-        ensures same { (start : Start) → IsOf V.is_at D.is_at self.now.settings start lane.old → IsOf V.is_at D.is_at self.now.settings start lane.new }
+        ensures seated { IsSeated IsSeatOf L.fits self.now tag.lane lane.new }
+        ensures same { (start : Start) → IsOf (WasAt D.Tells D.files P.Tells D.fault_count D.fuse_count) L.is_at self.now.settings start lane.old → IsOf (WasAt D.Tells D.files P.Tells D.fault_count D.fuse_count) L.is_at self.now.settings start lane.new }
         ensures arm { lane.new.arm ≡ lane.old.arm }
-        ensures tells { (start : Start) → IsOf V.is_at D.is_at self.now.settings start lane.old →
-            TryTells self.now.settings start self.now.drained.items tag volume size result (sight V.sight D.sight A.fault_count lane.old) (sight V.sight D.sight A.fault_count lane.new) }
+        ensures tells { (start : Start) → IsOf (WasAt D.Tells D.files P.Tells D.fault_count D.fuse_count) L.is_at self.now.settings start lane.old →
+            TryTells self.now.settings start self.now.drained.items tag volume size result (sight sight_of L.sight A.fault_count lane.old) (sight sight_of L.sight A.fault_count lane.new) }
         ensures fits { IfSome result FitsRefused }
     {
         let Some(machine) = drained_by(&self.settings, self.drained.as_slice(), volume) else {
@@ -153,59 +158,62 @@ impl<V: VolumeCalls, D: DirectoryCalls> Shared<V, D> {
     }
 
     // Stores the first photo of a pair in the volume that takes it, or in the home that the pair has got.
-    fn put_taker<R: Wait, A: Arm<V::Piece>>(
+    fn put_taker<R: Wait, A: Arm<P>>(
         &self,
         rt: &R,
         alloc: Global,
-        lane: &mut Lane<V::Seat, D::Seat, A>,
+        lane: &mut Lane<VolumeSeat<D, P>, L::Seat, A>,
         tag: CoreTag,
         pair: Pair,
         bytes: &[u8],
         volume: u32,
     ) -> Reply
-        requires seated { IsSeated V.fits D.fits self.now tag.lane lane.old }
+        requires seated { IsSeated IsSeatOf L.fits self.now tag.lane lane.old }
         requires volume { volume < self.now.settings.volumes }
         requires size { length bytes.now ≤ MAX_PHOTO }
-        ensures seated { IsSeated V.fits D.fits self.now tag.lane lane.new }
-        ensures same { (start : Start) → IsOf V.is_at D.is_at self.now.settings start lane.old → IsOf V.is_at D.is_at self.now.settings start lane.new }
+        ensures seated { IsSeated IsSeatOf L.fits self.now tag.lane lane.new }
+        ensures same { (start : Start) → IsOf (WasAt D.Tells D.files P.Tells D.fault_count D.fuse_count) L.is_at self.now.settings start lane.old → IsOf (WasAt D.Tells D.files P.Tells D.fault_count D.fuse_count) L.is_at self.now.settings start lane.new }
         ensures arm { lane.new.arm ≡ lane.old.arm }
-        ensures answered { (start : Start) (a : Sight) → IsOf V.is_at D.is_at self.now.settings start lane.old →
-            HasTaker self.now.settings start self.now.drained.items tag pair (length bytes.now) volume a (sight V.sight D.sight A.fault_count lane.old) →
-            IsAnswered self.now.settings start self.now.drained.items tag (asks.Put pair bytes.now) result a (sight V.sight D.sight A.fault_count lane.new) }
+        ensures answered { (start : Start) (a : Sight) → IsOf (WasAt D.Tells D.files P.Tells D.fault_count D.fuse_count) L.is_at self.now.settings start lane.old →
+            HasTaker self.now.settings start self.now.drained.items tag pair (length bytes.now) volume a (sight sight_of L.sight A.fault_count lane.old) →
+            IsAnswered self.now.settings start self.now.drained.items tag (asks.Put pair bytes.now) result a (sight sight_of L.sight A.fault_count lane.new) }
         ensures fits { FitsReply result }
     {
         match self.settle_home(rt, lane, tag, pair, volume) {
-            Ok((home, rows)) => self.put_home(rt, alloc, lane, tag, pair, bytes, home, rows),
+            Ok((home, rows)) => self.put_home(
+                rt, alloc, lane, tag, pair, bytes, home, rows, &OpenGate,
+            ),
             Err(fault) => settle_refusal(fault),
         }
     }
 
     // Stores a photo in its pair's home, where there are so many rows.
-    fn put_home<R: Wait, A: Arm<V::Piece>>(
+    fn put_home<R: Wait, A: Arm<P>, G: Gate>(
         &self,
         rt: &R,
         alloc: Global,
-        lane: &mut Lane<V::Seat, D::Seat, A>,
+        lane: &mut Lane<VolumeSeat<D, P>, L::Seat, A>,
         tag: CoreTag,
         pair: Pair,
         bytes: &[u8],
         volume: u32,
         rows: u64,
+        gate: &G,
     ) -> Reply
-        requires seated { IsSeated V.fits D.fits self.now tag.lane lane.old }
+        requires seated { IsSeated IsSeatOf L.fits self.now tag.lane lane.old }
         requires volume { volume < self.now.settings.volumes }
         requires size { length bytes.now ≤ MAX_PHOTO }
-        ensures seated { IsSeated V.fits D.fits self.now tag.lane lane.new }
-        ensures same { (start : Start) → IsOf V.is_at D.is_at self.now.settings start lane.old → IsOf V.is_at D.is_at self.now.settings start lane.new }
+        ensures seated { IsSeated IsSeatOf L.fits self.now tag.lane lane.new }
+        ensures same { (start : Start) → IsOf (WasAt D.Tells D.files P.Tells D.fault_count D.fuse_count) L.is_at self.now.settings start lane.old → IsOf (WasAt D.Tells D.files P.Tells D.fault_count D.fuse_count) L.is_at self.now.settings start lane.new }
         ensures arm { lane.new.arm ≡ lane.old.arm }
-        ensures answered { (start : Start) (a : Sight) → IsOf V.is_at D.is_at self.now.settings start lane.old →
-            Settled self.now.settings start self.now.drained.items tag pair (length bytes.now) rows volume a (sight V.sight D.sight A.fault_count lane.old) →
-            IsAnswered self.now.settings start self.now.drained.items tag (asks.Put pair bytes.now) result a (sight V.sight D.sight A.fault_count lane.new) }
+        ensures answered { (start : Start) (a : Sight) → IsOf (WasAt D.Tells D.files P.Tells D.fault_count D.fuse_count) L.is_at self.now.settings start lane.old →
+            Settled self.now.settings start self.now.drained.items tag pair (length bytes.now) rows volume a (sight sight_of L.sight A.fault_count lane.old) →
+            IsAnswered self.now.settings start self.now.drained.items tag (asks.Put pair bytes.now) result a (sight sight_of L.sight A.fault_count lane.new) }
         ensures fits { FitsReply result }
     {
         let Some(machine) = drained_by(&self.settings, self.drained.as_slice(), volume) else {
             let cookie = cookie_of(&self.settings.secret, pair.key);
-            let answer = self.put_at(rt, alloc, lane, tag, volume, pair, cookie, bytes);
+            let answer = self.put_at(rt, alloc, lane, tag, volume, pair, cookie, bytes, gate);
             return put_reply(alloc, volume, rows, cookie, answer);
         };
         let machine = self.closed_at(rt, lane, tag, volume, machine);

@@ -14,22 +14,26 @@ ghost use Rattle.hay_reader.specs.Shown.{HasBytes, ReadsRow};
 ghost use Rattle.hay_reader.specs.Tried.{CanShow, HasItsPhoto};
 ghost use Rattle.hay_reader.specs.declared.causes.PassedReplica.{PassedReplica};
 ghost use Rattle.hay_lane.specs.Lanes.{IsLaterArm, IsOf, IsSeated, sight};
-ghost use Rattle.hay_lane.specs.Reads.{FrozeBehind, HasFound, HasRead, IsFoundAs, IsFoundReply, IsNext, IsSightCause, ShowTells, StopsBehind, WasSeen, passed_at};
+ghost use Rattle.hay_lane.specs.Reads.{FrozeBehind, HasFound, HasRead, IsFoundAs, IsFoundReply, IsNext, IsSightCause, ShowTells, StopsBehind, passed_at};
+ghost use Rattle.hay_shared_volume.specs.Looks.{WasSeen};
 ghost use Rattle.hay_reply.specs.Fits.{FitsPassed, FitsReply};
+ghost use Rattle.hay_shared_volume.specs.Seats.{IsSeatOf, WasAt, sight_of};
 
-use crate::answers::{Looked, SightFault};
-use crate::calls::{DirectoryCalls, VolumeCalls};
+use crate::calls::DirectoryCalls;
 use crate::lane::{Lane, Shared};
 use crate::places::{replica_on, start_of};
 use hay_base::{Listed, NoMemory};
 use hay_core::CoreTag;
 use hay_directory::machine_of;
-use hay_disk::{Arm, Piece};
+use hay_disk::{Arm, Disk, Piece};
+use hay_lanes::{Gate, Point};
 use hay_map::Row;
 use hay_needle::{Bytes, Cookie, MAX_PHOTO, Pair, Settings};
 use hay_reader::{Causes, LaneSeat, PassedReplica, ReadReply, show_seen};
 use hay_reply::{Cause, Passed, Reply};
+use hay_shared_volume::{Looked, SharedVolume, SightFault};
 use hay_url::Url;
+use hay_volume_lock::VolumeSeat;
 use std::alloc::Global;
 use std::sync::Wait;
 
@@ -43,24 +47,25 @@ pub enum Found {
     Unreadable { causes: Causes },
 }
 
-impl<V: VolumeCalls, D: DirectoryCalls> Shared<V, D> {
+impl<D: Disk<Piece = P>, P: Piece, L: DirectoryCalls> Shared<SharedVolume<D, P>, L> {
     /// Shows the photo of a pair to who has its cookie.
-    pub fn read<R: Wait, A: Arm<V::Piece>>(
+    pub fn read<R: Wait, A: Arm<P>, G: Gate>(
         &self,
         rt: &R,
         alloc: Global,
-        lane: &mut Lane<V::Seat, D::Seat, A>,
+        lane: &mut Lane<VolumeSeat<D, P>, L::Seat, A>,
         tag: CoreTag,
         pair: Pair,
         cookie: Cookie,
+        gate: &G,
     ) -> Reply
-        requires seated { IsSeated V.fits D.fits self.now tag.lane lane.old }
-        ensures seated { IsSeated V.fits D.fits self.now tag.lane lane.new }
-        ensures same { (start : Start) → IsOf V.is_at D.is_at self.now.settings start lane.old → IsOf V.is_at D.is_at self.now.settings start lane.new }
+        requires seated { IsSeated IsSeatOf L.fits self.now tag.lane lane.old }
+        ensures seated { IsSeated IsSeatOf L.fits self.now tag.lane lane.new }
+        ensures same { (start : Start) → IsOf (WasAt D.Tells D.files P.Tells D.fault_count D.fuse_count) L.is_at self.now.settings start lane.old → IsOf (WasAt D.Tells D.files P.Tells D.fault_count D.fuse_count) L.is_at self.now.settings start lane.new }
         ensures arm { IsLaterArm A.is_sure A.fault_count lane.old.arm lane.new.arm }
-        ensures answered { (start : Start) → IsOf V.is_at D.is_at self.now.settings start lane.old →
+        ensures answered { (start : Start) → IsOf (WasAt D.Tells D.files P.Tells D.fault_count D.fuse_count) L.is_at self.now.settings start lane.old →
             IsAnswered self.now.settings start self.now.drained.items tag (asks.Read pair cookie) result
-            (sight V.sight D.sight A.fault_count lane.old) (sight V.sight D.sight A.fault_count lane.new) }
+            (sight sight_of L.sight A.fault_count lane.old) (sight sight_of L.sight A.fault_count lane.new) }
         ensures fits { FitsReply result }
     {
         let (rows, home) = self.home_in_view(rt, lane, tag, pair);
@@ -68,24 +73,27 @@ impl<V: VolumeCalls, D: DirectoryCalls> Shared<V, D> {
             return Reply::Unknown { rows };
         };
         let first = start_of(&self.settings, tag);
-        self.show(rt, alloc, lane, tag, volume, rows, pair, cookie, first)
+        self.show(
+            rt, alloc, lane, tag, volume, rows, pair, cookie, first, gate,
+        )
     }
 
     /// Shows the photo of a URL, if it names a replica of the home of its pair.
-    pub fn get<R: Wait, A: Arm<V::Piece>>(
+    pub fn get<R: Wait, A: Arm<P>, G: Gate>(
         &self,
         rt: &R,
         alloc: Global,
-        lane: &mut Lane<V::Seat, D::Seat, A>,
+        lane: &mut Lane<VolumeSeat<D, P>, L::Seat, A>,
         tag: CoreTag,
         url: &Url,
+        gate: &G,
     ) -> Reply
-        requires seated { IsSeated V.fits D.fits self.now tag.lane lane.old }
-        ensures seated { IsSeated V.fits D.fits self.now tag.lane lane.new }
-        ensures same { (start : Start) → IsOf V.is_at D.is_at self.now.settings start lane.old → IsOf V.is_at D.is_at self.now.settings start lane.new }
+        requires seated { IsSeated IsSeatOf L.fits self.now tag.lane lane.old }
+        ensures seated { IsSeated IsSeatOf L.fits self.now tag.lane lane.new }
+        ensures same { (start : Start) → IsOf (WasAt D.Tells D.files P.Tells D.fault_count D.fuse_count) L.is_at self.now.settings start lane.old → IsOf (WasAt D.Tells D.files P.Tells D.fault_count D.fuse_count) L.is_at self.now.settings start lane.new }
         ensures arm { IsLaterArm A.is_sure A.fault_count lane.old.arm lane.new.arm }
-        ensures answered { (start : Start) → IsOf V.is_at D.is_at self.now.settings start lane.old →
-            IsAnswered self.now.settings start self.now.drained.items tag (asks.Get url.now) result (sight V.sight D.sight A.fault_count lane.old) (sight V.sight D.sight A.fault_count lane.new) }
+        ensures answered { (start : Start) → IsOf (WasAt D.Tells D.files P.Tells D.fault_count D.fuse_count) L.is_at self.now.settings start lane.old →
+            IsAnswered self.now.settings start self.now.drained.items tag (asks.Get url.now) result (sight sight_of L.sight A.fault_count lane.old) (sight sight_of L.sight A.fault_count lane.new) }
         ensures fits { FitsReply result }
     {
         let Some(first) = replica_on(&self.settings, url.volume, url.machine) else {
@@ -99,39 +107,40 @@ impl<V: VolumeCalls, D: DirectoryCalls> Shared<V, D> {
             return Reply::Moved { volume, rows };
         }
         self.show(
-            rt, alloc, lane, tag, volume, rows, url.pair, url.cookie, first,
+            rt, alloc, lane, tag, volume, rows, url.pair, url.cookie, first, gate,
         )
     }
 
     // Shows the photo of a pair, from this replica of its home on. The lane saw the home at so many rows.
-    fn show<R: Wait, A: Arm<V::Piece>>(
+    fn show<R: Wait, A: Arm<P>, G: Gate>(
         &self,
         rt: &R,
         alloc: Global,
-        lane: &mut Lane<V::Seat, D::Seat, A>,
+        lane: &mut Lane<VolumeSeat<D, P>, L::Seat, A>,
         tag: CoreTag,
         volume: u32,
         rows: u64,
         pair: Pair,
         cookie: Cookie,
         first: u32,
+        gate: &G,
     ) -> Reply
-        requires seated { IsSeated V.fits D.fits self.now tag.lane lane.old }
+        requires seated { IsSeated IsSeatOf L.fits self.now tag.lane lane.old }
         requires volume { volume < self.now.settings.volumes }
         requires first { first < self.now.settings.replicas }
-        ensures seated { IsSeated V.fits D.fits self.now tag.lane lane.new }
-        ensures same { (start : Start) → IsOf V.is_at D.is_at self.now.settings start lane.old → IsOf V.is_at D.is_at self.now.settings start lane.new }
+        ensures seated { IsSeated IsSeatOf L.fits self.now tag.lane lane.new }
+        ensures same { (start : Start) → IsOf (WasAt D.Tells D.files P.Tells D.fault_count D.fuse_count) L.is_at self.now.settings start lane.old → IsOf (WasAt D.Tells D.files P.Tells D.fault_count D.fuse_count) L.is_at self.now.settings start lane.new }
         ensures arm { IsLaterArm A.is_sure A.fault_count lane.old.arm lane.new.arm }
-        ensures tells { (start : Start) (a : Sight) → IsOf V.is_at D.is_at self.now.settings start lane.old →
-            Sees self.now.settings start self.now.drained.items tag pair rows (Some volume) a (sight V.sight D.sight A.fault_count lane.old) →
-            ShowTells self.now.settings start self.now.drained.items tag pair cookie rows volume first result a (sight V.sight D.sight A.fault_count lane.new) }
+        ensures tells { (start : Start) (a : Sight) → IsOf (WasAt D.Tells D.files P.Tells D.fault_count D.fuse_count) L.is_at self.now.settings start lane.old →
+            Sees self.now.settings start self.now.drained.items tag pair rows (Some volume) a (sight sight_of L.sight A.fault_count lane.old) →
+            ShowTells self.now.settings start self.now.drained.items tag pair cookie rows volume first result a (sight sight_of L.sight A.fault_count lane.new) }
         ensures fits { FitsReply result }
     {
         let Ok(mut photo) = Vec::with_capacity(alloc, MAX_PHOTO as usize) else {
             return Reply::NoMem;
         };
         match self.fetch(
-            rt, alloc, lane, tag, volume, pair, cookie, first, &mut photo,
+            rt, alloc, lane, tag, volume, pair, cookie, first, &mut photo, gate,
         ) {
             Ok((front, found)) => {
                 found_reply(alloc, &self.settings, volume, front, rows, photo, found)
@@ -142,36 +151,37 @@ impl<V: VolumeCalls, D: DirectoryCalls> Shared<V, D> {
 
     // Reads the photo of a pair in a volume, from this replica on. A place that was not looked at yet is seen where the read comes to
     // it. Answers the front of the volume that the lane was shown, and what was found.
-    fn fetch<R: Wait, A: Arm<V::Piece>>(
+    fn fetch<R: Wait, A: Arm<P>, G: Gate>(
         &self,
         rt: &R,
         alloc: Global,
-        lane: &mut Lane<V::Seat, D::Seat, A>,
+        lane: &mut Lane<VolumeSeat<D, P>, L::Seat, A>,
         tag: CoreTag,
         volume: u32,
         pair: Pair,
         cookie: Cookie,
         first: u32,
         photo: &mut Vec<u8>,
+        gate: &G,
     ) -> Result<(u64, Found), NoMemory>
-        requires seated { IsSeated V.fits D.fits self.now tag.lane lane.old }
+        requires seated { IsSeated IsSeatOf L.fits self.now tag.lane lane.old }
         requires volume { volume < self.now.settings.volumes }
         requires first { first < self.now.settings.replicas }
         requires empty { photo.old.items ≡ [] }
         requires room { MAX_PHOTO ≤ vec_capacity photo.old }
-        ensures seated { IsSeated V.fits D.fits self.now tag.lane lane.new }
-        ensures same { (start : Start) → IsOf V.is_at D.is_at self.now.settings start lane.old → IsOf V.is_at D.is_at self.now.settings start lane.new }
+        ensures seated { IsSeated IsSeatOf L.fits self.now tag.lane lane.new }
+        ensures same { (start : Start) → IsOf (WasAt D.Tells D.files P.Tells D.fault_count D.fuse_count) L.is_at self.now.settings start lane.old → IsOf (WasAt D.Tells D.files P.Tells D.fault_count D.fuse_count) L.is_at self.now.settings start lane.new }
         ensures arm { IsLaterArm A.is_sure A.fault_count lane.old.arm lane.new.arm }
-        ensures found { (start : Start) (d : ℕ) (a : Sight) → IsOf V.is_at D.is_at self.now.settings start lane.old →
-            Sees self.now.settings start self.now.drained.items tag pair d (Some volume) a (sight V.sight D.sight A.fault_count lane.old) →
+        ensures found { (start : Start) (d : ℕ) (a : Sight) → IsOf (WasAt D.Tells D.files P.Tells D.fault_count D.fuse_count) L.is_at self.now.settings start lane.old →
+            Sees self.now.settings start self.now.drained.items tag pair d (Some volume) a (sight sight_of L.sight A.fault_count lane.old) →
             IfOk result (λ answer. HasFound self.now.settings start self.now.drained.items tag pair d volume first cookie answer.0 photo.new.items answer.1
-            a (sight V.sight D.sight A.fault_count lane.new)) }
-        ensures wanted { (start : Start) (d : ℕ) (a : Sight) → IsOf V.is_at D.is_at self.now.settings start lane.old →
-            Sees self.now.settings start self.now.drained.items tag pair d (Some volume) a (sight V.sight D.sight A.fault_count lane.old) →
-            OnErr result (FrozeBehind self.now.settings start self.now.drained.items tag pair d volume first a (sight V.sight D.sight A.fault_count lane.new)) }
+            a (sight sight_of L.sight A.fault_count lane.new)) }
+        ensures wanted { (start : Start) (d : ℕ) (a : Sight) → IsOf (WasAt D.Tells D.files P.Tells D.fault_count D.fuse_count) L.is_at self.now.settings start lane.old →
+            Sees self.now.settings start self.now.drained.items tag pair d (Some volume) a (sight sight_of L.sight A.fault_count lane.old) →
+            OnErr result (FrozeBehind self.now.settings start self.now.drained.items tag pair d volume first a (sight sight_of L.sight A.fault_count lane.new)) }
     {
         let (mut looked, mut read) = self.read_first(
-            rt, lane, tag, volume, pair, cookie, first, photo,
+            rt, lane, tag, volume, pair, cookie, first, photo, gate,
         );
         for _ in 0..self.settings.replicas {
             let ReadReply::Unseen { replica, causes } = read else {
@@ -184,79 +194,81 @@ impl<V: VolumeCalls, D: DirectoryCalls> Shared<V, D> {
         Ok((looked.front, found_of(read)))
     }
 
-    // Begins a read: looks at the places of the pair, and reads until a place that was not looked at yet.
-    fn read_first<R: Wait, A: Arm<V::Piece>>(
+    // Begins a read: looks at the places of the pair, passes the gate, and reads until a place that was not looked at yet.
+    fn read_first<R: Wait, A: Arm<P>, G: Gate>(
         &self,
         rt: &R,
-        lane: &mut Lane<V::Seat, D::Seat, A>,
+        lane: &mut Lane<VolumeSeat<D, P>, L::Seat, A>,
         tag: CoreTag,
         volume: u32,
         pair: Pair,
         cookie: Cookie,
         first: u32,
         photo: &mut Vec<u8>,
-    ) -> (Looked<V::Piece>, ReadReply)
-        requires seated { IsSeated V.fits D.fits self.now tag.lane lane.old }
+        gate: &G,
+    ) -> (Looked<P>, ReadReply)
+        requires seated { IsSeated IsSeatOf L.fits self.now tag.lane lane.old }
         requires volume { volume < self.now.settings.volumes }
         requires first { first < self.now.settings.replicas }
         requires empty { photo.old.items ≡ [] }
         requires room { MAX_PHOTO ≤ vec_capacity photo.old }
-        ensures seated { IsSeated V.fits D.fits self.now tag.lane lane.new }
-        ensures same { (start : Start) → IsOf V.is_at D.is_at self.now.settings start lane.old → IsOf V.is_at D.is_at self.now.settings start lane.new }
+        ensures seated { IsSeated IsSeatOf L.fits self.now tag.lane lane.new }
+        ensures same { (start : Start) → IsOf (WasAt D.Tells D.files P.Tells D.fault_count D.fuse_count) L.is_at self.now.settings start lane.old → IsOf (WasAt D.Tells D.files P.Tells D.fault_count D.fuse_count) L.is_at self.now.settings start lane.new }
         ensures arm { IsLaterArm A.is_sure A.fault_count lane.old.arm lane.new.arm }
         ensures long { length result.0.row ≡ self.now.settings.replicas }
         ensures stops { StopsBehind first self.now.settings.replicas 0 result.1 }
         ensures bytes { HasBytes photo.new.items result.1 }
         ensures room { MAX_PHOTO ≤ vec_capacity photo.new }
-        ensures tells { (start : Start) (d : ℕ) (a : Sight) → IsOf V.is_at D.is_at self.now.settings start lane.old →
-            Sees self.now.settings start self.now.drained.items tag pair d (Some volume) a (sight V.sight D.sight A.fault_count lane.old) →
-            HasRead self.now.settings start self.now.drained.items tag pair d volume first V.Piece.Tells cookie result.0 photo.new.items result.1
-            a (sight V.sight D.sight A.fault_count lane.new) }
+        ensures tells { (start : Start) (d : ℕ) (a : Sight) → IsOf (WasAt D.Tells D.files P.Tells D.fault_count D.fuse_count) L.is_at self.now.settings start lane.old →
+            Sees self.now.settings start self.now.drained.items tag pair d (Some volume) a (sight sight_of L.sight A.fault_count lane.old) →
+            HasRead self.now.settings start self.now.drained.items tag pair d volume first P.Tells cookie result.0 photo.new.items result.1
+            a (sight sight_of L.sight A.fault_count lane.new) }
     {
         let looked = self.look_at(rt, lane, tag, volume, pair);
+        gate.pass(tag.lane, tag.line, Point::Looked);
         let read = lane.arm.show(&looked.row, cookie, first as usize, photo);
         (looked, read)
     }
 
     // Goes on with a read at a place that was not looked at yet, which it sees, or passes the replica over.
-    fn read_on<R: Wait, A: Arm<V::Piece>>(
+    fn read_on<R: Wait, A: Arm<P>>(
         &self,
         rt: &R,
         alloc: Global,
-        lane: &mut Lane<V::Seat, D::Seat, A>,
+        lane: &mut Lane<VolumeSeat<D, P>, L::Seat, A>,
         tag: CoreTag,
         volume: u32,
         pair: Pair,
         cookie: Cookie,
         first: u32,
-        looked: Looked<V::Piece>,
+        looked: Looked<P>,
         replica: u32,
         causes: Causes,
         photo: &mut Vec<u8>,
-    ) -> Result<(Looked<V::Piece>, ReadReply), NoMemory>
-        requires seated { IsSeated V.fits D.fits self.now tag.lane lane.old }
+    ) -> Result<(Looked<P>, ReadReply), NoMemory>
+        requires seated { IsSeated IsSeatOf L.fits self.now tag.lane lane.old }
         requires volume { volume < self.now.settings.volumes }
         requires first { first < self.now.settings.replicas }
         requires long { length looked.row ≡ self.now.settings.replicas }
         requires next { IsNext first self.now.settings.replicas causes replica }
         requires empty { photo.old.items ≡ [] }
         requires room { MAX_PHOTO ≤ vec_capacity photo.old }
-        ensures seated { IsSeated V.fits D.fits self.now tag.lane lane.new }
-        ensures same { (start : Start) → IsOf V.is_at D.is_at self.now.settings start lane.old → IsOf V.is_at D.is_at self.now.settings start lane.new }
+        ensures seated { IsSeated IsSeatOf L.fits self.now tag.lane lane.new }
+        ensures same { (start : Start) → IsOf (WasAt D.Tells D.files P.Tells D.fault_count D.fuse_count) L.is_at self.now.settings start lane.old → IsOf (WasAt D.Tells D.files P.Tells D.fault_count D.fuse_count) L.is_at self.now.settings start lane.new }
         ensures arm { IsLaterArm A.is_sure A.fault_count lane.old.arm lane.new.arm }
         ensures long { IfOk result (λ on. length on.0.row ≡ self.now.settings.replicas) }
         ensures stops { IfOk result (λ on. StopsBehind first self.now.settings.replicas (length causes + 1) on.1) }
         ensures bytes { IfOk result (λ on. HasBytes photo.new.items on.1) }
         ensures room { MAX_PHOTO ≤ vec_capacity photo.new }
-        ensures tells { (start : Start) (d : ℕ) (a : Sight) → IsOf V.is_at D.is_at self.now.settings start lane.old →
-            HasRead self.now.settings start self.now.drained.items tag pair d volume first V.Piece.Tells cookie looked [] (ReadReply.Unseen replica causes)
-            a (sight V.sight D.sight A.fault_count lane.old) →
-            IfOk result (λ on. HasRead self.now.settings start self.now.drained.items tag pair d volume first V.Piece.Tells cookie on.0 photo.new.items on.1
-            a (sight V.sight D.sight A.fault_count lane.new)) }
-        ensures wanted { (start : Start) (d : ℕ) (a : Sight) → IsOf V.is_at D.is_at self.now.settings start lane.old →
-            HasRead self.now.settings start self.now.drained.items tag pair d volume first V.Piece.Tells cookie looked [] (ReadReply.Unseen replica causes)
-            a (sight V.sight D.sight A.fault_count lane.old) →
-            OnErr result (FrozeBehind self.now.settings start self.now.drained.items tag pair d volume first a (sight V.sight D.sight A.fault_count lane.new)) }
+        ensures tells { (start : Start) (d : ℕ) (a : Sight) → IsOf (WasAt D.Tells D.files P.Tells D.fault_count D.fuse_count) L.is_at self.now.settings start lane.old →
+            HasRead self.now.settings start self.now.drained.items tag pair d volume first P.Tells cookie looked [] (ReadReply.Unseen replica causes)
+            a (sight sight_of L.sight A.fault_count lane.old) →
+            IfOk result (λ on. HasRead self.now.settings start self.now.drained.items tag pair d volume first P.Tells cookie on.0 photo.new.items on.1
+            a (sight sight_of L.sight A.fault_count lane.new)) }
+        ensures wanted { (start : Start) (d : ℕ) (a : Sight) → IsOf (WasAt D.Tells D.files P.Tells D.fault_count D.fuse_count) L.is_at self.now.settings start lane.old →
+            HasRead self.now.settings start self.now.drained.items tag pair d volume first P.Tells cookie looked [] (ReadReply.Unseen replica causes)
+            a (sight sight_of L.sight A.fault_count lane.old) →
+            OnErr result (FrozeBehind self.now.settings start self.now.drained.items tag pair d volume first a (sight sight_of L.sight A.fault_count lane.new)) }
     {
         let mut needle = Vec::new(alloc);
         match self.see_at(rt, lane, tag, volume, pair, replica, &mut needle) {
@@ -342,6 +354,16 @@ fn cause_of(fault: SightFault) -> Result<Cause, NoMemory>
     }
 }
 
+// The bytes of a photo, in no more room than they take where memory allows it, since a block keeps its replies to its end.
+fn fitted(alloc: Global, photo: Vec<u8>) -> Bytes
+    ensures { result ≡ photo.items }
+{
+    match photo.as_slice().to_vec(alloc) {
+        Ok(bytes) => Bytes::from_vec(bytes),
+        Err(_) => Bytes::from_vec(photo),
+    }
+}
+
 // The reply to what was found at a front of a pair's home, where there are so many rows.
 fn found_reply(
     alloc: Global,
@@ -362,7 +384,7 @@ fn found_reply(
             machine: machine_of(settings, volume, replica),
             front,
             rows,
-            photo: Bytes::from_vec(photo),
+            photo: fitted(alloc, photo),
         },
         Found::Gone { replica } => Reply::Gone {
             volume,

@@ -2,9 +2,9 @@
 ghost use Rattle.hay_lane.specs.Replies.{IsBeginReply, IsCompactionReply, IsDeleteReply, IsFinishReply, IsFlushReply, IsReadOnly, IsStepReply};
 ghost use Rattle.hay_reply.specs.Fits.{FitsReply};
 
-use crate::answers::{Begin, Compaction, Delete, Finish, Flush, Step};
 use hay_base::Listed;
 use hay_reply::{ClosedBy, Reply};
+use hay_shared_volume::{Begin, Compaction, Delete, Finish, Flush, Step};
 use std::alloc::Global;
 
 /// The refusal of a change of a volume that is closed by this machine.
@@ -182,5 +182,6 @@ pub(crate) fn compaction_reply(
             at,
         },
         Compaction::NoMemory => Reply::NoMem,
+        Compaction::Idle => Reply::Idle { volume, machine },
     }
 }

@@ -5,35 +5,38 @@ ghost use Rattle.hay_meeting.specs.Acts.{Start};
 ghost use Rattle.hay_holdings.specs.Lines.{IsAnswered};
 ghost use Rattle.hay_lane.specs.Lanes.{IsOf, IsSeated, sight};
 ghost use Rattle.hay_reply.specs.Fits.{FitsReply};
+ghost use Rattle.hay_shared_volume.specs.Seats.{IsSeatOf, WasAt, sight_of};
 
-use crate::calls::{DirectoryCalls, VolumeCalls};
+use crate::calls::DirectoryCalls;
 use crate::lane::{Lane, Shared};
 use crate::places::replica_on;
 use crate::replies::{begin_reply, finish_reply, flush_reply, step_reply};
 use hay_core::CoreTag;
-use hay_disk::Arm;
+use hay_disk::{Arm, Disk, Piece};
 use hay_reply::Reply;
+use hay_shared_volume::SharedVolume;
+use hay_volume_lock::VolumeSeat;
 use std::alloc::Global;
 use std::sync::Wait;
 
-impl<V: VolumeCalls, D: DirectoryCalls> Shared<V, D> {
+impl<D: Disk<Piece = P>, P: Piece, L: DirectoryCalls> Shared<SharedVolume<D, P>, L> {
     /// Gives the cells of a replica without an index record theirs.
-    pub fn flush<R: Wait, A: Arm<V::Piece>>(
+    pub fn flush<R: Wait, A: Arm<P>>(
         &self,
         rt: &R,
         alloc: Global,
-        lane: &mut Lane<V::Seat, D::Seat, A>,
+        lane: &mut Lane<VolumeSeat<D, P>, L::Seat, A>,
         tag: CoreTag,
         volume: u32,
         machine: u32,
     ) -> Reply
-        requires seated { IsSeated V.fits D.fits self.now tag.lane lane.old }
-        ensures seated { IsSeated V.fits D.fits self.now tag.lane lane.new }
-        ensures same { (start : Start) → IsOf V.is_at D.is_at self.now.settings start lane.old → IsOf V.is_at D.is_at self.now.settings start lane.new }
+        requires seated { IsSeated IsSeatOf L.fits self.now tag.lane lane.old }
+        ensures seated { IsSeated IsSeatOf L.fits self.now tag.lane lane.new }
+        ensures same { (start : Start) → IsOf (WasAt D.Tells D.files P.Tells D.fault_count D.fuse_count) L.is_at self.now.settings start lane.old → IsOf (WasAt D.Tells D.files P.Tells D.fault_count D.fuse_count) L.is_at self.now.settings start lane.new }
         ensures arm { lane.new.arm ≡ lane.old.arm }
-        ensures answered { (start : Start) → IsOf V.is_at D.is_at self.now.settings start lane.old →
+        ensures answered { (start : Start) → IsOf (WasAt D.Tells D.files P.Tells D.fault_count D.fuse_count) L.is_at self.now.settings start lane.old →
             IsAnswered self.now.settings start self.now.drained.items tag (asks.Flush volume machine) result
-            (sight V.sight D.sight A.fault_count lane.old) (sight V.sight D.sight A.fault_count lane.new) }
+            (sight sight_of L.sight A.fault_count lane.old) (sight sight_of L.sight A.fault_count lane.new) }
         ensures fits { FitsReply result }
     {
         let Some(replica) = replica_on(&self.settings, volume, machine) else {
@@ -44,22 +47,22 @@ impl<V: VolumeCalls, D: DirectoryCalls> Shared<V, D> {
     }
 
     /// Begins a compaction.
-    pub fn begin<R: Wait, A: Arm<V::Piece>>(
+    pub fn begin<R: Wait, A: Arm<P>>(
         &self,
         rt: &R,
         alloc: Global,
-        lane: &mut Lane<V::Seat, D::Seat, A>,
+        lane: &mut Lane<VolumeSeat<D, P>, L::Seat, A>,
         tag: CoreTag,
         volume: u32,
         machine: u32,
     ) -> Reply
-        requires seated { IsSeated V.fits D.fits self.now tag.lane lane.old }
-        ensures seated { IsSeated V.fits D.fits self.now tag.lane lane.new }
-        ensures same { (start : Start) → IsOf V.is_at D.is_at self.now.settings start lane.old → IsOf V.is_at D.is_at self.now.settings start lane.new }
+        requires seated { IsSeated IsSeatOf L.fits self.now tag.lane lane.old }
+        ensures seated { IsSeated IsSeatOf L.fits self.now tag.lane lane.new }
+        ensures same { (start : Start) → IsOf (WasAt D.Tells D.files P.Tells D.fault_count D.fuse_count) L.is_at self.now.settings start lane.old → IsOf (WasAt D.Tells D.files P.Tells D.fault_count D.fuse_count) L.is_at self.now.settings start lane.new }
         ensures arm { lane.new.arm ≡ lane.old.arm }
-        ensures answered { (start : Start) → IsOf V.is_at D.is_at self.now.settings start lane.old →
+        ensures answered { (start : Start) → IsOf (WasAt D.Tells D.files P.Tells D.fault_count D.fuse_count) L.is_at self.now.settings start lane.old →
             IsAnswered self.now.settings start self.now.drained.items tag (asks.Begin volume machine) result
-            (sight V.sight D.sight A.fault_count lane.old) (sight V.sight D.sight A.fault_count lane.new) }
+            (sight sight_of L.sight A.fault_count lane.old) (sight sight_of L.sight A.fault_count lane.new) }
         ensures fits { FitsReply result }
     {
         let Some(replica) = replica_on(&self.settings, volume, machine) else {
@@ -70,23 +73,23 @@ impl<V: VolumeCalls, D: DirectoryCalls> Shared<V, D> {
     }
 
     /// Examines so many cells of a compaction that a line of the lane began.
-    pub fn step<R: Wait, A: Arm<V::Piece>>(
+    pub fn step<R: Wait, A: Arm<P>>(
         &self,
         rt: &R,
         alloc: Global,
-        lane: &mut Lane<V::Seat, D::Seat, A>,
+        lane: &mut Lane<VolumeSeat<D, P>, L::Seat, A>,
         tag: CoreTag,
         volume: u32,
         machine: u32,
         cells: u32,
     ) -> Reply
-        requires seated { IsSeated V.fits D.fits self.now tag.lane lane.old }
-        ensures seated { IsSeated V.fits D.fits self.now tag.lane lane.new }
-        ensures same { (start : Start) → IsOf V.is_at D.is_at self.now.settings start lane.old → IsOf V.is_at D.is_at self.now.settings start lane.new }
+        requires seated { IsSeated IsSeatOf L.fits self.now tag.lane lane.old }
+        ensures seated { IsSeated IsSeatOf L.fits self.now tag.lane lane.new }
+        ensures same { (start : Start) → IsOf (WasAt D.Tells D.files P.Tells D.fault_count D.fuse_count) L.is_at self.now.settings start lane.old → IsOf (WasAt D.Tells D.files P.Tells D.fault_count D.fuse_count) L.is_at self.now.settings start lane.new }
         ensures arm { lane.new.arm ≡ lane.old.arm }
-        ensures answered { (start : Start) → IsOf V.is_at D.is_at self.now.settings start lane.old →
+        ensures answered { (start : Start) → IsOf (WasAt D.Tells D.files P.Tells D.fault_count D.fuse_count) L.is_at self.now.settings start lane.old →
             IsAnswered self.now.settings start self.now.drained.items tag (asks.Step volume machine cells) result
-            (sight V.sight D.sight A.fault_count lane.old) (sight V.sight D.sight A.fault_count lane.new) }
+            (sight sight_of L.sight A.fault_count lane.old) (sight sight_of L.sight A.fault_count lane.new) }
         ensures fits { FitsReply result }
     {
         let Some(replica) = replica_on(&self.settings, volume, machine) else {
@@ -97,22 +100,22 @@ impl<V: VolumeCalls, D: DirectoryCalls> Shared<V, D> {
     }
 
     /// Finishes it.
-    pub fn finish<R: Wait, A: Arm<V::Piece>>(
+    pub fn finish<R: Wait, A: Arm<P>>(
         &self,
         rt: &R,
         alloc: Global,
-        lane: &mut Lane<V::Seat, D::Seat, A>,
+        lane: &mut Lane<VolumeSeat<D, P>, L::Seat, A>,
         tag: CoreTag,
         volume: u32,
         machine: u32,
     ) -> Reply
-        requires seated { IsSeated V.fits D.fits self.now tag.lane lane.old }
-        ensures seated { IsSeated V.fits D.fits self.now tag.lane lane.new }
-        ensures same { (start : Start) → IsOf V.is_at D.is_at self.now.settings start lane.old → IsOf V.is_at D.is_at self.now.settings start lane.new }
+        requires seated { IsSeated IsSeatOf L.fits self.now tag.lane lane.old }
+        ensures seated { IsSeated IsSeatOf L.fits self.now tag.lane lane.new }
+        ensures same { (start : Start) → IsOf (WasAt D.Tells D.files P.Tells D.fault_count D.fuse_count) L.is_at self.now.settings start lane.old → IsOf (WasAt D.Tells D.files P.Tells D.fault_count D.fuse_count) L.is_at self.now.settings start lane.new }
         ensures arm { lane.new.arm ≡ lane.old.arm }
-        ensures answered { (start : Start) → IsOf V.is_at D.is_at self.now.settings start lane.old →
+        ensures answered { (start : Start) → IsOf (WasAt D.Tells D.files P.Tells D.fault_count D.fuse_count) L.is_at self.now.settings start lane.old →
             IsAnswered self.now.settings start self.now.drained.items tag (asks.Finish volume machine) result
-            (sight V.sight D.sight A.fault_count lane.old) (sight V.sight D.sight A.fault_count lane.new) }
+            (sight sight_of L.sight A.fault_count lane.old) (sight sight_of L.sight A.fault_count lane.new) }
         ensures fits { FitsReply result }
     {
         let Some(replica) = replica_on(&self.settings, volume, machine) else {
@@ -123,22 +126,22 @@ impl<V: VolumeCalls, D: DirectoryCalls> Shared<V, D> {
     }
 
     /// Sets a fuse on the disk of the replica of a volume on a machine.
-    pub fn fuse<R: Wait, A: Arm<V::Piece>>(
+    pub fn fuse<R: Wait, A: Arm<P>>(
         &self,
         rt: &R,
-        lane: &mut Lane<V::Seat, D::Seat, A>,
+        lane: &mut Lane<VolumeSeat<D, P>, L::Seat, A>,
         tag: CoreTag,
         volume: u32,
         machine: u32,
         calls: u32,
     ) -> Reply
-        requires seated { IsSeated V.fits D.fits self.now tag.lane lane.old }
-        ensures seated { IsSeated V.fits D.fits self.now tag.lane lane.new }
-        ensures same { (start : Start) → IsOf V.is_at D.is_at self.now.settings start lane.old → IsOf V.is_at D.is_at self.now.settings start lane.new }
+        requires seated { IsSeated IsSeatOf L.fits self.now tag.lane lane.old }
+        ensures seated { IsSeated IsSeatOf L.fits self.now tag.lane lane.new }
+        ensures same { (start : Start) → IsOf (WasAt D.Tells D.files P.Tells D.fault_count D.fuse_count) L.is_at self.now.settings start lane.old → IsOf (WasAt D.Tells D.files P.Tells D.fault_count D.fuse_count) L.is_at self.now.settings start lane.new }
         ensures arm { lane.new.arm ≡ lane.old.arm }
-        ensures answered { (start : Start) → IsOf V.is_at D.is_at self.now.settings start lane.old →
+        ensures answered { (start : Start) → IsOf (WasAt D.Tells D.files P.Tells D.fault_count D.fuse_count) L.is_at self.now.settings start lane.old →
             IsAnswered self.now.settings start self.now.drained.items tag (asks.Fuse volume machine calls) result
-            (sight V.sight D.sight A.fault_count lane.old) (sight V.sight D.sight A.fault_count lane.new) }
+            (sight sight_of L.sight A.fault_count lane.old) (sight sight_of L.sight A.fault_count lane.new) }
         ensures fits { FitsReply result }
     {
         let Some(replica) = replica_on(&self.settings, volume, machine) else {
@@ -153,19 +156,19 @@ impl<V: VolumeCalls, D: DirectoryCalls> Shared<V, D> {
     }
 
     /// Sets a fuse on the Directory's disk.
-    pub fn fuse_dir<R: Wait, A: Arm<V::Piece>>(
+    pub fn fuse_dir<R: Wait, A: Arm<P>>(
         &self,
         rt: &R,
-        lane: &mut Lane<V::Seat, D::Seat, A>,
+        lane: &mut Lane<VolumeSeat<D, P>, L::Seat, A>,
         tag: CoreTag,
         calls: u32,
     ) -> Reply
-        requires seated { IsSeated V.fits D.fits self.now tag.lane lane.old }
-        ensures seated { IsSeated V.fits D.fits self.now tag.lane lane.new }
-        ensures same { (start : Start) → IsOf V.is_at D.is_at self.now.settings start lane.old → IsOf V.is_at D.is_at self.now.settings start lane.new }
+        requires seated { IsSeated IsSeatOf L.fits self.now tag.lane lane.old }
+        ensures seated { IsSeated IsSeatOf L.fits self.now tag.lane lane.new }
+        ensures same { (start : Start) → IsOf (WasAt D.Tells D.files P.Tells D.fault_count D.fuse_count) L.is_at self.now.settings start lane.old → IsOf (WasAt D.Tells D.files P.Tells D.fault_count D.fuse_count) L.is_at self.now.settings start lane.new }
         ensures arm { lane.new.arm ≡ lane.old.arm }
-        ensures answered { (start : Start) → IsOf V.is_at D.is_at self.now.settings start lane.old →
-            IsAnswered self.now.settings start self.now.drained.items tag (asks.FuseDir calls) result (sight V.sight D.sight A.fault_count lane.old) (sight V.sight D.sight A.fault_count lane.new) }
+        ensures answered { (start : Start) → IsOf (WasAt D.Tells D.files P.Tells D.fault_count D.fuse_count) L.is_at self.now.settings start lane.old →
+            IsAnswered self.now.settings start self.now.drained.items tag (asks.FuseDir calls) result (sight sight_of L.sight A.fault_count lane.old) (sight sight_of L.sight A.fault_count lane.new) }
         ensures fits { FitsReply result }
     {
         self.fuse_directory(rt, lane, tag, calls);
@@ -173,19 +176,19 @@ impl<V: VolumeCalls, D: DirectoryCalls> Shared<V, D> {
     }
 
     /// Closes a machine to changes. The machines that are shared as drained change behind the block.
-    pub fn drain<R: Wait, A: Arm<V::Piece>>(
+    pub fn drain<R: Wait, A: Arm<P>>(
         &self,
         rt: &R,
-        lane: &mut Lane<V::Seat, D::Seat, A>,
+        lane: &mut Lane<VolumeSeat<D, P>, L::Seat, A>,
         tag: CoreTag,
         machine: u32,
     ) -> Reply
-        requires seated { IsSeated V.fits D.fits self.now tag.lane lane.old }
-        ensures seated { IsSeated V.fits D.fits self.now tag.lane lane.new }
-        ensures same { (start : Start) → IsOf V.is_at D.is_at self.now.settings start lane.old → IsOf V.is_at D.is_at self.now.settings start lane.new }
+        requires seated { IsSeated IsSeatOf L.fits self.now tag.lane lane.old }
+        ensures seated { IsSeated IsSeatOf L.fits self.now tag.lane lane.new }
+        ensures same { (start : Start) → IsOf (WasAt D.Tells D.files P.Tells D.fault_count D.fuse_count) L.is_at self.now.settings start lane.old → IsOf (WasAt D.Tells D.files P.Tells D.fault_count D.fuse_count) L.is_at self.now.settings start lane.new }
         ensures arm { lane.new.arm ≡ lane.old.arm }
-        ensures answered { (start : Start) → IsOf V.is_at D.is_at self.now.settings start lane.old →
-            IsAnswered self.now.settings start self.now.drained.items tag (asks.Drain machine) result (sight V.sight D.sight A.fault_count lane.old) (sight V.sight D.sight A.fault_count lane.new) }
+        ensures answered { (start : Start) → IsOf (WasAt D.Tells D.files P.Tells D.fault_count D.fuse_count) L.is_at self.now.settings start lane.old →
+            IsAnswered self.now.settings start self.now.drained.items tag (asks.Drain machine) result (sight sight_of L.sight A.fault_count lane.old) (sight sight_of L.sight A.fault_count lane.new) }
         ensures fits { FitsReply result }
     {
         if machine >= self.settings.machines {
@@ -196,20 +199,20 @@ impl<V: VolumeCalls, D: DirectoryCalls> Shared<V, D> {
     }
 
     /// Opens a machine to changes again.
-    pub fn undrain<R: Wait, A: Arm<V::Piece>>(
+    pub fn undrain<R: Wait, A: Arm<P>>(
         &self,
         rt: &R,
-        lane: &mut Lane<V::Seat, D::Seat, A>,
+        lane: &mut Lane<VolumeSeat<D, P>, L::Seat, A>,
         tag: CoreTag,
         machine: u32,
     ) -> Reply
-        requires seated { IsSeated V.fits D.fits self.now tag.lane lane.old }
-        ensures seated { IsSeated V.fits D.fits self.now tag.lane lane.new }
-        ensures same { (start : Start) → IsOf V.is_at D.is_at self.now.settings start lane.old → IsOf V.is_at D.is_at self.now.settings start lane.new }
+        requires seated { IsSeated IsSeatOf L.fits self.now tag.lane lane.old }
+        ensures seated { IsSeated IsSeatOf L.fits self.now tag.lane lane.new }
+        ensures same { (start : Start) → IsOf (WasAt D.Tells D.files P.Tells D.fault_count D.fuse_count) L.is_at self.now.settings start lane.old → IsOf (WasAt D.Tells D.files P.Tells D.fault_count D.fuse_count) L.is_at self.now.settings start lane.new }
         ensures arm { lane.new.arm ≡ lane.old.arm }
-        ensures answered { (start : Start) → IsOf V.is_at D.is_at self.now.settings start lane.old →
+        ensures answered { (start : Start) → IsOf (WasAt D.Tells D.files P.Tells D.fault_count D.fuse_count) L.is_at self.now.settings start lane.old →
             IsAnswered self.now.settings start self.now.drained.items tag (asks.Undrain machine) result
-            (sight V.sight D.sight A.fault_count lane.old) (sight V.sight D.sight A.fault_count lane.new) }
+            (sight sight_of L.sight A.fault_count lane.old) (sight sight_of L.sight A.fault_count lane.new) }
         ensures fits { FitsReply result }
     {
         if machine >= self.settings.machines {

@@ -294,36 +294,14 @@ block_changed settings k items logs rows t item change v p is b among asked said
 
 -- OVER ALL TURNS
 
--- where nothing but counts changed
-same_is_of : (settings : Settings) (k t : Known) → Leaves k k t → IsOf settings k → IsOf settings t
-same_is_of settings k t h is = record {
-  volumes = ap (λ (volumes : List VolumeKnown). length volumes) h.volumes ∙ is.volumes;
-  replicas = λ v below. ap (λ (volumes : List VolumeKnown). length (slice_index_or volumes v empty_volume).replicas) h.volumes ∙ is.replicas v below;
-  homes = subst (λ (d : DirKnown). Each (λ row. row.volume < settings.volumes) d.rows) (sym h.directory) is.homes;
-  pending = λ pending left. is.pending pending (ap (λ (d : DirKnown). d.pending) (sym h.directory) ∙ left);
-}
-
-same_is_tidy : (settings : Settings) (k t : Known) → Leaves k k t → IsTidy settings k → IsTidy settings t
-same_is_tidy settings k t h tidy = record {
-  photos = λ v j pair below within.
-      subst (λ (volumes : List VolumeKnown). (at_replica (slice_index_or volumes v empty_volume) j pair ≡ outcome.Nothing) ⊎ (home_of t pair ≡ Some v)) (sym h.volumes)
-      (subst (λ (d : DirKnown). (at_replica (volume_at k v) j pair ≡ outcome.Nothing) ⊎ (home_in d.rows pair ≡ Some v)) (sym h.directory)
-      (tidy.photos v j pair below within));
-  pending = λ v left there.
-      subst (λ (d : DirKnown). home_in d.rows (pair_of left.entry) ≡ Some v) (sym h.directory)
-      (tidy.pending v left (ap (λ (volumes : List VolumeKnown). (slice_index_or volumes v empty_volume).pending) (sym h.volumes) ∙ there));
-}
-
 pub turn_is_of : (settings : Settings) (k : Known) (turn : Turn) → IsOf settings k → LegalTurn settings k turn → IsOf settings (known_after turn)
 turn_is_of settings k (Plain line i r after) is legal = plain_is_of settings k line i r after is legal
-turn_is_of settings k (Lanes items logs rows after) is (inl block) = block_is_of settings k items logs rows after is block
-turn_is_of settings k (Lanes items logs rows after) is (inr unbuilt) = same_is_of settings k after unbuilt.leaves is
+turn_is_of settings k (Lanes items logs rows after) is block = block_is_of settings k items logs rows after is block
 turn_is_of settings k (Restart line pick r notes after) is legal = restart_is_of settings k r notes after is legal
 
 pub turn_is_tidy : (settings : Settings) (k : Known) (turn : Turn) → IsOf settings k → LegalTurn settings k turn → IsTidy settings k → IsTidy settings (known_after turn)
 turn_is_tidy settings k (Plain line i r after) is legal tidy = plain_tidy settings k line i r after legal tidy
-turn_is_tidy settings k (Lanes items logs rows after) is (inl block) tidy = block_is_tidy settings k items logs rows after is block tidy
-turn_is_tidy settings k (Lanes items logs rows after) is (inr unbuilt) tidy = same_is_tidy settings k after unbuilt.leaves tidy
+turn_is_tidy settings k (Lanes items logs rows after) is block tidy = block_is_tidy settings k items logs rows after is block tidy
 turn_is_tidy settings k (Restart line pick r notes after) is legal tidy = restart_is_tidy settings k r notes after is legal tidy
 
 -- A store keeps its volumes and its homes over turns of every kind.

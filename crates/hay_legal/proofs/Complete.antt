@@ -75,11 +75,7 @@ turn_counts settings k (Plain line i r after) h =
       | inl calm ↦ ((calm.leaves).faults, (calm.leaves).arms)
       | inr change ↦ (change.4, change.5)
     ]
-turn_counts settings k (Lanes items logs rows after) h =
-    elim h [
-      | inl block ↦ ((block.counts).faults, (block.counts).arms)
-      | inr block ↦ ((block.leaves).faults, (block.leaves).arms)
-    ]
+turn_counts settings k (Lanes items logs rows after) h = ((h.counts).faults, (h.counts).arms)
 turn_counts settings k (Restart line pick r notes after) h = restart_counts settings k r notes after h
 
 pub rise_trans : (a b c : Known) → Rise a b → Rise b c → Rise a c

@@ -170,7 +170,7 @@ row_15 = record {
       ∷ plain 6 (command.Read (pair 1) own) (reply.Photo 0 0 2 1 (codes "b")) both ∷ [];
   t = both;
   items = refl;
-  legal = (inl block, (record { seen = record { home = refl; front = refl; rows = refl }; replica = 0; there = refl; stands = refl; passed = inl (lit≤ tt); leaves = same_counts both both refl refl }, refl));
+  legal = (block, (record { seen = record { home = refl; front = refl; rows = refl }; replica = 0; there = refl; stands = refl; passed = inl (lit≤ tt); leaves = same_counts both both refl refl }, refl));
   text = refl;
 }
 

@@ -9,22 +9,19 @@ use Rattle.hay_needle.specs.Tables.{Table}
 use Rattle.hay_reply.specs.declared.Note.{Note}
 use Rattle.hay_reply.specs.declared.Passed.{Passed}
 use Rattle.hay_reply.specs.declared.Reply.{Reply}
-use Rattle.hay_reply.specs.declared.Reply.TheVariants.{Failed, NoMem, Restarted, Stored, Unreadable}
+use Rattle.hay_reply.specs.declared.Reply.TheVariants.{Failed, NoMem, Restarted, Unreadable}
 use Rattle.hay_script.specs.declared.Command.{Command}
 use Rattle.hay_core.specs.declared.entry.CoreTag.{CoreTag}
 use Rattle.hay_legal.specs.declared.known.HomeRow.{HomeRow}
 use Rattle.hay_legal.specs.declared.known.Known.{Known}
 use Rattle.hay_legal.specs.declared.turn.Item.TheVariants as item
-use Rattle.hay_legal.specs.declared.turn.LaneItem.{LaneItem}
-use Rattle.hay_legal.specs.declared.turn.LogNote.{LogNote}
-use Rattle.hay_legal.specs.declared.turn.RowNote.{RowNote}
 use Rattle.hay_legal.specs.declared.turn.Turn.{Turn}
-use Rattle.hay_legal.specs.declared.turn.Turn.TheVariants.{Lanes, Restart}
+use Rattle.hay_legal.specs.declared.turn.Turn.TheVariants.{Restart}
 use Rattle.hay_legal.specs.Known.{Leaves, closed, disk_count, fault_count, home_of, slot_of, volume_at}
 use Rattle.hay_legal.specs.Plain.{IsIdle, LegalDel, LegalFinish, LegalCompact, LegalShow, has_pair, replica_of}
 use Rattle.hay_legal.specs.Stands.{Contents, Found, Outside, StandsOn}
 use Rattle.hay_legal.specs.Restarts.{LegalRestart}
-use Rattle.hay_legal.specs.Statuses.{Ending, IsFront, IsUnbuiltTurn, IsVoidStill, Interrupted, RestartRefused, TellsFailure, WantsLast}
+use Rattle.hay_legal.specs.Statuses.{Ending, IsFront, IsVoidStill, Interrupted, RestartRefused, TellsFailure, WantsLast}
 use Rattle.hay_legal.specs.Statuses.Ending.{ReadAll}
 use Rattle.hay_legal.specs.Subject.{NothingFailed}
 use Rattle.hay_legal.proofs.Complete.{unreadable_blames}
@@ -104,11 +101,6 @@ pub restart_refused_behind_a_wanting_one : (replica : Settings → ℕ → ℕ �
     → RestartRefused replica rows void settings k script read taken (before ++ Restart line pick NoMem notes after ∷ []) t written given Much → ⊥
 restart_refused_behind_a_wanting_one replica rows void settings k script read taken before line pick notes after t written given Much refused =
     refused.answered before line pick notes after [] refl
-
--- a block stores nothing until blocks are built
-pub block_that_was_run : (line lane v p d : ℕ) (c : Cookie) (command : Command) (items : List LaneItem) (logs : List LogNote) (rows : RowNote) (after : Known)
-    → IsUnbuiltTurn (Lanes (record { line = line; lane = lane; item = item.Command command; reply = Stored v p d c } ∷ items) logs rows after) → ⊥
-block_that_was_run line lane v p d c command items logs rows after unbuilt = let clash = unbuilt.0.0 in cc
 
 module _ (replica : Settings → ℕ → ℕ → Contents → Found → Type 0) (rows : Settings → Contents → List HomeRow → Type 0) (void : Contents → Type 0) (settings : Settings) (k : Known) (script read : List ℕ) (taken : Outside) (turn : Turn) (turns : List Turn) (t : Known) (written : List ℕ) (given : Outside) where
   -- Behind a turn the disks given back hold what was acknowledged, but for a restart that is the next item and was refused.

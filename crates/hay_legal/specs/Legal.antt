@@ -1,18 +1,9 @@
 -- Which turns are legal from what the store stands at.
-use Rattle.std.specs.Prelude.{◌≡◌, ◌⊎◌, List, [], ◌∷◌}
-use Rattle.std.specs.List.{AllByRecursion}
+use Rattle.std.specs.Prelude.{◌≡◌, List, [], ◌∷◌}
 use Rattle.hay_needle.specs.declared.settings.Settings.{Settings}
 use Rattle.hay_legal.specs.declared.known.Known.{Known}
-use Rattle.hay_reply.specs.declared.Reply.TheVariants.{BadLine, Unbuilt}
-use Rattle.hay_reply.specs.declared.Reply.{Reply}
-use Rattle.hay_legal.specs.declared.turn.Item.{Item}
-use Rattle.hay_legal.specs.declared.turn.Item.TheVariants as item
-use Rattle.hay_legal.specs.declared.turn.LaneItem.{LaneItem}
-use Rattle.hay_legal.specs.declared.turn.LogNote.{LogNote}
-use Rattle.hay_legal.specs.declared.turn.RowNote.{RowNote}
 use Rattle.hay_legal.specs.declared.turn.Turn.{Turn}
 use Rattle.hay_legal.specs.declared.turn.Turn.TheVariants.{Plain, Lanes, Restart}
-use Rattle.hay_legal.specs.Known.{Leaves}
 use Rattle.hay_legal.specs.Plain.{LegalPlain}
 use Rattle.hay_legal.specs.Blocks.{LegalBlock}
 use Rattle.hay_legal.specs.Restarts.{LegalRestart}
@@ -22,24 +13,9 @@ known_after (Plain line item reply after) = after
 known_after (Lanes items logs rows after) = after
 known_after (Restart line pick reply notes after) = after
 
--- Until blocks are built each command line of a block is answered so, each bad line as such, and nothing changes.
-abbrev pub IsUnbuiltLine : LaneItem → Type 0
-IsUnbuiltLine answered = UnbuiltBy answered.item answered.reply
-  where
-    UnbuiltBy : Item → Reply → Type 0
-    UnbuiltBy (item.Command command) reply = reply ≡ Unbuilt
-    UnbuiltBy item.Bad reply = reply ≡ BadLine
-
-pub record IsUnbuiltBlock (k : Known) (items : List LaneItem) (logs : List LogNote) (rows : RowNote) (t : Known) : Type 0 where
-  pub lines : AllByRecursion IsUnbuiltLine items
-  pub no_entries : logs ≡ []
-  pub no_rows : rows.rows ≡ []
-  pub leaves : Leaves k k t
-
 abbrev pub LegalTurn : Settings → Known → Turn → Type 0
 LegalTurn settings k (Plain line item reply after) = LegalPlain settings k line item reply after
-LegalTurn settings k (Lanes items logs rows after) =
-    LegalBlock settings k items logs rows after ⊎ IsUnbuiltBlock k items logs rows after
+LegalTurn settings k (Lanes items logs rows after) = LegalBlock settings k items logs rows after
 LegalTurn settings k (Restart line pick reply notes after) = LegalRestart settings k reply notes after
 
 -- each turn is legal from what the one before it left, and the last one left t

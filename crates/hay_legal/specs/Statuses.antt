@@ -14,11 +14,11 @@ use Rattle.hay_legal.specs.declared.known.ReplicaKnown.{ReplicaKnown}
 use Rattle.hay_legal.specs.declared.known.VolumeKnown.{VolumeKnown}
 use Rattle.hay_legal.specs.declared.turn.Item.TheVariants as item
 use Rattle.hay_legal.specs.declared.turn.Turn.{Turn}
-use Rattle.hay_legal.specs.declared.turn.Turn.TheVariants.{Lanes, Plain, Restart}
+use Rattle.hay_legal.specs.declared.turn.Turn.TheVariants.{Restart}
 use Rattle.hay_legal.specs.Items.{Asked, items_of, items_before, item_of_turn}
 use Rattle.hay_legal.specs.Items.Asked.{Alone}
 use Rattle.hay_legal.specs.Known.{CameUp, FaultsRose, arm_count, disk_count, empty_replica, fault_count, fuse_count, slot_of}
-use Rattle.hay_legal.specs.Legal.{IsUnbuiltLine, Legal}
+use Rattle.hay_legal.specs.Legal.{Legal}
 use Rattle.hay_legal.specs.Restarts.{directory_with}
 use Rattle.hay_legal.specs.Stands.{Contents, Found, HasOutcome, IsFound, Outside, StandsOn, found_of}
 use Rattle.hay_legal.specs.Transcript.{transcript_text}
@@ -161,12 +161,6 @@ NoneWants turns =
     (before : List Turn) (line pick : ℕ) (notes : List Note) (after : Known) (behind : List Turn)
     → turns ≡ before ++ Restart line pick NoMem notes after ∷ behind → ⊥
 
--- until blocks are built none is run
-abbrev pub IsUnbuiltTurn : Turn → Type 0
-IsUnbuiltTurn (Plain line item reply after) = Unit {0}
-IsUnbuiltTurn (Lanes items logs rows after) = AllByRecursion IsUnbuiltLine items × (logs ≡ []) × (rows.rows ≡ [])
-IsUnbuiltTurn (Restart line pick reply notes after) = Unit {0}
-
 module _ (replica : Settings → ℕ → ℕ → Contents → Found → Type 0) (rows : Settings → Contents → List HomeRow → Type 0) (void : Contents → Type 0) (settings : Settings) (k : Known) (script read : List ℕ) (taken : Outside) (turns : List Turn) (t : Known) (written : List ℕ) (given : Outside) where
   -- The turns are these items, and their text is all that was written.
   pub record AnsweredAll (items : List Asked) : Type 0 where
@@ -232,5 +226,4 @@ pub record RunsTo (replica : Settings → ℕ → ℕ → Contents → Found →
   pub t : Known
   pub legal : Legal settings opened turns t
   pub wanting : WantsLast ending turns
-  pub unbuilt : AllByRecursion IsUnbuiltTurn turns
   pub ends : Ends replica rows void settings k script read taken turns t written given ending

@@ -9,7 +9,8 @@ use Rattle.hay_meeting.specs.Acts.{Start}
 use Rattle.hay_meeting.specs.Locks.{LockSight}
 use Rattle.hay_directory.specs.declared.fault.DirFault.{DirFault}
 use Rattle.hay_directory.specs.declared.fault.DirFault.TheVariants as refusal
-use Rattle.hay_lane.specs.Tellings.{SettleTells, Stays}
+use Rattle.hay_lane.specs.Tellings.{SettleTells}
+use Rattle.hay_shared_volume.specs.Tellings.{Stays}
 use Rattle.hay_directory_lock.specs.Answers.{IsTold, SettlesAs}
 use Rattle.hay_directory_lock.specs.Begun.{BegunAt}
 use Rattle.hay_directory_lock.specs.Seats.{DirectorySeatState, IsSeated, LockState}

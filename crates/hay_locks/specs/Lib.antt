@@ -1,4 +1,3 @@
-pub mod Answers
 pub mod Directories
 pub mod Making
-pub mod Seats
+pub mod Blocks

@@ -14,6 +14,7 @@ use hay_base::NoMemory;
 use hay_core::{CoreTag, Entry};
 use hay_disk::{Disk, Piece};
 use hay_front::Tag;
+use hay_lanes::{Gate, Point};
 use hay_logical::{Change, LogicalFault, Written};
 use hay_map::MapOp;
 use hay_needle::{Bytes, Cookie, MAX_PHOTO, Pair};
@@ -91,8 +92,8 @@ fn put_did(fault: &LogicalFault, frozen: Option<u32>, entry: &Entry) -> Option<M
 
 impl<D: Disk<Piece = P>, P: Piece> VolumeLock<D, P> {
     /// Stores a photo on each replica in order, publishes its places, and answers the position of the change. `Failed` leaves the
-    /// put pending and freezes the volume, and so may `NoMemory`.
-    pub fn put<R: Wait>(
+    /// put pending and freezes the volume, and so may `NoMemory`. The gate is passed where the lock is held and nothing is written yet.
+    pub fn put<R: Wait, G: Gate>(
         &self,
         rt: &R,
         alloc: Global,
@@ -101,6 +102,7 @@ impl<D: Disk<Piece = P>, P: Piece> VolumeLock<D, P> {
         pair: Pair,
         cookie: Cookie,
         bytes: &[u8],
+        gate: &G,
     ) -> Result<u64, LogicalFault>
         requires may { MayAct self.now tag seat.old }
         requires size { length bytes.now ≤ MAX_PHOTO }
@@ -113,6 +115,7 @@ impl<D: Disk<Piece = P>, P: Piece> VolumeLock<D, P> {
     {
         let mut kept = self.turn.hold(rt, &mut seat.turn);
         kept.front.show_all(rt, &mut seat.view);
+        gate.pass(tag.lane, tag.line, Point::Held);
         if let Some(machine) = kept.logical.frozen() {
             self.turn.free(&mut seat.turn, kept, None);
             return Err(LogicalFault::ReadOnly { machine });

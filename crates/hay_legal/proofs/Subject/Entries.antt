@@ -33,7 +33,7 @@ use Rattle.hay_legal.specs.Plain.{IsStored, IsDeleted, LegalPlain}
 use Rattle.hay_reply.specs.declared.Note.{Note}
 use Rattle.hay_legal.specs.Restarts.{Reopens, ReopenedVolumes, ReopenedVolume, ReopenedReplicas, ReopenedReplica, LegalRestart, kept_row, kept_entry, is_kept}
 use Rattle.hay_legal.specs.Blocks.{LegalBlock, LogIsLegal}
-use Rattle.hay_legal.specs.Legal.{Legal, IsUnbuiltBlock}
+use Rattle.hay_legal.specs.Legal.{Legal}
 use Rattle.hay_legal.specs.Subject.{known_behind, IsOf, IsAppended, StoredIsTheLastEntry, DeletedIsTheLastEntry, LogsGrow, IsNoBlock}
 use Rattle.hay_legal.proofs.Subject.Shown.{legal_split}
 use Rattle.hay_legal.proofs.Subject.Effects.{Bounded, RowsGrow, each_append, calm_undisturbed, unchanged, find_of, each_try, taken_home, Disturbed, put_disturbed, del_disturbed, plain_effect}
@@ -222,15 +222,13 @@ each_in_range P a (suc n) v h low high =
     ]
 
 pub block_grows : (settings : Settings) (k : Known) (items : List LaneItem) (logs : List LogNote) (rows : RowNote) (t : Known) (v : ℕ) → v < settings.volumes
-    → LegalBlock settings k items logs rows t ⊎ IsUnbuiltBlock k items logs rows t → Grows (volume_at k v).log (volume_at t v).log
-block_grows settings k items logs rows t v below (inl block) =
+    → LegalBlock settings k items logs rows t → Grows (volume_at k v).log (volume_at t v).log
+block_grows settings k items logs rows t v below block =
     let legal : LogIsLegal settings k items t v = each_in_range (λ u. LogIsLegal settings k items t u) 0 settings.volumes v block.log (omega arith) (omega (arith, below)) in (
       drop (length (volume_at k v).log) (volume_at t v).log,
       sym (take-append-drop (length (volume_at k v).log) (volume_at t v).log)
           ∙ ap (λ (log : List Logged). log ++ drop (length (volume_at k v).log) (volume_at t v).log) legal.kept,
     )
-block_grows settings k items logs rows t v below (inr block) =
-    ([], ap (λ (vs : List VolumeKnown). (slice_index_or vs v empty_volume).log) (block.leaves).volumes ∙ sym (append-nil (volume_at k v).log))
 
 pub plain_grows : (settings : Settings) (k : Known) (line : ℕ) (i : Item) (r : Reply) (t : Known) (v : ℕ) → LegalPlain settings k line i r t → Grows (volume_at k v).log (volume_at t v).log
 plain_grows settings k line i r t v h =

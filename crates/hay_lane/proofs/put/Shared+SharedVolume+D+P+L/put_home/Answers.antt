@@ -1,0 +1,15 @@
+use Rattle.std.proofs.Common.{sym, ap, ◌∙◌}
+use Rattle.hay_meeting.specs.Facts.{drained_in}
+use Rattle.hay_lane.proofs.Putting.{put_answered, put_closed_answered}
+use Rattle.hay_lane.proofs.put.Shared+SharedVolume+D+P+L.put_home.Goals as goal
+
+pub returns-in_default-clause-answered : goal.returns-in_default-clause-answered
+returns-in_default-clause-answered g c start a of settled =
+    put_answered c.args.self.now.settings start c.args.self.now.drained.items c.args.tag c.args.pair c.args.bytes.now a settled c.requires.volume
+    (ap (λ drained. drained_in c.args.self.now.settings drained c.args.volume) (sym c.as_slice.ensures.value) ∙ sym c.in_default.ensures.is) c.cookie_of-cookie.result c.cookie_of-cookie.ensures c.put_at-answer.result c.put_reply.result
+    (c.put_at-answer.ensures.tells start of) c.put_reply.ensures.is
+
+pub returns-clause-answered : goal.returns-clause-answered
+returns-clause-answered g c start a of settled =
+    put_closed_answered c.args.self.now.settings start c.args.self.now.drained.items c.args.tag c.args.pair c.args.bytes.now a settled c.requires.volume
+    (c.closed_at-machine.ensures.tells start of) c.read_only.ensures.is

@@ -1,0 +1,32 @@
+use Rattle.std.proofs.Common.{◌<◌, subst}
+use Rattle.std.specs.Prelude.{IfSome}
+use Rattle.hay_holdings.proofs.ReadAnswers.{read_answered, shows_unknown}
+use Rattle.hay_lane.specs.Lanes.{sight}
+use Rattle.hay_lane.specs.Reads.{ShowTells}
+use Rattle.hay_lane.proofs.Arms.{later_on, later_same}
+use Rattle.hay_lane.proofs.Changed.{saw}
+use Rattle.hay_lane.proofs.Showing.{read_shown}
+use Rattle.hay_shared_volume.specs.Seats.{sight_of}
+use Rattle.hay_lane.proofs.reads.Shared+SharedVolume+D+P+L.read.Goals as goal
+
+pub returns-in_default-clause-answered : goal.returns-in_default-clause-answered
+returns-in_default-clause-answered g c start of =
+    read_answered c.args.self.now.settings start c.args.self.now.drained.items c.args.tag
+    (shows_unknown c.args.self.now.settings start c.args.self.now.drained.items c.args.tag
+    (saw c.args.self.now.settings start c.args.self.now.drained.items c.args.tag c.in_default.is (c.home_in_view-rows.ensures.tells start of)))
+
+pub returns-clause-answered : goal.returns-clause-answered
+returns-clause-answered g c start of =
+    let a = sight sight_of g.L.DirectoryCalls.sight g.A.Arm.fault_count c.args.lane.now in
+    let b = sight sight_of g.L.DirectoryCalls.sight g.A.Arm.fault_count c.show.new.lane in
+    let rows = c.home_in_view-rows.result.0 in
+    read_shown c.args.self.now.settings start c.args.self.now.drained.items c.args.tag c.args.pair c.args.cookie rows c.in-Some.volume (subst (λ o. IfSome o (λ home. home < c.args.self.now.settings.volumes)) c.in-Some.is c.home_in_view-rows.ensures.below) c.requires.seated.fewer a b c.show.result
+    (subst (λ n. ShowTells c.args.self.now.settings start c.args.self.now.drained.items c.args.tag c.args.pair c.args.cookie rows c.in-Some.volume n c.show.result a b) c.start_of-first.ensures.is
+    (c.show.ensures.tells start a (c.home_in_view-rows.ensures.same start of)
+    (saw c.args.self.now.settings start c.args.self.now.drained.items c.args.tag c.in-Some.is (c.home_in_view-rows.ensures.tells start of))))
+
+pub returns-in_default-clause-arm : goal.returns-in_default-clause-arm
+returns-in_default-clause-arm g c = later_same c.home_in_view-rows.ensures.arm
+
+pub returns-clause-arm : goal.returns-clause-arm
+returns-clause-arm g c = later_on (later_same c.home_in_view-rows.ensures.arm) c.show.ensures.arm

@@ -1,0 +1,64 @@
+use Rattle.std.proofs.Common.{◌+◌, ◌%◌, ◌∷◌, ◌++◌, [], length, sym, ap, subst, ◌∙◌}
+use Rattle.hay_holdings.specs.Volumes.{ChangedNothing}
+use Rattle.hay_reader.specs.Causes.{ComeFirst}
+use Rattle.hay_reader.proofs.Passing.{first_more}
+use Rattle.hay_lane.specs.Lanes.{sight}
+use Rattle.hay_lane.specs.Reads.{PassedFirst}
+use Rattle.hay_lane.proofs.Arms.{later_on, later_same}
+use Rattle.hay_lane.proofs.Maintained.{call_as}
+use Rattle.hay_lane.proofs.Reading.{looked_again, row_tells, same_bytes, shown_by, sight_passed}
+use Rattle.hay_lane.proofs.Stepping.{fetched}
+use Rattle.hay_shared_volume.specs.Seats.{IsSeatOf, sight_of}
+use Rattle.hay_lane.proofs.reads.Shared+SharedVolume+D+P+L.read_on.Goals as goal
+
+pub show_more-read-requires-clause-first : goal.show_more-read-requires-clause-first
+show_more-read-requires-clause-first g c =
+    subst (λ l. ComeFirst c.args.first (length c.args.looked.row) l) (sym c.push.ensures)
+    (subst (λ n. ComeFirst c.args.first n (c.args.causes ++ record { replica = c.args.replica; cause = c.in_ok-cause-in-Err.cause } ∷ [])) (sym c.requires.long)
+    (first_more c.args.first c.args.self.now.settings.replicas c.args.causes (record { replica = c.args.replica; cause = c.in_ok-cause-in-Err.cause }) c.requires.next.order c.requires.next.next))
+
+pub returns-in-Ok-clause-tells : goal.returns-in-Ok-clause-tells
+returns-in-Ok-clause-tells g c start d a of has =
+    let settings = c.args.self.now.settings in
+    let drained = c.args.self.now.drained.items in
+    let there = c.in-Ok.ensures.tells start of in
+    let row = c.in-Ok.seen.row in
+    let arm = fetched IsSeatOf g.L.DirectoryCalls.fits c.args.self.now c.args.tag.lane c.see_at.new.lane c.see_at.ensures.seated c.read_seen-read.new.arm
+    sight_of g.L.DirectoryCalls.sight g.A.Arm.fault_count c.read_seen-read.ensures.later c.read_seen-read.ensures.most in
+    let what = shown_by settings start drained c.args.tag c.args.pair d c.args.volume c.args.first (sight sight_of g.L.DirectoryCalls.sight g.A.Arm.fault_count c.see_at.new.lane) in
+    let places = (there.is).1 in
+    let again = looked_again settings start drained c.args.tag c.args.pair d c.args.volume c.args.first has.tells (call_as _ (ChangedNothing settings start c.args.volume c.args.tag) there (there.is).0) places in
+    record {
+      what = what;
+      means = places.means;
+      tells = row_tells settings start drained c.args.tag c.args.pair d c.args.volume c.args.first g.P.Piece.Tells (g.A.Arm.is_sure c.see_at.new.lane.arm) row
+          c.in-Ok.ensures.long c.requires.seated.replicas what places.means c.args.cookie c.in-Ok.seen.front arm c.args.causes again c.read_seen-read.new.photo.items c.read_seen-read.result
+          (c.read_seen-read.ensures.reads
+          (same_bytes row c.as_slice.ensures.value (c.requires.next.next ∙ ap (λ n. (c.args.first + length c.args.causes) % n) (sym c.in-Ok.ensures.long)) (there.is).2));
+    }
+
+pub returns-in_ok-cause-in-Err-clause-tells : goal.returns-in_ok-cause-in-Err-clause-tells
+returns-in_ok-cause-in-Err-clause-tells g c start d a of has =
+    let settings = c.args.self.now.settings in
+    let drained = c.args.self.now.drained.items in
+    let m = sight sight_of g.L.DirectoryCalls.sight g.A.Arm.fault_count c.see_at.new.lane in
+    let arm = fetched IsSeatOf g.L.DirectoryCalls.fits c.args.self.now c.args.tag.lane c.see_at.new.lane c.see_at.ensures.seated c.show_more-read.new.self
+    sight_of g.L.DirectoryCalls.sight g.A.Arm.fault_count c.show_more-read.ensures.later c.show_more-read.ensures.most in
+    let passed = sight_passed settings start drained c.args.tag c.args.pair d c.args.volume c.args.first has.tells g.row.P.Denot g.P.Piece.Tells c.see_at.new.out.items c.args.replica c.in-Err.fault c.in_ok-cause-in-Err.cause c.in_ok-cause-in-Err.ensures.is c.requires.next (c.in-Err.ensures.tells start of) in
+    record {
+      what = has.what;
+      means = has.means;
+      tells = row_tells settings start drained c.args.tag c.args.pair d c.args.volume c.args.first g.P.Piece.Tells (g.A.Arm.is_sure c.see_at.new.lane.arm) c.args.looked.row
+          c.requires.long c.requires.seated.replicas has.what has.means c.args.cookie c.args.looked.front arm c.push.new.self
+          (subst (λ l. PassedFirst settings start drained c.args.tag c.args.pair d c.args.volume c.args.first c.args.looked.front has.what l a m) (sym c.push.ensures) passed)
+          c.show_more-read.new.out.items c.show_more-read.result c.show_more-read.ensures.reads;
+    }
+
+pub returns-in-Ok-clause-arm : goal.returns-in-Ok-clause-arm
+returns-in-Ok-clause-arm g c = later_on (later_same c.see_at.ensures.arm) (record { rises = c.read_seen-read.ensures.later; sure = c.read_seen-read.ensures.stays_sure })
+
+pub returns-in_ok-cause-in-Err-clause-arm : goal.returns-in_ok-cause-in-Err-clause-arm
+returns-in_ok-cause-in-Err-clause-arm g c = later_on (later_same c.see_at.ensures.arm) (record { rises = c.show_more-read.ensures.later; sure = c.show_more-read.ensures.stays_sure })
+
+pub returns-in_err-cause-in-Err-clause-arm : goal.returns-in_err-cause-in-Err-clause-arm
+returns-in_err-cause-in-Err-clause-arm g c = later_same c.see_at.ensures.arm

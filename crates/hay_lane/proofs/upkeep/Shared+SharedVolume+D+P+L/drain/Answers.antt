@@ -1,0 +1,16 @@
+use Rattle.hay_holdings.proofs.Going.{idle_same}
+use Rattle.hay_holdings.proofs.Unchanged.{drain_nowhere, idle_unchanged}
+use Rattle.hay_holdings.proofs.WorkAnswers.{drains}
+use Rattle.hay_lane.specs.Lanes.{sight}
+use Rattle.hay_shared_volume.specs.Seats.{sight_of}
+use Rattle.hay_lane.proofs.upkeep.Shared+SharedVolume+D+P+L.drain.Goals as goal
+
+pub returns-then-machine-self-clause-answered : goal.returns-then-machine-self-clause-answered
+returns-then-machine-self-clause-answered g c start of =
+    drain_nowhere c.args.self.now.settings start c.args.self.now.drained.items
+    (idle_unchanged (idle_same c.args.tag (sight sight_of g.L.DirectoryCalls.sight g.A.Arm.fault_count c.args.lane.now))) c.if-machine-self.true
+
+pub returns-clause-answered : goal.returns-clause-answered
+returns-clause-answered g c start of =
+    drains c.args.self.now.settings start c.args.self.now.drained.items c.args.tag
+    (sight sight_of g.L.DirectoryCalls.sight g.A.Arm.fault_count c.args.lane.now) (sight sight_of g.L.DirectoryCalls.sight g.A.Arm.fault_count c.drain_machine.new.lane) c.if-machine-self.false (c.drain_machine.ensures.tells start of)

@@ -1,0 +1,19 @@
+use Rattle.std.proofs.Common.{sym}
+use Rattle.hay_holdings.proofs.Going.{idle_same}
+use Rattle.hay_holdings.proofs.Unchanged.{step_nowhere, idle_unchanged}
+use Rattle.hay_lane.specs.Lanes.{sight}
+use Rattle.hay_lane.proofs.Maintained.{step_answered}
+use Rattle.hay_shared_volume.specs.Seats.{sight_of}
+use Rattle.hay_lane.proofs.upkeep.Shared+SharedVolume+D+P+L.step.Goals as goal
+
+pub returns-in_default-clause-answered : goal.returns-in_default-clause-answered
+returns-in_default-clause-answered g c start of =
+    step_nowhere c.args.self.now.settings start c.args.self.now.drained.items
+    (idle_unchanged (idle_same c.args.tag (sight sight_of g.L.DirectoryCalls.sight g.A.Arm.fault_count c.args.lane.now))) (sym c.in_default.ensures.is)
+
+pub returns-clause-answered : goal.returns-clause-answered
+returns-clause-answered g c start of =
+    step_answered c.args.self.now.settings start c.args.self.now.drained.items c.args.tag
+    (sight sight_of g.L.DirectoryCalls.sight g.A.Arm.fault_count c.args.lane.now) (sight sight_of g.L.DirectoryCalls.sight g.A.Arm.fault_count c.step_at-answer.new.lane)
+    c.args.volume c.args.machine c.in-Some.replica (sym c.in-Some.ensures.is) c.in-Some.ensures.within.1 c.in-Some.ensures.within.2
+    c.args.cells c.step_at-answer.result c.step_reply.result (c.step_at-answer.ensures.tells start of) c.step_reply.ensures.is

@@ -1,0 +1,7 @@
+pub mod Ending
+pub mod Made
+pub mod Places
+pub mod Regular
+pub mod Seats
+pub mod Sending
+pub mod Telling

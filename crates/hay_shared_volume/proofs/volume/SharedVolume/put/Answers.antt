@@ -1,0 +1,18 @@
+use Rattle.std.proofs.Common.{◌∙◌}
+use Rattle.hay_shared_volume.proofs.Seats.{may_act, stays_there, told}
+use Rattle.hay_shared_volume.proofs.Telling.{put_tells}
+use Rattle.hay_shared_volume.proofs.volume.SharedVolume.put.Goals as goal
+
+pub put-requires : goal.put-requires
+put-requires g c = record { may = may_act c.requires.fits.1; size = c.requires.size }
+
+pub returns-clause-stays : goal.returns-clause-stays
+returns-clause-stays g c = stays_there g.D.Disk.Tells g.D.Disk.files g.P.Piece.Tells g.D.Disk.fault_count g.D.Disk.fuse_count c.args.self.now c.put.ensures.same
+
+pub returns-clause-tells : goal.returns-clause-tells
+returns-clause-tells g c volume at = put_tells volume c.args.seat.now.sight c.put.new.seat.sight c.args.tag c.args.pair c.args.cookie c.args.bytes.now c.put.result c.put_of.result c.put_of.ensures (told g.D.Disk.Tells g.D.Disk.files g.P.Piece.Tells g.D.Disk.fault_count g.D.Disk.fuse_count c.put.ensures.put at)
+
+pub put_of-requires : goal.put_of-requires
+put_of-requires g c =
+    let fits = c.requires.fits.1 in
+    (fits.opened.volume.settings, fits.opened.volume.number, c.put.ensures.refusals fits.opened (fits.start ∙ fits.is))

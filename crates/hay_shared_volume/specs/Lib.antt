@@ -1,0 +1,6 @@
+pub mod Answers
+pub mod Tellings
+pub mod Looks
+pub mod Seats
+pub mod Ends
+pub mod Making
