@@ -23,7 +23,7 @@ use Rattle.hay_logical.specs.declared.fault.LogicalFault.TheVariants as refusal
 use Rattle.hay_cluster.specs.Changes.{IsDeleteReply, IsReadOnly}
 use Rattle.hay_cluster.specs.declared.maintenance.Maintenance.{Maintenance}
 use Rattle.hay_cluster.specs.declared.maintenance.Maintenance.TheVariants.{Flush, Begin, Step, Finish, Compact}
-use Rattle.hay_cluster.specs.Maintenance.{IsRefusedAs, done_as}
+use Rattle.hay_cluster.specs.Maintenance.{IsRefusedAs, MayWantMemory, done_as}
 use Rattle.hay_cluster.specs.Leaving.{AnySlot, KeepsIn}
 use Rattle.hay_cluster.specs.Needles.{AreToldAs, DeletesAsTold, FileAt, IsDamagedLookOn, LooksTold}
 use Rattle.hay_cluster.specs.Seen.{StoreSeen, home_seen, store_seen}
@@ -249,6 +249,9 @@ module _ (v m n : ℕ) where
   pub nowhere_done : (work : Maintenance) → reply.Nowhere ≡ done_as v m work n → ⊥
   nowhere_done work is = undone reply.Nowhere (λ e. cc) (λ e. cc) (λ e. cc) (λ e. cc) work is
 
+  pub memory_undone : (work : Maintenance) → reply.NoMem ≡ done_as v m work n → ⊥
+  memory_undone work is = undone reply.NoMem (λ e. cc) (λ e. cc) (λ e. cc) (λ e. cc) work is
+
   pub refused_done : (work : Maintenance) (said : Reply) (fault : LogicalFault) → IsRefusedAs v m fault said → said ≡ done_as v m work n → ⊥
   refused_done work said (refusal.ReadOnly by) (inl told) is = undone (reply.ReadOnly (record { volume = v; machine = by } ∷ [])) (λ e. cc) (λ e. cc) (λ e. cc) (λ e. cc) work (sym told ∙ is)
   refused_done work said (refusal.ReadOnly by) (inr told) is = undone reply.NoMem (λ e. cc) (λ e. cc) (λ e. cc) (λ e. cc) work (sym told ∙ is)
@@ -260,3 +263,15 @@ module _ (v m n : ℕ) where
   refused_done work said refusal.NoMemory told is = undone reply.NoMem (λ e. cc) (λ e. cc) (λ e. cc) (λ e. cc) work (sym told ∙ is)
   refused_done work said (refusal.Full by end need capacity) told is = absurd told
   refused_done work said (refusal.Gone front) told is = absurd told
+
+-- which refusals are answered that memory was wanting
+pub refused_memory : (v m : ℕ) (said : Reply) (fault : LogicalFault) → IsRefusedAs v m fault said → said ≡ reply.NoMem → MayWantMemory fault
+refused_memory v m said (refusal.ReadOnly by) told is = tt
+refused_memory v m said (refusal.Failed by f) told is = absurd cc
+refused_memory v m said (refusal.Busy by g) told is = absurd cc
+refused_memory v m said (refusal.Worn by) told is = absurd cc
+refused_memory v m said refusal.Idle told is = absurd cc
+refused_memory v m said (refusal.Damaged by at) told is = absurd cc
+refused_memory v m said refusal.NoMemory told is = tt
+refused_memory v m said (refusal.Full by end need capacity) told is = absurd told
+refused_memory v m said (refusal.Gone front) told is = absurd told

@@ -245,7 +245,7 @@ module _ {D P A : Type 0} (DiskTells : Type 0) (files : D → Files) (Tells : Ty
       let of_v = volume_of mid v before shape was in
       let many : length before.replicas ≡ (mid.settings).replicas = of_v.all ∙ ap (λ (t : Settings). t.replicas) of_v.settings_are in (
         slot_below mid.settings v j (subst (λ n. v < n) shape.many (slice_get_within mid.volumes v before was)) (subst (λ n. j < n) many (slice_get_within before.replicas j b there)),
-        λ zeroth. absurd (let none : slot_of mid.settings v j ≡ 0 = zeroth in omega (arith, none)),
+        (λ zeroth. absurd (let none : slot_of mid.settings v j ≡ 0 = zeroth in omega (arith, none)), λ behind. cause.3),
       )
   by_volume mid new v before after opening.NoMemory j shape shape' same was is b a there here cause = tt
 
@@ -256,7 +256,10 @@ module _ {D P A : Type 0} (DiskTells : Type 0) (files : D → Files) (Tells : Ty
     subst (λ s. Rose (slice_index (map faults (disks_of mid)) s) (slice_index (map faults (disks_of new)) s)) (sym refused.0) refused.1,
     refused.2 ∙ ap (λ s. slice_index (map faults (disks_of new)) s) (sym refused.0),
   )
-  by_directory mid new (Damaged slot file at) refused = ((let zeroth : slot ≡ 0 = refused.0 in omega (arith, zeroth)), λ first. refused.1)
+  by_directory mid new (Damaged slot file at) refused = (
+    (let zeroth : slot ≡ 0 = refused.0 in omega (arith, zeroth)),
+    (λ first. refused.1, λ behind. absurd (let zeroth : slot ≡ 0 = refused.0 in omega (arith, zeroth, behind))),
+  )
   by_directory mid new NoMemory refused = tt
 
   pub opening_cause : (mid new : Open D P A) (fault : ClusterFault) → IsShaped mid → MovedParts mid new → RefusesParts DiskTells files faults mid.settings mid.directory new.directory mid.volumes new.volumes fault

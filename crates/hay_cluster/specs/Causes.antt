@@ -8,6 +8,7 @@ use Rattle.hay_script.specs.declared.Command.TheVariants as asks
 use Rattle.hay_reply.specs.declared.Reply.{Reply}
 use Rattle.hay_reply.specs.declared.Reply.TheVariants as reply
 use Rattle.hay_legal.specs.Known.{disk_count, machine_of, replica_on, slot_of}
+use Rattle.hay_open.specs.Stored.{IsSlotFile}
 use Rattle.hay_logical.specs.Seen.{SeesAt}
 use Rattle.hay_logical.specs.declared.fault.LogicalFault.{LogicalFault}
 use Rattle.hay_logical.specs.declared.fault.LogicalFault.TheVariants as refusal
@@ -69,9 +70,9 @@ IsCaused settings before after reply.BadLine = Unit {0}
 IsCaused settings before after reply.Unbuilt = Unit {0}
 IsCaused settings before after reply.NoMem = Unit {0}
 
--- a disk of the store has this file: of the Directory's it is file 0
+-- the disk in a slot of the store may have this file
 abbrev pub HasFile : Settings → ℕ → ℕ → Type 0
-HasFile settings slot file = (slot < disk_count settings) × (slot ≡ 0 → file ≡ 0)
+HasFile settings slot file = (slot < disk_count settings) × IsSlotFile slot file
 
 -- So does an opening. The shelf has no part in what is done to disks.
 abbrev pub HasFaultCause : Settings → List ℕ → List ℕ → ClusterFault → Type 0

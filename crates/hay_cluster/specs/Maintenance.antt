@@ -56,6 +56,18 @@ done_as v m (Step cells) n = reply.Stepped v m n
 done_as v m Finish n = reply.Compacted v m n
 done_as v m Compact n = reply.Compacted v m n
 
+-- a refusal that may be answered that memory was wanting
+abbrev pub MayWantMemory : LogicalFault → Type 0
+MayWantMemory (ReadOnly m) = Unit {0}
+MayWantMemory (Failed m f) = ⊥
+MayWantMemory (Busy m generation) = ⊥
+MayWantMemory (Worn m) = ⊥
+MayWantMemory Idle = ⊥
+MayWantMemory (Damaged m at) = ⊥
+MayWantMemory NoMemory = Unit {0}
+MayWantMemory (Full m end need capacity) = ⊥
+MayWantMemory (Gone front) = ⊥
+
 -- and how, refused
 abbrev pub IsRefusedAs : ℕ → ℕ → LogicalFault → Reply → Type 0
 IsRefusedAs v m (ReadOnly m') answer = IsReadOnly v m' answer

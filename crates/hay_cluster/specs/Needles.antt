@@ -1,5 +1,5 @@
 -- What replies tell of the needles of volume files, where the disks tell what they hold.
-use Rattle.std.specs.Prelude.{◌≡◌, ◌⊎◌, ◌<◌, ℕ, List, Some}
+use Rattle.std.specs.Prelude.{◌≡◌, ◌⊎◌, ◌≤◌, ◌<◌, ℕ, List, Some}
 use Rattle.hay_needle.specs.declared.needle.Pair.{Pair}
 use Rattle.hay_needle.specs.declared.settings.Settings.{Settings}
 use Rattle.hay_script.specs.declared.Command.{Command}
@@ -32,19 +32,19 @@ abbrev pub IsDamagedLookOn : Settings → (ℕ → Contents) → StoreSeen → �
 IsDamagedLookOn settings contents seen v pair m place =
     (j : ℕ) × (replica_on settings v m ≡ Some j) × FileAt settings contents seen v j (λ r file. LacksSeen file place (seen.places v pair j))
 
--- A compaction that was to do such work did: the heads of whole cells lead to this place, and no needle that ends before the cells do
--- begins there.
-abbrev pub LacksWork : Maintenance → ℕ → ReplicaSeen → List ℕ → Type 0
-LacksWork (work.Step cells) place r file = LacksCell cells place r file
-LacksWork work.Finish place r file = LacksCellLeft place r file
-LacksWork work.Compact place r file = LacksCellAnew place r file
-LacksWork work.Flush place r file = ⊥
-LacksWork work.Begin place r file = ⊥
+-- A compaction that was to do such work did: the heads of cells lead to this place, each with its whole needle where it was copied, and
+-- no needle that ends before the cells do begins there.
+abbrev pub LacksWork : Sights → ℕ → Maintenance → ℕ → ReplicaSeen → List ℕ → Type 0
+LacksWork sights j (work.Step cells) place r file = LacksCell sights j cells place r file
+LacksWork sights j work.Finish place r file = LacksCellLeft sights j place r file
+LacksWork sights j work.Compact place r file = LacksCellAnew sights j place r file
+LacksWork sights j work.Flush place r file = ⊥
+LacksWork sights j work.Begin place r file = ⊥
 
 -- so it is where a compaction on this machine is answered that it met damage
 abbrev pub RunsIntoDamage : Settings → (ℕ → Contents) → StoreSeen → Maintenance → ℕ → ℕ → Reply → Type 0
 RunsIntoDamage settings contents seen asked v m said =
-    (by place : ℕ) → said ≡ reply.Damaged v by place → (j : ℕ) → replica_on settings v m ≡ Some j → FileAt settings contents seen v j (LacksWork asked place)
+    (by place : ℕ) → said ≡ reply.Damaged v by place → (j : ℕ) → replica_on settings v m ≡ Some j → FileAt settings contents seen v j (LacksWork (seen.places v) j asked place)
 
 -- What reads of the disks give, and what is seen, is that of before the command. Of damage that a read tells Passing does.
 abbrev pub TellsDamage : Settings → (ℕ → Contents) → StoreSeen → Command → Reply → Type 0
@@ -105,18 +105,29 @@ LooksTold settings contents old new pair (Swapped v m) = Unit {0}
 LooksTold settings contents old new pair Nothing = Unit {0}
 
 -- What work that was done found in the file: the heads of the cells that a step examined stand one behind another, from its next one on to
--- the one that is next then, and those of a swap as far as the cells go.
-abbrev pub LeadsWork : Maintenance → ℕ → ReplicaSeen → ReplicaSeen → List ℕ → Type 0
-LeadsWork (work.Step cells) number r r' file = HeadsLead number r.next r'.next file
-LeadsWork work.Finish number r r' file = HeadsLeadOn r file
-LeadsWork work.Compact number r r' file = HeadsLeadOn (begun r) file
-LeadsWork work.Flush number r r' file = Unit {0}
-LeadsWork work.Begin number r r' file = Unit {0}
+-- the one that is next then, and those of a swap as far as the cells go, each with its whole needle where it was copied.
+abbrev pub LeadsWork : Sights → ℕ → Maintenance → ℕ → ReplicaSeen → ReplicaSeen → List ℕ → Type 0
+LeadsWork sights j (work.Step cells) number r r' file = HeadsLead sights j number r.next r'.next file
+LeadsWork sights j work.Finish number r r' file = HeadsLeadOn sights j r file
+LeadsWork sights j work.Compact number r r' file = HeadsLeadOn sights j (begun r) file
+LeadsWork sights j work.Flush number r r' file = Unit {0}
+LeadsWork sights j work.Begin number r r' file = Unit {0}
 
-abbrev pub WorkTold : Settings → (ℕ → Contents) → StoreSeen → StoreSeen → Maintenance → ℕ → ℕ → Reply → Type 0
-WorkTold settings contents old new asked v m said =
-    (number : ℕ) → said ≡ done_as v m asked number → (j : ℕ) → replica_on settings v m ≡ Some j
-    → FileAt settings contents old v j (λ r file. VolumeAt v (SeesAt j (λ r'. LeadsWork asked number r r' file)) new)
+-- What work that wanted memory did: a step, which may have examined some of its cells, and whose compaction stands. Any other work that
+-- did examined nothing, or its compaction has ended.
+abbrev pub LeadsPart : Sights → ℕ → Maintenance → ReplicaSeen → ReplicaSeen → List ℕ → Type 0
+LeadsPart sights j (work.Step cells) r r' file = (number : ℕ) × (number ≤ cells) × HeadsLead sights j number r.next r'.next file
+LeadsPart sights j work.Finish r r' file = Unit {0}
+LeadsPart sights j work.Compact r r' file = Unit {0}
+LeadsPart sights j work.Flush r r' file = Unit {0}
+LeadsPart sights j work.Begin r r' file = Unit {0}
+
+-- So it is of the replica on this machine, by what the work is answered.
+pub record WorkTold (settings : Settings) (contents : ℕ → Contents) (old new : StoreSeen) (asked : Maintenance) (v m : ℕ) (said : Reply) : Type 0 where
+  pub done : (number : ℕ) → said ≡ done_as v m asked number → (j : ℕ) → replica_on settings v m ≡ Some j
+      → FileAt settings contents old v j (λ r file. VolumeAt v (SeesAt j (λ r'. LeadsWork (old.places v) j asked number r r' file)) new)
+  pub part : said ≡ reply.NoMem → (j : ℕ) → replica_on settings v m ≡ Some j
+      → FileAt settings contents old v j (λ r file. VolumeAt v (SeesAt j (λ r'. LeadsPart (old.places v) j asked r r' file)) new)
 
 -- What reads of the disks give is that of before the command: so no damage is met without being told.
 abbrev pub MeetsNeedles : Settings → (ℕ → Contents) → StoreSeen → StoreSeen → Command → Reply → Type 0

@@ -14,6 +14,7 @@ mod closed;
 mod closing;
 mod cluster;
 mod fault;
+mod lending;
 mod maintenance;
 mod opening;
 mod parts;
@@ -22,4 +23,5 @@ mod reading;
 
 pub use cluster::Cluster;
 pub use fault::ClusterFault;
+pub use lending::ClusterParts;
 pub use put::Tried;

@@ -14,8 +14,8 @@ ghost use Rattle.hay_logical.specs.Stands as logical;
 ghost use Rattle.hay_logical.specs.Volumes.{IsOpenVolume, IsSame, KeepsCounts};
 ghost use Rattle.hay_cluster.specs.Causes.{IsCaused, RefusesWork};
 ghost use Rattle.hay_cluster.specs.Leaving.{LeavesByWork};
-ghost use Rattle.hay_cluster.specs.Maintenance.{IsDone, IsRefused, IsRefusedAs, IsReplicaFault, command_of, done_as};
-ghost use Rattle.hay_cluster.specs.Needles.{LacksWork, LeadsWork, RunsIntoDamage, WorkTold};
+ghost use Rattle.hay_cluster.specs.Maintenance.{IsDone, IsRefused, IsRefusedAs, IsReplicaFault, MayWantMemory, command_of, done_as};
+ghost use Rattle.hay_cluster.specs.Needles.{LacksWork, LeadsPart, LeadsWork, RunsIntoDamage, WorkTold};
 ghost use Rattle.hay_cluster.specs.Seen.{AnswersWork, WorkRefusedSeen, WorkSeen, store_seen};
 ghost use Rattle.hay_logical.specs.Sights.{KeepsSights, sights_of};
 ghost use Rattle.hay_cluster.specs.Sights.{DoneSights, WorkSights, told_by};
@@ -102,10 +102,12 @@ pub(crate) fn maintain<D: Disk>(
     ensures refused_seen { IfErr result (λ fault. WorkRefusedSeen volume.old.settings work volume.old.number replica fault (volume_seen volume.old) (volume_seen volume.new)) }
     ensures sights { OnOk result (DoneSights work replica (volume_seen volume.new) (sights_of volume.old.rows) (sights_of volume.new.rows)) }
     ensures refused_sights { OnErr result (KeepsSights (sights_of volume.old.rows) (sights_of volume.new.rows)) }
-    // Where the disk tells, whole heads lead to where damage is told, and no cell is there; and so far as work that was done came.
-    ensures damaged { D.Tells → (m place : ℕ) → result ≡ Err (LogicalFault.Damaged m place) → IsDamagedCell D.files volume.old.replicas replica (LacksWork work place) }
+    // Where the disk tells, heads lead to where damage is told, and no cell is there; and so far as work that was done came, or wanted memory.
+    ensures damaged { D.Tells → (m place : ℕ) → result ≡ Err (LogicalFault.Damaged m place) → IsDamagedCell D.files volume.old.replicas replica (LacksWork (sights_of volume.old.rows) replica work place) }
     ensures lead { D.Tells → (r r' : Copy D) → At volume.old.replicas replica r → At volume.new.replicas replica r' →
-        IfOk result (λ number. LeadsWork work number (replica_seen r) (replica_seen r') (volume_bytes D.files r)) }
+        IfOk result (λ number. LeadsWork (sights_of volume.old.rows) replica work number (replica_seen r) (replica_seen r') (volume_bytes D.files r)) }
+    ensures part { D.Tells → (r r' : Copy D) → At volume.old.replicas replica r → At volume.new.replicas replica r' →
+        IfErr result (λ fault. MayWantMemory fault → LeadsPart (sights_of volume.old.rows) replica work (replica_seen r) (replica_seen r') (volume_bytes D.files r)) }
     // A volume that is frozen refuses, and of the others a flush alone, where the replica's index takes no records.
     ensures frozen { (m : ℕ) → volume.old.frozen ≡ Some m → result ≡ Err (LogicalFault.ReadOnly m) }
     ensures untouched { IfErr result (λ fault. IsUntouchedBy fault → volume.new ≡ volume.old) }

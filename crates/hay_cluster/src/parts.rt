@@ -12,8 +12,8 @@ ghost use Rattle.hay_directory.specs.Seen.{DrainSeen, SettleRefusedSeen, SettleS
 ghost use Rattle.hay_directory.specs.State as directory;
 ghost use Rattle.hay_cluster.specs.Causes.{EndsByFaults, IsDeleteCause, IsPutCause, IsReplicaCause, RoseIn, SetsFuse};
 ghost use Rattle.hay_cluster.specs.Leaving.{AddsRow, AnySlot, DeleteKeeps, IsApart, IsBeside, IsReplicaSlot, KeepsIn, LeavesIn, PutKeeps, WorkKeeps};
-ghost use Rattle.hay_cluster.specs.Maintenance.{IsDone, IsRefused};
-ghost use Rattle.hay_cluster.specs.Needles.{AreToldAs, DeletesAsTold, FileAt, IsDamagedLookOn, LacksWork, LeadsWork};
+ghost use Rattle.hay_cluster.specs.Maintenance.{IsDone, IsRefused, MayWantMemory};
+ghost use Rattle.hay_cluster.specs.Needles.{AreToldAs, DeletesAsTold, FileAt, IsDamagedLookOn, LacksWork, LeadsPart, LeadsWork};
 ghost use Rattle.hay_cluster.specs.Parts.{Comes, InVolume};
 ghost use Rattle.hay_cluster.specs.Puts.{TakesPhoto};
 ghost use Rattle.hay_cluster.specs.Seen.{Keeps, MovesDirectory, MovesVolume, WorkRefusedSeen, VolumeAt, WorkSeen, store_seen};
@@ -128,9 +128,11 @@ impl<D: Disk, A: Arm<D::Piece>> Cluster<D, A> {
         ensures refused_seen { IfErr result (λ fault. MovesVolume volume (WorkRefusedSeen self.old.settings work volume replica fault) (store_seen self.old) (store_seen self.new)) }
         ensures kept { D.Tells → IfErr result (WorkKeeps self.old.settings (contents_in D.files self.old) (contents_in D.files self.new)) }
         ensures damaged { D.Tells → (m place : ℕ) → result ≡ Err (LogicalFault.Damaged m place) →
-            FileAt self.old.settings (contents_in D.files self.old) (store_seen self.old) volume replica (LacksWork work place) }
+            FileAt self.old.settings (contents_in D.files self.old) (store_seen self.old) volume replica (LacksWork ((store_seen self.old).places volume) replica work place) }
         ensures lead { D.Tells → IfOk result (λ number. FileAt self.old.settings (contents_in D.files self.old) (store_seen self.old) volume replica
-            (λ r file. VolumeAt volume (SeesAt replica (λ r'. LeadsWork work number r r' file)) (store_seen self.new))) }
+            (λ r file. VolumeAt volume (SeesAt replica (λ r'. LeadsWork ((store_seen self.old).places volume) replica work number r r' file)) (store_seen self.new))) }
+        ensures part { D.Tells → IfErr result (λ fault. MayWantMemory fault → FileAt self.old.settings (contents_in D.files self.old) (store_seen self.old) volume replica
+            (λ r file. VolumeAt volume (SeesAt replica (λ r'. LeadsPart ((store_seen self.old).places volume) replica work r r' file)) (store_seen self.new))) }
         ensures sights { OnOk result (VolumeAt volume (λ seen. ChangesPhotos volume (DoneSights work replica seen) (store_seen self.old) (store_seen self.new)) (store_seen self.new)) }
         ensures refused_sights { OnErr result (KeepsPhotos (store_seen self.old) (store_seen self.new)) }
         ensures settings { self.new.settings ≡ self.old.settings }

@@ -97,6 +97,18 @@ pub some_line : (before after : Option (List ℕ)) (text : List ℕ) (ended : Bo
 some_line before after text ended (inl w) = (w.0.bytes ++ 10 ∷ [], w.0.took)
 some_line before after text ended (inr w) = some_all before after text w.0.all
 
+some_end : (texts : List (List ℕ)) (before after : Option (List ℕ)) → TookToEnd before texts after → TookSome before after
+some_end [] before after h = some_all before after [] h
+some_end (text ∷ texts) before after (inl w) = some_all before after text w.0.all
+some_end (text ∷ texts) before after (inr (mid, fed, rest)) = some_more before mid after (fed.bytes ++ 10 ∷ [], fed.took) (some_end texts mid after rest)
+
+pub some_items : (number : ℕ) (held : Option OpenBlock) (before after : Option (List ℕ)) (asked : List Asked) (next : ℕ) (ended : Bool) → TookItems number held before asked next after ended → TookSome before after
+some_items number held before after asked next ended took = by took.lines
+  where
+    by : TookLines before took.texts after ended → TookSome before after
+    by (inl feeds) = some_feeds took.texts before after feeds.0
+    by (inr all) = some_end took.texts before after all.0
+
 -- A BLOCK THAT IS READ
 
 -- the script ends behind its lines

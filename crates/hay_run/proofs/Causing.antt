@@ -3,7 +3,7 @@ use Rattle.std.proofs.Common.{◌≡◌, ◌≢◌, ◌⊎◌, inl, inr, ℕ, Li
 use Rattle.std.specs.Prelude.{flat_map, Result, Err, OnErr, IsErrOf}
 use Rattle.std.specs.List.{AllByRecursion}
 use Rattle.std.proofs.lemmas.List.{append-nil}
-use Rattle.std.proofs.lemmas.Result.{IfErr-at_err, on_err_weaker}
+use Rattle.std.proofs.lemmas.Result.{IfErr-at_err}
 use Rattle.hay_disk.specs.Streams.{Wrote, WrotePart}
 use Rattle.hay_needle.specs.declared.settings.Settings.{Settings}
 use Rattle.hay_script.specs.declared.Command.{Command}
@@ -15,8 +15,8 @@ use Rattle.hay_reply.specs.declared.Reply.TheVariants.{NoMem, Restarted}
 use Rattle.hay_reply.specs.Fits.{FitsNote, FitsReply}
 use Rattle.hay_reply.specs.Replies.{note_line, numbered_line}
 use Rattle.hay_legal.specs.declared.turn.Item.TheVariants as item
-use Rattle.hay_legal.specs.Items.{Asked, InBlock}
-use Rattle.hay_legal.specs.Items.Asked.{Alone, Block}
+use Rattle.hay_legal.specs.Items.{Asked}
+use Rattle.hay_legal.specs.Items.Asked.{Alone}
 use Rattle.hay_cluster.specs.declared.fault.ClusterFault.{ClusterFault}
 use Rattle.hay_cluster.specs.declared.fault.ClusterFault.TheVariants as refusal
 use Rattle.hay_cluster.specs.Leaving.{LeavesContents}
@@ -34,7 +34,6 @@ use Rattle.hay_run.specs.Items.{TookOpen}
 use Rattle.hay_lines.specs.Lines.{TookPart, TookOver, TookSome}
 use Rattle.hay_run.specs.Stops.{note_of}
 use Rattle.hay_run.specs.Turns.{Writing}
-use Rattle.hay_run.specs.Unbuilt.{unbuilt_text}
 use Rattle.hay_run.proofs.Counting.{NoneFalls-same}
 use Rattle.hay_run.proofs.Turning.{wrote_nothing, wrote_more, wrote_part}
 
@@ -172,6 +171,11 @@ module _ (Tells : Type 0) where
     abbrev Told : Type 0
     Told = Caused Tells WrotePart settings before after RestartAsked written written' ⊎ ToldWanting before after RestartAsked written written' ⊎ ToldRefusal Tells WrotePart settings before after RestartAsked written written'
 
+    wanting_told : Told → StopCaused Tells settings before after stop.NoMemory RestartAsked written written'
+    wanting_told (inl c) = inl c
+    wanting_told (inr (inl c)) = inr (inl c)
+    wanting_told (inr (inr c)) = inr (inr (inl c))
+
     refusal_part : (note : Note) → why ≢ stop.Store → FitsNote note → IsNoteCaused Tells settings before after note → PartOf note → Told
     refusal_part note other fits cause (inl is) = absurd (other is)
     refusal_part note other fits cause (inr wrote) = inr (inr (back, (note, fits, cause, wrote)))
@@ -195,7 +199,7 @@ module _ (Tells : Type 0) where
     refused_stops fault fits cause lowest place wanting told part (inl e) =
         subst (λ (w : Stop). StopCaused Tells settings before after w RestartAsked written written') (sym e) (part_refused fault fits cause lowest place (λ is. cc) wanting part)
     refused_stops fault fits cause lowest place wanting told part (inr (inl e)) =
-        subst (λ (w : Stop). StopCaused Tells settings before after w RestartAsked written written') (sym e) (part_refused fault fits cause lowest place (λ is. cc) wanting part)
+        subst (λ (w : Stop). StopCaused Tells settings before after w RestartAsked written written') (sym e) (wanting_told (part_refused fault fits cause lowest place (λ is. cc) wanting part))
     refused_stops fault fits cause lowest place wanting told part (inr (inr e)) =
         let note = told e in
         subst (λ (w : Stop). StopCaused Tells settings before after w RestartAsked written written') (sym e) (back, (note.0, fits note.0 note.1, note_caused fault cause lowest place note.0 note.1, note.2))
@@ -237,18 +241,3 @@ module _ (Tells : Type 0) where
     pub item_stops : OnErr r ((r ≡ Err stop.Output) ⊎ (r ≡ Err stop.NoMemory) ⊎ (r ≡ Err stop.Store)) → StopCaused Tells settings old new why asked written written'
         → TurnStops Tells settings old new why number before written after written'
     item_stops kinds caused = item_by (IfErr-at_err (λ (w : Stop). (r ≡ Err stop.Output) ⊎ (r ≡ Err stop.NoMemory) ⊎ (r ≡ Err stop.Store)) is kinds) caused
-
-  three_kinds : (r : Result (Unit {0}) Stop) → (r ≡ Err stop.Output) ⊎ (r ≡ Err stop.NoMemory) → (r ≡ Err stop.Output) ⊎ (r ≡ Err stop.NoMemory) ⊎ (r ≡ Err stop.Store)
-  three_kinds r (inl e) = inl e
-  three_kinds r (inr e) = inr (inl e)
-
-  -- a block was read, and its text was not written whole
-  pub block_stops : (settings : Settings) (tally : Tally) (number : ℕ) (lines : List InBlock) (before after written written' : Option (List ℕ)) (r : Result (Unit {0}) Stop) (why : Stop) → r ≡ Err why
-      → OnErr r ((r ≡ Err stop.Output) ⊎ (r ≡ Err stop.NoMemory)) → TookLastItem number (Block lines ∷ []) before after → OnErr r (WrotePart written (flat_map unbuilt_text lines) written')
-      → TurnStops Tells settings tally tally why number before written after written'
-  block_stops settings tally number lines before after written written' r why is kinds took part =
-      let caused = on_err_weaker r (λ (wrote : WrotePart written (flat_map unbuilt_text lines) written').
-      caused_one WrotePart settings tally tally (Block lines) (flat_map unbuilt_text lines) written written' (same_tally tally) (refl, refl) wrote) part in
-      let three = on_err_weaker r (λ (two : (r ≡ Err stop.Output) ⊎ (r ≡ Err stop.NoMemory)). three_kinds r two) kinds in
-      item_stops settings tally tally number (Block lines ∷ []) before after written written' r why is took three
-      (part_stops settings tally tally (Block lines ∷ []) written written' r why is kinds caused)

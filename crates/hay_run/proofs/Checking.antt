@@ -214,11 +214,11 @@ check_nothing Tells settings status outside written is = record {
 
 -- which statuses there are
 pub check_statuses : (Tells : Type 0) (settings : Settings) (status : ℕ) (taken given : Outside) (before after : Option (List ℕ)) → ChecksTo Tells settings status taken given before after
-    → {W : Type 0} → W → (status ≡ 2) ⊎ ((ending : Ending) × (status ≡ status_of ending)) ⊎ ((status ≡ 8) × W)
+    → {W X : Type 0} → W → (status ≡ 2) ⊎ ((ending : Ending) × (status ≡ status_of ending)) ⊎ ((status ≡ 8) × W) ⊎ X
 check_statuses Tells settings status taken given before after ends w = elim ends.ends [
   | inl all ↦ elim all.1 [
     | inl sound ↦ inr (inl (ReadAll, sound.0))
-    | inr damaged ↦ inr (inr (damaged.0, w))
+    | inr damaged ↦ inr (inr (inl (damaged.0, w)))
   ]
   | inr (inl broken) ↦ inr (inl (NotOpened, broken.0))
   | inr (inr cut) ↦ elim cut.0 [

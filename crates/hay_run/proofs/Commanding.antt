@@ -4,11 +4,11 @@ use Rattle.std.specs.Prelude.{codes}
 use Rattle.std.proofs.lemmas.Grind.{common_steps}
 use Rattle.hay_needle.specs.declared.settings.Settings.{Settings}
 use Rattle.hay_cli.specs.declared.Mode.{Mode}
-use Rattle.hay_cli.specs.declared.Mode.TheVariants.{Run, Check, Load, Drill}
-use Rattle.hay_cli.specs.Commands.{IsRun, Says, Text, number_in, number_or, value_of}
+use Rattle.hay_cli.specs.declared.Mode.TheVariants.{Run, Check, Load, Audit, Drill}
+use Rattle.hay_cli.specs.Commands.{IsStore, Says, Text, audit_names, number_in, number_or, run_names, value_of}
 use Rattle.hay_cli.proofs.Spelled.{mode_read}
 use Rattle.hay_cluster.specs.Store.{IsBuilt}
-use Rattle.hay_run.specs.Words.{HasBuilt, SaysCheck, SaysLoad, SaysRun}
+use Rattle.hay_run.specs.Words.{HasBuilt, SaysAudit, SaysCheck, SaysLoad, SaysRun}
 
 -- a number that is read is within its bounds
 number_within : (low high n : ℕ) (text : Text) → number_in low high text ≡ Some n → (low ≤ n) × (n ≤ high)
@@ -19,8 +19,8 @@ within usual low high n None small large is = let same : usual ≡ n = cc in (om
 within usual low high n (Some text) small large is = number_within low high n text is
 
 -- the settings of options are within the limits
-built : (words : List Text) (settings : Settings) → IsRun words settings → IsBuilt settings
-built words settings says =
+built : (names words : List Text) (settings : Settings) → IsStore names words settings → IsBuilt settings
+built names words settings says =
     let values = says.2 in
     let machines = within 1 1 16 settings.machines (value_of says.0 (codes "machines")) (lit≤ tt) (lit≤ tt) values.machines in
     let volumes = within 1 1 64 settings.volumes (value_of says.0 (codes "volumes")) (lit≤ tt) (lit≤ tt) values.volumes in
@@ -40,9 +40,10 @@ built words settings says =
 
 pub mode_built : (words : List Text) (mode : Mode) → Says words mode → HasBuilt mode
 mode_built [] mode says = absurd says
-mode_built (word ∷ words) (Run settings) says = built words settings says.1
-mode_built (word ∷ words) (Check settings) says = built words settings says.1
-mode_built (word ∷ words) (Load settings) says = built words settings says.1
+mode_built (word ∷ words) (Run settings) says = built run_names words settings says.1
+mode_built (word ∷ words) (Check settings) says = built run_names words settings says.1
+mode_built (word ∷ words) (Load settings) says = built run_names words settings says.1
+mode_built (word ∷ words) (Audit settings) says = built audit_names words settings says.1
 mode_built (word ∷ words) (Drill count first) says = tt
 
 -- the words of a run name one store
@@ -86,3 +87,25 @@ check_no_load words settings other check load = let same : Check settings ≡ Lo
 
 pub drill_no_load : (words : List Text) (count first : ℕ) (other : Settings) → Says words (Drill count first) → SaysLoad words other → ⊥
 drill_no_load words count first other drill load = let same : Drill count first ≡ Load other = load_alone words (Drill count first) other drill load in cc
+
+-- the words of an audit name one store, and say nothing else
+pub audit_alone : (words : List Text) (mode : Mode) (settings : Settings) → Says words mode → SaysAudit words settings → mode ≡ Audit settings
+audit_alone words mode settings says audit =
+    let a = mode_read words mode says in
+    let b = mode_read words (Audit settings) audit in
+    let same : Some mode ≡ Some (Audit settings) = sym a ∙ b in cc
+
+pub same_audit : (words : List Text) (settings other : Settings) → SaysAudit words settings → SaysAudit words other → settings ≡ other
+same_audit words settings other says audit = let same : Audit settings ≡ Audit other = audit_alone words (Audit settings) other says audit in cc
+
+pub run_no_audit : (words : List Text) (settings other : Settings) → SaysRun words settings → SaysAudit words other → ⊥
+run_no_audit words settings other run audit = let same : Run settings ≡ Audit other = audit_alone words (Run settings) other run audit in cc
+
+pub check_no_audit : (words : List Text) (settings other : Settings) → SaysCheck words settings → SaysAudit words other → ⊥
+check_no_audit words settings other check audit = let same : Check settings ≡ Audit other = audit_alone words (Check settings) other check audit in cc
+
+pub load_no_audit : (words : List Text) (settings other : Settings) → SaysLoad words settings → SaysAudit words other → ⊥
+load_no_audit words settings other load audit = let same : Load settings ≡ Audit other = audit_alone words (Load settings) other load audit in cc
+
+pub audit_no_load : (words : List Text) (settings other : Settings) → SaysAudit words settings → SaysLoad words other → ⊥
+audit_no_load words settings other audit load = let same : Audit settings ≡ Load other = load_alone words (Audit settings) other audit load in cc

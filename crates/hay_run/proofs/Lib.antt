@@ -1,9 +1,14 @@
+pub mod Answering
 pub mod Asking
+pub mod Auditing
+pub mod Blocked
+pub mod Blocking
 pub mod Caused
 pub mod Causing
 pub mod Checking
 pub mod Commanding
 pub mod Counting
+pub mod Dealing
 pub mod Giving
 pub mod Loading
 pub mod Lying
@@ -18,3 +23,4 @@ pub mod Stopping
 pub mod Turning
 pub mod Unread
 pub mod Drawing
+pub mod Writes

@@ -34,11 +34,11 @@ use Rattle.hay_run.specs.Stops.{ending_of}
 use Rattle.hay_lines.specs.Stream.{Held, rest_of}
 use Rattle.hay_lines.specs.Lines.{TookPart, TookOver, TookSome}
 use Rattle.hay_run.specs.Items.{TookItems, TookOpen}
-use Rattle.hay_run.specs.Turns.{Writing, Standing, AnswersTurns, IsGoingOn, Refused, TurnedPart, RefusesRestart, Broke, HoldsNone, StopsTurn}
+use Rattle.hay_run.specs.Turns.{Writing, Standing, AnswersTurns, IsGoingOn, Keeps, Refused, TurnedPart, RefusesRestart, Broke, HoldsNone, StopsTurn}
 use Rattle.hay_run.specs.Runs.{RanTo, ReadFront}
 use Rattle.hay_run.proofs.Asking.{took_items_more}
 use Rattle.hay_run.proofs.Reading.{ReadsFront, rest_none, breaks_off, over_part, front_some, front_read}
-use Rattle.hay_run.proofs.Turning.{each_more, legal_more}
+use Rattle.hay_run.proofs.Turning.{legal_more}
 
 -- WHAT IS WRITTEN
 
@@ -119,7 +119,6 @@ pub record RanPart (settings : Settings) (k : Known) (script : List ℕ) (left :
   pub t : Known
   pub legal : Legal settings opened turns t
   pub last : LastWants turns
-  pub unbuilt : AllByRecursion statuses.IsUnbuiltTurn turns
   pub ends : statuses.Interrupted IsReplica OpensRows IsVoid settings k script read taken turns t text given
 
 pub ran_output : (settings : Settings) (k : Known) (script : List ℕ) (left : Option (List ℕ)) (taken given : Outside) (held : List ℕ) (written : Option (List ℕ))
@@ -136,7 +135,6 @@ ran_output settings k script left taken given held written part = record {
     t = part.t;
     legal = part.legal;
     wanting = λ before line pick notes after behind is. (part.last before line pick notes after behind is, inr refl);
-    unbuilt = part.unbuilt;
     ends = part.ends;
   };
 }
@@ -155,7 +153,6 @@ ran_memory settings k script left taken given held written part = record {
     t = part.t;
     legal = part.legal;
     wanting = λ before line pick notes after behind is. (part.last before line pick notes after behind is, inl refl);
-    unbuilt = part.unbuilt;
     ends = part.ends;
   };
 }
@@ -192,7 +189,6 @@ module _ {D P A : Type 0} (Tells : Type 0) (Begins Left : Standing D P A) (setti
           t = answers.t;
           legal = subst P store'_is answers.legal;
           wanting = wants_none ReadAll answers.turns answers.each;
-          unbuilt = answers.unbuilt;
           ends = record { asked = answers.items ∙ all; wrote = refl; stands = closed answers.t (weaken store' store'_is answers.t answers.left) };
         };
       }
@@ -209,6 +205,9 @@ module _ {D P A : Type 0} (Tells : Type 0) (Begins Left : Standing D P A) (setti
 
     mid_closed : store' ≡ mid → StandsOn (IsReplica settings) (OpensRows settings) settings answers.t given
     mid_closed same = let P : Open D P A → Type 0 = λ s. Left s answers.t in closed answers.t (subst P (sym same) (weaken mid (mid_is ∙ store_is) answers.t answers.left))
+
+    mid_kept : Keeps Tells Begins mid store' → StandsOn (IsReplica settings) (OpensRows settings) settings answers.t given
+    mid_kept keeps = closed answers.t (weaken store' store'_is answers.t (keeps tells answers.t answers.left))
 
     -- a front of a text was written behind the turns
     part_text : (bytes : List ℕ) → WrotePart text bytes written' → (n : ℕ) × (written' ≡ Some (held ++ (transcript_text settings answers.turns ++ take n bytes)))
@@ -234,7 +233,6 @@ module _ {D P A : Type 0} (Tells : Type 0) (Begins Left : Standing D P A) (setti
             t = answers.t;
             legal = mid_legal;
             wanting = wants_none InputFault answers.turns answers.each;
-            unbuilt = answers.unbuilt;
             ends = record { asked = answers.items ∙ off.items; wrote = refl; stands = mid_closed same };
           };
         }
@@ -259,13 +257,12 @@ module _ {D P A : Type 0} (Tells : Type 0) (Begins Left : Standing D P A) (setti
             t = answers.t;
             legal = mid_legal;
             wanting = wants_none TooLong answers.turns answers.each;
-            unbuilt = answers.unbuilt;
             ends = record { asked = answers.items ∙ over.items; wrote = refl; stands = mid_closed same };
           };
         }
 
-    pub ran_same : TookSome rest (rest_of left holding) → store' ≡ mid → written' ≡ text → RanPart settings k script left taken given held written'
-    ran_same some same same_text =
+    pub ran_same : TookSome rest (rest_of left holding) → Keeps Tells Begins mid store' → written' ≡ text → RanPart settings k script left taken given held written'
+    ran_same some keeps same_text =
         let reads = front_some script asked number rest left holding took some in
         let P : List Asked → Type 0 = λ all. IsFront all (items_of reads.read) in
         let W : List Asked → Type 0 = λ all. IsFront all (items_of script) in
@@ -280,7 +277,6 @@ module _ {D P A : Type 0} (Tells : Type 0) (Begins Left : Standing D P A) (setti
           t = answers.t;
           legal = mid_legal;
           last = last_none answers.turns answers.each;
-          unbuilt = answers.unbuilt;
           ends = inl (record {
             asked = subst P (sym answers.items) reads.front;
             whole_lines = subst W (sym answers.items) reads.whole;
@@ -290,7 +286,7 @@ module _ {D P A : Type 0} (Tells : Type 0) (Begins Left : Standing D P A) (setti
             one = lit≤ tt;
             wrote = ([], sym (append-nil (transcript_text settings answers.turns)));
             no_more = ([], sym (append-nil (transcript_text settings answers.turns)));
-            stands = mid_closed same;
+            stands = mid_kept keeps;
           });
         }
 
@@ -318,7 +314,6 @@ module _ {D P A : Type 0} (Tells : Type 0) (Begins Left : Standing D P A) (setti
           t = last.t;
           legal = legal_more settings start answers.turns answers.t last.turns last.t mid_legal (subst P store'_is last.legal);
           last = last_more answers.turns last.turns answers.each one;
-          unbuilt = each_more statuses.IsUnbuiltTurn answers.turns last.turns answers.unbuilt last.unbuilt;
           ends = inl (record {
             asked = subst Q (sym items) reads.front;
             whole_lines = subst W (sym items) reads.whole;
@@ -366,7 +361,6 @@ module _ {D P A : Type 0} (Tells : Type 0) (Begins Left : Standing D P A) (setti
           t = answers.t;
           legal = mid_legal;
           last = last_none answers.turns answers.each;
-          unbuilt = answers.unbuilt;
           ends = inr (inr (inr (record {
             next = (number, r.pick, subst P (sym answers.items) reads.front);
             whole_lines = (number, r.pick, subst W (sym answers.items) reads.whole);
@@ -402,7 +396,6 @@ module _ {D P A : Type 0} (Tells : Type 0) (Begins Left : Standing D P A) (setti
             t = answers.t;
             legal = mid_legal;
             wanting = wants_none NotOpened answers.turns answers.each;
-            unbuilt = answers.unbuilt;
             ends = inr (record {
               next = (number, r.pick, subst P (sym answers.items) reads.front);
               whole_lines = (number, r.pick, subst W (sym answers.items) reads.whole);
@@ -415,7 +408,7 @@ module _ {D P A : Type 0} (Tells : Type 0) (Begins Left : Standing D P A) (setti
           };
         }
 
-    pub ran_memory_or : (TookSome rest (rest_of left holding) × (store' ≡ mid) × (written' ≡ text)) ⊎ Broke Tells Begins Left mid number rest text store' (rest_of left holding) written'
+    pub ran_memory_or : (TookSome rest (rest_of left holding) × Keeps Tells Begins mid store' × (written' ≡ text)) ⊎ Broke Tells Begins Left mid number rest text store' (rest_of left holding) written'
         → RanPart settings k script left taken given held written'
     ran_memory_or (inl same) = ran_same same.0 same.1 same.2
     ran_memory_or (inr broke) = ran_broke broke

@@ -142,7 +142,6 @@ module _ (settings : Settings) (shelf shelf' : ℕ) (disks disks' : ℕ → Held
       t = k;
       legal = refl;
       last = no_last;
-      unbuilt = tt;
       ends = inr (inr (inl (record {
         none = refl;
         unread = refl;
@@ -170,7 +169,6 @@ module _ (settings : Settings) (shelf shelf' : ℕ) (disks disks' : ℕ → Held
       t = k;
       legal = refl;
       last = no_last;
-      unbuilt = tt;
       ends = inr (inl (record { none = refl; unread = refl; wrote = ([], refl); left = unopened }));
     }
 
@@ -189,7 +187,6 @@ module _ (settings : Settings) (shelf shelf' : ℕ) (disks disks' : ℕ → Held
         t = k;
         legal = refl;
         wanting = wants_none NotOpened [] tt;
-        unbuilt = tt;
         ends = inl (record { none = refl; unread = refl; note = note; tells = tells; wrote = (note_line note, refl, refl); left = unopened });
       };
     }
@@ -246,7 +243,6 @@ ran_header settings taken k is script held written' wrote = record {
   t = k;
   legal = refl;
   last = no_last;
-  unbuilt = tt;
   ends = inr (inl (record {
     none = refl;
     unread = refl;
@@ -387,7 +383,6 @@ ran_nothing settings taken k is_taken script held written same ending is =
       t = k;
       legal = refl;
       last = no_last;
-      unbuilt = tt;
       ends = inr (inl (record { none = refl; unread = refl; wrote = (header_line settings ++ [], refl); left = untouched settings taken k is_taken }));
     }))
 

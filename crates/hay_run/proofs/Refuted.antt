@@ -6,6 +6,7 @@ use Rattle.std.proofs.lemmas.List.{append_cancel_left, append_cancel_right}
 use Rattle.std.specs.Prelude.{Bool, true, false, codes, decimal, drop, map, replicate, slice_index, slice_index_or, slice_set}
 use Rattle.std.specs.List.{AllByRecursion, AllZip, range_with_len}
 use Rattle.hay_disk.specs.Counts.{IsNext, Rose}
+use Rattle.hay_needle.specs.declared.needle.CellHead.{CellHead}
 use Rattle.hay_needle.specs.declared.needle.Cookie.{Cookie}
 use Rattle.hay_needle.specs.declared.needle.Needle.{Needle}
 use Rattle.hay_needle.specs.declared.needle.Pair.{Pair}
@@ -25,7 +26,7 @@ use Rattle.hay_reply.specs.declared.ClosedBy.{ClosedBy}
 use Rattle.hay_reply.specs.declared.Refused.{Refused}
 use Rattle.hay_reply.specs.declared.Refused.TheVariants.{NoRoom}
 use Rattle.hay_reply.specs.declared.Reply.{Reply}
-use Rattle.hay_reply.specs.declared.Reply.TheVariants.{Absent, Begun, Compacted, Damaged, Deleted, Failed, Flushed, Full, Gone, Idle, Photo, ReadOnly, Stepped, Stored, Unknown, Unreadable}
+use Rattle.hay_reply.specs.declared.Reply.TheVariants.{Absent, Begun, Compacted, Damaged, Deleted, Failed, Flushed, Full, Gone, Idle, NoMem, Photo, ReadOnly, Stepped, Stored, Unknown, Unreadable}
 use Rattle.hay_reply.specs.Fits.{FitsReply}
 use Rattle.hay_reply.specs.Replies.{numbered_line, reply_text}
 use Rattle.hay_reply.specs.Reading.{reply_of, words_of}
@@ -37,10 +38,12 @@ use Rattle.hay_logical.specs.declared.fault.LogicalFault.{LogicalFault}
 use Rattle.hay_logical.specs.declared.fault.LogicalFault.TheVariants as refusal
 use Rattle.hay_logical.specs.declared.unsure.Unsure.{Unsure}
 use Rattle.hay_open.specs.Stored.{volume_file}
+use Rattle.hay_open.proofs.Faults.{past_the_last}
 use Rattle.hay_volume.specs.Needles.{HasNeedleOf, LacksNeedleOf, LacksNeedleWithin}
 use Rattle.hay_volume.proofs.Readings.{cell_begins}
 use Rattle.hay_logical.specs.Fits.{At}
 use Rattle.hay_logical.specs.Needles.{HeadsLead, HeadsLeadOn, IsToldBy, LacksCell, LacksSeen}
+use Rattle.hay_logical.proofs.Damages.{BreaksBehind, broken_ends}
 use Rattle.hay_logical.specs.Seen.{BeginRefusedSeen, FlushRefusedSeen, IsFresh, MeetsDamage, PutSeen, ReplicaSeen, RoomSeen, SeesAt, SeesRoom, StepRefusedSeen, StepsTo, VolumeSeen, begun}
 use Rattle.hay_logical.specs.Sights.{AwaitsLook, AwaitsLookAt, IsLiveSight, LiesWithin, Looks, LooksAtPair, SeesAll, Sight, Sights, StoresSights, SwapsSights, gone_sight}
 use Rattle.hay_logical.specs.Sights.Sight.{Gone as WasGone, Live, Never, Unseen}
@@ -118,13 +121,23 @@ damage_outside_at_first Tells settings taken given slot file at high (inr (inr (
 
 -- damage of the Directory's disk in another file than its journal
 pub damage_in_another_file : (Tells : Type 0) (settings : Settings) (before after : Tally) (file at : ℕ) → file ≢ 0 → IsNoteCaused Tells settings before after (OpenDamaged 0 file at) → ⊥
-damage_in_another_file Tells settings before after file at other cause = other ((cause.0).1 refl)
+damage_in_another_file Tells settings before after file at other cause = other ((cause.0).1.0 refl)
 
 pub damage_in_another_file_at_first : (Tells : Type 0) (settings : Settings) (taken given : Outside) (file at : ℕ) → file ≢ 0 → IsFirstRefusal Tells settings taken given (OpenDamaged 0 file at) → ⊥
 damage_in_another_file_at_first Tells settings taken given file at other (inl (count, is, rose, told)) = cc
 damage_in_another_file_at_first Tells settings taken given file at other (inr (inl (slot, (count, is, within, rose, told), lowest))) = cc
 damage_in_another_file_at_first Tells settings taken given file at other (inr (inr (slot, f, a, is, within, why))) =
-    let here : slot ≡ 0 = cc in let same : file ≡ f = cc in other (same ∙ within.1 here)
+    let here : slot ≡ 0 = cc in let same : file ≡ f = cc in other (same ∙ within.1.0 here)
+
+-- damage of a replica's disk behind the files of the last generation
+pub damage_past_the_last : (Tells : Type 0) (settings : Settings) (before after : Tally) (slot file at : ℕ) → 0 < slot → 131072 < file → IsNoteCaused Tells settings before after (OpenDamaged slot file at) → ⊥
+damage_past_the_last Tells settings before after slot file at behind far cause = past_the_last file far ((cause.0).1.1 behind)
+
+pub damage_past_the_last_at_first : (Tells : Type 0) (settings : Settings) (taken given : Outside) (slot file at : ℕ) → 0 < slot → 131072 < file → IsFirstRefusal Tells settings taken given (OpenDamaged slot file at) → ⊥
+damage_past_the_last_at_first Tells settings taken given slot file at behind far (inl (count, is, rose, told)) = cc
+damage_past_the_last_at_first Tells settings taken given slot file at behind far (inr (inl (other, (count, is, within, rose, told), lowest))) = cc
+damage_past_the_last_at_first Tells settings taken given slot file at behind far (inr (inr (other, f, a, is, within, why))) =
+    let own : slot ≡ other = cc in let same : file ≡ f = cc in past_the_last f (omega (arith, far, same)) (within.1.1 (omega (arith, behind, own)))
 
 -- WHAT IS SEEN OF VOLUMES AND THE DIRECTORY
 
@@ -998,7 +1011,7 @@ pub step_damaged_where_a_needle_stands : (Tells : Type 0) (settings : Settings) 
 step_damaged_where_a_needle_stands Tells settings before after v m cells j place size number r tells on (volume, there, is) within stands says =
     met (damage_so Tells settings before after (asks.Step v m cells) number (Damaged v m place) tells says m place refl j on)
   where
-    met : FileAt settings before.contents before.seen v j (λ o file. LacksCell cells place o file) → ⊥
+    met : FileAt settings before.contents before.seen v j (λ o file. LacksCell ((before.seen).places v) j cells place o file) → ⊥
     met (volume', there', (r', is', lacks)) =
         let one : Some volume' ≡ Some volume = sym there' ∙ there in
         let same_volume : volume' ≡ volume = cc in
@@ -1366,31 +1379,83 @@ deleted_over_a_damaged_needle Tells settings before after pair v p d j number te
 -- a step that was done though so many heads do not stand from its next cell on
 pub stepped_over_damage : (Tells : Type 0) (settings : Settings) (before after : Tally) (v m cells n j number : ℕ) (volume : VolumeSeen) (r : ReplicaSeen) → Tells
     → replica_on settings v m ≡ Some j → At (before.seen).volumes v volume → At volume.replicas j r
-    → ((place : ℕ) → HeadsLead n r.next place (before.contents (slot_of settings v j) (volume_file r.generation)) → ⊥)
+    → ((place : ℕ) → HeadsLead ((before.seen).places v) j n r.next place (before.contents (slot_of settings v j) (volume_file r.generation)) → ⊥)
     → Says Tells settings before after (asks.Step v m cells) number (Stepped v m n) → ⊥
 stepped_over_damage Tells settings before after v m cells n j number volume r tells on there is none says =
-    met (told_so Tells settings before after (asks.Step v m cells) number (Stepped v m n) tells says n refl j on)
+    met ((told_so Tells settings before after (asks.Step v m cells) number (Stepped v m n) tells says).done n refl j on)
   where
-    met : FileAt settings before.contents before.seen v j (λ o file. VolumeAt v (SeesAt j (λ o'. HeadsLead n o.next o'.next file)) after.seen) → ⊥
+    met : FileAt settings before.contents before.seen v j (λ o file. VolumeAt v (SeesAt j (λ o'. HeadsLead ((before.seen).places v) j n o.next o'.next file)) after.seen) → ⊥
     met (volume', there', (o, is', (behind, at, (o', at', lead)))) =
         let one : Some volume' ≡ Some volume = sym there' ∙ there in
         let same : volume' ≡ volume = cc in
         let two : Some o ≡ Some r = sym (subst (λ (w : VolumeSeen). At w.replicas j o) same is') ∙ is in
         let same_replica : o ≡ r = cc in
-        none o'.next (subst (λ (x : ReplicaSeen). HeadsLead n x.next o'.next (before.contents (slot_of settings v j) (volume_file x.generation))) same_replica lead)
+        none o'.next (subst (λ (x : ReplicaSeen). HeadsLead ((before.seen).places v) j n x.next o'.next (before.contents (slot_of settings v j) (volume_file x.generation))) same_replica lead)
 
 -- a compaction that was done though heads do not stand from its first cell on as far as the cells go
 pub compacted_over_damage : (Tells : Type 0) (settings : Settings) (before after : Tally) (v m n j number : ℕ) (volume : VolumeSeen) (r : ReplicaSeen) → Tells
     → replica_on settings v m ≡ Some j → At (before.seen).volumes v volume → At volume.replicas j r
-    → (HeadsLeadOn (begun r) (before.contents (slot_of settings v j) (volume_file r.generation)) → ⊥)
+    → (HeadsLeadOn ((before.seen).places v) j (begun r) (before.contents (slot_of settings v j) (volume_file r.generation)) → ⊥)
     → Says Tells settings before after (asks.Compact v m) number (Compacted v m n) → ⊥
 compacted_over_damage Tells settings before after v m n j number volume r tells on there is none says =
-    met (told_so Tells settings before after (asks.Compact v m) number (Compacted v m n) tells says n refl j on)
+    met ((told_so Tells settings before after (asks.Compact v m) number (Compacted v m n) tells says).done n refl j on)
   where
-    met : FileAt settings before.contents before.seen v j (λ o file. VolumeAt v (SeesAt j (λ o'. HeadsLeadOn (begun o) file)) after.seen) → ⊥
+    met : FileAt settings before.contents before.seen v j (λ o file. VolumeAt v (SeesAt j (λ o'. HeadsLeadOn ((before.seen).places v) j (begun o) file)) after.seen) → ⊥
     met (volume', there', (o, is', (behind, at, (o', at', lead)))) =
         let one : Some volume' ≡ Some volume = sym there' ∙ there in
         let same : volume' ≡ volume = cc in
         let two : Some o ≡ Some r = sym (subst (λ (w : VolumeSeen). At w.replicas j o) same is') ∙ is in
         let same_replica : o ≡ r = cc in
-        none (subst (λ (x : ReplicaSeen). HeadsLeadOn (begun x) (before.contents (slot_of settings v j) (volume_file x.generation))) same_replica lead)
+        none (subst (λ (x : ReplicaSeen). HeadsLeadOn ((before.seen).places v) j (begun x) (before.contents (slot_of settings v j) (volume_file x.generation))) same_replica lead)
+
+-- a step that was done over a cell that it was to copy, and whose head alone is whole
+pub stepped_over_a_broken_body : (Tells : Type 0) (settings : Settings) (before after : Tally) (v m cells n j number at : ℕ) (volume : VolumeSeen) (r : ReplicaSeen) (front : List CellHead) → Tells
+    → replica_on settings v m ≡ Some j → At (before.seen).volumes v volume → At volume.replicas j r
+    → BreaksBehind ((before.seen).places v) j r.next at (before.contents (slot_of settings v j) (volume_file r.generation)) front → length front < n
+    → Says Tells settings before after (asks.Step v m cells) number (Stepped v m n) → ⊥
+stepped_over_a_broken_body Tells settings before after v m cells n j number at volume r front tells on there is breaks more says =
+    stepped_over_damage Tells settings before after v m cells n j number volume r tells on there is
+    (λ place lead.
+    let few = (broken_ends ((before.seen).places v) j n r.next at place (before.contents (slot_of settings v j) (volume_file r.generation)) front breaks lead).0 in
+    omega (arith, few, more))
+    says
+
+-- one that wanted memory behind it
+pub stepped_partly_over_a_broken_body : (Tells : Type 0) (settings : Settings) (before after : Tally) (v m cells j number at : ℕ) (volume behind : VolumeSeen) (r r' : ReplicaSeen) (front : List CellHead) → Tells
+    → replica_on settings v m ≡ Some j → At (before.seen).volumes v volume → At volume.replicas j r → At (after.seen).volumes v behind → At behind.replicas j r'
+    → BreaksBehind ((before.seen).places v) j r.next at (before.contents (slot_of settings v j) (volume_file r.generation)) front → at < r'.next
+    → Says Tells settings before after (asks.Step v m cells) number NoMem → ⊥
+stepped_partly_over_a_broken_body Tells settings before after v m cells j number at volume behind r r' front tells on there is now is' breaks past says =
+    met ((told_so Tells settings before after (asks.Step v m cells) number NoMem tells says).part refl j on)
+  where
+    file : List ℕ
+    file = before.contents (slot_of settings v j) (volume_file r.generation)
+
+    met : FileAt settings before.contents before.seen v j (λ o file. VolumeAt v (SeesAt j (λ o'. (n : ℕ) × (n ≤ cells) × HeadsLead ((before.seen).places v) j n o.next o'.next file)) after.seen) → ⊥
+    met (volume', there', (o, at', (behind', now', (o', at'', lead)))) =
+        let one : Some volume' ≡ Some volume = sym there' ∙ there in
+        let same : volume' ≡ volume = cc in
+        let two : Some o ≡ Some r = sym (subst (λ (w : VolumeSeen). At w.replicas j o) same at') ∙ is in
+        let same_replica : o ≡ r = cc in
+        let three : Some behind' ≡ Some behind = sym now' ∙ now in
+        let same_behind : behind' ≡ behind = cc in
+        let four : Some o' ≡ Some r' = sym (subst (λ (w : VolumeSeen). At w.replicas j o') same_behind at'') ∙ is' in
+        let same_now : o' ≡ r' = cc in
+        let led : HeadsLead ((before.seen).places v) j lead.0 r.next r'.next file =
+        subst (λ (x : ReplicaSeen). HeadsLead ((before.seen).places v) j lead.0 r.next x.next file) same_now
+        (subst (λ (x : ReplicaSeen). HeadsLead ((before.seen).places v) j lead.0 x.next o'.next (before.contents (slot_of settings v j) (volume_file x.generation))) same_replica lead.2) in
+        let low = (broken_ends ((before.seen).places v) j lead.0 r.next at r'.next file front breaks led).1 in
+        omega (arith, low, past)
+
+-- a compaction that was done over one before the end of its cells
+pub compacted_over_a_broken_body : (Tells : Type 0) (settings : Settings) (before after : Tally) (v m n j number at : ℕ) (volume : VolumeSeen) (r : ReplicaSeen) (front : List CellHead) → Tells
+    → replica_on settings v m ≡ Some j → At (before.seen).volumes v volume → At volume.replicas j r
+    → BreaksBehind ((before.seen).places v) j 64 at (before.contents (slot_of settings v j) (volume_file r.generation)) front → at < r.end
+    → Says Tells settings before after (asks.Compact v m) number (Compacted v m n) → ⊥
+compacted_over_a_broken_body Tells settings before after v m n j number at volume r front tells on there is breaks within says =
+    compacted_over_damage Tells settings before after v m n j number volume r tells on there is
+    (λ lead.
+    let far : r.end ≤ lead.1 = lead.2 in
+    let low = (broken_ends ((before.seen).places v) j lead.0 64 at lead.1 (before.contents (slot_of settings v j) (volume_file r.generation)) front breaks lead.3).1 in
+    omega (arith, far, low, within))
+    says

@@ -17,7 +17,7 @@ use Rattle.hay_run.specs.declared.stops.Stop.TheVariants as stop
 use Rattle.hay_run.specs.Items.{TookOpen}
 use Rattle.hay_lines.specs.Lines.{TookPart, TookOver, TookSome}
 use Rattle.hay_lines.specs.Stream.{Held}
-use Rattle.hay_run.specs.Turns.{Standing, AnswersAll, Appends, Broke, RefusesRestart, StopsTurn, HoldsNone, counts_of, RefusedFor, Halts}
+use Rattle.hay_run.specs.Turns.{Standing, AnswersAll, Appends, Broke, RefusesRestart, StopsTurn, HoldsNone, Keeps, counts_of, RefusedFor, Halts}
 use Rattle.hay_run.proofs.Counting.{NoneFalls-at, rose_more}
 
 module _ {D P A : Type 0} (Tells : Type 0) (Begins Left : Standing D P A) (number : ℕ) (rest written after written' : Option (List ℕ)) (store store' : Open D P A) (r : Result ℕ Stop) where
@@ -26,7 +26,7 @@ module _ {D P A : Type 0} (Tells : Type 0) (Begins Left : Standing D P A) (numbe
       → (IsErrOf r stop.Input → TookOpen TookPart number None rest after × (store' ≡ store) × (written' ≡ written))
       → (IsErrOf r stop.TooLong → TookOpen TookOver number None rest after × (store' ≡ store) × (written' ≡ written))
       → (IsErrOf r stop.Output → Broke Tells Begins Left store number rest written store' after written')
-      → (IsErrOf r stop.NoMemory → (TookSome rest after × (store' ≡ store) × (written' ≡ written)) ⊎ Broke Tells Begins Left store number rest written store' after written')
+      → (IsErrOf r stop.NoMemory → (TookSome rest after × Keeps Tells Begins store store' × (written' ≡ written)) ⊎ Broke Tells Begins Left store number rest written store' after written')
       → (IsErrOf r stop.Store → RefusesRestart Tells Wrote Begins Left store number rest written store' after written')
       → StopsTurn Tells Begins Left why number rest written store after written' store'
   stops_by stop.Input is input over output memory refused = input is

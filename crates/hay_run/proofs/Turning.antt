@@ -26,14 +26,13 @@ use Rattle.hay_legal.specs.declared.turn.Turn.TheVariants.{Plain, Lanes, Restart
 use Rattle.hay_legal.specs.Items.{Asked, InBlock, item_of_turn, line_asked}
 use Rattle.hay_legal.specs.Items.Asked.{Alone, Block}
 use Rattle.hay_legal.specs.Known.{Leaves, FaultsRose}
-use Rattle.hay_legal.specs.Legal.{Legal, known_after, IsUnbuiltLine}
+use Rattle.hay_legal.specs.Blocks.{LegalBlock}
+use Rattle.hay_legal.specs.Legal.{Legal, known_after}
 use Rattle.hay_legal.specs.Plain.{LegalCommand}
 use Rattle.hay_legal.specs.Restarts.{LegalRestart}
-use Rattle.hay_legal.specs.Statuses.{IsUnbuiltTurn}
-use Rattle.hay_legal.specs.Transcript.{turn_text, answered_line}
+use Rattle.hay_legal.specs.Transcript.{turn_text}
 use Rattle.hay_cluster.specs.Store.{Open}
 use Rattle.hay_run.specs.Turns.{Writing, Standing, AnswersTurns, Appends, IsGoingOn}
-use Rattle.hay_run.specs.Unbuilt.{unbuilt_reply, unbuilt_text, unbuilt_line}
 use Rattle.hay_run.proofs.Counting.{NoneFalls-same}
 
 -- what holds of each error holds of these two
@@ -61,27 +60,6 @@ leaves_same k = record { volumes = refl; directory = refl; drained = refl; fuses
 
 pub rises_same : (k : Known) → FaultsRose k k
 rises_same k = record { volumes = refl; directory = refl; drained = refl; fuses = refl; faults = NoneFalls-same k.faults; arms = refl }
-
--- a block that is not built yet
-
-unbuilt_by : (line lane : ℕ) (item : Item) → IsUnbuiltLine (record { line = line; lane = lane; item = item; reply = unbuilt_reply item })
-unbuilt_by line lane (item.Command command) = refl
-unbuilt_by line lane item.Bad = refl
-
-all_unbuilt : (lines : List InBlock) → AllByRecursion IsUnbuiltLine (map unbuilt_line lines)
-all_unbuilt [] = tt
-all_unbuilt (line ∷ lines) = (unbuilt_by line.line line.lane line.item, all_unbuilt lines)
-
-asked_lines : (lines : List InBlock) → map line_asked (map unbuilt_line lines) ≡ lines
-asked_lines [] = refl
-asked_lines (line ∷ lines) = ap (λ (others : List InBlock). line ∷ others) (asked_lines lines)
-
-lines_text : (lines : List InBlock) → flat_map answered_line (map unbuilt_line lines) ≡ flat_map unbuilt_text lines
-lines_text [] = refl
-lines_text (line ∷ lines) = ap (λ (text : List ℕ). unbuilt_text line ++ text) (lines_text lines)
-
-block_text : (lines : List InBlock) → flat_map answered_line (map unbuilt_line lines) ++ [] ++ [] ++ [] ≡ flat_map unbuilt_text lines
-block_text lines = simp append-nil (lines_text lines)
 
 -- one turn behind others
 
@@ -138,7 +116,6 @@ module _ {D P A : Type 0} (Left : Standing D P A) where
     turns = [];
     t = k;
     each = tt;
-    unbuilt = tt;
     items = refl;
     legal = refl;
     left = left;
@@ -154,7 +131,6 @@ module _ {D P A : Type 0} (Left : Standing D P A) where
         turns = Plain number item.Bad BadLine k ∷ [];
         t = k;
         each = (is number item.Bad BadLine k, tt);
-        unbuilt = (tt, tt);
         items = refl;
         legal = ((refl, leaves_same k), refl);
         left = left;
@@ -170,7 +146,6 @@ module _ {D P A : Type 0} (Left : Standing D P A) where
         turns = Plain number (item.Command command) reply t ∷ [];
         t = t;
         each = (is number (item.Command command) reply t, tt);
-        unbuilt = (tt, tt);
         items = refl;
         legal = (legal, refl);
         left = left;
@@ -187,27 +162,26 @@ module _ {D P A : Type 0} (Left : Standing D P A) where
         turns = Restart number pick reply notes t ∷ [];
         t = t;
         each = (is, tt);
-        unbuilt = (tt, tt);
         items = refl;
         legal = (legal, refl);
         left = left;
         wrote = subst P (sym (append-nil (numbered_line number reply ++ flat_map note_line notes))) wrote;
       }
 
-  pub answers_block : (Is : Turn → Type 0) → ((items : List LaneItem) (logs : List LogNote) (rows : RowNote) (after : Known) → Is (Lanes items logs rows after)) → (Writes : Writing) (k : Known) (lines : List InBlock) (written written' : Option (List ℕ)) (store : Open D P A)
-      → Left store k → Writes written (flat_map unbuilt_text lines) written'
+  pub answers_block : (Is : Turn → Type 0) → ((items : List LaneItem) (logs : List LogNote) (rows : RowNote) (after : Known) → Is (Lanes items logs rows after)) → (Writes : Writing) (k t : Known) (lines : List InBlock)
+      (items : List LaneItem) (logs : List LogNote) (rows : RowNote) (written written' : Option (List ℕ)) (store : Open D P A)
+      → map line_asked items ≡ lines → LegalBlock store.settings k items logs rows t → Left store t → Writes written (turn_text (Lanes items logs rows t)) written'
       → AnswersTurns Is Writes Left k (Block lines ∷ []) written store written'
-  answers_block Is is Writes k lines written written' store left wrote =
+  answers_block Is is Writes k t lines items logs rows written written' store asked legal left wrote =
       let P : List ℕ → Type 0 = λ text. Writes written text written' in
       record {
-        turns = Lanes (map unbuilt_line lines) [] (record { from = 0; rows = [] }) k ∷ [];
-        t = k;
-        each = (is (map unbuilt_line lines) [] (record { from = 0; rows = [] }) k, tt);
-        unbuilt = ((all_unbuilt lines, refl, refl), tt);
-        items = ap (λ (items : List InBlock). Block items ∷ []) (asked_lines lines);
-        legal = (inr (record { lines = all_unbuilt lines; no_entries = refl; no_rows = refl; leaves = leaves_same k }), refl);
+        turns = Lanes items logs rows t ∷ [];
+        t = t;
+        each = (is items logs rows t, tt);
+        items = ap (λ (own : List InBlock). Block own ∷ []) asked;
+        legal = (legal, refl);
         left = left;
-        wrote = subst P (sym (block_text lines)) wrote;
+        wrote = subst P (sym (append-nil (turn_text (Lanes items logs rows t)))) wrote;
       }
 
 -- turns behind others
@@ -223,7 +197,6 @@ answers_more Stands k asked more written written' written'' store store' same fi
       turns = first.turns ++ next.turns;
       t = next.t;
       each = each_more IsGoingOn first.turns next.turns first.each next.each;
-      unbuilt = each_more IsUnbuiltTurn first.turns next.turns first.unbuilt next.unbuilt;
       items = map-append item_of_turn first.turns next.turns ∙ ap (λ (items : List Asked). items ++ map item_of_turn next.turns) first.items ∙ ap (λ (items : List Asked). asked ++ items) next.items;
       legal = legal_more store'.settings k first.turns first.t next.turns next.t (subst P (sym same) first.legal) next.legal;
       left = next.left;

@@ -15,7 +15,7 @@ use Rattle.hay_reply.specs.declared.Reply.TheVariants.{BadLine, NoMem, Restarted
 use Rattle.hay_reply.specs.Fits.{FitsNote, FitsReply}
 use Rattle.hay_reply.specs.Replies.{header_line, note_line, numbered_line}
 use Rattle.hay_legal.specs.declared.turn.Item.TheVariants as item
-use Rattle.hay_legal.specs.Items.{Asked, items_of, items_before}
+use Rattle.hay_legal.specs.Items.{Asked, InBlock, items_of, items_before}
 use Rattle.hay_legal.specs.Items.Asked.{Alone, Block}
 use Rattle.hay_legal.specs.Known.{NoneFalls, disk_count}
 use Rattle.hay_legal.specs.Stands.{Contents, Outside}
@@ -33,13 +33,13 @@ use Rattle.hay_cluster.specs.Store.{Open, contents_in, disks_of}
 use Rattle.hay_cluster.specs.Suiting.{Suits}
 use Rattle.hay_run.specs.declared.stops.Stop.{Stop}
 use Rattle.hay_run.specs.declared.stops.Stop.TheVariants as stop
+use Rattle.hay_run.specs.Blocks.{IsBlockText}
 use Rattle.hay_run.specs.Items.{TookItems, TookOpen, AsksAll}
 use Rattle.hay_lines.specs.Lines.{TookPart, TookOver, TookSome}
 use Rattle.hay_run.specs.Runs.{IsFirstRefusal, ReadBytes}
 use Rattle.hay_run.specs.Stops.{ending_of}
 use Rattle.hay_lines.specs.Stream.{Held, rest_of}
 use Rattle.hay_run.specs.Turns.{Writing, HoldsNone}
-use Rattle.hay_run.specs.Unbuilt.{unbuilt_text}
 
 -- What is seen of a store: how many calls of each disk and fetches of each arm failed, how many fuses were set on each disk, which
 -- arms are sure, what is seen of its volumes, its Directory and its photos in memory, what reads of the disk in each slot give, and how many bytes
@@ -109,7 +109,7 @@ abbrev pub IsTextOf : Type 0 → Settings → Tally → Tally → Asked → List
 IsTextOf Tells settings before after (Alone number (item.Command command)) text =
     LeavesFuses settings command before.fuses after.fuses × (IsRestartText Tells settings before after command number text ⊎ IsReplyText Tells settings before after command number text)
 IsTextOf Tells settings before after (Alone number item.Bad) text = (after ≡ before) × (text ≡ numbered_line number BadLine)
-IsTextOf Tells settings before after (Block lines) text = (after ≡ before) × (text ≡ flat_map unbuilt_text lines)
+IsTextOf Tells settings before after (Block lines) text = IsBlockText lines text
 
 -- one text after another answers the items
 abbrev pub AnswerTexts : Type 0 → Settings → Tally → Tally → List Asked → List ℕ → Type 0
@@ -159,6 +159,14 @@ abbrev pub ToldWanting : Tally → Tally → List Asked → Option (List ℕ) �
 ToldWanting before after asked written written' =
     (not : NotReopened before after asked) × WrotePart written (numbered_line not.restart.0 NoMem) written'
 
+-- A block wanted memory before any of its lines was answered: no count changed, no fuse was set, and the arms are as they were.
+pub record WantedBlock (before after : Tally) (asked : List Asked) : Type 0 where
+  pub lines : List InBlock
+  pub block : asked ≡ Block lines ∷ []
+  pub counts : after.counts ≡ before.counts
+  pub fuses : after.fuses ≡ before.fuses
+  pub sure : after.sure ≡ before.sure
+
 -- what a run that stops has written of the last item
 abbrev pub StopCaused : Type 0 → Settings → Tally → Tally → Stop → List Asked → Option (List ℕ) → Option (List ℕ) → Type 0
 StopCaused Tells settings before after stop.Input asked written written' = (asked ≡ []) × (after ≡ before) × (written' ≡ written)
@@ -167,6 +175,7 @@ StopCaused Tells settings before after stop.Output asked written written' =
     Caused Tells WrotePart settings before after asked written written' ⊎ ToldWanting before after asked written written' ⊎ ToldRefusal Tells WrotePart settings before after asked written written'
 StopCaused Tells settings before after stop.NoMemory asked written written' =
     Caused Tells WrotePart settings before after asked written written' ⊎ ToldWanting before after asked written written' ⊎ ToldRefusal Tells WrotePart settings before after asked written written'
+    ⊎ (WantedBlock before after asked × (written' ≡ written))
 StopCaused Tells settings before after stop.Store asked written written' = ToldRefusal Tells Wrote settings before after asked written written'
 
 -- what it has read of it: the item, or lines that ask for nothing whole
@@ -236,7 +245,8 @@ StandsBehind Tells ReadAll settings before after last part = (part ≡ []) × (a
 StandsBehind Tells InputFault settings before after last part = (part ≡ []) × (after ≡ before)
 StandsBehind Tells TooLong settings before after last part = (part ≡ []) × (after ≡ before)
 StandsBehind Tells OutputFault settings before after last part = IsPartBehind Tells settings before after last part
-StandsBehind Tells NoMemory settings before after last part = IsPartBehind Tells settings before after last part
+StandsBehind Tells NoMemory settings before after last part =
+    IsPartBehind Tells settings before after last part ⊎ (WantedBlock before after last × (part ≡ []))
 StandsBehind Tells NotOpened settings before after last part =
     NotReopened before after last × ((note : Note) × FitsNote note × IsNoteCaused Tells settings before after note × (part ≡ note_line note))
 

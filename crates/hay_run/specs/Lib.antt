@@ -1,11 +1,13 @@
+pub mod Audits
+pub mod Blocks
 pub mod Causing
 pub mod Checking
 pub mod Items
+pub mod Reads
 pub mod Runs
 pub mod Stopping
 pub mod Stops
 pub mod Turns
-pub mod Unbuilt
 pub mod Words
 pub mod Draws
 pub mod Loads

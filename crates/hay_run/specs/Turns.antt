@@ -17,7 +17,6 @@ use Rattle.hay_legal.specs.Items.{Asked, item_of_turn}
 use Rattle.hay_legal.specs.Items.Asked.{Alone}
 use Rattle.hay_legal.specs.Known.{CameUp, FaultsRose, disk_count, fault_count}
 use Rattle.hay_legal.specs.Legal.{Legal}
-use Rattle.hay_legal.specs.Statuses.{IsUnbuiltTurn}
 use Rattle.hay_legal.specs.Transcript.{turn_text}
 use Rattle.hay_cluster.specs.Causes.{HasFile}
 use Rattle.hay_cluster.specs.Outside.{AreSoundBelow, IsDamagedDisk, IsVoid}
@@ -43,13 +42,11 @@ IsGoingOn turn = (line pick : ℕ) (notes : List Note) (after : Known) → turn 
 abbrev pub AnyTurn : Turn → Type 0
 AnyTurn turn = Unit {0}
 
--- Turns of this kind, legal from k, answer these items, and the store is left at what the last one left. Their text was written,
--- and no block was run.
+-- Turns of this kind, legal from k, answer these items, and the store is left at what the last one left. Their text was written.
 pub record AnswersTurns {D P A : Type 0} (Is : Turn → Type 0) (Writes : Writing) (Left : Standing D P A) (k : Known) (asked : List Asked) (written : Option (List ℕ)) (store : Open D P A) (written' : Option (List ℕ)) : Type 0 where
   pub turns : List Turn
   pub t : Known
   pub each : AllByRecursion Is turns
-  pub unbuilt : AllByRecursion IsUnbuiltTurn turns
   pub items : map item_of_turn turns ≡ asked
   pub legal : Legal store.settings k turns t
   pub left : Left store t
@@ -122,6 +119,10 @@ Broke Tells Stands Left store number before written store' after written' =
     TurnedPart Tells Stands Left store number before written store' after written'
     ⊎ RefusesRestart Tells WrotePart Stands Left store number before written store' after written'
 
+-- a store that tells stands for all that the other stands for
+abbrev pub Keeps : {D P A : Type 0} → Type 0 → Standing D P A → Open D P A → Open D P A → Type 0
+Keeps Tells Stands store store' = Tells → (k : Known) → Stands store k → Stands store' k
+
 -- What a run that stops has done behind the last whole turn, from that turn's number, what is left of the script, what was
 -- written and the store.
 abbrev pub StopsTurn : {D P A : Type 0} → Type 0 → Standing D P A → Standing D P A → Stop → ℕ → Option (List ℕ) → Option (List ℕ) → Open D P A → Option (List ℕ) → Option (List ℕ) → Open D P A → Type 0
@@ -132,7 +133,7 @@ StopsTurn Tells Stands Left stop.TooLong number rest written store after written
 StopsTurn Tells Stands Left stop.Output number rest written store after written' store' =
     Broke Tells Stands Left store number rest written store' after written'
 StopsTurn Tells Stands Left stop.NoMemory number rest written store after written' store' =
-    (TookSome rest after × (store' ≡ store) × (written' ≡ written)) ⊎ Broke Tells Stands Left store number rest written store' after written'
+    (TookSome rest after × Keeps Tells Stands store store' × (written' ≡ written)) ⊎ Broke Tells Stands Left store number rest written store' after written'
 StopsTurn Tells Stands Left stop.Store number rest written store after written' store' =
     RefusesRestart Tells Wrote Stands Left store number rest written store' after written'
 

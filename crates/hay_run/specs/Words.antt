@@ -1,8 +1,8 @@
--- Which words are a run, a check or a load.
-use Rattle.std.specs.Prelude.{◌⊎◌, ℕ, List}
+-- Which words are a run, a check, a load or an audit.
+use Rattle.std.specs.Prelude.{◌≡◌, ◌⊎◌, ℕ, List}
 use Rattle.hay_needle.specs.declared.settings.Settings.{Settings}
 use Rattle.hay_cli.specs.declared.Mode.{Mode}
-use Rattle.hay_cli.specs.declared.Mode.TheVariants.{Run, Check, Load, Drill}
+use Rattle.hay_cli.specs.declared.Mode.TheVariants.{Run, Check, Load, Audit, Drill}
 use Rattle.hay_cli.specs.Commands.{Says}
 use Rattle.hay_cluster.specs.Store.{IsBuilt}
 
@@ -18,13 +18,25 @@ SaysCheck words settings = Says words (Check settings)
 abbrev pub SaysLoad : List (List ℕ) → Settings → Type 0
 SaysLoad words settings = Says words (Load settings)
 
--- the words are a run, a check or a load
+-- the words are an audit with these settings
+abbrev pub SaysAudit : List (List ℕ) → Settings → Type 0
+SaysAudit words settings = Says words (Audit settings)
+
+abbrev pub IsAudit : List (List ℕ) → Type 0
+IsAudit words = (settings : Settings) × SaysAudit words settings
+
+-- the words are a run, a check, a load or an audit
 abbrev pub IsCommand : List (List ℕ) → Type 0
-IsCommand words = (settings : Settings) × (SaysRun words settings ⊎ SaysCheck words settings ⊎ SaysLoad words settings)
+IsCommand words = (settings : Settings) × (SaysRun words settings ⊎ SaysCheck words settings ⊎ SaysLoad words settings ⊎ SaysAudit words settings)
+
+-- the statuses that an audit alone ends with
+abbrev pub IsAuditStatus : ℕ → Type 0
+IsAuditStatus status = (status ≡ 9) ⊎ (status ≡ 10) ⊎ (status ≡ 11)
 
 -- the settings of a mode are within the limits
 abbrev pub HasBuilt : Mode → Type 0
 HasBuilt (Run settings) = IsBuilt settings
 HasBuilt (Check settings) = IsBuilt settings
 HasBuilt (Load settings) = IsBuilt settings
+HasBuilt (Audit settings) = IsBuilt settings
 HasBuilt (Drill count first) = Unit {0}

@@ -1,13 +1,14 @@
-//! A block of lanes, as it is read.
-ghost use Rattle.std.specs.Prelude.{◌≡◌, ◌⊎◌, ◌+◌, ◌^◌, ◌<◌, ◌≤◌, [], ◌∷◌, ◌++◌, true, false, Ok, Err, Some, None, flat_map, IfOk, OnOk, OnErr, IsErrOf};
+//! A block of lanes, as it is read: its lines, each with its lane.
+ghost use Rattle.std.specs.Prelude.{◌≡◌, ◌⊎◌, ◌+◌, ◌^◌, ◌<◌, ◌≤◌, ℕ, List, [], ◌∷◌, true, false, Ok, Err, Some, None, IfOk, OnOk, OnErr, IsErrOf};
 ghost use Rattle.hay_disk.specs.Counts.{Rose};
-ghost use Rattle.hay_script.specs.declared.Command.{Command};
+ghost use Rattle.hay_script.specs.Script.{IsWithinLine, line_of};
 ghost use Rattle.hay_legal.specs.Items.{empty_block, with_bad, with_command, inside};
 ghost use Rattle.hay_legal.specs.Items.Asked.{Block};
+ghost use Rattle.hay_block.specs.Lines.{IsServed};
+ghost use Rattle.hay_run.specs.Blocks.{IsBlockOf, IsBlockBelow};
 ghost use Rattle.hay_run.specs.Items.{TookItems, TookOpen};
 ghost use Rattle.hay_lines.specs.Lines.{TookPart, TookOver, TookSome};
 ghost use Rattle.hay_lines.specs.Stream.{rest_of, budget, Accounts, IsTooLong};
-ghost use Rattle.hay_run.specs.Unbuilt.{unbuilt_reply, unbuilt_text};
 
 use crate::said::next_said;
 use crate::stops::Stop;
@@ -15,7 +16,6 @@ use hay_base::{Listed, NoMemory};
 use hay_disk::Source;
 use hay_legal::turn::Item;
 use hay_lines::{SCRIPT, ScriptLines};
-use hay_reply::{Reply, numbered_line};
 use hay_script::{Command, Line};
 use std::alloc::Global;
 use std::marker::Model;
@@ -26,9 +26,9 @@ pub const COMMANDS: u32 = 65_536;
 /// A line of a block: its number, its lane, which is 0 where the line is bad, and what it asks for.
 #[derive(Drop)]
 pub struct BlockLine {
-    line: u64,
-    lane: u32,
-    item: Item,
+    pub line: u64,
+    pub lane: u32,
+    pub item: Item,
 }
 
 impl Model for BlockLine {
@@ -66,14 +66,24 @@ impl LaneBlock {
         }
     }
 
-    fn lanes(&self) -> u32
+    pub fn lanes(&self) -> u32
         ensures { result ≡ self.now.lanes }
     {
         self.lanes
     }
 
+    /// Its lines, in their order.
+    pub fn into_lines(self) -> Vec<BlockLine>
+        ensures { result.items ≡ self.lines }
+    {
+        self.lines.into_vec()
+    }
+
     fn add_bad(&mut self, number: u64) -> Result<(), NoMemory>
-        ensures { OnOk result (self.new ≡ with_bad number self.old) }
+        requires below { IsBlockBelow number self.old }
+        ensures added { OnOk result (self.new ≡ with_bad number self.old) }
+        ensures below { OnOk result (IsBlockBelow (number + 1) self.new) }
+        ensures lanes { self.new.lanes ≡ self.old.lanes }
     {
         self.lines.push(BlockLine {
             line: number,
@@ -84,7 +94,12 @@ impl LaneBlock {
 
     /// Adds a command, unless the block has as many as it may have: then the line is bad.
     fn add(&mut self, number: u64, lane: u32, command: Command) -> Result<(), NoMemory>
-        ensures { OnOk result (self.new ≡ with_command number lane command self.old) }
+        requires below { IsBlockBelow number self.old }
+        requires lane { lane < self.old.lanes }
+        requires served { IsServed (Item.Command command) }
+        ensures added { OnOk result (self.new ≡ with_command number lane command self.old) }
+        ensures below { OnOk result (IsBlockBelow (number + 1) self.new) }
+        ensures lanes { self.new.lanes ≡ self.old.lanes }
     {
         if self.commands >= COMMANDS {
             return self.add_bad(number);
@@ -99,6 +114,11 @@ impl LaneBlock {
 
     /// Takes a line, and answers whether it closes the block.
     fn take(&mut self, number: u64, said: Line) -> Result<bool, NoMemory>
+        requires below { IsBlockBelow number self.old }
+        requires within { IsWithinLine said }
+        requires says { (text : List ℕ) × (said ≡ line_of (Some self.old.lanes) text) }
+        ensures below { OnOk result (IsBlockBelow (number + 1) self.new) }
+        ensures lanes { self.new.lanes ≡ self.old.lanes }
         ensures open { result ≡ Ok false → inside number self.old said ≡ ([], Some self.new) }
         ensures closed { result ≡ Ok true → inside number self.old said ≡ (Block self.new.lines ∷ [], None) }
     {
@@ -117,38 +137,6 @@ impl LaneBlock {
     }
 }
 
-fn reply_to(item: &Item) -> Reply
-    ensures { result ≡ unbuilt_reply item.now }
-{
-    match item {
-        Item::Command(_) => Reply::Unbuilt,
-        Item::Bad => Reply::BadLine,
-    }
-}
-
-impl BlockLine {
-    /// Adds the line of the transcript that answers this line. `NoMemory` adds nothing.
-    fn add_text(&self, alloc: Global, text: &mut Vec<u8>) -> Result<(), NoMemory>
-        ensures ok { OnOk result (text.new.items ≡ text.old.items ++ unbuilt_text self.now) }
-        ensures err { OnErr result (text.new.items ≡ text.old.items) }
-    {
-        numbered_line(alloc, self.line, &reply_to(&self.item), text)
-    }
-}
-
-impl LaneBlock {
-    /// The text of the turn in which the block is answered.
-    pub fn text(&self, alloc: Global) -> Result<Vec<u8>, NoMemory>
-        ensures { IfOk result (λ text. text.items ≡ flat_map unbuilt_text self.now.lines) }
-    {
-        let mut text = Vec::new(alloc);
-        for line in self.lines.as_slice() {
-            line.add_text(alloc, &mut text)?;
-        }
-        Ok(text)
-    }
-}
-
 /// Reads the lines of a block to its end, the first of which has this number, and answers with the block and the number
 /// of the line behind it. It isn't called once the script's end was met.
 fn read_lines<S: Source>(
@@ -160,6 +148,8 @@ fn read_lines<S: Source>(
 ) -> Result<(LaneBlock, u64), Stop>
     requires open { script.old.ended ≡ false }
     requires few { number + budget SCRIPT script.old < 2 ^ 64 }
+    requires below { IsBlockBelow number block }
+    ensures lines { IfOk result (λ read. IsBlockOf block.lanes read.0.lines × (read.0.lanes ≡ block.lanes)) }
     ensures read { IfOk result (λ read. TookItems number (Some block) (rest_of (S.left source.old) script.old) (Block read.0.lines ∷ []) read.1 (rest_of (S.left source.new) script.new) script.new.ended) }
     ensures few { IfOk result (λ read. read.1 + budget SCRIPT script.new ≤ number + budget SCRIPT script.old) }
     ensures accounts { OnOk result (Accounts (S.left source.old) script.old (S.left source.new) script.new) }
@@ -200,7 +190,10 @@ pub fn read_block<S: Source>(
     lanes: u32,
     source: &mut S,
 ) -> Result<(LaneBlock, u64), Stop>
-    requires { number + budget SCRIPT script.old < 2 ^ 64 }
+    requires few { number + budget SCRIPT script.old < 2 ^ 64 }
+    requires some { 0 < lanes }
+    requires most { lanes ≤ 8 }
+    ensures lines { IfOk result (λ read. IsBlockOf lanes read.0.lines × (read.0.lanes ≡ lanes)) }
     ensures read { script.old.ended ≡ false → IfOk result (λ read. TookItems number (Some (empty_block lanes)) (rest_of (S.left source.old) script.old) (Block read.0.lines ∷ []) read.1 (rest_of (S.left source.new) script.new) script.new.ended) }
     ensures empty { script.old.ended ≡ true → IfOk result (λ read. (read.0.lines ≡ []) × (read.1 ≡ number) × (source.new ≡ source.old) × (script.new ≡ script.old)) }
     ensures few { IfOk result (λ read. read.1 + budget SCRIPT script.new ≤ number + budget SCRIPT script.old) }

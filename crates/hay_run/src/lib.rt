@@ -8,11 +8,15 @@
 //! the last turn. Each other status comes for its own cause alone, and the disks and arms are given back at each of them.
 //!
 //! Where the words ask for a check it stands on `hay_check` in place of `hay_cluster`: a line is written for each disk, and no
-//! byte of a disk is changed.
+//! byte of a disk is changed. Where they ask for an audit it stands on `hay_frame` and `hay_audit`: the source gives a script and a
+//! transcript, and a line says whether legal turns of the script may have written it.
 #![tactic(auto)]
 
+mod audit;
 mod block;
 mod check;
+mod deal;
+mod lanes;
 mod load;
 mod program;
 mod said;

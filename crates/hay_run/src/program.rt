@@ -17,10 +17,12 @@ ghost use Rattle.hay_lines.specs.Stream.{IsReadToEnd, TookAtMost};
 ghost use Rattle.hay_run.specs.Stops.{ending_of};
 ghost use Rattle.hay_run.specs.Runs.{HasOpened, IsNotOpened, IsNotOpenedBehind, IsSureStill, IsTaken, RanTo, WasRead};
 ghost use Rattle.hay_run.specs.Turns.{Appends};
+ghost use Rattle.hay_run.specs.Audits.{AuditsTo};
 ghost use Rattle.hay_run.specs.Checking.{ChecksTo, IsUnchanged};
 ghost use Rattle.hay_run.specs.Loads.{IsLoad};
-ghost use Rattle.hay_run.specs.Words.{IsCommand, SaysCheck, SaysLoad, SaysRun};
+ghost use Rattle.hay_run.specs.Words.{IsAudit, IsAuditStatus, IsCommand, SaysAudit, SaysCheck, SaysLoad, SaysRun};
 
+use crate::audit::audit_transcript;
 use crate::check::check_store;
 use crate::load::load_puts;
 use crate::serve::serve;
@@ -30,19 +32,33 @@ use crate::writing::{write_header, write_refusal};
 use hay_base::NoMemory;
 use hay_cli::Mode;
 use hay_cluster::Cluster;
-use hay_disk::{Shelf, Sink, Source};
+use hay_disk::{Disk, Shelf, Sink, Source};
+use hay_lanes::Gate;
 use hay_lines::SCRIPT;
 use hay_needle::Settings;
 use std::alloc::Global;
+use std::sync::Wait;
+use std::thread::Threads;
 
 /// Opens a store on the disks of the shelf, answers the script, and gives the disks back.
-fn answer_script<H: Shelf, S: Source, K: Sink>(
+fn answer_script<H, S, K, G, R>(
+    rt: &R,
     alloc: Global,
     settings: Settings,
     source: &mut S,
     sink: &mut K,
     shelf: &mut H,
+    gate: &G,
 ) -> Result<(), Stop>
+where
+    H: Shelf,
+    H::Disk: Send + Sync,
+    <H::Disk as Disk>::Piece: Send + Sync,
+    H::Arm: Send,
+    S: Source,
+    K: Sink,
+    G: Gate + Sync,
+    R: Threads + Wait + Sync,
     requires built { IsBuilt settings }
     requires disks_in { AreIn (disk_count settings) (H.disks shelf.old) }
     requires arms_in { AreArmsIn 8 (H.arms shelf.old) }
@@ -94,23 +110,34 @@ fn answer_script<H: Shelf, S: Source, K: Sink>(
     ensures appends { Appends (K.written sink.old) (K.written sink.new) }
     ensures shelf { H.fault_count shelf.old ≤ H.fault_count shelf.new }
 {
-    let mut cluster = match Cluster::open(alloc, settings, shelf) {
+    let cluster = match Cluster::open(alloc, settings, shelf) {
         Ok(cluster) => cluster,
         Err(fault) => return Err(write_refusal(alloc, fault, sink)),
     };
-    let outcome = serve(alloc, &mut cluster, source, sink);
+    let (cluster, outcome) = serve(rt, alloc, cluster, source, sink, gate);
     cluster.close(shelf);
     outcome
 }
 
 /// Writes the header, and answers the script on the disks of the shelf.
-fn run_script<H: Shelf, S: Source, K: Sink>(
+fn run_script<H, S, K, G, R>(
+    rt: &R,
     alloc: Global,
     settings: Settings,
     source: &mut S,
     sink: &mut K,
     shelf: &mut H,
+    gate: &G,
 ) -> Result<(), Stop>
+where
+    H: Shelf,
+    H::Disk: Send + Sync,
+    <H::Disk as Disk>::Piece: Send + Sync,
+    H::Arm: Send,
+    S: Source,
+    K: Sink,
+    G: Gate + Sync,
+    R: Threads + Wait + Sync,
     requires built { IsBuilt settings }
     requires disks_in { AreIn (disk_count settings) (H.disks shelf.old) }
     requires arms_in { AreArmsIn 8 (H.arms shelf.old) }
@@ -163,31 +190,45 @@ fn run_script<H: Shelf, S: Source, K: Sink>(
     ensures shelf { H.fault_count shelf.old ≤ H.fault_count shelf.new }
 {
     write_header(alloc, &settings, sink)?;
-    answer_script(alloc, settings, source, sink, shelf)
+    answer_script(rt, alloc, settings, source, sink, shelf, gate)
 }
 
-/// Runs a script on the disks of a shelf, from slot 0 upwards, or checks these disks, or loads the puts of a script in batches,
-/// and answers with the status. The words are `run`, `check` or `load` and the options. The transcript of the script, or a line
-/// for each disk, goes to the sink, and the disks and arms are given back whatever the status is. A check reads nothing of the
-/// source, and changes no byte of a disk.
+/// Runs a script on the disks of a shelf, from slot 0 upwards, or checks these disks, or loads the puts of a script in batches, or
+/// judges a transcript of a script, and answers with the status. The words are `run`, `check`, `load` or `audit` and the options. The
+/// transcript of the script, a line for each disk, or the line of the judgement goes to the sink, and the disks and arms are given
+/// back whatever the status is. A check reads nothing of the source, and changes no byte of a disk. An audit takes no disk.
 ///
 /// | status | comes |
 /// |---|---|
-/// | 0 | the script was read to its end, and all of it was answered; or all disks were checked, and none is damaged |
-/// | 2 | the words are no run, no check and no load, and nothing was touched |
+/// | 0 | the script was read to its end, and all of it was answered; or all disks were checked, and none is damaged; or the transcript is lawful |
+/// | 2 | the words are no command, and nothing was touched |
 /// | 3 | the sink failed |
 /// | 4 | the source failed |
 /// | 5 | memory was wanting outside of a reply, or to a restart |
 /// | 6 | the store was not opened, at first or at a restart, a disk was not checked, or one failed in a load, as the last line tells |
-/// | 7 | the script is longer than a script may be |
+/// | 7 | the script, or the transcript that is judged, is longer than it may be |
 /// | 8 | all disks were checked, and one is damaged |
-pub fn run<H: Shelf, S: Source, K: Sink>(
+/// | 9 | the transcript is not lawful |
+/// | 10 | what came is no script with a transcript |
+/// | 11 | it is open whether the transcript is lawful |
+pub fn run<H, S, K, G, R>(
+    rt: &R,
     alloc: Global,
     words: &[String],
     source: &mut S,
     sink: &mut K,
     shelf: &mut H,
+    gate: &G,
 ) -> u8
+where
+    H: Shelf,
+    H::Disk: Send + Sync,
+    <H::Disk as Disk>::Piece: Send + Sync,
+    H::Arm: Send,
+    S: Source,
+    K: Sink,
+    G: Gate + Sync,
+    R: Threads + Wait + Sync,
     requires disks_in { (slot : ℕ) → (H.disks shelf.old slot).is_out ≡ false }
     requires arms_in { (lane : ℕ) → (H.arms shelf.old lane).is_out ≡ false }
     // The headline: what was read, answered and written, and what the disks given back hold, at each status but 2.
@@ -216,8 +257,13 @@ pub fn run<H: Shelf, S: Source, K: Sink>(
         IsLoad H.Disk.Tells settings result (H.disks shelf.old) (H.disks shelf.new) (H.arms shelf.old) (H.arms shelf.new)
         (H.fault_count shelf.old) (H.fault_count shelf.new) (S.left source.old) (S.left source.new) (K.written sink.old) (K.written sink.new) }
 
+    // An audit: what was judged and written, at each status but 2.
+    ensures audited { (settings : Settings) → SaysAudit (map string_bytes words.now) settings →
+        AuditsTo settings result (S.left source.old) (S.left source.new) (K.written sink.old) (K.written sink.new) × (shelf.new ≡ shelf.old) }
+
     // When each status comes.
-    ensures status { (result ≡ 2) ⊎ ((ending : Ending) × (result ≡ status_of ending)) ⊎ ((result ≡ 8) × ((settings : Settings) × SaysCheck (map string_bytes words.now) settings)) }
+    ensures status { (result ≡ 2) ⊎ ((ending : Ending) × (result ≡ status_of ending)) ⊎ ((result ≡ 8) × ((settings : Settings) × SaysCheck (map string_bytes words.now) settings))
+        ⊎ (IsAuditStatus result × IsAudit (map string_bytes words.now)) }
     ensures usage { result ≡ 2 → IsCommand (map string_bytes words.now) → ⊥ }
     ensures command { (IsCommand (map string_bytes words.now) → ⊥) → (result ≡ 2) ⊎ (result ≡ 5) }
     ensures untouched { (result ≡ 2) ⊎ (IsCommand (map string_bytes words.now) → ⊥) → (source.new ≡ source.old) × (sink.new ≡ sink.old) × (shelf.new ≡ shelf.old) }
@@ -246,10 +292,10 @@ pub fn run<H: Shelf, S: Source, K: Sink>(
     ensures flushed { H.Disk.Tells → result ≡ 0 → (settings : Settings) (k : Known) → SaysRun (map string_bytes words.now) settings →
         IsTaken settings (outside_of (H.fault_count shelf.old) (H.disks shelf.old) (H.arms shelf.old)) k → AsksNothing (S.left source.old) →
         FlushedDrewLittle settings k (drawn_of (H.disks shelf.old)) (drawn_of (H.disks shelf.new)) }
-    ensures long { result ≡ 7 → (script : List ℕ) → S.left source.old ≡ Some script →
+    ensures long { result ≡ 7 → (IsAudit (map string_bytes words.now) → ⊥) → (script : List ℕ) → S.left source.old ≡ Some script →
         (rest : List ℕ) × (S.left source.new ≡ Some rest) × (length script ≡ SCRIPT + 1 + length rest) }
     ensures short { result ≡ 0 → (settings : Settings) → SaysRun (map string_bytes words.now) settings → (script : List ℕ) → S.left source.old ≡ Some script → length script ≤ SCRIPT }
-    ensures taken { (result ≡ 7 → ⊥) → TookAtMost SCRIPT (S.left source.old) (S.left source.new) }
+    ensures taken { (result ≡ 7 → ⊥) → (IsAudit (map string_bytes words.now) → ⊥) → TookAtMost SCRIPT (S.left source.old) (S.left source.new) }
 
     // What is given back at each status. Nothing is taken but what the settings name.
     ensures disks_back { (slot : ℕ) → (H.disks shelf.new slot).is_out ≡ false }
@@ -267,10 +313,11 @@ pub fn run<H: Shelf, S: Source, K: Sink>(
         Ok(Some(Mode::Run(settings))) => settings,
         Ok(Some(Mode::Check(settings))) => return check_store(alloc, settings, sink, shelf),
         Ok(Some(Mode::Load(settings))) => return load_puts(alloc, settings, source, sink, shelf),
+        Ok(Some(Mode::Audit(settings))) => return audit_transcript(alloc, &settings, source, sink),
         Ok(Some(Mode::Drill { .. }) | None) => return 2,
         Err(NoMemory) => return Stop::NoMemory.status(),
     };
-    match run_script(alloc, settings, source, sink, shelf) {
+    match run_script(rt, alloc, settings, source, sink, shelf, gate) {
         Ok(()) => 0,
         Err(stop) => stop.status(),
     }

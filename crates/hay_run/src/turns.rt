@@ -17,24 +17,29 @@ ghost use Rattle.hay_cluster.specs.Causes.{StaySure};
 ghost use Rattle.hay_cluster.specs.Store.{IsUp, disks_of};
 ghost use Rattle.hay_run.specs.declared.stops.Stop.{Stop};
 ghost use Rattle.hay_run.specs.Causing.{tally_of, Caused, StopCaused, TurnStops, TurnCaused};
-ghost use Rattle.hay_run.specs.Items.{TookOpen};
+ghost use Rattle.hay_run.specs.Items.{TookItems, TookOpen};
+ghost use Rattle.hay_run.specs.Reads.{FitsRead, items_asked};
 ghost use Rattle.hay_lines.specs.Lines.{TookPart, TookOver, TookSome};
 ghost use Rattle.hay_lines.specs.Stream.{rest_of, budget, Accounts, IsTooLong};
 ghost use Rattle.hay_run.specs.Stops.{note_of};
-ghost use Rattle.hay_run.specs.Turns.{AnswersAll, AnswersPart, Appends, Turned, RefusesRestart, Broke, Halts, IsFormatted};
+ghost use Rattle.hay_run.specs.Turns.{AnswersAll, AnswersPart, Appends, Keeps, Turned, RefusesRestart, Broke, Halts, IsFormatted};
 ghost use Rattle.hay_run.specs.Stopping.{RefusedAsked, BrokeAsked};
 
-use crate::block::read_block;
+use crate::block::{LaneBlock, read_block};
+use crate::lanes::answer_block;
 use crate::said::next_said;
 use crate::stops::Stop;
-use crate::writing::{write_block, write_refusal, write_reply, write_restarted};
+use crate::writing::{write_refusal, write_reply, write_restarted};
 use hay_cluster::{Cluster, ClusterFault};
 use hay_core::CoreTag;
 use hay_disk::{Arm, Disk, Sink, Source};
+use hay_lanes::Gate;
 use hay_lines::{SCRIPT, ScriptLines};
 use hay_reply::Reply;
 use hay_script::{Command, Line};
 use std::alloc::Global;
+use std::sync::Wait;
+use std::thread::Threads;
 
 /// Answers a plain command, and writes the reply.
 fn plain<D: Disk, A: Arm<D::Piece>, K: Sink>(
@@ -159,61 +164,162 @@ fn respond<D: Disk, A: Arm<D::Piece>, K: Sink>(
     }
 }
 
+/// What comes next in a script: nothing more, a line by itself, or a block.
+#[derive(Drop)]
+pub enum TurnRead {
+    Nothing,
+    Line(Line),
+    Block(LaneBlock),
+}
+
+/// Takes what comes next, and answers with the number of the line behind it. It isn't called once the end was met.
+fn read_turn<S: Source>(
+    alloc: Global,
+    script: &mut ScriptLines,
+    number: u64,
+    source: &mut S,
+) -> Result<(TurnRead, u64), Stop>
+    requires open { script.old.ended ≡ false }
+    requires few { number + budget SCRIPT script.old < 2 ^ 64 }
+    ensures took { IfOk result (λ read. TookItems number None (rest_of (S.left source.old) script.old) (items_asked number read.0) read.1 (rest_of (S.left source.new) script.new) script.new.ended) }
+    ensures fits { IfOk result (λ read. FitsRead read.0) }
+    ensures few { IfOk result (λ read. read.1 + budget SCRIPT script.new ≤ number + budget SCRIPT script.old) }
+    ensures accounts { OnOk result (Accounts (S.left source.old) script.old (S.left source.new) script.new) }
+    ensures stopped_accounts { (IsErrOf result Stop.Input ⊎ IsErrOf result Stop.NoMemory) → Accounts (S.left source.old) script.old (S.left source.new) script.new }
+    ensures left { OnOk result (budget SCRIPT script.new < budget SCRIPT script.old) }
+    ensures limit { script.new.taken ≤ SCRIPT }
+    ensures none_held { (IsErrOf result Stop.Input ⊎ IsErrOf result Stop.TooLong) → script.new.bytes ≡ [] }
+    ensures input { IsErrOf result Stop.Input → TookOpen TookPart number None (rest_of (S.left source.old) script.old) (rest_of (S.left source.new) script.new) }
+    ensures over { IsErrOf result Stop.TooLong → TookOpen TookOver number None (rest_of (S.left source.old) script.old) (rest_of (S.left source.new) script.new) }
+    ensures memory { IsErrOf result Stop.NoMemory → TookSome (rest_of (S.left source.old) script.old) (rest_of (S.left source.new) script.new) }
+    ensures long { IsErrOf result Stop.TooLong → IsTooLong SCRIPT (S.left source.old) script.old (S.left source.new) }
+    ensures stops { OnErr result ((result ≡ Err Stop.Input) ⊎ (result ≡ Err Stop.NoMemory) ⊎ (result ≡ Err Stop.TooLong)) }
+    ensures cause { IsErrOf result Stop.Input → Rose (S.fault_count source.old) (S.fault_count source.new) }
+    ensures count { S.fault_count source.old ≤ S.fault_count source.new }
+{
+    let Some(said) = next_said(alloc, script, source, None)? else {
+        return Ok((TurnRead::Nothing, number));
+    };
+    if let Line::Lanes(lanes) = said {
+        let (block, next) = read_block(alloc, script, number + 1, lanes, source)?;
+        return Ok((TurnRead::Block(block), next));
+    }
+    Ok((TurnRead::Line(said), number + 1))
+}
+
+/// Answers what was read, and writes the answer.
+fn answer<D, A, G, K, R>(
+    rt: &R,
+    alloc: Global,
+    mut cluster: Cluster<D, A>,
+    number: u64,
+    read: TurnRead,
+    sink: &mut K,
+    gate: &G,
+) -> (Cluster<D, A>, Result<(), Stop>)
+where
+    D: Disk + Send + Sync,
+    D::Piece: Send + Sync,
+    A: Arm<D::Piece> + Send + Drop,
+    G: Gate + Sync,
+    K: Sink,
+    R: Threads + Wait + Sync,
+    requires fits { FitsRead read }
+    requires up { IsUp cluster }
+    ensures answers { OnOk result.1 (AnswersAll D.Tells (Stands D.files D.Piece.Tells D.fault_count D.fuse_count A.fault_count) (items_asked number read) cluster (K.written sink.old) result.0 (K.written sink.new)) }
+    ensures broke { IsErrOf result.1 Stop.Output → BrokeAsked D.Tells (Stands D.files D.Piece.Tells D.fault_count D.fuse_count A.fault_count) (Holds D.files D.fault_count D.fuse_count A.fault_count) number (items_asked number read) cluster (K.written sink.old) result.0 (K.written sink.new) }
+    ensures memory { IsErrOf result.1 Stop.NoMemory → BrokeAsked D.Tells (Stands D.files D.Piece.Tells D.fault_count D.fuse_count A.fault_count) (Holds D.files D.fault_count D.fuse_count A.fault_count) number (items_asked number read) cluster (K.written sink.old) result.0 (K.written sink.new)
+        ⊎ (Keeps D.Tells (Stands D.files D.Piece.Tells D.fault_count D.fuse_count A.fault_count) cluster result.0 × (sink.new ≡ sink.old)) }
+    ensures refused { IsErrOf result.1 Stop.Store → RefusedAsked D.Tells Wrote (Stands D.files D.Piece.Tells D.fault_count D.fuse_count A.fault_count) (Holds D.files D.fault_count D.fuse_count A.fault_count) number (items_asked number read) cluster (K.written sink.old) result.0 (K.written sink.new) }
+    ensures halted { IsErrOf result.1 Stop.Store → Halts D.Tells (Stands D.files D.Piece.Tells D.fault_count D.fuse_count A.fault_count) D.files D.fault_count cluster result.0 (K.written sink.old) (K.written sink.new) }
+    ensures caused { OnOk result.1 (Caused D.Tells Wrote cluster.settings (tally_of D.files D.drawn D.fault_count D.fuse_count A.fault_count A.is_sure cluster) (tally_of D.files D.drawn D.fault_count D.fuse_count A.fault_count A.is_sure result.0) (items_asked number read) (K.written sink.old) (K.written sink.new)) }
+    ensures stop_caused { (stop : Stop) → result.1 ≡ Err stop → StopCaused D.Tells cluster.settings (tally_of D.files D.drawn D.fault_count D.fuse_count A.fault_count A.is_sure cluster) (tally_of D.files D.drawn D.fault_count D.fuse_count A.fault_count A.is_sure result.0) stop (items_asked number read) (K.written sink.old) (K.written sink.new) }
+    ensures stops { OnErr result.1 ((result.1 ≡ Err Stop.Output) ⊎ (result.1 ≡ Err Stop.NoMemory) ⊎ (result.1 ≡ Err Stop.Store)) }
+    ensures cause { IsErrOf result.1 Stop.Output → Rose (K.fault_count sink.old) (K.fault_count sink.new) }
+    ensures count { K.fault_count sink.old ≤ K.fault_count sink.new }
+    ensures up { OnOk result.1 (IsUp result.0) }
+    ensures faults { NoneFalls (map D.fault_count (disks_of cluster)) (map D.fault_count (disks_of result.0)) }
+    ensures arm_faults { NoneFalls (map A.fault_count cluster.arms) (map A.fault_count result.0.arms) }
+    ensures sure_arms { StaySure A.is_sure A.fault_count cluster.arms result.0.arms }
+    ensures formatted { D.Tells → (k : Known) → Stands D.files D.Piece.Tells D.fault_count D.fuse_count A.fault_count cluster k → IsFormatted D.files result.0 }
+    ensures appends { Appends (K.written sink.old) (K.written sink.new) }
+    ensures settings { result.0.settings ≡ cluster.settings }
+{
+    match read {
+        TurnRead::Nothing => (cluster, Ok(())),
+        TurnRead::Line(said) => {
+            let outcome = respond(alloc, &mut cluster, number, said, sink);
+            (cluster, outcome)
+        }
+        TurnRead::Block(block) => answer_block(rt, alloc, cluster, block, sink, gate),
+    }
+}
+
 /// Takes what comes next, answers it and writes the answer. Answers with the number of the next line. It isn't called
 /// once the end was met.
-pub fn turn<D: Disk, A: Arm<D::Piece>, S: Source, K: Sink>(
+pub fn turn<D, A, G, S, K, R>(
+    rt: &R,
     alloc: Global,
-    cluster: &mut Cluster<D, A>,
+    cluster: Cluster<D, A>,
     script: &mut ScriptLines,
     number: u64,
     source: &mut S,
     sink: &mut K,
-) -> Result<u64, Stop>
+    gate: &G,
+) -> (Cluster<D, A>, Result<u64, Stop>)
+where
+    D: Disk + Send + Sync,
+    D::Piece: Send + Sync,
+    A: Arm<D::Piece> + Send + Drop,
+    G: Gate + Sync,
+    S: Source,
+    K: Sink,
+    R: Threads + Wait + Sync,
     requires open { script.old.ended ≡ false }
     requires few { number + budget SCRIPT script.old < 2 ^ 64 }
-    requires up { IsUp cluster.old }
-    ensures turned { IfOk result (λ next. Turned D.Tells (Stands D.files D.Piece.Tells D.fault_count D.fuse_count A.fault_count) cluster.old number (rest_of (S.left source.old) script.old) (K.written sink.old) cluster.new next (rest_of (S.left source.new) script.new) script.new.ended (K.written sink.new)) }
-    ensures few { IfOk result (λ next. next + budget SCRIPT script.new ≤ number + budget SCRIPT script.old) }
-    ensures accounts { OnOk result (Accounts (S.left source.old) script.old (S.left source.new) script.new) }
-    ensures stopped_accounts { (IsErrOf result Stop.Input ⊎ IsErrOf result Stop.NoMemory ⊎ IsErrOf result Stop.Output ⊎ IsErrOf result Stop.Store) → Accounts (S.left source.old) script.old (S.left source.new) script.new }
-    ensures left { OnOk result (budget SCRIPT script.new < budget SCRIPT script.old) }
+    requires up { IsUp cluster }
+    ensures turned { IfOk result.1 (λ next. Turned D.Tells (Stands D.files D.Piece.Tells D.fault_count D.fuse_count A.fault_count) cluster number (rest_of (S.left source.old) script.old) (K.written sink.old) result.0 next (rest_of (S.left source.new) script.new) script.new.ended (K.written sink.new)) }
+    ensures few { IfOk result.1 (λ next. next + budget SCRIPT script.new ≤ number + budget SCRIPT script.old) }
+    ensures accounts { OnOk result.1 (Accounts (S.left source.old) script.old (S.left source.new) script.new) }
+    ensures stopped_accounts { (IsErrOf result.1 Stop.Input ⊎ IsErrOf result.1 Stop.NoMemory ⊎ IsErrOf result.1 Stop.Output ⊎ IsErrOf result.1 Stop.Store) → Accounts (S.left source.old) script.old (S.left source.new) script.new }
+    ensures left { OnOk result.1 (budget SCRIPT script.new < budget SCRIPT script.old) }
     ensures limit { script.new.taken ≤ SCRIPT }
 
     // What was taken and written where the run stops here.
-    ensures none_held { (IsErrOf result Stop.Input ⊎ IsErrOf result Stop.TooLong) → script.new.bytes ≡ [] }
-    ensures input { IsErrOf result Stop.Input → TookOpen TookPart number None (rest_of (S.left source.old) script.old) (rest_of (S.left source.new) script.new) × (cluster.new ≡ cluster.old) × (sink.new ≡ sink.old) }
-    ensures over { IsErrOf result Stop.TooLong → TookOpen TookOver number None (rest_of (S.left source.old) script.old) (rest_of (S.left source.new) script.new) × (cluster.new ≡ cluster.old) × (sink.new ≡ sink.old) }
-    ensures output { IsErrOf result Stop.Output → Broke D.Tells (Stands D.files D.Piece.Tells D.fault_count D.fuse_count A.fault_count) (Holds D.files D.fault_count D.fuse_count A.fault_count) cluster.old number (rest_of (S.left source.old) script.old) (K.written sink.old) cluster.new (rest_of (S.left source.new) script.new) (K.written sink.new) }
-    ensures memory { IsErrOf result Stop.NoMemory → (TookSome (rest_of (S.left source.old) script.old) (rest_of (S.left source.new) script.new) × (cluster.new ≡ cluster.old) × (sink.new ≡ sink.old)) ⊎ Broke D.Tells (Stands D.files D.Piece.Tells D.fault_count D.fuse_count A.fault_count) (Holds D.files D.fault_count D.fuse_count A.fault_count) cluster.old number (rest_of (S.left source.old) script.old) (K.written sink.old) cluster.new (rest_of (S.left source.new) script.new) (K.written sink.new) }
-    ensures store { IsErrOf result Stop.Store → RefusesRestart D.Tells Wrote (Stands D.files D.Piece.Tells D.fault_count D.fuse_count A.fault_count) (Holds D.files D.fault_count D.fuse_count A.fault_count) cluster.old number (rest_of (S.left source.old) script.old) (K.written sink.old) cluster.new (rest_of (S.left source.new) script.new) (K.written sink.new) }
+    ensures none_held { (IsErrOf result.1 Stop.Input ⊎ IsErrOf result.1 Stop.TooLong) → script.new.bytes ≡ [] }
+    ensures input { IsErrOf result.1 Stop.Input → TookOpen TookPart number None (rest_of (S.left source.old) script.old) (rest_of (S.left source.new) script.new) × (result.0 ≡ cluster) × (sink.new ≡ sink.old) }
+    ensures over { IsErrOf result.1 Stop.TooLong → TookOpen TookOver number None (rest_of (S.left source.old) script.old) (rest_of (S.left source.new) script.new) × (result.0 ≡ cluster) × (sink.new ≡ sink.old) }
+    ensures output { IsErrOf result.1 Stop.Output → Broke D.Tells (Stands D.files D.Piece.Tells D.fault_count D.fuse_count A.fault_count) (Holds D.files D.fault_count D.fuse_count A.fault_count) cluster number (rest_of (S.left source.old) script.old) (K.written sink.old) result.0 (rest_of (S.left source.new) script.new) (K.written sink.new) }
+    ensures memory { IsErrOf result.1 Stop.NoMemory → (TookSome (rest_of (S.left source.old) script.old) (rest_of (S.left source.new) script.new) × Keeps D.Tells (Stands D.files D.Piece.Tells D.fault_count D.fuse_count A.fault_count) cluster result.0 × (sink.new ≡ sink.old)) ⊎ Broke D.Tells (Stands D.files D.Piece.Tells D.fault_count D.fuse_count A.fault_count) (Holds D.files D.fault_count D.fuse_count A.fault_count) cluster number (rest_of (S.left source.old) script.old) (K.written sink.old) result.0 (rest_of (S.left source.new) script.new) (K.written sink.new) }
+    ensures store { IsErrOf result.1 Stop.Store → RefusesRestart D.Tells Wrote (Stands D.files D.Piece.Tells D.fault_count D.fuse_count A.fault_count) (Holds D.files D.fault_count D.fuse_count A.fault_count) cluster number (rest_of (S.left source.old) script.old) (K.written sink.old) result.0 (rest_of (S.left source.new) script.new) (K.written sink.new) }
 
     // What was written has its causes, whatever the disks tell.
-    ensures caused { IfOk result (λ next. TurnCaused D.Tells cluster.old.settings (tally_of D.files D.drawn D.fault_count D.fuse_count A.fault_count A.is_sure cluster.old) (tally_of D.files D.drawn D.fault_count D.fuse_count A.fault_count A.is_sure cluster.new) number (rest_of (S.left source.old) script.old) (K.written sink.old) next (rest_of (S.left source.new) script.new) script.new.ended (K.written sink.new)) }
-    ensures stop_caused { (stop : Stop) → result ≡ Err stop → TurnStops D.Tells cluster.old.settings (tally_of D.files D.drawn D.fault_count D.fuse_count A.fault_count A.is_sure cluster.old) (tally_of D.files D.drawn D.fault_count D.fuse_count A.fault_count A.is_sure cluster.new) stop number (rest_of (S.left source.old) script.old) (K.written sink.old) (rest_of (S.left source.new) script.new) (K.written sink.new) }
+    ensures caused { IfOk result.1 (λ next. TurnCaused D.Tells cluster.settings (tally_of D.files D.drawn D.fault_count D.fuse_count A.fault_count A.is_sure cluster) (tally_of D.files D.drawn D.fault_count D.fuse_count A.fault_count A.is_sure result.0) number (rest_of (S.left source.old) script.old) (K.written sink.old) next (rest_of (S.left source.new) script.new) script.new.ended (K.written sink.new)) }
+    ensures stop_caused { (stop : Stop) → result.1 ≡ Err stop → TurnStops D.Tells cluster.settings (tally_of D.files D.drawn D.fault_count D.fuse_count A.fault_count A.is_sure cluster) (tally_of D.files D.drawn D.fault_count D.fuse_count A.fault_count A.is_sure result.0) stop number (rest_of (S.left source.old) script.old) (K.written sink.old) (rest_of (S.left source.new) script.new) (K.written sink.new) }
 
     // The causes of each stop.
-    ensures long { IsErrOf result Stop.TooLong → IsTooLong SCRIPT (S.left source.old) script.old (S.left source.new) }
-    ensures source { IsErrOf result Stop.Input → Rose (S.fault_count source.old) (S.fault_count source.new) }
+    ensures long { IsErrOf result.1 Stop.TooLong → IsTooLong SCRIPT (S.left source.old) script.old (S.left source.new) }
+    ensures source { IsErrOf result.1 Stop.Input → Rose (S.fault_count source.old) (S.fault_count source.new) }
     ensures source_count { S.fault_count source.old ≤ S.fault_count source.new }
-    ensures sink { IsErrOf result Stop.Output → Rose (K.fault_count sink.old) (K.fault_count sink.new) }
+    ensures sink { IsErrOf result.1 Stop.Output → Rose (K.fault_count sink.old) (K.fault_count sink.new) }
     ensures sink_count { K.fault_count sink.old ≤ K.fault_count sink.new }
-    ensures halted { IsErrOf result Stop.Store → Halts D.Tells (Stands D.files D.Piece.Tells D.fault_count D.fuse_count A.fault_count) D.files D.fault_count cluster.old cluster.new (K.written sink.old) (K.written sink.new) }
-    ensures up { OnOk result (IsUp cluster.new) }
-    ensures faults { NoneFalls (map D.fault_count (disks_of cluster.old)) (map D.fault_count (disks_of cluster.new)) }
-    ensures arm_faults { NoneFalls (map A.fault_count cluster.old.arms) (map A.fault_count cluster.new.arms) }
-    ensures sure_arms { StaySure A.is_sure A.fault_count cluster.old.arms cluster.new.arms }
-    ensures formatted { D.Tells → (k : Known) → Stands D.files D.Piece.Tells D.fault_count D.fuse_count A.fault_count cluster.old k → IsFormatted D.files cluster.new }
+    ensures halted { IsErrOf result.1 Stop.Store → Halts D.Tells (Stands D.files D.Piece.Tells D.fault_count D.fuse_count A.fault_count) D.files D.fault_count cluster result.0 (K.written sink.old) (K.written sink.new) }
+    ensures up { OnOk result.1 (IsUp result.0) }
+    ensures faults { NoneFalls (map D.fault_count (disks_of cluster)) (map D.fault_count (disks_of result.0)) }
+    ensures arm_faults { NoneFalls (map A.fault_count cluster.arms) (map A.fault_count result.0.arms) }
+    ensures sure_arms { StaySure A.is_sure A.fault_count cluster.arms result.0.arms }
+    ensures formatted { D.Tells → (k : Known) → Stands D.files D.Piece.Tells D.fault_count D.fuse_count A.fault_count cluster k → IsFormatted D.files result.0 }
     ensures appends { Appends (K.written sink.old) (K.written sink.new) }
-    ensures settings { cluster.new.settings ≡ cluster.old.settings }
+    ensures settings { result.0.settings ≡ cluster.settings }
 {
-    let Some(said) = next_said(alloc, script, source, None)? else {
-        return Ok(number);
-    };
-    if let Line::Lanes(lanes) = said {
-        let (block, next) = read_block(alloc, script, number + 1, lanes, source)?;
-        write_block(alloc, &block, sink)?;
-        return Ok(next);
+    match read_turn(alloc, script, number, source) {
+        Ok((read, next)) => {
+            let (cluster, outcome) = answer(rt, alloc, cluster, number, read, sink, gate);
+            match outcome {
+                Ok(()) => (cluster, Ok(next)),
+                Err(stop) => (cluster, Err(stop)),
+            }
+        }
+        Err(stop) => (cluster, Err(stop)),
     }
-    respond(alloc, cluster, number, said, sink)?;
-    Ok(number + 1)
 }

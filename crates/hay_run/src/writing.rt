@@ -1,18 +1,22 @@
 //! What a run writes: lines of replies and notes.
-ghost use Rattle.std.specs.Prelude.{◌≡◌, ◌⊎◌, ◌≤◌, ◌++◌, Some, None, Err, flat_map, IfSome, OnOk, OnErr, IsErrOf};
+ghost use Rattle.std.specs.Prelude.{◌≡◌, ◌⊎◌, ◌≤◌, List, ◌++◌, Some, None, Err, flat_map, map, IfOk, IfSome, OnOk, OnErr, IsErrOf};
 ghost use Rattle.hay_disk.specs.Counts.{Rose};
 ghost use Rattle.hay_disk.specs.Streams.{Wrote, WrotePart};
 ghost use Rattle.hay_reply.specs.declared.Note.{Note};
 ghost use Rattle.hay_reply.specs.Fits.{FitsNote};
 ghost use Rattle.hay_reply.specs.Replies as texts;
+ghost use Rattle.hay_legal.specs.declared.turn.LaneItem.{LaneItem};
+ghost use Rattle.hay_legal.specs.Items.{InBlock};
+ghost use Rattle.hay_legal.specs.Transcript.{answered_line};
+ghost use Rattle.hay_run.specs.Blocks.{AreAnswered, ArePlaces, answered_text};
 ghost use Rattle.hay_run.specs.Stops.{note_of};
 ghost use Rattle.hay_run.specs.Turns.{Appends};
-ghost use Rattle.hay_run.specs.Unbuilt.{unbuilt_text};
 
-use crate::block::LaneBlock;
+use crate::deal::Place;
 use crate::stops::Stop;
 use hay_base::NoMemory;
 use hay_cluster::ClusterFault;
+use hay_cluster_block::BlockReplies;
 use hay_disk::{Failed, Sink};
 use hay_needle::Settings;
 use hay_reply::{Note, Reply, header_line, note_text, numbered_line};
@@ -63,19 +67,6 @@ pub fn write_reply<K: Sink>(
 {
     let mut text = Vec::new(alloc);
     numbered_line(alloc, number, reply, &mut text)?;
-    write_text(sink, text.as_slice())
-}
-
-/// Writes the replies to a block's lines.
-pub fn write_block<K: Sink>(alloc: Global, block: &LaneBlock, sink: &mut K) -> Result<(), Stop>
-    ensures wrote { OnOk result (Wrote (K.written sink.old) (flat_map unbuilt_text block.now.lines) (K.written sink.new)) }
-    ensures part { OnErr result (WrotePart (K.written sink.old) (flat_map unbuilt_text block.now.lines) (K.written sink.new)) }
-    ensures stops { OnErr result ((result ≡ Err Stop.Output) ⊎ (result ≡ Err Stop.NoMemory)) }
-    ensures cause { IsErrOf result Stop.Output → Rose (K.fault_count sink.old) (K.fault_count sink.new) }
-    ensures count { K.fault_count sink.old ≤ K.fault_count sink.new }
-    ensures appends { Appends (K.written sink.old) (K.written sink.new) }
-{
-    let text = block.text(alloc)?;
     write_text(sink, text.as_slice())
 }
 
@@ -131,6 +122,72 @@ fn write_note<K: Sink>(alloc: Global, note: &Note, sink: &mut K) -> Result<(), S
     let mut text = Vec::new(alloc);
     add_note(alloc, note, &mut text)?;
     write_text(sink, text.as_slice())
+}
+
+/// Writes the replies to the lines of a block, which stand at these places, in the order of the lines.
+fn write_replies<K: Sink>(
+    alloc: Global,
+    places: &[Place],
+    replies: &[Vec<Reply>],
+    sink: &mut K,
+) -> Result<(), Stop>
+    requires { (lines : List InBlock) × (items : List LaneItem) × ArePlaces lines places.now × AreAnswered lines (map (λ own. own.items) replies.now) items }
+    ensures wrote { (lines : List InBlock) (items : List LaneItem) → ArePlaces lines places.now → AreAnswered lines (map (λ own. own.items) replies.now) items →
+        OnOk result (Wrote (K.written sink.old) (flat_map answered_line items) (K.written sink.new)) }
+    ensures part { (lines : List InBlock) (items : List LaneItem) → ArePlaces lines places.now → AreAnswered lines (map (λ own. own.items) replies.now) items →
+        OnErr result (WrotePart (K.written sink.old) (flat_map answered_line items) (K.written sink.new)) }
+    ensures stops { OnErr result ((result ≡ Err Stop.Output) ⊎ (result ≡ Err Stop.NoMemory)) }
+    ensures cause { IsErrOf result Stop.Output → Rose (K.fault_count sink.old) (K.fault_count sink.new) }
+    ensures count { K.fault_count sink.old ≤ K.fault_count sink.new }
+    ensures appends { Appends (K.written sink.old) (K.written sink.new) }
+{
+    for place in places {
+        let own = replies[place.lane as usize].as_slice();
+        write_reply(alloc, place.line, &own[place.nth], sink)?;
+    }
+    Ok(())
+}
+
+/// Writes the lines of notes.
+fn write_notes<K: Sink>(alloc: Global, notes: &[Note], sink: &mut K) -> Result<(), Stop>
+    ensures wrote { OnOk result (Wrote (K.written sink.old) (flat_map texts.note_line notes.now) (K.written sink.new)) }
+    ensures part { OnErr result (WrotePart (K.written sink.old) (flat_map texts.note_line notes.now) (K.written sink.new)) }
+    ensures stops { OnErr result ((result ≡ Err Stop.Output) ⊎ (result ≡ Err Stop.NoMemory)) }
+    ensures cause { IsErrOf result Stop.Output → Rose (K.fault_count sink.old) (K.fault_count sink.new) }
+    ensures count { K.fault_count sink.old ≤ K.fault_count sink.new }
+    ensures appends { Appends (K.written sink.old) (K.written sink.new) }
+{
+    for note in notes {
+        write_note(alloc, note, sink)?;
+    }
+    Ok(())
+}
+
+/// Writes what a block was answered: the replies to its lines, which stand at these places, in the order of the lines, and the notes
+/// behind them. Where the notes wanted memory the replies are written, and the run stops.
+pub fn write_answers<K: Sink>(
+    alloc: Global,
+    places: &[Place],
+    answers: &BlockReplies,
+    sink: &mut K,
+) -> Result<(), Stop>
+    requires { (lines : List InBlock) × (items : List LaneItem) × ArePlaces lines places.now × AreAnswered lines (map (λ own. own.items) answers.now.replies.items) items }
+    ensures wrote { (lines : List InBlock) (items : List LaneItem) (notes : List Note) → ArePlaces lines places.now →
+        AreAnswered lines (map (λ own. own.items) answers.now.replies.items) items → IfOk answers.now.notes (λ own. own.items ≡ notes) →
+        OnOk result (Wrote (K.written sink.old) (answered_text items notes) (K.written sink.new)) }
+    ensures part { (lines : List InBlock) (items : List LaneItem) (notes : List Note) → ArePlaces lines places.now →
+        AreAnswered lines (map (λ own. own.items) answers.now.replies.items) items → IfOk answers.now.notes (λ own. own.items ≡ notes) →
+        OnErr result (WrotePart (K.written sink.old) (answered_text items notes) (K.written sink.new)) }
+    ensures stops { OnErr result ((result ≡ Err Stop.Output) ⊎ (result ≡ Err Stop.NoMemory)) }
+    ensures cause { IsErrOf result Stop.Output → Rose (K.fault_count sink.old) (K.fault_count sink.new) }
+    ensures count { K.fault_count sink.old ≤ K.fault_count sink.new }
+    ensures appends { Appends (K.written sink.old) (K.written sink.new) }
+{
+    write_replies(alloc, places, answers.replies.as_slice(), sink)?;
+    match &answers.notes {
+        Ok(notes) => write_notes(alloc, notes.as_slice(), sink),
+        Err(NoMemory) => Err(Stop::NoMemory),
+    }
 }
 
 /// How a refused opening is told, unless memory was wanting.

@@ -1,5 +1,6 @@
 //! The program `haystack`: runs the script on standard input over disks in memory, or over files in the folder that
-//! `--folder` names, and writes the transcript to standard output; or checks these disks, and writes what each is.
+//! `--folder` names, and writes the transcript to standard output; or checks these disks, and writes what each is; or judges a
+//! transcript, without a disk.
 //! Everything that matters stands in `hay_run`.
 #![tactic(auto)]
 
@@ -9,6 +10,7 @@ mod tests;
 use hay_base::NoMemory;
 use hay_cli::folder_of;
 use hay_filedisk::{FileShelf, StdinSource, StdoutSink};
+use hay_lanes::OpenGate;
 use hay_memdisk::MemShelf;
 use hay_run::run;
 use std::env::Env;
@@ -40,28 +42,47 @@ fn message_of(status: u8) -> Option<&'static str> {
         6 => Some("haystack: store not opened"),
         7 => Some("haystack: script too long"),
         8 => Some("haystack: damage found"),
+        9 => Some("haystack: not lawful"),
+        10 => Some("haystack: bad frame"),
+        11 => Some("haystack: not decided"),
         _ => None,
-    }
-}
-
-/// The status of a run over the disks that the words name.
-fn status_of(rt: HostRuntime, words: &[String]) -> u8 {
-    let alloc = rt.alloc();
-    let mut source = StdinSource::new(rt.stdin());
-    let mut sink = StdoutSink::new(rt.stdout());
-    let Some(folder) = folder_of(words) else {
-        let mut shelf = MemShelf::new(alloc);
-        return run(alloc, words, &mut source, &mut sink, &mut shelf);
-    };
-    match FileShelf::new(rt, alloc, folder) {
-        Ok(mut shelf) => run(alloc, words, &mut source, &mut sink, &mut shelf),
-        Err(NoMemory) => NO_MEMORY,
     }
 }
 
 fn main(rt: HostRuntime) -> ExitCode {
     let status = match words_of(&rt) {
-        Ok(words) => status_of(rt, words.as_slice()),
+        Ok(words) => {
+            let alloc = rt.alloc();
+            let words = words.as_slice();
+            let mut source = StdinSource::new(rt.stdin());
+            let mut sink = StdoutSink::new(rt.stdout());
+            match folder_of(words) {
+                Some(folder) => match FileShelf::new(rt, alloc, folder) {
+                    Ok(mut shelf) => run(
+                        &rt,
+                        alloc,
+                        words,
+                        &mut source,
+                        &mut sink,
+                        &mut shelf,
+                        &OpenGate,
+                    ),
+                    Err(NoMemory) => NO_MEMORY,
+                },
+                None => {
+                    let mut shelf = MemShelf::new(alloc);
+                    run(
+                        &rt,
+                        alloc,
+                        words,
+                        &mut source,
+                        &mut sink,
+                        &mut shelf,
+                        &OpenGate,
+                    )
+                }
+            }
+        }
         Err(error) if error.kind() == io::ErrorKind::OutOfMemory => NO_MEMORY,
         Err(_) => USAGE,
     };

@@ -3,6 +3,7 @@
 ghost use Rattle.std.specs.Prelude.{◌≡◌, ◌<◌, ℕ, false};
 ghost use Rattle.hay_memdisk.specs.MemShelf.{mem_arms, mem_disks};
 
+mod audits;
 mod calls;
 mod cases;
 mod check;
@@ -10,16 +11,21 @@ mod compactions;
 mod damage;
 mod devices;
 mod faults;
+mod gates;
+mod lanes;
 mod loads;
 mod openings;
 mod versions;
 
 use cases::CASES;
 use hay_disk::Shelf;
+use hay_lanes::{Gate, OpenGate};
 use hay_memdisk::{MemDisk, MemShelf, MemSink, MemSource, SureShelf};
 use hay_run::run;
 use std::alloc::Global;
+use std::sync::Wait;
 use std::test::Fail;
+use std::thread::Threads;
 
 /// What a run writes, its status, and how many bytes its volume file has.
 #[derive(Drop)]
@@ -38,7 +44,27 @@ fn words_of(alloc: Global, words: &[&str]) -> Result<Vec<String>, Fail> {
 }
 
 /// A run on an empty shelf, over a source that gives so many bytes at a time.
-fn outcome_of(alloc: Global, words: &[&str], script: &[u8], step: usize) -> Result<Outcome, Fail>
+fn outcome_of(
+    rt: &(impl Threads + Wait + Sync),
+    alloc: Global,
+    words: &[&str],
+    script: &[u8],
+    step: usize,
+) -> Result<Outcome, Fail>
+    requires { 0 < step }
+{
+    outcome_at(rt, alloc, words, script, step, &OpenGate)
+}
+
+/// The same, where each lane passes this gate.
+fn outcome_at(
+    rt: &(impl Threads + Wait + Sync),
+    alloc: Global,
+    words: &[&str],
+    script: &[u8],
+    step: usize,
+    gate: &(impl Gate + Sync),
+) -> Result<Outcome, Fail>
     requires { 0 < step }
 {
     let words = words_of(alloc, words)?;
@@ -47,7 +73,15 @@ fn outcome_of(alloc: Global, words: &[&str], script: &[u8], step: usize) -> Resu
     let mut source = MemSource::new(alloc, text, step);
     let mut sink = MemSink::new(alloc);
     let mut shelf = MemShelf::new(alloc);
-    let status = run(alloc, words.as_slice(), &mut source, &mut sink, &mut shelf);
+    let status = run(
+        rt,
+        alloc,
+        words.as_slice(),
+        &mut source,
+        &mut sink,
+        &mut shelf,
+        gate,
+    );
     let mut written = Vec::new(alloc);
     written.extend_from_slice(sink.bytes())?;
     let file_len = match shelf.disk(1) {
@@ -65,7 +99,7 @@ fn outcome_of(alloc: Global, words: &[&str], script: &[u8], step: usize) -> Resu
 fn transcripts_are_exact(rt: HostRuntime) -> Result<(), Fail> {
     for case in &CASES {
         for step in [1, 7, 4096] {
-            let outcome = outcome_of(rt.alloc(), case.words, case.script, step)?;
+            let outcome = outcome_of(&rt, rt.alloc(), case.words, case.script, step)?;
             assert_eq!(rt; outcome.status, 0);
             assert_eq!(rt; outcome.written.as_slice(), case.transcript);
         }
@@ -77,7 +111,7 @@ fn transcripts_are_exact(rt: HostRuntime) -> Result<(), Fail> {
 fn sizes_are_exact(rt: HostRuntime) -> Result<(), Fail> {
     let sizes =
         b"put 0 1 -\nput 0 2 x1048576:61\nput 0 3 x1048577:61\nread 0 1 903df1a0ade0b876\nread 0 2 903df1a0ade0b876\n";
-    let outcome = outcome_of(rt.alloc(), &["run"], sizes, 4096)?;
+    let outcome = outcome_of(&rt, rt.alloc(), &["run"], sizes, 4096)?;
     assert_eq!(rt; outcome.status, 0);
     assert_eq!(rt;
         outcome.written.as_slice(),
@@ -86,7 +120,7 @@ fn sizes_are_exact(rt: HostRuntime) -> Result<(), Fail> {
     // 64 + 48 + 1,048,624 + 1,048,632 + 8
     assert_eq!(rt; outcome.file_len, 2_097_376);
     let padded = b"put 0 1 x1:61\nput 0 2 x7:61\nput 0 3 x8:61\nput 0 4 x9:61\n";
-    let outcome = outcome_of(rt.alloc(), &["run"], padded, 4096)?;
+    let outcome = outcome_of(&rt, rt.alloc(), &["run"], padded, 4096)?;
     assert_eq!(rt;
         outcome.written.as_slice(),
         b"haystack 1 1 1 67108864\n1 stored 0 1 1 903df1a0ade0b876\n2 stored 0 2 2 903df1a0ade0b876\n3 stored 0 3 3 903df1a0ade0b876\n4 stored 0 4 4 903df1a0ade0b876\n".as_slice()
@@ -98,7 +132,7 @@ fn sizes_are_exact(rt: HostRuntime) -> Result<(), Fail> {
 #[test]
 fn the_largest_photo_is_stored_whole(rt: HostRuntime) -> Result<(), Fail> {
     let script = b"put 0 1 x16777216:61\nput 0 2 x16777217:61\nread 0 1 903df1a0ade0b876\n";
-    let outcome = outcome_of(rt.alloc(), &["run"], script, 4096)?;
+    let outcome = outcome_of(&rt, rt.alloc(), &["run"], script, 4096)?;
     assert_eq!(rt; outcome.status, 0);
     assert_eq!(rt;
         outcome.written.as_slice(),
@@ -120,7 +154,7 @@ fn the_longest_line_is_read(rt: HostRuntime) -> Result<(), Fail> {
         script.push(b'\n')?;
     }
     script.extend_from_slice(b"read 0 1 903df1a0ade0b876\n")?;
-    let outcome = outcome_of(rt.alloc(), &["run"], script.as_slice(), 65_536)?;
+    let outcome = outcome_of(&rt, rt.alloc(), &["run"], script.as_slice(), 65_536)?;
     assert_eq!(rt; outcome.status, 0);
     assert_eq!(rt;
         outcome.written.as_slice(),
@@ -132,6 +166,7 @@ fn the_longest_line_is_read(rt: HostRuntime) -> Result<(), Fail> {
 
 /// The status of a run whose source and sink fail at these calls, on a shelf.
 fn status_of(
+    rt: &(impl Threads + Wait + Sync),
     alloc: Global,
     words: &[&str],
     source_fails: &[u64],
@@ -150,7 +185,15 @@ fn status_of(
     source.fail(source_fails)?;
     let mut sink = MemSink::new(alloc);
     sink.fail(sink_fails)?;
-    Ok(run(alloc, words.as_slice(), &mut source, &mut sink, shelf))
+    Ok(run(
+        rt,
+        alloc,
+        words.as_slice(),
+        &mut source,
+        &mut sink,
+        shelf,
+        &OpenGate,
+    ))
 }
 
 #[test]
@@ -166,20 +209,27 @@ fn statuses_have_their_causes(rt: HostRuntime) -> Result<(), Fail> {
         &["run", "--machines", "2", "--replicas", "3"],
     ] {
         let mut shelf = MemShelf::new(alloc);
-        assert_eq!(rt; status_of(alloc, words, &[], &[], &mut shelf)?, 2);
+        assert_eq!(rt; status_of(&rt, alloc, words, &[], &[], &mut shelf)?, 2);
     }
     let mut shelf = MemShelf::new(alloc);
-    assert_eq!(rt; status_of(alloc, &["run"], &[], &[1], &mut shelf)?, 3);
+    assert_eq!(rt; status_of(&rt, alloc, &["run"], &[], &[1], &mut shelf)?, 3);
     let mut shelf = MemShelf::new(alloc);
-    assert_eq!(rt; status_of(alloc, &["run"], &[], &[2], &mut shelf)?, 3);
+    assert_eq!(rt; status_of(&rt, alloc, &["run"], &[], &[2], &mut shelf)?, 3);
     let mut shelf = MemShelf::new(alloc);
-    assert_eq!(rt; status_of(alloc, &["run"], &[2], &[], &mut shelf)?, 4);
+    assert_eq!(rt; status_of(&rt, alloc, &["run"], &[2], &[], &mut shelf)?, 4);
     let mut shelf = MemShelf::new(alloc);
-    assert_eq!(rt; status_of(alloc, &["run"], &[], &[], &mut shelf)?, 0);
+    assert_eq!(rt; status_of(&rt, alloc, &["run"], &[], &[], &mut shelf)?, 0);
     // The store is opened again, but not with other settings.
-    assert_eq!(rt; status_of(alloc, &["run"], &[], &[], &mut shelf)?, 0);
+    assert_eq!(rt; status_of(&rt, alloc, &["run"], &[], &[], &mut shelf)?, 0);
     assert_eq!(rt;
-        status_of(alloc, &["run", "--capacity", "8192"], &[], &[], &mut shelf)?,
+        status_of(
+            &rt,
+            alloc,
+            &["run", "--capacity", "8192"],
+            &[],
+            &[],
+            &mut shelf
+        )?,
         6
     );
     Ok(())
@@ -199,7 +249,15 @@ fn a_full_volume_names_its_numbers(rt: HostRuntime) -> Result<(), Fail> {
     let mut sink = MemSink::new(alloc);
     let mut shelf = SureShelf::new(alloc);
     let words = words_of(alloc, &["run"])?;
-    let status = run(alloc, words.as_slice(), &mut source, &mut sink, &mut shelf);
+    let status = run(
+        &rt,
+        alloc,
+        words.as_slice(),
+        &mut source,
+        &mut sink,
+        &mut shelf,
+        &OpenGate,
+    );
     assert_eq!(rt; status, 0);
     let last =
         b"63 stored 0 63 1 903df1a0ade0b876\n64 full 0:0:66063376:1048624\n65 full 0:0:66063376:1045488\n66 stored 0 64 2 903df1a0ade0b876\n67 full 0:0:67108856:48\n68 photo 0 0 64 2 x1045432:63\n";
@@ -229,7 +287,7 @@ fn a_stop_keeps_an_append_or_loses_it(rt: HostRuntime) -> Result<(), Fail> {
             let script = format!(in alloc;
                 "put 0 1 61\nfuse 0 0 {calls}\nput 0 1 62\nput 0 2 63\nrestart {pick}\nread 0 1 903df1a0ade0b876\n"
             )?;
-            let outcome = outcome_of(alloc, &["run"], script.as_bytes(), 4096)?;
+            let outcome = outcome_of(&rt, alloc, &["run"], script.as_bytes(), 4096)?;
             assert_eq!(rt; outcome.status, 0);
             assert_eq!(rt;
                 outcome.written.as_slice(),
@@ -242,6 +300,7 @@ fn a_stop_keeps_an_append_or_loses_it(rt: HostRuntime) -> Result<(), Fail> {
 
 /// What a run over this shelf writes, and its status.
 fn run_over(
+    rt: &(impl Threads + Wait + Sync),
     alloc: Global,
     words: &[&str],
     script: &[u8],
@@ -257,7 +316,15 @@ fn run_over(
     text.extend_from_slice(script)?;
     let mut source = MemSource::new(alloc, text, 4096);
     let mut sink = MemSink::new(alloc);
-    let status = run(alloc, words.as_slice(), &mut source, &mut sink, shelf);
+    let status = run(
+        rt,
+        alloc,
+        words.as_slice(),
+        &mut source,
+        &mut sink,
+        shelf,
+        &OpenGate,
+    );
     let mut written = Vec::new(alloc);
     written.extend_from_slice(sink.bytes())?;
     Ok((status, written))
@@ -267,15 +334,22 @@ fn run_over(
 fn the_store_outlives_the_run(rt: HostRuntime) -> Result<(), Fail> {
     let alloc = rt.alloc();
     let mut shelf = MemShelf::new(alloc);
-    let (status, _) = run_over(alloc, &["run"], b"put 0 1 68656c6c6f\n", &mut shelf)?;
+    let (status, _) = run_over(&rt, alloc, &["run"], b"put 0 1 68656c6c6f\n", &mut shelf)?;
     assert_eq!(rt; status, 0);
-    let (status, written) = run_over(alloc, &["run"], b"read 0 1 903df1a0ade0b876\n", &mut shelf)?;
+    let (status, written) = run_over(
+        &rt,
+        alloc,
+        &["run"],
+        b"read 0 1 903df1a0ade0b876\n",
+        &mut shelf,
+    )?;
     assert_eq!(rt; status, 0);
     assert_eq!(rt;
         written.as_slice(),
         b"haystack 1 1 1 67108864\n1 photo 0 0 0 1 68656c6c6f\n".as_slice()
     );
     let (status, written) = run_over(
+        &rt,
         alloc,
         &["run", "--capacity=8192"],
         b"read 0 1 0\n",
@@ -321,9 +395,14 @@ fn copy_disk(
 }
 
 /// A run over the volume file of `put 0 1 61`, which is cut at this place, with these bytes behind it.
-fn damaged(alloc: Global, at: usize, patch: &[u8]) -> Result<(u8, Vec<u8>), Fail> {
+fn damaged(
+    rt: &(impl Threads + Wait + Sync),
+    alloc: Global,
+    at: usize,
+    patch: &[u8],
+) -> Result<(u8, Vec<u8>), Fail> {
     let mut shelf = MemShelf::new(alloc);
-    let _ = run_over(alloc, &["run"], b"put 0 1 61\n", &mut shelf)?;
+    let _ = run_over(rt, alloc, &["run"], b"put 0 1 61\n", &mut shelf)?;
     let mut bytes = Vec::new(alloc);
     if let Some(disk) = shelf.disk(1) {
         bytes.extend_from_slice(disk.bytes(1))?;
@@ -333,32 +412,33 @@ fn damaged(alloc: Global, at: usize, patch: &[u8]) -> Result<(u8, Vec<u8>), Fail
     let mut second = MemShelf::new(alloc);
     copy_disk(&shelf, 0, 3, &[], alloc, &mut second)?;
     copy_disk(&shelf, 1, 1, bytes.as_slice(), alloc, &mut second)?;
-    run_over(alloc, &["run"], b"", &mut second)
+    run_over(rt, alloc, &["run"], b"", &mut second)
 }
 
 #[test]
 fn damage_is_told_at_its_place(rt: HostRuntime) -> Result<(), Fail> {
     let alloc = rt.alloc();
     // The superblock is cut.
-    let (status, written) = damaged(alloc, 40, b"")?;
+    let (status, written) = damaged(&rt, alloc, 40, b"")?;
     assert_eq!(rt; status, 6);
     assert_eq!(rt;
         written.as_slice(),
         b"haystack 1 1 1 67108864\nopen damaged 1 1 40\n".as_slice()
     );
     // A needle's magic without its needle.
-    let (status, written) = damaged(alloc, 120, b"NEEDLE01")?;
+    let (status, written) = damaged(&rt, alloc, 120, b"NEEDLE01")?;
     assert_eq!(rt; status, 6);
     assert_eq!(rt;
         written.as_slice(),
         b"haystack 1 1 1 67108864\nopen damaged 1 1 120\n".as_slice()
     );
     // Any other eight bytes end the cells.
-    let (status, written) = damaged(alloc, 120, &[0xff; 8])?;
+    let (status, written) = damaged(&rt, alloc, 120, &[0xff; 8])?;
     assert_eq!(rt; status, 0);
     assert_eq!(rt; written.as_slice(), b"haystack 1 1 1 67108864\n".as_slice());
     // Another photo than the checksum is of.
     let (status, written) = damaged(
+        &rt,
         alloc,
         100,
         b"bNEND\xdf\xbb\x28\xe7\xd8\x1a\xfc\xfe\0\0\0\0\0\0\0\0\0\0\0\0\0\0\0\0",
@@ -372,7 +452,12 @@ fn damage_is_told_at_its_place(rt: HostRuntime) -> Result<(), Fail> {
 }
 
 /// What a run over `put 0 1 61` writes, and its status, where the source and the sink fail at these calls.
-fn faulty(alloc: Global, source_fails: &[u64], sink_fails: &[u64]) -> Result<(u8, Vec<u8>), Fail> {
+fn faulty(
+    rt: &(impl Threads + Wait + Sync),
+    alloc: Global,
+    source_fails: &[u64],
+    sink_fails: &[u64],
+) -> Result<(u8, Vec<u8>), Fail> {
     let words = words_of(alloc, &["run"])?;
     let mut text = Vec::new(alloc);
     text.extend_from_slice(b"put 0 1 61\n")?;
@@ -381,7 +466,15 @@ fn faulty(alloc: Global, source_fails: &[u64], sink_fails: &[u64]) -> Result<(u8
     let mut sink = MemSink::new(alloc);
     sink.fail(sink_fails)?;
     let mut shelf = MemShelf::new(alloc);
-    let status = run(alloc, words.as_slice(), &mut source, &mut sink, &mut shelf);
+    let status = run(
+        rt,
+        alloc,
+        words.as_slice(),
+        &mut source,
+        &mut sink,
+        &mut shelf,
+        &OpenGate,
+    );
     let mut written = Vec::new(alloc);
     written.extend_from_slice(sink.bytes())?;
     Ok((status, written))
@@ -390,13 +483,13 @@ fn faulty(alloc: Global, source_fails: &[u64], sink_fails: &[u64]) -> Result<(u8
 #[test]
 fn a_fault_of_a_stream_ends_the_run(rt: HostRuntime) -> Result<(), Fail> {
     let alloc = rt.alloc();
-    let (status, written) = faulty(alloc, &[2], &[])?;
+    let (status, written) = faulty(&rt, alloc, &[2], &[])?;
     assert_eq!(rt; status, 4);
     assert_eq!(rt;
         written.as_slice(),
         b"haystack 1 1 1 67108864\n1 stored 0 1 1 903df1a0ade0b876\n".as_slice()
     );
-    let (status, written) = faulty(alloc, &[], &[1])?;
+    let (status, written) = faulty(&rt, alloc, &[], &[1])?;
     assert_eq!(rt; status, 3);
     assert!(rt; b"haystack 1 1 1 67108864\n".starts_with(written.as_slice()));
     Ok(())

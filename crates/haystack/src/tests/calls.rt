@@ -5,7 +5,9 @@ use hay_memdisk::MemShelf;
 use std::alloc::Global;
 use std::process::Abort;
 use std::str;
+use std::sync::Wait;
 use std::test::Fail;
+use std::thread::Threads;
 
 const RUN: &[&str] = &["run"];
 
@@ -125,7 +127,7 @@ const COUNTED: [Counted; 10] = [
 
 /// Tries a command behind so many calls, and a put that shows what the fuse has left of the volume.
 fn try_calls(
-    rt: &impl Abort,
+    rt: &(impl Abort + Threads + Wait + Sync),
     alloc: Global,
     counted: Counted,
     calls: u64,
@@ -144,7 +146,7 @@ fn try_calls(
     )?;
     let end = format!(in alloc; " fused 0:0 {calls}\n{line} {reply}\n{behind} {next}\n")?;
     let mut shelf = MemShelf::new(alloc);
-    let (status, written) = run_over(alloc, RUN, script.as_bytes(), &mut shelf)?;
+    let (status, written) = run_over(rt, alloc, RUN, script.as_bytes(), &mut shelf)?;
     assert_eq!(rt; status, 0);
     assert!(rt;
         written.ends_with(end.as_bytes()),
@@ -206,10 +208,15 @@ const LENS: [([usize; 5], [usize; 5]); 16] = [
 ];
 
 /// Behind a compaction of the three cells with so many calls, and these lines.
-fn lens_behind(alloc: Global, calls: usize, lines: &str) -> Result<[usize; 5], Fail> {
+fn lens_behind(
+    rt: &(impl Threads + Wait + Sync),
+    alloc: Global,
+    calls: usize,
+    lines: &str,
+) -> Result<[usize; 5], Fail> {
     let script = format!(in alloc; "{THREE_CELLS}fuse 0 0 {calls}\ncompact 0 0\n{lines}")?;
     let mut shelf = MemShelf::new(alloc);
-    let (_, _) = run_over(alloc, RUN, script.as_bytes(), &mut shelf)?;
+    let (_, _) = run_over(rt, alloc, RUN, script.as_bytes(), &mut shelf)?;
     let mut lens = [0; 5];
     let disk = shelf.disk(1).ok_or("no disk")?;
     for (file, len) in (0..).zip(lens.iter_mut()) {
@@ -221,9 +228,13 @@ fn lens_behind(alloc: Global, calls: usize, lines: &str) -> Result<[usize; 5], F
 #[test]
 fn a_compaction_makes_its_calls_in_order(rt: HostRuntime) -> Result<(), Fail> {
     for (calls, (read, kept)) in LENS.iter().enumerate() {
-        assert_eq!(rt; lens_behind(rt.alloc(), calls, "")?, *read, "{calls} calls");
         assert_eq!(rt;
-            lens_behind(rt.alloc(), calls, "restart 0\n")?,
+            lens_behind(&rt, rt.alloc(), calls, "")?,
+            *read,
+            "{calls} calls"
+        );
+        assert_eq!(rt;
+            lens_behind(&rt, rt.alloc(), calls, "restart 0\n")?,
             *kept,
             "{calls} calls, stopped"
         );
@@ -327,7 +338,7 @@ fn a_stop_anywhere_agrees_with_its_note(rt: HostRuntime) -> Result<(), Fail> {
                 "fuse 0 0 {calls}\nput 0 1 61\nput 0 1 62\nflush 0 0\ndel 0 1\ncompact 0 0\nput 0 2 63\nrestart {pick}\nread 0 1 903df1a0ade0b876\n"
             )?;
             let mut shelf = MemShelf::new(alloc);
-            let (status, written) = run_over(alloc, RUN, script.as_bytes(), &mut shelf)?;
+            let (status, written) = run_over(&rt, alloc, RUN, script.as_bytes(), &mut shelf)?;
             assert_eq!(rt; status, 0);
             let written = str::from_utf8(written.as_slice()).ok().ok_or("no text")?;
             let is_lost = written == format!(in alloc; "{front}{lost}")?.as_str();

@@ -1,6 +1,7 @@
 //! Scripts and the transcripts that they must have.
 
 /// A script, under these words, and its transcript.
+#[derive(Drop)]
 pub struct Case {
     pub words: &'static [&'static str],
     pub script: &'static [u8],
@@ -9,7 +10,7 @@ pub struct Case {
 
 const RUN: &[&str] = &["run"];
 
-pub const CASES: [Case; 33] = [
+pub const CASES: [Case; 32] = [
     Case {
         words: RUN,
         script: b"put 0 1 68656c6c6f\nread 0 1 903df1a0ade0b876\n",
@@ -79,12 +80,6 @@ pub const CASES: [Case; 33] = [
         words: RUN,
         script: b"put 0 1 61\nfuse 0 0 1\ndel 0 1\nread 0 1 903df1a0ade0b876\nrestart 1\nread 0 1 903df1a0ade0b876\n",
         transcript: b"haystack 1 1 1 67108864\n1 stored 0 1 1 903df1a0ade0b876\n2 fused 0:0 1\n3 failed 0:0 1\n4 photo 0 0 1 1 61\n5 restarted 1\nkept 0:0 3\n6 gone 0 0 0 1\n",
-    },
-    // Commands of a block, which the script's end closes, are not built.
-    Case {
-        words: RUN,
-        script: b"lanes 2\n0 put 0 1 61\n2 del 0 1\n\n1 url 0 1",
-        transcript: b"haystack 1 1 1 67108864\n2 unbuilt\n3 bad line\n5 unbuilt\n",
     },
     // Two volumes: a photo goes to the first try that takes it, and then stays there.
     Case {

@@ -5,11 +5,14 @@ ghost use Rattle.hay_memdisk.specs.MemShelf.{mem_arms, mem_disks};
 
 use super::damage::{STORE_FILES, StoreFile, field_of, over_damaged};
 use super::{copy_disk, run_over, words_of};
+use hay_lanes::OpenGate;
 use hay_memdisk::{MemDisk, MemShelf, MemSink, MemSource};
 use hay_run::run;
 use std::alloc::Global;
 use std::process::Abort;
+use std::sync::Wait;
 use std::test::Fail;
+use std::thread::Threads;
 
 /// A store under these words that a script made, what a check of it writes, and its status.
 struct Checked {
@@ -102,7 +105,7 @@ fn bytes_of(alloc: Global, shelf: &MemShelf) -> Result<Vec<u8>, Fail> {
 
 /// Checks the shelf with these words: the status and what is written.
 fn try_check(
-    rt: &impl Abort,
+    rt: &(impl Abort + Threads + Wait + Sync),
     alloc: Global,
     shelf: &mut MemShelf,
     words: &[&str],
@@ -114,7 +117,7 @@ fn try_check(
     ensures disks { (slot : ℕ) → (mem_disks shelf.new slot).is_out ≡ false }
     ensures arms { (lane : ℕ) → (mem_arms shelf.new lane).is_out ≡ false }
 {
-    let (status, written) = run_over(alloc, words, b"put 0 9 61\n", shelf)?;
+    let (status, written) = run_over(rt, alloc, words, b"put 0 9 61\n", shelf)?;
     assert_eq!(rt; written.as_slice(), told.as_bytes());
     assert_eq!(rt; status, wanted);
     Ok(())
@@ -125,7 +128,7 @@ fn stores_are_told_and_left(rt: HostRuntime) -> Result<(), Fail> {
     let alloc = rt.alloc();
     for case in &CHECKED {
         let mut shelf = MemShelf::new(alloc);
-        let (status, _) = run_over(alloc, case.words, case.script, &mut shelf)?;
+        let (status, _) = run_over(&rt, alloc, case.words, case.script, &mut shelf)?;
         assert_eq!(rt; status, 0);
         let before = bytes_of(alloc, &shelf)?;
         try_check(
@@ -163,6 +166,7 @@ fn an_empty_shelf_stays_empty(rt: HostRuntime) -> Result<(), Fail> {
 
 /// A check over the empty shelf whose disk in a slot fails at these calls, and whose source and sink at these.
 fn faulty(
+    rt: &(impl Threads + Wait + Sync),
     alloc: Global,
     slot: u32,
     disk_fails: &[u64],
@@ -177,7 +181,15 @@ fn faulty(
     disk.fail(disk_fails)?;
     let mut shelf = MemShelf::new(alloc);
     shelf.put_disk(slot, disk)?;
-    let status = run(alloc, words.as_slice(), &mut source, &mut sink, &mut shelf);
+    let status = run(
+        rt,
+        alloc,
+        words.as_slice(),
+        &mut source,
+        &mut sink,
+        &mut shelf,
+        &OpenGate,
+    );
     let mut written = Vec::new(alloc);
     written.extend_from_slice(sink.bytes())?;
     Ok((status, written))
@@ -191,22 +203,22 @@ fn a_fault_ends_the_check(rt: HostRuntime) -> Result<(), Fail> {
         (0, "open failed 0 1\n"),
         (1, "check 0 void\nopen failed 1 1\n"),
     ] {
-        let (status, written) = faulty(alloc, slot, &[1], &[])?;
+        let (status, written) = faulty(&rt, alloc, slot, &[1], &[])?;
         let transcript = format!(in alloc; "haystack 1 1 1 67108864\n{rest}")?;
         assert_eq!(rt; written.as_slice(), transcript.as_bytes());
         assert_eq!(rt; status, 6);
     }
     let whole = b"haystack 1 1 1 67108864\ncheck 0 void\ncheck 1 void\n";
     for call in 1..4 {
-        let (status, written) = faulty(alloc, 0, &[], &[call])?;
+        let (status, written) = faulty(&rt, alloc, 0, &[], &[call])?;
         assert_eq!(rt; status, 3);
         assert!(rt; whole.starts_with(written.as_slice()));
     }
-    let (status, written) = faulty(alloc, 0, &[], &[4])?;
+    let (status, written) = faulty(&rt, alloc, 0, &[], &[4])?;
     assert_eq!(rt; status, 0);
     assert_eq!(rt; written.as_slice(), whole.as_slice());
     // The last line, which tells of the disk, is cut short too.
-    let (status, written) = faulty(alloc, 0, &[1], &[2])?;
+    let (status, written) = faulty(&rt, alloc, 0, &[1], &[2])?;
     assert_eq!(rt; status, 3);
     assert!(rt; b"haystack 1 1 1 67108864\nopen failed 0 1\n".starts_with(written.as_slice()));
     Ok(())
@@ -223,7 +235,7 @@ fn words_of_a_check_are_those_of_a_run(rt: HostRuntime) -> Result<(), Fail> {
         &["Check"],
     ] {
         let mut shelf = MemShelf::new(alloc);
-        let (status, written) = run_over(alloc, words, b"", &mut shelf)?;
+        let (status, written) = run_over(&rt, alloc, words, b"", &mut shelf)?;
         assert_eq!(rt; status, 2);
         assert!(rt; written.is_empty());
     }
@@ -245,7 +257,7 @@ fn worked_damage_is_told(rt: HostRuntime) -> Result<(), Fail> {
         (plain, 1, 100, b"b", "damaged 1 64"),
     ] {
         let mut store = MemShelf::new(alloc);
-        let _ = run_over(alloc, RUN, script, &mut store)?;
+        let _ = run_over(&rt, alloc, RUN, script, &mut store)?;
         let mut bytes = Vec::new(alloc);
         if let Some(disk) = store.disk(1) {
             let (front, rest) = disk.bytes(file).split_at_checked(cut).ok_or("short")?;
@@ -259,7 +271,7 @@ fn worked_damage_is_told(rt: HostRuntime) -> Result<(), Fail> {
         let mut shelf = MemShelf::new(alloc);
         copy_disk(&store, 0, 3, &[], alloc, &mut shelf)?;
         copy_disk(&store, 1, file, bytes.as_slice(), alloc, &mut shelf)?;
-        let (status, written) = run_over(alloc, CHECK, b"", &mut shelf)?;
+        let (status, written) = run_over(&rt, alloc, CHECK, b"", &mut shelf)?;
         let transcript = format!(in alloc;
             "haystack 1 1 1 67108864\ncheck 0 rows 1\ncheck 1 {told}\n"
         )?;
@@ -378,14 +390,14 @@ fn index_flipped(at: usize) -> Told {
 
 /// Checks the store with these bytes in place of a file, and opens it: where no disk is damaged it is opened.
 fn try_bytes(
-    rt: &impl Abort,
+    rt: &(impl Abort + Threads + Wait + Sync),
     alloc: Global,
     store: &MemShelf,
     file: StoreFile,
     bytes: &[u8],
     told: Told,
 ) -> Result<(), Fail> {
-    let (status, written) = over_damaged(alloc, CHECK, store, file, bytes)?;
+    let (status, written) = over_damaged(rt, alloc, CHECK, store, file, bytes)?;
     let line = told.line(alloc)?;
     let transcript = if file.slot() == 0 {
         format!(in alloc; "haystack 1 1 1 67108864\ncheck 0 {line}\ncheck 1 whole 0 1 1 1 120 0\n")?
@@ -394,14 +406,14 @@ fn try_bytes(
     };
     assert_eq!(rt; written.as_slice(), transcript.as_bytes());
     assert_eq!(rt; status, if told.is_damaged() { 8 } else { 0 });
-    let (opened, _) = over_damaged(alloc, RUN, store, file, bytes)?;
+    let (opened, _) = over_damaged(rt, alloc, RUN, store, file, bytes)?;
     assert!(rt; opened == 0 || (opened == 6 && told.is_damaged()));
     Ok(())
 }
 
 /// Tries each cut of a file, and each byte of it with its lowest bit turned, and its highest.
 fn try_file(
-    rt: &impl Abort,
+    rt: &(impl Abort + Threads + Wait + Sync),
     alloc: Global,
     store: &MemShelf,
     file: StoreFile,
@@ -428,7 +440,7 @@ fn try_file(
 fn each_damage_is_told_by_a_check(rt: HostRuntime) -> Result<(), Fail> {
     let alloc = rt.alloc();
     let mut store = MemShelf::new(alloc);
-    let (status, _) = run_over(alloc, RUN, b"put 0 1 61\nflush 0 0\n", &mut store)?;
+    let (status, _) = run_over(&rt, alloc, RUN, b"put 0 1 61\nflush 0 0\n", &mut store)?;
     assert_eq!(rt; status, 0);
     for file in STORE_FILES {
         if let Some(disk) = store.disk(file.slot()) {

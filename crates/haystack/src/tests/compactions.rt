@@ -4,7 +4,9 @@ use super::{copy_disk, run_over};
 use hay_memdisk::{MemDisk, MemShelf};
 use std::alloc::Global;
 use std::process::Abort;
+use std::sync::Wait;
 use std::test::Fail;
+use std::thread::Threads;
 
 const RUN: &[&str] = &["run"];
 
@@ -47,9 +49,12 @@ const FIVE_CELLS: &[u8] =
     b"put 0 1 61\nput 0 2 62\nput 0 1 x9:63\nput 0 3 -\nput 0 4 x8:64\ndel 0 3\n";
 
 /// The volume file and the index file of generation 1 that have the three cells alone.
-fn three_cells(alloc: Global) -> Result<(Vec<u8>, Vec<u8>), Fail> {
+fn three_cells(
+    rt: &(impl Threads + Wait + Sync),
+    alloc: Global,
+) -> Result<(Vec<u8>, Vec<u8>), Fail> {
     let mut shelf = MemShelf::new(alloc);
-    let _ = run_over(alloc, RUN, FIVE_CELLS, &mut shelf)?;
+    let _ = run_over(rt, alloc, RUN, FIVE_CELLS, &mut shelf)?;
     let mut volume = super_of(alloc, &shelf, 1, 1)?;
     volume.extend_from_slice(part_of(alloc, &shelf, 1, 120, 240)?.as_slice())?;
     volume.extend_from_slice(part_of(alloc, &shelf, 1, 288, 344)?.as_slice())?;
@@ -64,14 +69,18 @@ fn three_cells(alloc: Global) -> Result<(Vec<u8>, Vec<u8>), Fail> {
 }
 
 /// Runs the script of five cells and these lines, and looks for the three cells in the files of generation 1.
-fn try_three(rt: &impl Abort, alloc: Global, lines: &[u8]) -> Result<(), Fail> {
+fn try_three(
+    rt: &(impl Abort + Threads + Wait + Sync),
+    alloc: Global,
+    lines: &[u8],
+) -> Result<(), Fail> {
     let mut script = Vec::new(alloc);
     script.extend_from_slice(FIVE_CELLS)?;
     script.extend_from_slice(lines)?;
     let mut shelf = MemShelf::new(alloc);
-    let (status, _) = run_over(alloc, RUN, script.as_slice(), &mut shelf)?;
+    let (status, _) = run_over(rt, alloc, RUN, script.as_slice(), &mut shelf)?;
     assert_eq!(rt; status, 0);
-    let (volume, index) = three_cells(alloc)?;
+    let (volume, index) = three_cells(rt, alloc)?;
     let disk = shelf.disk(1).ok_or("no disk")?;
     assert_eq!(rt; disk.bytes(3), volume.as_slice());
     assert_eq!(rt; disk.bytes(4), index.as_slice());
@@ -142,7 +151,7 @@ fn a_compaction_gives_room_back(rt: HostRuntime) -> Result<(), Fail> {
         ),
     ] {
         let mut shelf = MemShelf::new(rt.alloc());
-        let (status, _) = run_over(rt.alloc(), RUN, script, &mut shelf)?;
+        let (status, _) = run_over(&rt, rt.alloc(), RUN, script, &mut shelf)?;
         assert_eq!(rt; status, 0);
         assert_eq!(rt; lens_of(&shelf), lens);
     }
@@ -174,17 +183,18 @@ fn disk_at(
 
 /// What a run over a replica of this generation writes.
 fn run_at(
+    rt: &(impl Threads + Wait + Sync),
     alloc: Global,
     generation: u64,
     files: [(u32, u32); 2],
     script: &[u8],
 ) -> Result<Vec<u8>, Fail> {
     let mut fresh = MemShelf::new(alloc);
-    let _ = run_over(alloc, RUN, b"", &mut fresh)?;
+    let _ = run_over(rt, alloc, RUN, b"", &mut fresh)?;
     let mut shelf = MemShelf::new(alloc);
     copy_disk(&fresh, 0, 3, &[], alloc, &mut shelf)?;
     shelf.put_disk(1, disk_at(alloc, &fresh, generation, files)?)?;
-    let (_, written) = run_over(alloc, RUN, script, &mut shelf)?;
+    let (_, written) = run_over(rt, alloc, RUN, script, &mut shelf)?;
     Ok(written)
 }
 
@@ -192,14 +202,14 @@ fn run_at(
 fn the_last_generation_is_worn(rt: HostRuntime) -> Result<(), Fail> {
     let alloc = rt.alloc();
     let script = b"begin 0 0\ncompact 0 0\nstep 0 0 1\nput 0 1 61\nread 0 1 903df1a0ade0b876\n";
-    let written = run_at(alloc, 65_535, [(131_071, 1), (131_072, 2)], script)?;
+    let written = run_at(&rt, alloc, 65_535, [(131_071, 1), (131_072, 2)], script)?;
     assert_eq!(rt;
         written.as_slice(),
         b"haystack 1 1 1 67108864\n1 worn 0:0\n2 worn 0:0\n3 idle 0:0\n4 stored 0 1 1 903df1a0ade0b876\n5 photo 0 0 1 1 61\n".as_slice()
     );
     // The generation before it has one compaction left.
     let script = b"compact 0 0\nrestart 0\nbegin 0 0\n";
-    let written = run_at(alloc, 65_534, [(131_069, 1), (131_070, 2)], script)?;
+    let written = run_at(&rt, alloc, 65_534, [(131_069, 1), (131_070, 2)], script)?;
     assert_eq!(rt;
         written.as_slice(),
         b"haystack 1 1 1 67108864\n1 compacted 0:0 65535\n2 restarted 0\n3 worn 0:0\n".as_slice()

@@ -4,7 +4,9 @@ use super::{copy_disk, run_over};
 use hay_memdisk::MemShelf;
 use std::alloc::Global;
 use std::process::Abort;
+use std::sync::Wait;
 use std::test::Fail;
+use std::thread::Threads;
 
 /// The file and the place that an opening names, or none where it succeeds.
 type Damage = Option<(u32, usize)>;
@@ -127,6 +129,7 @@ fn index_flipped(at: usize) -> Damage {
 
 /// What these words over the store without a script write, and their status, with these bytes in place of a file.
 pub(super) fn over_damaged(
+    rt: &(impl Threads + Wait + Sync),
     alloc: Global,
     words: &[&str],
     store: &MemShelf,
@@ -140,19 +143,19 @@ pub(super) fn over_damaged(
     };
     copy_disk(store, 0, journal, bytes, alloc, &mut shelf)?;
     copy_disk(store, 1, replica, bytes, alloc, &mut shelf)?;
-    run_over(alloc, words, b"", &mut shelf)
+    run_over(rt, alloc, words, b"", &mut shelf)
 }
 
 /// Tries the store with these bytes in place of a file.
 fn try_bytes(
-    rt: &impl Abort,
+    rt: &(impl Abort + Threads + Wait + Sync),
     alloc: Global,
     store: &MemShelf,
     file: StoreFile,
     bytes: &[u8],
     damage: Damage,
 ) -> Result<(), Fail> {
-    let (status, written) = over_damaged(alloc, &["run"], store, file, bytes)?;
+    let (status, written) = over_damaged(rt, alloc, &["run"], store, file, bytes)?;
     let (due, line) = match damage {
         Some((number, at)) => {
             let slot = file.slot();
@@ -168,7 +171,7 @@ fn try_bytes(
 
 /// Tries each cut of a file, and each byte of it with its lowest bit turned, and its highest.
 fn try_file(
-    rt: &impl Abort,
+    rt: &(impl Abort + Threads + Wait + Sync),
     alloc: Global,
     store: &MemShelf,
     file: StoreFile,
@@ -200,7 +203,7 @@ fn try_file(
 fn each_damage_is_told_at_its_place(rt: HostRuntime) -> Result<(), Fail> {
     let alloc = rt.alloc();
     let mut store = MemShelf::new(alloc);
-    let (status, _) = run_over(alloc, &["run"], b"put 0 1 61\nflush 0 0\n", &mut store)?;
+    let (status, _) = run_over(&rt, alloc, &["run"], b"put 0 1 61\nflush 0 0\n", &mut store)?;
     assert_eq!(rt; status, 0);
     for file in STORE_FILES {
         if let Some(disk) = store.disk(file.slot()) {
@@ -216,7 +219,7 @@ fn each_damage_is_told_at_its_place(rt: HostRuntime) -> Result<(), Fail> {
 fn a_damaged_photo_is_not_shown(rt: HostRuntime) -> Result<(), Fail> {
     let alloc = rt.alloc();
     let mut store = MemShelf::new(alloc);
-    let _ = run_over(alloc, &["run"], b"put 0 1 61\nflush 0 0\n", &mut store)?;
+    let _ = run_over(&rt, alloc, &["run"], b"put 0 1 61\nflush 0 0\n", &mut store)?;
     let mut bytes = Vec::new(alloc);
     if let Some(disk) = store.disk(1) {
         bytes.extend_from_slice(disk.bytes(1))?;
@@ -229,7 +232,7 @@ fn a_damaged_photo_is_not_shown(rt: HostRuntime) -> Result<(), Fail> {
     copy_disk(&store, 0, 3, &[], alloc, &mut second)?;
     copy_disk(&store, 1, 1, bytes.as_slice(), alloc, &mut second)?;
     let script = b"read 0 1 903df1a0ade0b876\ndel 0 1\n";
-    let (status, written) = run_over(alloc, &["run"], script, &mut second)?;
+    let (status, written) = run_over(&rt, alloc, &["run"], script, &mut second)?;
     assert_eq!(rt; status, 0);
     assert_eq!(rt;
         written.as_slice(),
@@ -244,7 +247,7 @@ fn a_damaged_replica_is_passed_over(rt: HostRuntime) -> Result<(), Fail> {
     let alloc = rt.alloc();
     let words = &["run", "--machines", "2", "--replicas", "2"];
     let mut store = MemShelf::new(alloc);
-    let _ = run_over(alloc, words, b"put 0 1 61\nflush 0 0\n", &mut store)?;
+    let _ = run_over(&rt, alloc, words, b"put 0 1 61\nflush 0 0\n", &mut store)?;
     let mut bytes = Vec::new(alloc);
     if let Some(disk) = store.disk(1) {
         bytes.extend_from_slice(disk.bytes(1))?;
@@ -258,7 +261,7 @@ fn a_damaged_replica_is_passed_over(rt: HostRuntime) -> Result<(), Fail> {
     copy_disk(&store, 1, 1, bytes.as_slice(), alloc, &mut second)?;
     copy_disk(&store, 2, 3, &[], alloc, &mut second)?;
     let script = b"# skip\nread 0 1 903df1a0ade0b876\n";
-    let (status, written) = run_over(alloc, words, script, &mut second)?;
+    let (status, written) = run_over(&rt, alloc, words, script, &mut second)?;
     assert_eq!(rt; status, 0);
     assert_eq!(rt;
         written.as_slice(),

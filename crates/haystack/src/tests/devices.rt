@@ -4,15 +4,22 @@ use super::run_over;
 use hay_disk::Disk;
 use hay_memdisk::{MemArm, MemDisk, MemShelf};
 use std::alloc::Global;
+use std::sync::Wait;
 use std::test::Fail;
+use std::thread::Threads;
 
 /// What a run of `put 0 1 61` writes, and its status, where the empty disk in a slot fails behind so many changing calls.
-fn fused(alloc: Global, slot: u32, calls: u64) -> Result<(u8, Vec<u8>), Fail> {
+fn fused(
+    rt: &(impl Threads + Wait + Sync),
+    alloc: Global,
+    slot: u32,
+    calls: u64,
+) -> Result<(u8, Vec<u8>), Fail> {
     let mut disk = MemDisk::new(alloc);
     disk.fuse(calls);
     let mut shelf = MemShelf::new(alloc);
     shelf.put_disk(slot, disk)?;
-    run_over(alloc, &["run"], b"put 0 1 61\n", &mut shelf)
+    run_over(rt, alloc, &["run"], b"put 0 1 61\n", &mut shelf)
 }
 
 /// The Directory's disk is formatted by a write and a sync, and a replica's by two removals and three files.
@@ -21,12 +28,12 @@ fn formatting_makes_the_listed_calls(rt: HostRuntime) -> Result<(), Fail> {
     let alloc = rt.alloc();
     for (slot, listed, refusal) in [(0, 2, "failed dir 1"), (1, 8, "failed 0:0 1")] {
         for calls in 0..listed {
-            let (status, written) = fused(alloc, slot, calls)?;
+            let (status, written) = fused(&rt, alloc, slot, calls)?;
             let transcript = format!(in alloc; "haystack 1 1 1 67108864\nopen failed {slot} 1\n")?;
             assert_eq!(rt; written.as_slice(), transcript.as_bytes());
             assert_eq!(rt; status, 6);
         }
-        let (status, written) = fused(alloc, slot, listed)?;
+        let (status, written) = fused(&rt, alloc, slot, listed)?;
         let transcript = format!(in alloc; "haystack 1 1 1 67108864\n1 {refusal}\n")?;
         assert_eq!(rt; written.as_slice(), transcript.as_bytes());
         assert_eq!(rt; status, 0);
@@ -43,6 +50,7 @@ fn failed_fetches_are_laid_to_the_arm(rt: HostRuntime) -> Result<(), Fail> {
     let mut shelf = MemShelf::new(alloc);
     shelf.put_arm(0, arm)?;
     let (status, written) = run_over(
+        &rt,
         alloc,
         &["run", "--machines", "2", "--replicas", "2"],
         b"put 0 1 61\nread 0 1 903df1a0ade0b876\nread 0 1 903df1a0ade0b876\n",

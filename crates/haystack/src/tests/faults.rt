@@ -11,14 +11,20 @@ use script::{FUSES, Round, commands_of, script_of};
 use std::alloc::Global;
 use std::process::Abort;
 use std::str;
+use std::sync::Wait;
 use std::test::Fail;
+use std::thread::Threads;
 use story::Story;
 use tally::Tally;
 
 const PICKS: [u64; 3] = [0, 1, 7];
 
 /// Runs a script, and answers what it met.
-fn run_script(rt: &impl Abort, alloc: Global, round: Round) -> Result<Tally, Fail> {
+fn run_script(
+    rt: &(impl Abort + Threads + Wait + Sync),
+    alloc: Global,
+    round: Round,
+) -> Result<Tally, Fail> {
     let Round {
         replicas,
         machine,
@@ -35,7 +41,7 @@ fn run_script(rt: &impl Abort, alloc: Global, round: Round) -> Result<Tally, Fai
         "--replicas",
         count.as_str(),
     ];
-    let outcome = outcome_of(alloc, &words, script.as_bytes(), 4096)?;
+    let outcome = outcome_of(rt, alloc, &words, script.as_bytes(), 4096)?;
     assert_eq!(rt; outcome.status, 0);
     let transcript = str::from_utf8(outcome.written.as_slice())
         .ok()
@@ -51,7 +57,11 @@ fn run_script(rt: &impl Abort, alloc: Global, round: Round) -> Result<Tally, Fai
 }
 
 /// Runs a script for each replica, fuse and pick. Each kind of failure is met at least ten times.
-fn run_scripts(rt: &impl Abort, alloc: Global, replicas: u64) -> Result<(), Fail> {
+fn run_scripts(
+    rt: &(impl Abort + Threads + Wait + Sync),
+    alloc: Global,
+    replicas: u64,
+) -> Result<(), Fail> {
     let mut met = Tally::new();
     for machine in 0..replicas {
         for calls in 0..FUSES {

@@ -7,7 +7,9 @@ use super::run_over;
 use hay_disk::Disk;
 use hay_memdisk::{MemDisk, MemShelf};
 use std::alloc::Global;
+use std::sync::Wait;
 use std::test::Fail;
+use std::thread::Threads;
 
 const LOAD: &[&str] = &["load", "--volumes", "2", "--capacity", "4096"];
 
@@ -22,12 +24,12 @@ fn a_load_is_read_by_a_run(rt: HostRuntime) -> Result<(), Fail> {
     let alloc = rt.alloc();
     let mut shelf = MemShelf::new(alloc);
     let script = b"put 0 1 61\nput 0 2 62\nput 0 1 63\nread 0 1 0\nput 0 3 x4000:64\n";
-    let (status, written) = run_over(alloc, LOAD, script, &mut shelf)?;
+    let (status, written) = run_over(&rt, alloc, LOAD, script, &mut shelf)?;
     assert_eq!(rt; status, 0);
     assert_eq!(rt; written.as_slice(), TOLD);
     let reads =
         b"read 0 1 903df1a0ade0b876\nread 0 2 903df1a0ade0b876\nread 0 3 903df1a0ade0b876\n";
-    let (status, written) = run_over(alloc, RUN, reads, &mut shelf)?;
+    let (status, written) = run_over(&rt, alloc, RUN, reads, &mut shelf)?;
     assert_eq!(rt; status, 0);
     assert_eq!(rt;
         written.as_slice(),
@@ -53,16 +55,21 @@ fn stop(shelf: &mut MemShelf, pick: u64) -> Result<(), Fail>
 }
 
 /// What a load writes, and what a run reads behind a stop, where so many calls of the Directory's disk pass.
-fn failed_of(alloc: Global, calls: u64, pick: u64) -> Result<(u8, Vec<u8>, u8, Vec<u8>), Fail> {
+fn failed_of(
+    rt: &(impl Threads + Wait + Sync),
+    alloc: Global,
+    calls: u64,
+    pick: u64,
+) -> Result<(u8, Vec<u8>, u8, Vec<u8>), Fail> {
     let mut disk = MemDisk::new(alloc);
     disk.fuse(calls);
     let mut shelf = MemShelf::new(alloc);
     shelf.put_disk(0, disk)?;
     let script = b"put 0 1 61\nput 0 2 62\n";
-    let (status, written) = run_over(alloc, &["load"], script, &mut shelf)?;
+    let (status, written) = run_over(rt, alloc, &["load"], script, &mut shelf)?;
     stop(&mut shelf, pick)?;
     let reads = b"read 0 1 903df1a0ade0b876\nread 0 2 903df1a0ade0b876\n";
-    let (again, read) = run_over(alloc, &["run"], reads, &mut shelf)?;
+    let (again, read) = run_over(rt, alloc, &["run"], reads, &mut shelf)?;
     Ok((status, written, again, read))
 }
 
@@ -70,7 +77,7 @@ fn failed_of(alloc: Global, calls: u64, pick: u64) -> Result<(u8, Vec<u8>, u8, V
 fn a_failed_load_leaves_no_photo_or_all(rt: HostRuntime) -> Result<(), Fail> {
     for calls in 0..4 {
         for pick in 0..2 {
-            let (status, written, again, read) = failed_of(rt.alloc(), 2 + calls, pick)?;
+            let (status, written, again, read) = failed_of(&rt, rt.alloc(), 2 + calls, pick)?;
             assert_eq!(rt; status, 6);
             assert_eq!(rt;
                 written.as_slice(),

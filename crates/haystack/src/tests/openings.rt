@@ -7,7 +7,9 @@ use super::run_over;
 use hay_memdisk::{MemArm, MemShelf};
 use std::alloc::Global;
 use std::process::Abort;
+use std::sync::Wait;
 use std::test::Fail;
+use std::thread::Threads;
 
 const TWO: &[&str] = &["run", "--machines", "2", "--replicas", "2"];
 
@@ -23,7 +25,7 @@ fn drawn(shelf: &MemShelf, replica: u32) -> Result<u64, Fail> {
 /// Opens the store for a script that asks for nothing: of each volume file so many bytes are read at least, and so many at
 /// most.
 fn try_opening(
-    rt: &impl Abort,
+    rt: &(impl Abort + Threads + Wait + Sync),
     alloc: Global,
     shelf: &mut MemShelf,
     script: &[u8],
@@ -36,7 +38,7 @@ fn try_opening(
     ensures arms { (lane : ℕ) → (mem_arms shelf.new lane).is_out ≡ false }
 {
     let before = [drawn(shelf, 0)?, drawn(shelf, 1)?];
-    let (status, written) = run_over(alloc, TWO, script, shelf)?;
+    let (status, written) = run_over(rt, alloc, TWO, script, shelf)?;
     assert_eq!(rt; status, 0);
     assert_eq!(rt; written.as_slice(), b"haystack 2 1 2 67108864\n".as_slice());
     for (replica, before) in before.iter().enumerate() {
@@ -52,7 +54,7 @@ fn an_opening_reads_little_where_each_needle_has_a_record(rt: HostRuntime) -> Re
     let alloc = rt.alloc();
     let mut shelf = MemShelf::new(alloc);
     let script = b"put 0 1 x1000000:61\nflush 0 0\nflush 0 1\n";
-    let (status, _) = run_over(alloc, TWO, script, &mut shelf)?;
+    let (status, _) = run_over(&rt, alloc, TWO, script, &mut shelf)?;
     assert_eq!(rt; status, 0);
     try_opening(&rt, alloc, &mut shelf, NOTHING[0], 1, 128)?;
     try_opening(&rt, alloc, &mut shelf, NOTHING[1], 1, 128)?;
@@ -64,7 +66,7 @@ fn an_opening_reads_little_where_each_needle_has_a_record(rt: HostRuntime) -> Re
 fn an_opening_reads_a_needle_without_a_record(rt: HostRuntime) -> Result<(), Fail> {
     let alloc = rt.alloc();
     let mut shelf = MemShelf::new(alloc);
-    let (status, _) = run_over(alloc, TWO, b"put 0 1 x1000000:61\n", &mut shelf)?;
+    let (status, _) = run_over(&rt, alloc, TWO, b"put 0 1 x1000000:61\n", &mut shelf)?;
     assert_eq!(rt; status, 0);
     try_opening(
         &rt,
@@ -91,7 +93,7 @@ fn an_opening_reads_what_a_lagging_index_lacks(rt: HostRuntime) -> Result<(), Fa
     let alloc = rt.alloc();
     let mut shelf = MemShelf::new(alloc);
     let script = b"put 0 1 61\nput 0 2 62\nflush 0 0\nflush 0 1\nput 0 3 63\ndel 0 1\n";
-    let (status, _) = run_over(alloc, TWO, script, &mut shelf)?;
+    let (status, _) = run_over(&rt, alloc, TWO, script, &mut shelf)?;
     assert_eq!(rt; status, 0);
     try_opening(&rt, alloc, &mut shelf, NOTHING[0], 56, 128 + 56)?;
     try_opening(&rt, alloc, &mut shelf, NOTHING[1], 56, 128 + 56)?;
@@ -107,15 +109,15 @@ fn a_first_read_reads_the_needle_once(rt: HostRuntime) -> Result<(), Fail> {
     let mut shelf = MemShelf::new(alloc);
     shelf.put_arm(0, arm)?;
     let script = b"put 0 1 61\nflush 0 0\nflush 0 1\n";
-    let (status, _) = run_over(alloc, TWO, script, &mut shelf)?;
+    let (status, _) = run_over(&rt, alloc, TWO, script, &mut shelf)?;
     assert_eq!(rt; status, 0);
     let before = drawn(&shelf, 1)?;
-    let (status, _) = run_over(alloc, TWO, NOTHING[0], &mut shelf)?;
+    let (status, _) = run_over(&rt, alloc, TWO, NOTHING[0], &mut shelf)?;
     assert_eq!(rt; status, 0);
     let opened = drawn(&shelf, 1)?;
     let opening = opened.saturating_sub(before);
     let script = b"read 0 1 903df1a0ade0b876\n";
-    let (status, written) = run_over(alloc, TWO, script, &mut shelf)?;
+    let (status, written) = run_over(&rt, alloc, TWO, script, &mut shelf)?;
     assert_eq!(rt; status, 0);
     assert_eq!(rt;
         written.as_slice(),

@@ -4,7 +4,9 @@ use super::run_over;
 use hay_memdisk::{MemDisk, MemShelf};
 use std::alloc::Global;
 use std::process::Abort;
+use std::sync::Wait;
 use std::test::Fail;
+use std::thread::Threads;
 
 const RUN: &[&str] = &["run"];
 
@@ -63,6 +65,7 @@ impl Ran {
 /// A run over a store of generation 0 whose journal has rows of key 0 with the alternate keys up to this one, and whose index has
 /// this block, if any.
 fn run_on(
+    rt: &(impl Threads + Wait + Sync),
     alloc: Global,
     alts: u32,
     volume: &[u8],
@@ -87,7 +90,7 @@ fn run_on(
     let mut shelf = MemShelf::new(alloc);
     shelf.put_disk(0, directory)?;
     shelf.put_disk(1, disk)?;
-    let (status, written) = run_over(alloc, RUN, script, &mut shelf)?;
+    let (status, written) = run_over(rt, alloc, RUN, script, &mut shelf)?;
     Ok(Ran {
         status,
         written,
@@ -102,7 +105,7 @@ fn an_old_store_is_read_and_made_anew(rt: HostRuntime) -> Result<(), Fail> {
     let volume = volume_of(alloc, &[OLD_HELLO])?;
     assert_eq!(rt; volume.len(), 128);
     let script = b"read 0 1 903df1a0ade0b876\ncompact 0 0\nread 0 1 903df1a0ade0b876\n";
-    let ran = run_on(alloc, 1, volume.as_slice(), b"", script)?;
+    let ran = run_on(&rt, alloc, 1, volume.as_slice(), b"", script)?;
     assert_eq!(rt; ran.status, 0);
     assert_eq!(rt;
         ran.written.as_slice(),
@@ -125,7 +128,7 @@ fn both_versions_stand_in_one_file(rt: HostRuntime) -> Result<(), Fail> {
     let volume = volume_of(alloc, &[OLD_HELLO])?;
     let script =
         b"put 0 2 61\nread 0 1 903df1a0ade0b876\nread 0 2 903df1a0ade0b876\nflush 0 0\nrestart 0\nread 0 1 903df1a0ade0b876\nread 0 2 903df1a0ade0b876\n";
-    let ran = run_on(alloc, 1, volume.as_slice(), b"", script)?;
+    let ran = run_on(&rt, alloc, 1, volume.as_slice(), b"", script)?;
     assert_eq!(rt; ran.status, 0);
     assert_eq!(rt;
         ran.written.as_slice(),
@@ -144,7 +147,7 @@ fn an_old_needle_is_deleted_in_its_place(rt: HostRuntime) -> Result<(), Fail> {
     let volume = volume_of(alloc, &[OLD_HELLO, LETTER])?;
     let script =
         b"del 0 1\nread 0 1 903df1a0ade0b876\nrestart 0\nread 0 1 903df1a0ade0b876\nread 0 2 903df1a0ade0b876\n";
-    let ran = run_on(alloc, 2, volume.as_slice(), b"", script)?;
+    let ran = run_on(&rt, alloc, 2, volume.as_slice(), b"", script)?;
     assert_eq!(rt; ran.status, 0);
     assert_eq!(rt;
         ran.written.as_slice(),
@@ -238,9 +241,13 @@ const WRONG: [Wrong; 13] = [
 ];
 
 /// A needle that no record names is damage at its place, and the opening changes nothing.
-fn try_unrecorded(rt: &impl Abort, alloc: Global, needle: &[u8; 56]) -> Result<(), Fail> {
+fn try_unrecorded(
+    rt: &(impl Abort + Threads + Wait + Sync),
+    alloc: Global,
+    needle: &[u8; 56],
+) -> Result<(), Fail> {
     let volume = volume_of(alloc, &[LETTER, needle])?;
-    let ran = run_on(alloc, 2, volume.as_slice(), b"", b"")?;
+    let ran = run_on(rt, alloc, 2, volume.as_slice(), b"", b"")?;
     assert_eq!(rt;
         ran.written.as_slice(),
         b"haystack 1 1 1 67108864\nopen damaged 1 1 120\n".as_slice()
@@ -252,11 +259,15 @@ fn try_unrecorded(rt: &impl Abort, alloc: Global, needle: &[u8; 56]) -> Result<(
 
 /// A recorded needle that is not the last one is not read at the opening, but when it is needed: then the photo is not shown, the
 /// other one is, and a compaction stops at the needle and leaves the old file.
-fn try_recorded(rt: &impl Abort, alloc: Global, needle: &[u8; 56]) -> Result<(), Fail> {
+fn try_recorded(
+    rt: &(impl Abort + Threads + Wait + Sync),
+    alloc: Global,
+    needle: &[u8; 56],
+) -> Result<(), Fail> {
     let volume = volume_of(alloc, &[needle, LETTER])?;
     let script =
         b"read 0 1 903df1a0ade0b876\nread 0 2 903df1a0ade0b876\ncompact 0 0\nread 0 2 903df1a0ade0b876\n";
-    let ran = run_on(alloc, 2, volume.as_slice(), RECORDS, script)?;
+    let ran = run_on(rt, alloc, 2, volume.as_slice(), RECORDS, script)?;
     assert_eq!(rt;
         ran.written.as_slice(),
         b"haystack 1 1 1 67108864\n1 unreadable 0 0 2 0:damage:64\n2 photo 0 0 0 2 61\n3 damaged 0:0 64\n4 photo 0 0 0 2 61\n".as_slice()
@@ -341,6 +352,7 @@ fn each_version_has_its_largest_photo(rt: HostRuntime) -> Result<(), Fail> {
         let needle = large_needle(alloc, version, size, sum, padding)?;
         let volume = volume_of(alloc, &[needle.as_slice()])?;
         let ran = run_on(
+            &rt,
             alloc,
             1,
             volume.as_slice(),

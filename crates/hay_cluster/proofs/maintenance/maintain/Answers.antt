@@ -1,4 +1,4 @@
-use Rattle.std.proofs.Common.{◌≡◌, None, Some, refl, sym, ap, subst, ◌∙◌, arith}
+use Rattle.std.proofs.Common.{◌≡◌, ℕ, List, None, Some, refl, sym, ap, subst, ◌∙◌, arith}
 use Rattle.std.specs.Prelude.{Err, IfErr, Ok, OnErr, OnOk, Result}
 use Rattle.std.proofs.lemmas.Result.{IfErr-at_err}
 use Rattle.hay_physical.specs.Copies.{Copy}
@@ -8,12 +8,17 @@ use Rattle.std.specs.Prelude.{IfOk}
 use Rattle.hay_logical.specs.Seen.{volume_seen}
 use Rattle.hay_cluster.specs.Seen.{WorkRefusedSeen, WorkSeen}
 use Rattle.hay_cluster.proofs.SeenWork.{frozen_cause, frozen_refused, frozen_refused_seen}
-use Rattle.hay_logical.specs.Sights.{sights_of}
+use Rattle.hay_logical.specs.Sights.{Sights, sights_of}
 use Rattle.hay_cluster.specs.Sights.{DoneSights}
 use Rattle.hay_physical.specs.Copies.{volume_bytes}
-use Rattle.hay_logical.specs.Needles.{HeadsLeadOn, IsDamagedCell}
-use Rattle.hay_logical.specs.Seen.{begun, replica_seen}
-use Rattle.hay_cluster.specs.Needles.{LacksWork, LeadsWork}
+use Rattle.hay_logical.proofs.Damages.{heads_none}
+use Rattle.hay_logical.specs.Needles.{HeadsLeadOn, HeadsLeadPart, IsDamagedCell}
+use Rattle.hay_logical.specs.Seen.{ReplicaSeen, begun, replica_seen}
+use Rattle.hay_logical.specs.declared.fault.LogicalFault.{LogicalFault}
+use Rattle.hay_logical.specs.declared.fault.LogicalFault.TheVariants as refusal
+use Rattle.hay_cluster.specs.declared.maintenance.Maintenance.TheVariants.{Flush, Begin, Step, Finish, Compact}
+use Rattle.hay_cluster.specs.Maintenance.{MayWantMemory}
+use Rattle.hay_cluster.specs.Needles.{LacksWork, LeadsPart, LeadsWork}
 use Rattle.hay_cluster.proofs.maintenance.maintain.Goals as goal
 
 some_none : {X : Type 0} {x : X} → Some x ≡ None → ⊥
@@ -37,6 +42,31 @@ if_ok (Err e) = tt
 if_ok_by : {T E : Type 0} (r : Result T E) (Q : Type 0) (P : T → Type 0) → (Q → (x : T) → P x) → OnOk r Q → IfOk r P
 if_ok_by (Ok x) Q P makes q = makes q x
 if_ok_by (Err e) Q P makes q = tt
+
+if_err_made : {T E : Type 0} (r : Result T E) (P : E → Type 0) → ((e : E) → r ≡ Err e → P e) → IfErr r P
+if_err_made (Ok x) P makes = tt
+if_err_made (Err e) P makes = makes e refl
+
+-- work that examined nothing
+none_led : (sights : Sights) (j : ℕ) (work : Maintenance) (r : ReplicaSeen) (file : List ℕ) → LeadsPart sights j work r r file
+none_led sights j (Step cells) r file = (0, omega arith, heads_none sights j r.next r.next file refl)
+none_led sights j Flush r file = tt
+none_led sights j Begin r file = tt
+none_led sights j Finish r file = tt
+none_led sights j Compact r file = tt
+
+-- a step that was refused
+step_led : (sights : Sights) (j cells : ℕ) (r r' : ReplicaSeen) (file : List ℕ) (fault : LogicalFault) → (fault ≡ refusal.NoMemory → HeadsLeadPart sights j cells r.next r'.next file)
+    → ((m : ℕ) → fault ≡ refusal.ReadOnly m → ⊥) → MayWantMemory fault → LeadsPart sights j (Step cells) r r' file
+step_led sights j cells r r' file refusal.NoMemory part thawed wants = let led = part refl in (led.0, (let few = led.1 in omega (arith, few)), led.2)
+step_led sights j cells r r' file (refusal.ReadOnly m) part thawed wants = absurd (thawed m refl)
+step_led sights j cells r r' file (refusal.Failed m f) part thawed wants = absurd wants
+step_led sights j cells r r' file (refusal.Busy m generation) part thawed wants = absurd wants
+step_led sights j cells r r' file (refusal.Worn m) part thawed wants = absurd wants
+step_led sights j cells r r' file refusal.Idle part thawed wants = absurd wants
+step_led sights j cells r r' file (refusal.Damaged m at) part thawed wants = absurd wants
+step_led sights j cells r r' file (refusal.Full m end need capacity) part thawed wants = absurd wants
+step_led sights j cells r r' file (refusal.Gone front) part thawed wants = absurd wants
 
 pub returns-in-Finish-clause-others : goal.returns-in-Finish-clause-others
 returns-in-Finish-clause-others g c = λ j apart r r' was now. (c.finish.ensures.beside j apart r r' was now).disk
@@ -178,35 +208,68 @@ returns-in-Begin-clause-damaged g c = λ tells m place is. absurd (IfErr-at_err 
 
 pub returns-in-Flush-clause-lead : goal.returns-in-Flush-clause-lead
 returns-in-Flush-clause-lead g c = λ tells r r' was now.
-    subst (λ (work : Maintenance). IfOk c.flush.result (λ number. LeadsWork work number (replica_seen r) (replica_seen r') (volume_bytes g.D.Disk.files r))) (sym c.in-Flush.is) (if_ok c.flush.result)
+    subst (λ (work : Maintenance). IfOk c.flush.result (λ number. LeadsWork (sights_of (c.args.volume.now).rows) c.args.replica work number (replica_seen r) (replica_seen r') (volume_bytes g.D.Disk.files r))) (sym c.in-Flush.is) (if_ok c.flush.result)
 
 pub returns-in-Begin-clause-lead : goal.returns-in-Begin-clause-lead
 returns-in-Begin-clause-lead g c = λ tells r r' was now.
-    subst (λ (work : Maintenance). IfOk c.begin.result (λ number. LeadsWork work number (replica_seen r) (replica_seen r') (volume_bytes g.D.Disk.files r))) (sym c.in-Begin.is) (if_ok c.begin.result)
+    subst (λ (work : Maintenance). IfOk c.begin.result (λ number. LeadsWork (sights_of (c.args.volume.now).rows) c.args.replica work number (replica_seen r) (replica_seen r') (volume_bytes g.D.Disk.files r))) (sym c.in-Begin.is) (if_ok c.begin.result)
 
 pub returns-in-Step-clause-damaged : goal.returns-in-Step-clause-damaged
 returns-in-Step-clause-damaged g c = λ tells m place is.
-    subst (λ (work : Maintenance). IsDamagedCell g.D.Disk.files (c.args.volume.now).replicas c.args.replica (LacksWork work place)) (sym c.in-Step.is) (c.step.ensures.damaged tells m place is)
+    subst (λ (work : Maintenance). IsDamagedCell g.D.Disk.files (c.args.volume.now).replicas c.args.replica (LacksWork (sights_of (c.args.volume.now).rows) c.args.replica work place)) (sym c.in-Step.is) (c.step.ensures.damaged tells m place is)
 
 pub returns-in-Step-clause-lead : goal.returns-in-Step-clause-lead
 returns-in-Step-clause-lead g c = λ tells r r' was now.
-    subst (λ (work : Maintenance). IfOk c.step.result (λ number. LeadsWork work number (replica_seen r) (replica_seen r') (volume_bytes g.D.Disk.files r))) (sym c.in-Step.is)
+    subst (λ (work : Maintenance). IfOk c.step.result (λ number. LeadsWork (sights_of (c.args.volume.now).rows) c.args.replica work number (replica_seen r) (replica_seen r') (volume_bytes g.D.Disk.files r))) (sym c.in-Step.is)
     (c.step.ensures.lead tells r r' was now)
 
 pub returns-in-Finish-clause-damaged : goal.returns-in-Finish-clause-damaged
 returns-in-Finish-clause-damaged g c = λ tells m place is.
-    subst (λ (work : Maintenance). IsDamagedCell g.D.Disk.files (c.args.volume.now).replicas c.args.replica (LacksWork work place)) (sym c.in-Finish.is) (c.finish.ensures.damaged tells m place is)
+    subst (λ (work : Maintenance). IsDamagedCell g.D.Disk.files (c.args.volume.now).replicas c.args.replica (LacksWork (sights_of (c.args.volume.now).rows) c.args.replica work place)) (sym c.in-Finish.is) (c.finish.ensures.damaged tells m place is)
 
 pub returns-in-Finish-clause-lead : goal.returns-in-Finish-clause-lead
 returns-in-Finish-clause-lead g c = λ tells r r' was now.
-    subst (λ (work : Maintenance). IfOk c.finish.result (λ number. LeadsWork work number (replica_seen r) (replica_seen r') (volume_bytes g.D.Disk.files r))) (sym c.in-Finish.is)
-    (if_ok_by c.finish.result _ (λ number. HeadsLeadOn (replica_seen r) (volume_bytes g.D.Disk.files r)) (λ leads number. leads r was) (c.finish.ensures.lead tells))
+    subst (λ (work : Maintenance). IfOk c.finish.result (λ number. LeadsWork (sights_of (c.args.volume.now).rows) c.args.replica work number (replica_seen r) (replica_seen r') (volume_bytes g.D.Disk.files r))) (sym c.in-Finish.is)
+    (if_ok_by c.finish.result _ (λ number. HeadsLeadOn (sights_of (c.args.volume.now).rows) c.args.replica (replica_seen r) (volume_bytes g.D.Disk.files r)) (λ leads number. leads r was) (c.finish.ensures.lead tells))
 
 pub returns-in-Compact-clause-damaged : goal.returns-in-Compact-clause-damaged
 returns-in-Compact-clause-damaged g c = λ tells m place is.
-    subst (λ (work : Maintenance). IsDamagedCell g.D.Disk.files (c.args.volume.now).replicas c.args.replica (LacksWork work place)) (sym c.in-Compact.is) (c.compact.ensures.damaged tells m place is)
+    subst (λ (work : Maintenance). IsDamagedCell g.D.Disk.files (c.args.volume.now).replicas c.args.replica (LacksWork (sights_of (c.args.volume.now).rows) c.args.replica work place)) (sym c.in-Compact.is) (c.compact.ensures.damaged tells m place is)
 
 pub returns-in-Compact-clause-lead : goal.returns-in-Compact-clause-lead
 returns-in-Compact-clause-lead g c = λ tells r r' was now.
-    subst (λ (work : Maintenance). IfOk c.compact.result (λ number. LeadsWork work number (replica_seen r) (replica_seen r') (volume_bytes g.D.Disk.files r))) (sym c.in-Compact.is)
-    (if_ok_by c.compact.result _ (λ number. HeadsLeadOn (begun (replica_seen r)) (volume_bytes g.D.Disk.files r)) (λ leads number. leads r was) (c.compact.ensures.lead tells))
+    subst (λ (work : Maintenance). IfOk c.compact.result (λ number. LeadsWork (sights_of (c.args.volume.now).rows) c.args.replica work number (replica_seen r) (replica_seen r') (volume_bytes g.D.Disk.files r))) (sym c.in-Compact.is)
+    (if_ok_by c.compact.result _ (λ number. HeadsLeadOn (sights_of (c.args.volume.now).rows) c.args.replica (begun (replica_seen r)) (volume_bytes g.D.Disk.files r)) (λ leads number. leads r was) (c.compact.ensures.lead tells))
+
+pub returns-in-Some-clause-part : goal.returns-in-Some-clause-part
+returns-in-Some-clause-part g c = λ tells r r' was now wants.
+    let file = volume_bytes g.D.Disk.files r in
+    subst (λ (x : Copy g.row.D.Denot). LeadsPart (sights_of (c.args.volume.now).rows) c.args.replica c.args.work (replica_seen r) (replica_seen x) file) (sym (one_copy r r' (sym was ∙ now)))
+    (none_led (sights_of (c.args.volume.now).rows) c.args.replica c.args.work (replica_seen r) file)
+
+pub returns-in-Flush-clause-part : goal.returns-in-Flush-clause-part
+returns-in-Flush-clause-part g c = λ tells r r' was now.
+    subst (λ (work : Maintenance). IfErr c.flush.result (λ fault. MayWantMemory fault → LeadsPart (sights_of (c.args.volume.now).rows) c.args.replica work (replica_seen r) (replica_seen r') (volume_bytes g.D.Disk.files r))) (sym c.in-Flush.is)
+    (if_err_made c.flush.result _ (λ fault is wants. tt))
+
+pub returns-in-Begin-clause-part : goal.returns-in-Begin-clause-part
+returns-in-Begin-clause-part g c = λ tells r r' was now.
+    subst (λ (work : Maintenance). IfErr c.begin.result (λ fault. MayWantMemory fault → LeadsPart (sights_of (c.args.volume.now).rows) c.args.replica work (replica_seen r) (replica_seen r') (volume_bytes g.D.Disk.files r))) (sym c.in-Begin.is)
+    (if_err_made c.begin.result _ (λ fault is wants. tt))
+
+pub returns-in-Finish-clause-part : goal.returns-in-Finish-clause-part
+returns-in-Finish-clause-part g c = λ tells r r' was now.
+    subst (λ (work : Maintenance). IfErr c.finish.result (λ fault. MayWantMemory fault → LeadsPart (sights_of (c.args.volume.now).rows) c.args.replica work (replica_seen r) (replica_seen r') (volume_bytes g.D.Disk.files r))) (sym c.in-Finish.is)
+    (if_err_made c.finish.result _ (λ fault is wants. tt))
+
+pub returns-in-Compact-clause-part : goal.returns-in-Compact-clause-part
+returns-in-Compact-clause-part g c = λ tells r r' was now.
+    subst (λ (work : Maintenance). IfErr c.compact.result (λ fault. MayWantMemory fault → LeadsPart (sights_of (c.args.volume.now).rows) c.args.replica work (replica_seen r) (replica_seen r') (volume_bytes g.D.Disk.files r))) (sym c.in-Compact.is)
+    (if_err_made c.compact.result _ (λ fault is wants. tt))
+
+pub returns-in-Step-clause-part : goal.returns-in-Step-clause-part
+returns-in-Step-clause-part g c = λ tells r r' was now.
+    subst (λ (work : Maintenance). IfErr c.step.result (λ fault. MayWantMemory fault → LeadsPart (sights_of (c.args.volume.now).rows) c.args.replica work (replica_seen r) (replica_seen r') (volume_bytes g.D.Disk.files r))) (sym c.in-Step.is)
+    (if_err_made c.step.result _ (λ fault is. step_led (sights_of (c.args.volume.now).rows) c.args.replica c.in-Step.cells (replica_seen r) (replica_seen r') (volume_bytes g.D.Disk.files r) fault
+    (λ memory. c.step.ensures.part tells r r' was now (is ∙ ap (λ (f : LogicalFault). Err f) memory))
+    (λ m so. c.step.ensures.thawed (sym c.frozen.ensures.is ∙ c.in_default.is) m (is ∙ ap (λ (f : LogicalFault). Err f) so))))

@@ -1,8 +1,9 @@
-use Rattle.std.proofs.Common.{◌++◌, Some, [], ◌∷◌, refl, sym, ◌∙◌, arith}
+use Rattle.std.proofs.Common.{◌++◌, ℕ, Some, [], ◌∷◌, refl, sym, subst, ◌∙◌, arith}
 use Rattle.std.proofs.lemmas.Result.{err_from_is_err_and}
 use Rattle.hay_lines.specs.Stream.{rest_of}
 use Rattle.hay_lines.specs.Said.{SaysNext}
 use Rattle.hay_lines.proofs.Taking.{took_nothing, took_fed_more, accounts_same, accounts_more}
+use Rattle.hay_run.specs.Blocks.{IsBlockOf}
 use Rattle.hay_run.proofs.Serving.{either_stop}
 use Rattle.hay_run.proofs.Asking.{asked_more, some_more, some_feeds, some_line, block_ended, block_closed, block_over, fed_line, length-push}
 use Rattle.hay_run.proofs.block.read_lines.Goals as goal
@@ -14,6 +15,8 @@ lines-init g c = record {
   nothing = refl;
   behind = refl;
   next_is = omega arith;
+  below = c.requires.below;
+  lanes = refl;
   unmet = c.requires.open;
   accounts = accounts_same (g.S.Source.left c.args.source.now) c.args.script.now;
   few = omega arith;
@@ -87,6 +90,8 @@ lines-preserved g c =
       nothing = more.0;
       behind = more.1;
       next_is = length-push inv.texts says.0 c.args.number c.lines.next inv.next_is;
+      below = c.in_ok-closed.ensures.below;
+      lanes = c.in_ok-closed.ensures.lanes ∙ inv.lanes;
       unmet = unmet;
       accounts = accounts_more (left c.args.source.now) (left c.lines.source) (left c.next_said.new.source) c.args.script.now c.lines.script c.next_said.new.script inv.accounts c.in_ok-said.ensures.accounts;
       few = omega (arith, inv.few, c.in_ok-said.ensures.left);
@@ -106,3 +111,31 @@ returns-in_err-closed-clause-stopped_accounts g c = λ is.
     let left = g.S.Source.left in
     accounts_more (left c.args.source.now) (left c.lines.source) (left c.next_said.new.source) c.args.script.now c.lines.script c.next_said.new.script c.lines.invariant.accounts
     c.in_ok-said.ensures.accounts
+
+-- what the lines are
+
+pub take-requires-clause-below : goal.take-requires-clause-below
+take-requires-clause-below g c = c.lines.invariant.below
+
+pub take-requires-clause-within : goal.take-requires-clause-within
+take-requires-clause-within g c = rw c.in-Some.is at c.in_ok-said.ensures.within
+
+pub take-requires-clause-says : goal.take-requires-clause-says
+take-requires-clause-says g c =
+    let left = g.S.Source.left in
+    let mid = rest_of (left c.lines.source) c.lines.script in
+    let after = rest_of (left c.next_said.new.source) c.next_said.new.script in
+    let says : SaysNext (Some c.lines.block.lanes) (Some c.in-Some.said) mid after c.next_said.new.script.ended = rw c.lanes.ensures at (rw c.in-Some.is at c.in_ok-said.ensures.said) in
+    (says.0, says.2)
+
+pub returns-in_default-clause-lines : goal.returns-in_default-clause-lines
+returns-in_default-clause-lines g c =
+    let inv = c.lines.invariant in (subst (λ (n : ℕ). IsBlockOf n c.lines.block.lines) inv.lanes inv.below.lines, inv.lanes)
+
+pub returns-then-closed-clause-lines : goal.returns-then-closed-clause-lines
+returns-then-closed-clause-lines g c =
+    let same = c.in_ok-closed.ensures.lanes ∙ c.lines.invariant.lanes in (subst (λ (n : ℕ). IsBlockOf n c.take.new.self.lines) same c.in_ok-closed.ensures.below.lines, same)
+
+pub returns-then-is_ended-clause-lines : goal.returns-then-is_ended-clause-lines
+returns-then-is_ended-clause-lines g c =
+    let same = c.in_ok-closed.ensures.lanes ∙ c.lines.invariant.lanes in (subst (λ (n : ℕ). IsBlockOf n c.take.new.self.lines) same c.in_ok-closed.ensures.below.lines, same)

@@ -1,5 +1,6 @@
 use Rattle.std.proofs.Common.{◌≡◌, ℕ, ◌+◌, ◌≤◌, false, List, [], length, Some}
 use Rattle.hay_legal.specs.Items.{whole_items_from}
+use Rattle.hay_run.specs.Blocks.{IsBlockBelow}
 use Rattle.hay_run.specs.Items.{block_behind}
 use Rattle.hay_lines.specs.Lines.{TookFeds}
 use Rattle.hay_lines.specs.Stream.{rest_of, budget, Accounts}
@@ -12,6 +13,8 @@ invariant-lines g l = record {
   nothing : whole_items_from l.fn.number (Some l.fn.block) texts ≡ [];
   behind : block_behind l.fn.number (Some l.fn.block) texts ≡ Some l.block;
   next_is : l.next ≡ l.fn.number + length texts;
+  below : IsBlockBelow l.next l.block;
+  lanes : l.block.lanes ≡ l.fn.block.lanes;
   unmet : l.script.ended ≡ false;
   accounts : Accounts (g.S.Source.left l.fn.source) l.fn.script (g.S.Source.left l.source) l.script;
   few : l.next + budget 1073741824 l.script ≤ l.fn.number + budget 1073741824 l.fn.script;

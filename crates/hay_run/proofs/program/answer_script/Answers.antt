@@ -38,19 +38,19 @@ use Rattle.hay_run.proofs.program.answer_script.Goals as goal
 
 pub close-requires-clause-disks_out : goal.close-requires-clause-disks_out
 close-requires-clause-disks_out g c =
-    let is_settings = c.serve-outcome.ensures.settings ∙ c.in-Ok.ensures.settings in
+    let is_settings = c.serve-cluster.ensures.settings ∙ c.in-Ok.ensures.settings in
     let P : Settings → Type 0 = λ s. AreOut (disk_count s) (g.H.Shelf.disks c.open.new.shelf) in
     subst P (sym is_settings) c.in-Ok.ensures.disks_out
 
 pub returns-clause-disks_back : goal.returns-clause-disks_back
 returns-clause-disks_back g c =
-    let is_settings = c.serve-outcome.ensures.settings ∙ c.in-Ok.ensures.settings in
+    let is_settings = c.serve-cluster.ensures.settings ∙ c.in-Ok.ensures.settings in
     let P : Settings → Type 0 = λ s. AreIn (disk_count s) (g.H.Shelf.disks c.close.new.shelf) in
     subst P is_settings c.close.ensures.disks_back
 
 pub returns-clause-other_slots : goal.returns-clause-other_slots
 returns-clause-other_slots g c =
-    let is_settings = c.serve-outcome.ensures.settings ∙ c.in-Ok.ensures.settings in
+    let is_settings = c.serve-cluster.ensures.settings ∙ c.in-Ok.ensures.settings in
     let P : Settings → Type 0 = λ s. SameFrom (disk_count s) (g.H.Shelf.disks c.open.new.shelf) (g.H.Shelf.disks c.close.new.shelf) in
     same_more (disk_count c.args.settings) (g.H.Shelf.disks c.args.shelf.now) (g.H.Shelf.disks c.open.new.shelf) (g.H.Shelf.disks c.close.new.shelf)
     c.in-Ok.ensures.other_slots (subst P is_settings c.close.ensures.other_slots)
@@ -62,17 +62,17 @@ returns-clause-other_lanes g c =
 pub returns-clause-faults : goal.returns-clause-faults
 returns-clause-faults g c = λ slot within.
     let D = g.H.Disk.Disk in
-    let is_settings = c.serve-outcome.ensures.settings ∙ c.in-Ok.ensures.settings in
+    let is_settings = c.serve-cluster.ensures.settings ∙ c.in-Ok.ensures.settings in
     let P : Settings → Type 0 = λ s. slot < disk_count s in
     let first = (c.in-Ok.ensures.counts slot within).faults_rise in
-    let later = NoneFalls-at (map D.fault_count (disks_of c.in-Ok.cluster)) (map D.fault_count (disks_of c.serve-outcome.new.cluster)) slot c.serve-outcome.ensures.faults in
+    let later = NoneFalls-at (map D.fault_count (disks_of c.in-Ok.cluster)) (map D.fault_count (disks_of c.serve-cluster.result.0)) slot c.serve-cluster.ensures.faults in
     let last = c.close.ensures.fault_counts slot (subst P (sym is_settings) within) in omega (arith, first, later, last)
 
 pub returns-clause-arm_faults : goal.returns-clause-arm_faults
 returns-clause-arm_faults g c = λ lane within.
     let A = g.H.Arm.Arm in
     let first = c.in-Ok.ensures.arm_counts lane within in
-    let later = NoneFalls-at (map A.fault_count c.in-Ok.cluster.arms) (map A.fault_count c.serve-outcome.new.cluster.arms) lane c.serve-outcome.ensures.arm_faults in
+    let later = NoneFalls-at (map A.fault_count c.in-Ok.cluster.arms) (map A.fault_count c.serve-cluster.result.0.arms) lane c.serve-cluster.ensures.arm_faults in
     let last = c.close.ensures.arm_counts lane within in omega (arith, first, later, last)
 
 pub returns-in-Err-clause-faults : goal.returns-in-Err-clause-faults
@@ -89,22 +89,22 @@ returns-clause-ran g c = λ tells.
     let A = g.H.Arm.Arm in
     let taken = outside_of (g.H.Shelf.fault_count c.args.shelf.now) (g.H.Shelf.disks c.args.shelf.now) (g.H.Shelf.arms c.args.shelf.now) in
     let given = outside_of (g.H.Shelf.fault_count c.close.new.shelf) (g.H.Shelf.disks c.close.new.shelf) (g.H.Shelf.arms c.close.new.shelf) in
-    let store' = c.serve-outcome.new.cluster in
-    let is_settings : store'.settings ≡ c.args.settings = c.serve-outcome.ensures.settings ∙ c.in-Ok.ensures.settings in
+    let store' = c.serve-cluster.result.0 in
+    let is_settings : store'.settings ≡ c.args.settings = c.serve-cluster.ensures.settings ∙ c.in-Ok.ensures.settings in
     let closed : (known : Known) → Holds D.files D.fault_count D.fuse_count A.fault_count store' known → StandsOn (IsReplica c.args.settings) (OpensRows c.args.settings) c.args.settings known given =
     λ known held.
     let P : Settings → Type 0 = λ s. StandsOn (IsReplica s) (OpensRows s) s known given in
     subst P is_settings (c.close.ensures.stands tells known held) in
-    on_ok_weaker c.serve-outcome.result (λ both k taken_is script held told told_sink.
+    on_ok_weaker c.serve-cluster.result.1 (λ both k taken_is script held told told_sink.
     let opened = c.in-Ok.ensures.opened tells k taken_is in
-    let served : Serves D.Tells (Stands D.files g.H.Disk.Piece.Piece.Tells D.fault_count D.fuse_count A.fault_count) (Some script) c.in-Ok.cluster (Some (held ++ header_line c.args.settings)) store' (g.K.Sink.written c.serve-outcome.new.sink) =
+    let served : Serves D.Tells (Stands D.files g.H.Disk.Piece.Piece.Tells D.fault_count D.fuse_count A.fault_count) (Some script) c.in-Ok.cluster (Some (held ++ header_line c.args.settings)) store' (g.K.Sink.written c.serve-cluster.new.sink) =
     rw (told, told_sink) at both.0 in
-    let over : g.S.Source.left c.serve-outcome.new.source ≡ Some [] = rw told at both.1 in
+    let over : g.S.Source.left c.serve-cluster.new.source ≡ Some [] = rw told at both.1 in
     ran_all D.Tells (Stands D.files g.H.Disk.Piece.Piece.Tells D.fault_count D.fuse_count A.fault_count) (Holds D.files D.fault_count D.fuse_count A.fault_count) c.args.settings taken given c.in-Ok.cluster store' k opened.0
     tells opened.1 c.in-Ok.ensures.settings is_settings opened.2 (λ between is known stands. stands_holds D.files g.H.Disk.Piece.Piece.Tells D.fault_count D.fuse_count A.fault_count between known stands) closed
-    script held (g.S.Source.left c.serve-outcome.new.source) (g.K.Sink.written c.serve-outcome.new.sink)
+    script held (g.S.Source.left c.serve-cluster.new.source) (g.K.Sink.written c.serve-cluster.new.sink)
     served.asked served.all (served.answers tells opened.0 opened.2) over)
-    (on_ok_both _ _ c.serve-outcome.result c.serve-outcome.ensures.served c.serve-outcome.ensures.ended)
+    (on_ok_both _ _ c.serve-cluster.result.1 c.serve-cluster.ensures.served c.serve-cluster.ensures.ended)
 
 pub returns-clause-stopped : goal.returns-clause-stopped
 returns-clause-stopped g c = λ tells why is k taken_is script held told told_sink.
@@ -112,21 +112,21 @@ returns-clause-stopped g c = λ tells why is k taken_is script held told told_si
     let A = g.H.Arm.Arm in
     let taken = outside_of (g.H.Shelf.fault_count c.args.shelf.now) (g.H.Shelf.disks c.args.shelf.now) (g.H.Shelf.arms c.args.shelf.now) in
     let given = outside_of (g.H.Shelf.fault_count c.close.new.shelf) (g.H.Shelf.disks c.close.new.shelf) (g.H.Shelf.arms c.close.new.shelf) in
-    let store' = c.serve-outcome.new.cluster in
-    let is_settings : store'.settings ≡ c.args.settings = c.serve-outcome.ensures.settings ∙ c.in-Ok.ensures.settings in
+    let store' = c.serve-cluster.result.0 in
+    let is_settings : store'.settings ≡ c.args.settings = c.serve-cluster.ensures.settings ∙ c.in-Ok.ensures.settings in
     let closed : (known : Known) → Holds D.files D.fault_count D.fuse_count A.fault_count store' known → StandsOn (IsReplica c.args.settings) (OpensRows c.args.settings) c.args.settings known given =
     λ known held.
     let P : Settings → Type 0 = λ s. StandsOn (IsReplica s) (OpensRows s) s known given in
     subst P is_settings (c.close.ensures.stands tells known held) in
     let opened = c.in-Ok.ensures.opened tells k taken_is in
-    let u : ServedUntil D.Tells (Stands D.files g.H.Disk.Piece.Piece.Tells D.fault_count D.fuse_count A.fault_count) (Holds D.files D.fault_count D.fuse_count A.fault_count) why (Some script) c.in-Ok.cluster (Some (held ++ header_line c.args.settings)) (g.S.Source.left c.serve-outcome.new.source) store' (g.K.Sink.written c.serve-outcome.new.sink) =
-    rw (told, told_sink) at (c.serve-outcome.ensures.stopped why is) in
+    let u : ServedUntil D.Tells (Stands D.files g.H.Disk.Piece.Piece.Tells D.fault_count D.fuse_count A.fault_count) (Holds D.files D.fault_count D.fuse_count A.fault_count) why (Some script) c.in-Ok.cluster (Some (held ++ header_line c.args.settings)) (g.S.Source.left c.serve-cluster.new.source) store' (g.K.Sink.written c.serve-cluster.new.sink) =
+    rw (told, told_sink) at (c.serve-cluster.ensures.stopped why is) in
     ran_stopped D.Tells (Stands D.files g.H.Disk.Piece.Piece.Tells D.fault_count D.fuse_count A.fault_count) (Holds D.files D.fault_count D.fuse_count A.fault_count) c.args.settings taken given c.in-Ok.cluster store' k opened.0
     tells opened.1 c.in-Ok.ensures.settings is_settings opened.2 (λ between is known stands. stands_holds D.files g.H.Disk.Piece.Piece.Tells D.fault_count D.fuse_count A.fault_count between known stands) closed
-    script held (g.S.Source.left c.serve-outcome.new.source) (g.K.Sink.written c.serve-outcome.new.sink)
+    script held (g.S.Source.left c.serve-cluster.new.source) (g.K.Sink.written c.serve-cluster.new.sink)
     u.asked u.number u.rest u.mid u.text u.held u.took u.settings (u.answers tells opened.0 opened.2)
     why u.none (λ e last left_is.
-    let long = c.serve-outcome.ensures.long (cc (is, e)) script told in
+    let long = c.serve-cluster.ensures.long (cc (is, e)) script told in
     let same : long.0 ≡ last = (let n = long.1 in cc (n, left_is)) in omega (arith, long.2, ap length same)) u.stops
 
 pub returns-clause-store : goal.returns-clause-store
@@ -135,8 +135,8 @@ returns-clause-store g c = λ is.
     let A = g.H.Arm.Arm in
     let taken = outside_of (g.H.Shelf.fault_count c.args.shelf.now) (g.H.Shelf.disks c.args.shelf.now) (g.H.Shelf.arms c.args.shelf.now) in
     let given = outside_of (g.H.Shelf.fault_count c.close.new.shelf) (g.H.Shelf.disks c.close.new.shelf) (g.H.Shelf.arms c.close.new.shelf) in
-    let store' = c.serve-outcome.new.cluster in
-    let is_settings : store'.settings ≡ c.args.settings = c.serve-outcome.ensures.settings ∙ c.in-Ok.ensures.settings in
+    let store' = c.serve-cluster.result.0 in
+    let is_settings : store'.settings ≡ c.args.settings = c.serve-cluster.ensures.settings ∙ c.in-Ok.ensures.settings in
     let P : Settings → ℕ → Type 0 = λ s slot. slot < disk_count s in
     inr (refused_later D.Tells c.args.settings taken given
     (Stands D.files g.H.Disk.Piece.Piece.Tells D.fault_count D.fuse_count A.fault_count) D.files D.fault_count c.in-Ok.cluster store' c.in-Ok.ensures.settings
@@ -144,12 +144,12 @@ returns-clause-store g c = λ is.
     (λ slot within. c.close.ensures.fault_counts slot (subst (λ s. P s slot) (sym is_settings) within))
     (λ tells slot within. c.close.ensures.contents tells slot (subst (λ s. P s slot) (sym is_settings) within))
     (λ tells k taken_is. let opened = c.in-Ok.ensures.opened tells k taken_is in (opened.0, opened.2))
-    c.in-Ok.ensures.sound (g.S.Source.left c.args.source.now) (g.S.Source.left c.serve-outcome.new.source) (g.K.Sink.written c.args.sink.now) (g.K.Sink.written c.serve-outcome.new.sink)
+    c.in-Ok.ensures.sound (g.S.Source.left c.args.source.now) (g.S.Source.left c.serve-cluster.new.source) (g.K.Sink.written c.args.sink.now) (g.K.Sink.written c.serve-cluster.new.sink)
     (λ unread.
-    let u : ServedUntil D.Tells (Stands D.files g.H.Disk.Piece.Piece.Tells D.fault_count D.fuse_count A.fault_count) (Holds D.files D.fault_count D.fuse_count A.fault_count) stop.Store (Some unread.0) c.in-Ok.cluster (g.K.Sink.written c.args.sink.now) (g.S.Source.left c.serve-outcome.new.source) store' (g.K.Sink.written c.serve-outcome.new.sink) =
-    rw unread.1 at (c.serve-outcome.ensures.stopped stop.Store is) in
-    was_read D.Tells (Stands D.files g.H.Disk.Piece.Piece.Tells D.fault_count D.fuse_count A.fault_count) (Holds D.files D.fault_count D.fuse_count A.fault_count) unread.0 (g.S.Source.left c.serve-outcome.new.source) c.in-Ok.cluster store' (g.K.Sink.written c.args.sink.now) (g.K.Sink.written c.serve-outcome.new.sink) u unread.2)
-    (c.serve-outcome.ensures.halted is))
+    let u : ServedUntil D.Tells (Stands D.files g.H.Disk.Piece.Piece.Tells D.fault_count D.fuse_count A.fault_count) (Holds D.files D.fault_count D.fuse_count A.fault_count) stop.Store (Some unread.0) c.in-Ok.cluster (g.K.Sink.written c.args.sink.now) (g.S.Source.left c.serve-cluster.new.source) store' (g.K.Sink.written c.serve-cluster.new.sink) =
+    rw unread.1 at (c.serve-cluster.ensures.stopped stop.Store is) in
+    was_read D.Tells (Stands D.files g.H.Disk.Piece.Piece.Tells D.fault_count D.fuse_count A.fault_count) (Holds D.files D.fault_count D.fuse_count A.fault_count) unread.0 (g.S.Source.left c.serve-cluster.new.source) c.in-Ok.cluster store' (g.K.Sink.written c.args.sink.now) (g.K.Sink.written c.serve-cluster.new.sink) u unread.2)
+    (c.serve-cluster.ensures.halted is))
 
 -- each arm that is sure is given back so
 pub returns-clause-sure_arms : goal.returns-clause-sure_arms
@@ -157,8 +157,8 @@ returns-clause-sure_arms g c = λ lane within sure.
     let A = g.H.Arm.Arm in
     let arms = c.in-Ok.cluster.arms in
     let some = arm_there arms lane (subst (λ n. lane < n) (sym c.in-Ok.ensures.lanes) within) in
-    let arms' = c.serve-outcome.new.cluster.arms in
-    let later = sure_at A.is_sure A.fault_count arms arms' lane some.0 c.serve-outcome.ensures.sure_arms some.1 in
+    let arms' = c.serve-cluster.result.0.arms in
+    let later = sure_at A.is_sure A.fault_count arms arms' lane some.0 c.serve-cluster.ensures.sure_arms some.1 in
     let still = later.2 (c.in-Ok.ensures.sure_arms lane some.0 some.1 ∙ sure) in (
       c.close.ensures.sure_arms lane later.0 later.1 ∙ still.0,
       c.close.ensures.arm_counts lane within ∙ count_at A.fault_count arms' lane later.0 later.1 ∙ still.1
@@ -172,8 +172,8 @@ returns-clause-sound g c = λ tells opened. c.in-Ok.ensures.sound tells
 pub returns-clause-formatted : goal.returns-clause-formatted
 returns-clause-formatted g c = λ tells opened k taken_is.
     let start = c.in-Ok.ensures.opened tells k taken_is in
-    given_formatted g.H.Disk.Disk.files c.args.settings c.serve-outcome.new.cluster (g.H.Shelf.disks c.close.new.shelf) (c.serve-outcome.ensures.settings ∙ c.in-Ok.ensures.settings)
-    (c.close.ensures.contents tells) (c.serve-outcome.ensures.formatted tells start.0 start.2)
+    given_formatted g.H.Disk.Disk.files c.args.settings c.serve-cluster.result.0 (g.H.Shelf.disks c.close.new.shelf) (c.serve-cluster.ensures.settings ∙ c.in-Ok.ensures.settings)
+    (c.close.ensures.contents tells) (c.serve-cluster.ensures.formatted tells start.0 start.2)
 
 -- what was written, and its causes
 pub returns-clause-caused : goal.returns-clause-caused
@@ -186,10 +186,10 @@ returns-clause-caused g c = λ script held told told_sink.
     let taken = outside_of (g.H.Shelf.fault_count c.args.shelf.now) (g.H.Shelf.disks c.args.shelf.now) (g.H.Shelf.arms c.args.shelf.now) in
     let given = outside_of (g.H.Shelf.fault_count c.close.new.shelf) (g.H.Shelf.disks c.close.new.shelf) (g.H.Shelf.arms c.close.new.shelf) in
     let old = tally_of D.files D.drawn D.fault_count D.fuse_count A.fault_count A.is_sure c.in-Ok.cluster in
-    let new = tally_of D.files D.drawn D.fault_count D.fuse_count A.fault_count A.is_sure c.serve-outcome.new.cluster in
-    let left = g.S.Source.left c.serve-outcome.new.source in
-    let written = g.K.Sink.written c.serve-outcome.new.sink in
-    let is_settings = c.serve-outcome.ensures.settings ∙ c.in-Ok.ensures.settings in
+    let new = tally_of D.files D.drawn D.fault_count D.fuse_count A.fault_count A.is_sure c.serve-cluster.result.0 in
+    let left = g.S.Source.left c.serve-cluster.new.source in
+    let written = g.K.Sink.written c.serve-cluster.new.sink in
+    let is_settings = c.serve-cluster.ensures.settings ∙ c.in-Ok.ensures.settings in
     let begins : BeginsAt g.H.Disk.Disk.Tells c.args.settings taken sure old = record {
       disks = length-map (disks_of c.in-Ok.cluster) D.fault_count ∙ c.in-Ok.ensures.disks;
       fused = length-map (disks_of c.in-Ok.cluster) D.fuse_count ∙ c.in-Ok.ensures.disks;
@@ -210,16 +210,16 @@ returns-clause-caused g c = λ script held told told_sink.
       arms = c.close.ensures.arm_counts;
       contents = λ tells. subst (λ s. (slot : ℕ) → slot < disk_count s → read_contents given slot ≡ new.contents slot) is_settings (c.close.ensures.contents tells);
     } in
-    by_outcome (λ (e : Ending). CausedRun D.Tells c.args.settings e script left taken given sure disks disks' held written) c.serve-outcome.result
-    (on_ok_weaker c.serve-outcome.result (λ both.
+    by_outcome (λ (e : Ending). CausedRun D.Tells c.args.settings e script left taken given sure disks disks' held written) c.serve-cluster.result.1
+    (on_ok_weaker c.serve-cluster.result.1 (λ both.
     let all : AllCaused g.H.Disk.Disk.Tells c.args.settings old new (Some script) (Some (held ++ header_line c.args.settings)) written = rw (c.in-Ok.ensures.settings, told, told_sink) at both.0 in
     all_caused D.Tells c.args.settings script left taken given sure disks disks' held written old new begins ends c.in-Ok.ensures.sound all (rw told at both.1))
-    (on_ok_both _ _ c.serve-outcome.result c.serve-outcome.ensures.caused c.serve-outcome.ensures.ended))
+    (on_ok_both _ _ c.serve-cluster.result.1 c.serve-cluster.ensures.caused c.serve-cluster.ensures.ended))
     (λ why is.
-    let u : CausedUntil g.H.Disk.Disk.Tells c.args.settings old new why (Some script) (Some (held ++ header_line c.args.settings)) left written = rw (c.in-Ok.ensures.settings, told, told_sink) at (c.serve-outcome.ensures.stop_caused why is) in
+    let u : CausedUntil g.H.Disk.Disk.Tells c.args.settings old new why (Some script) (Some (held ++ header_line c.args.settings)) left written = rw (c.in-Ok.ensures.settings, told, told_sink) at (c.serve-cluster.ensures.stop_caused why is) in
     until_caused D.Tells c.args.settings script left taken given sure disks disks' held written old new begins ends c.in-Ok.ensures.sound why
     (λ e last left_is.
-    let long = c.serve-outcome.ensures.long (cc (is, e)) script told in
+    let long = c.serve-cluster.ensures.long (cc (is, e)) script told in
     let same : long.0 ≡ last = (let n = long.1 in cc (n, left_is)) in omega (arith, long.2, ap length same)) u)
 
 -- the store was not opened
@@ -288,7 +288,7 @@ returns-in-Err-clause-formatted g c = λ tells opened.
     absurd (none_opened c.write_refusal.result c.write_refusal.ensures.stops (not_read (g.S.Source.left c.args.source.now)) opened)
 
 pub returns-clause-appends : goal.returns-clause-appends
-returns-clause-appends g c = c.serve-outcome.ensures.appends
+returns-clause-appends g c = c.serve-cluster.ensures.appends
 
 -- what was read, where nothing was asked
 
@@ -297,32 +297,32 @@ returns-clause-drew g c = λ tells.
     let D = g.H.Disk.Disk in
     let A = g.H.Arm.Arm in
     let old = tally_of D.files D.drawn D.fault_count D.fuse_count A.fault_count A.is_sure c.in-Ok.cluster in
-    let new = tally_of D.files D.drawn D.fault_count D.fuse_count A.fault_count A.is_sure c.serve-outcome.new.cluster in
+    let new = tally_of D.files D.drawn D.fault_count D.fuse_count A.fault_count A.is_sure c.serve-cluster.result.0 in
     let given = g.H.Shelf.disks c.close.new.shelf in
     let before = drawn_of (g.H.Shelf.disks c.args.shelf.now) in
-    let is_settings = c.serve-outcome.ensures.settings ∙ c.in-Ok.ensures.settings in
-    on_ok_weaker c.serve-outcome.result (λ all nothing.
-    let same : new ≡ old = nothing_asked D.Tells c.in-Ok.cluster.settings old new (g.S.Source.left c.args.source.now) (g.K.Sink.written c.args.sink.now) (g.K.Sink.written c.serve-outcome.new.sink) all nothing in
+    let is_settings = c.serve-cluster.ensures.settings ∙ c.in-Ok.ensures.settings in
+    on_ok_weaker c.serve-cluster.result.1 (λ all nothing.
+    let same : new ≡ old = nothing_asked D.Tells c.in-Ok.cluster.settings old new (g.S.Source.left c.args.source.now) (g.K.Sink.written c.args.sink.now) (g.K.Sink.written c.serve-cluster.new.sink) all nothing in
     given_drew c.args.settings new.contents before new.drawn given
     (subst (λ s. (slot : ℕ) → slot < disk_count s → read_of (given slot) ≡ new.contents slot) is_settings (c.close.ensures.contents tells))
     (subst (λ s. (slot : ℕ) → slot < disk_count s → (given slot).drawn ≡ new.drawn slot) is_settings (c.close.ensures.drawn tells))
-    (subst (λ (t : Tally). EachDrewLittle c.args.settings t.contents no_look before t.drawn) (sym same) (c.in-Ok.ensures.drew tells))) c.serve-outcome.ensures.caused
+    (subst (λ (t : Tally). EachDrewLittle c.args.settings t.contents no_look before t.drawn) (sym same) (c.in-Ok.ensures.drew tells))) c.serve-cluster.ensures.caused
 
 pub returns-clause-flushed : goal.returns-clause-flushed
 returns-clause-flushed g c = λ tells.
     let D = g.H.Disk.Disk in
     let A = g.H.Arm.Arm in
     let old = tally_of D.files D.drawn D.fault_count D.fuse_count A.fault_count A.is_sure c.in-Ok.cluster in
-    let new = tally_of D.files D.drawn D.fault_count D.fuse_count A.fault_count A.is_sure c.serve-outcome.new.cluster in
+    let new = tally_of D.files D.drawn D.fault_count D.fuse_count A.fault_count A.is_sure c.serve-cluster.result.0 in
     let given = g.H.Shelf.disks c.close.new.shelf in
     let before = drawn_of (g.H.Shelf.disks c.args.shelf.now) in
-    let is_settings = c.serve-outcome.ensures.settings ∙ c.in-Ok.ensures.settings in
-    on_ok_weaker c.serve-outcome.result (λ all k taken nothing.
-    let same : new ≡ old = nothing_asked D.Tells c.in-Ok.cluster.settings old new (g.S.Source.left c.args.source.now) (g.K.Sink.written c.args.sink.now) (g.K.Sink.written c.serve-outcome.new.sink) all nothing in
+    let is_settings = c.serve-cluster.ensures.settings ∙ c.in-Ok.ensures.settings in
+    on_ok_weaker c.serve-cluster.result.1 (λ all k taken nothing.
+    let same : new ≡ old = nothing_asked D.Tells c.in-Ok.cluster.settings old new (g.S.Source.left c.args.source.now) (g.K.Sink.written c.args.sink.now) (g.K.Sink.written c.serve-cluster.new.sink) all nothing in
     given_flushed c.args.settings new.contents before new.drawn given
     (subst (λ s. (slot : ℕ) → slot < disk_count s → read_of (given slot) ≡ new.contents slot) is_settings (c.close.ensures.contents tells))
     (subst (λ s. (slot : ℕ) → slot < disk_count s → (given slot).drawn ≡ new.drawn slot) is_settings (c.close.ensures.drawn tells))
-    k (subst (λ (t : Tally). FlushedDrewLittle c.args.settings k before t.drawn) (sym same) (c.in-Ok.ensures.flushed tells k taken))) c.serve-outcome.ensures.caused
+    k (subst (λ (t : Tally). FlushedDrewLittle c.args.settings k before t.drawn) (sym same) (c.in-Ok.ensures.flushed tells k taken))) c.serve-cluster.ensures.caused
 
 -- what is left of the disks, where nothing was asked
 
@@ -331,12 +331,12 @@ returns-clause-contents g c = λ tells nothing.
     let D = g.H.Disk.Disk in
     let A = g.H.Arm.Arm in
     let old = tally_of D.files D.drawn D.fault_count D.fuse_count A.fault_count A.is_sure c.in-Ok.cluster in
-    let new = tally_of D.files D.drawn D.fault_count D.fuse_count A.fault_count A.is_sure c.serve-outcome.new.cluster in
+    let new = tally_of D.files D.drawn D.fault_count D.fuse_count A.fault_count A.is_sure c.serve-cluster.result.0 in
     let given = g.H.Shelf.disks c.close.new.shelf in
-    let is_settings = c.serve-outcome.ensures.settings ∙ c.in-Ok.ensures.settings in
+    let is_settings = c.serve-cluster.ensures.settings ∙ c.in-Ok.ensures.settings in
     let closed = subst (λ s. (slot : ℕ) → slot < disk_count s → read_of (given slot) ≡ new.contents slot) is_settings (c.close.ensures.contents tells) in
-    let same : new ≡ old = nothing_done D.Tells c.in-Ok.cluster.settings old new (g.S.Source.left c.args.source.now) (g.K.Sink.written c.args.sink.now) (g.S.Source.left c.serve-outcome.new.source) (g.K.Sink.written c.serve-outcome.new.sink)
-    c.serve-outcome.result c.serve-outcome.ensures.caused c.serve-outcome.ensures.stop_caused nothing in
+    let same : new ≡ old = nothing_done D.Tells c.in-Ok.cluster.settings old new (g.S.Source.left c.args.source.now) (g.K.Sink.written c.args.sink.now) (g.S.Source.left c.serve-cluster.new.source) (g.K.Sink.written c.serve-cluster.new.sink)
+    c.serve-cluster.result.1 c.serve-cluster.ensures.caused c.serve-cluster.ensures.stop_caused nothing in
     λ slot file below some.
     ap (λ (contents : Contents). contents file) (closed slot below) ∙ ap (λ (t : Tally). t.contents slot file) same ∙ c.in-Ok.ensures.contents tells slot file below some
 

@@ -9,16 +9,18 @@ use Rattle.hay_cluster.specs.Draws.{EachDrewLittle, FlushedDrewLittle, no_look}
 use Rattle.hay_cluster.specs.Outside.{IsUndamaged, KeepsContents, outside_of, read_of}
 use Rattle.hay_run.specs.Runs.{IsTaken, RanTo, IsNotOpened}
 use Rattle.hay_run.specs.Stops.{ending_of}
+use Rattle.hay_run.specs.Audits.{AuditsTo}
 use Rattle.hay_run.specs.Checking.{ChecksTo}
 use Rattle.hay_run.specs.Loads.{IsLoad}
-use Rattle.hay_run.specs.Words.{SaysCheck, SaysLoad, SaysRun}
+use Rattle.hay_run.specs.Words.{SaysAudit, SaysCheck, SaysLoad, SaysRun}
 use Rattle.hay_legal.specs.Statuses.{Ending}
 use Rattle.hay_run.specs.Causing.{CausedRun}
 use Rattle.hay_run.specs.Draws.{drawn_of}
+use Rattle.hay_run.proofs.Auditing.{audit_never_two, audit_nothing, audit_statuses}
 use Rattle.hay_run.proofs.Caused.{nothing_caused}
 use Rattle.hay_legal.specs.Stands.{Outside}
 use Rattle.hay_run.proofs.Checking.{check_nothing, check_statuses}
-use Rattle.hay_run.proofs.Commanding.{check_no_load, run_no_load, same_check, same_load, same_run}
+use Rattle.hay_run.proofs.Commanding.{audit_no_load, check_no_audit, check_no_load, load_no_audit, run_no_audit, run_no_load, same_audit, same_check, same_load, same_run}
 use Rattle.hay_run.proofs.Loading.{load_nothing, never_two}
 use Rattle.hay_run.proofs.Giving.{disks_in, arms_in, none_fell}
 use Rattle.hay_run.proofs.Refusing.{by_status, opened_by, ran_nothing, ran_by, store_by}
@@ -269,14 +271,14 @@ returns-in-Ok-Some-Load-clause-usage g c = λ two says. never_two c.load_puts.re
 pub returns-in-Ok-Some-Load-clause-command : goal.returns-in-Ok-Some-Load-clause-command
 returns-in-Ok-Some-Load-clause-command g c = λ none.
     let load : SaysLoad (map string_bytes c.args.words.now) c.in-Ok-Some-Load.settings = rw (c.in-Ok-Some-Load.field-0-is, c.in-Ok-Some-Load.field-0-0-is) at c.in-Ok-Some-Load.ensures.says in
-    absurd (none (c.in-Ok-Some-Load.settings, inr (inr load)))
+    absurd (none (c.in-Ok-Some-Load.settings, inr (inr (inl load))))
 
 pub returns-in-Ok-Some-Load-clause-untouched : goal.returns-in-Ok-Some-Load-clause-untouched
 returns-in-Ok-Some-Load-clause-untouched g c = λ either.
     let load : SaysLoad (map string_bytes c.args.words.now) c.in-Ok-Some-Load.settings = rw (c.in-Ok-Some-Load.field-0-is, c.in-Ok-Some-Load.field-0-0-is) at c.in-Ok-Some-Load.ensures.says in
     elim either [
       | inl two ↦ absurd (never_two c.load_puts.result c.load_puts.ensures.status.0 c.load_puts.ensures.status.1 two)
-      | inr none ↦ absurd (none (c.in-Ok-Some-Load.settings, inr (inr load)))
+      | inr none ↦ absurd (none (c.in-Ok-Some-Load.settings, inr (inr (inl load))))
     ]
 
 pub returns-in-Ok-clause-loaded : goal.returns-in-Ok-clause-loaded
@@ -298,3 +300,76 @@ pub returns-in-Err-clause-loaded : goal.returns-in-Err-clause-loaded
 returns-in-Err-clause-loaded g c = λ settings says.
     load_nothing g.H.Disk.Disk.Tells settings c.status.result (g.H.Shelf.disks c.args.shelf.now) (g.H.Shelf.arms c.args.shelf.now) (g.H.Shelf.fault_count c.args.shelf.now)
     (g.S.Source.left c.args.source.now) (g.K.Sink.written c.args.sink.now) c.requires.disks_in c.status.ensures
+
+-- an audit
+
+pub returns-in-Ok-Some-Audit-clause-audited : goal.returns-in-Ok-Some-Audit-clause-audited
+returns-in-Ok-Some-Audit-clause-audited g c = λ settings says.
+    let audit : SaysAudit (map string_bytes c.args.words.now) c.in-Ok-Some-Audit.settings = rw (c.in-Ok-Some-Audit.field-0-is, c.in-Ok-Some-Audit.field-0-0-is) at c.in-Ok-Some-Audit.ensures.says in
+    let P : Settings → Type 0 = λ s. AuditsTo s c.audit_transcript.result (g.S.Source.left c.args.source.now) (g.S.Source.left c.audit_transcript.new.source)
+    (g.K.Sink.written c.args.sink.now) (g.K.Sink.written c.audit_transcript.new.sink) in
+    (subst P (same_audit (map string_bytes c.args.words.now) c.in-Ok-Some-Audit.settings settings audit says) c.audit_transcript.ensures.audited, refl)
+
+pub returns-in-Ok-Some-Audit-clause-status : goal.returns-in-Ok-Some-Audit-clause-status
+returns-in-Ok-Some-Audit-clause-status g c =
+    let audit : SaysAudit (map string_bytes c.args.words.now) c.in-Ok-Some-Audit.settings = rw (c.in-Ok-Some-Audit.field-0-is, c.in-Ok-Some-Audit.field-0-0-is) at c.in-Ok-Some-Audit.ensures.says in
+    audit_statuses c.in-Ok-Some-Audit.settings c.audit_transcript.result (g.S.Source.left c.args.source.now) (g.S.Source.left c.audit_transcript.new.source)
+    (g.K.Sink.written c.args.sink.now) (g.K.Sink.written c.audit_transcript.new.sink) c.audit_transcript.ensures.audited (c.in-Ok-Some-Audit.settings, audit)
+
+pub returns-in-Ok-Some-Audit-clause-usage : goal.returns-in-Ok-Some-Audit-clause-usage
+returns-in-Ok-Some-Audit-clause-usage g c = λ two says.
+    audit_never_two c.in-Ok-Some-Audit.settings c.audit_transcript.result (g.S.Source.left c.args.source.now) (g.S.Source.left c.audit_transcript.new.source)
+    (g.K.Sink.written c.args.sink.now) (g.K.Sink.written c.audit_transcript.new.sink) c.audit_transcript.ensures.audited two
+
+pub returns-in-Ok-Some-Audit-clause-command : goal.returns-in-Ok-Some-Audit-clause-command
+returns-in-Ok-Some-Audit-clause-command g c = λ none.
+    let audit : SaysAudit (map string_bytes c.args.words.now) c.in-Ok-Some-Audit.settings = rw (c.in-Ok-Some-Audit.field-0-is, c.in-Ok-Some-Audit.field-0-0-is) at c.in-Ok-Some-Audit.ensures.says in
+    absurd (none (c.in-Ok-Some-Audit.settings, inr (inr (inr audit))))
+
+pub returns-in-Ok-Some-Audit-clause-untouched : goal.returns-in-Ok-Some-Audit-clause-untouched
+returns-in-Ok-Some-Audit-clause-untouched g c = λ either.
+    let audit : SaysAudit (map string_bytes c.args.words.now) c.in-Ok-Some-Audit.settings = rw (c.in-Ok-Some-Audit.field-0-is, c.in-Ok-Some-Audit.field-0-0-is) at c.in-Ok-Some-Audit.ensures.says in
+    elim either [
+      | inl two ↦ absurd (audit_never_two c.in-Ok-Some-Audit.settings c.audit_transcript.result (g.S.Source.left c.args.source.now) (g.S.Source.left c.audit_transcript.new.source)
+          (g.K.Sink.written c.args.sink.now) (g.K.Sink.written c.audit_transcript.new.sink) c.audit_transcript.ensures.audited two)
+      | inr none ↦ absurd (none (c.in-Ok-Some-Audit.settings, inr (inr (inr audit))))
+    ]
+
+pub returns-in-Ok-Some-Audit-clause-long : goal.returns-in-Ok-Some-Audit-clause-long
+returns-in-Ok-Some-Audit-clause-long g c = λ seven other.
+    let audit : SaysAudit (map string_bytes c.args.words.now) c.in-Ok-Some-Audit.settings = rw (c.in-Ok-Some-Audit.field-0-is, c.in-Ok-Some-Audit.field-0-0-is) at c.in-Ok-Some-Audit.ensures.says in
+    absurd (other (c.in-Ok-Some-Audit.settings, audit))
+
+pub returns-in-Ok-Some-Audit-clause-taken : goal.returns-in-Ok-Some-Audit-clause-taken
+returns-in-Ok-Some-Audit-clause-taken g c = λ seven other.
+    let audit : SaysAudit (map string_bytes c.args.words.now) c.in-Ok-Some-Audit.settings = rw (c.in-Ok-Some-Audit.field-0-is, c.in-Ok-Some-Audit.field-0-0-is) at c.in-Ok-Some-Audit.ensures.says in
+    absurd (other (c.in-Ok-Some-Audit.settings, audit))
+
+pub returns-in-Ok-Some-Audit-clause-loaded : goal.returns-in-Ok-Some-Audit-clause-loaded
+returns-in-Ok-Some-Audit-clause-loaded g c = λ settings says.
+    let audit : SaysAudit (map string_bytes c.args.words.now) c.in-Ok-Some-Audit.settings = rw (c.in-Ok-Some-Audit.field-0-is, c.in-Ok-Some-Audit.field-0-0-is) at c.in-Ok-Some-Audit.ensures.says in
+    absurd (audit_no_load (map string_bytes c.args.words.now) c.in-Ok-Some-Audit.settings settings audit says)
+
+pub returns-in-Ok-clause-audited : goal.returns-in-Ok-clause-audited
+returns-in-Ok-clause-audited g c = λ settings says.
+    let run : SaysRun (map string_bytes c.args.words.now) c.in-Ok-Some-Run.settings = rw (c.in-Ok-Some-Run.field-0-is, c.in-Ok-Some-Run.field-0-0-is) at c.in-Ok-Some-Run.ensures.says in
+    absurd (run_no_audit (map string_bytes c.args.words.now) c.in-Ok-Some-Run.settings settings run says)
+
+pub returns-in-Err-run_script-clause-audited : goal.returns-in-Err-run_script-clause-audited
+returns-in-Err-run_script-clause-audited g c = λ settings says.
+    let run : SaysRun (map string_bytes c.args.words.now) c.in-Ok-Some-Run.settings = rw (c.in-Ok-Some-Run.field-0-is, c.in-Ok-Some-Run.field-0-0-is) at c.in-Ok-Some-Run.ensures.says in
+    absurd (run_no_audit (map string_bytes c.args.words.now) c.in-Ok-Some-Run.settings settings run says)
+
+pub returns-in-Ok-Some-Check-clause-audited : goal.returns-in-Ok-Some-Check-clause-audited
+returns-in-Ok-Some-Check-clause-audited g c = λ settings says.
+    let check : SaysCheck (map string_bytes c.args.words.now) c.in-Ok-Some-Check.settings = rw (c.in-Ok-Some-Check.field-0-is, c.in-Ok-Some-Check.field-0-0-is) at c.in-Ok-Some-Check.ensures.says in
+    absurd (check_no_audit (map string_bytes c.args.words.now) c.in-Ok-Some-Check.settings settings check says)
+
+pub returns-in-Ok-Some-Load-clause-audited : goal.returns-in-Ok-Some-Load-clause-audited
+returns-in-Ok-Some-Load-clause-audited g c = λ settings says.
+    let load : SaysLoad (map string_bytes c.args.words.now) c.in-Ok-Some-Load.settings = rw (c.in-Ok-Some-Load.field-0-is, c.in-Ok-Some-Load.field-0-0-is) at c.in-Ok-Some-Load.ensures.says in
+    absurd (load_no_audit (map string_bytes c.args.words.now) c.in-Ok-Some-Load.settings settings load says)
+
+pub returns-in-Err-clause-audited : goal.returns-in-Err-clause-audited
+returns-in-Err-clause-audited g c = λ settings says.
+    (audit_nothing settings c.status.result (g.S.Source.left c.args.source.now) (g.K.Sink.written c.args.sink.now) c.status.ensures, refl)

@@ -4,13 +4,14 @@ use Rattle.std.proofs.lemmas.Option.{same_Some}
 use Rattle.std.proofs.lemmas.Result.{IfErr-at_err, IfOk-at_ok}
 use Rattle.hay_logical.specs.declared.fault.LogicalFault.TheVariants as refusal
 use Rattle.hay_logical.specs.Seen.{SeesAt}
-use Rattle.hay_cluster.specs.Needles.{FileAt, LacksWork, LeadsWork}
+use Rattle.hay_logical.specs.Sights.{Sights}
+use Rattle.hay_cluster.specs.Needles.{FileAt, LacksWork, LeadsPart, LeadsWork}
 use Rattle.hay_cluster.specs.Seen.{VolumeAt}
-use Rattle.hay_cluster.proofs.Needling.{done_number, done_undamaged, nowhere_done, refused_done, work_damage}
+use Rattle.hay_cluster.proofs.Needling.{done_number, done_undamaged, memory_undone, nowhere_done, refused_done, refused_memory, work_damage}
 use Rattle.hay_needle.specs.declared.settings.Settings.{Settings}
 use Rattle.hay_reply.specs.declared.Reply.{Reply}
 use Rattle.hay_legal.specs.Known.{replica_on}
-use Rattle.hay_cluster.specs.Maintenance.{command_of}
+use Rattle.hay_cluster.specs.Maintenance.{MayWantMemory, command_of}
 use Rattle.hay_cluster.specs.State.{Answered}
 use Rattle.hay_cluster.specs.Store.{Open, contents_in, disks_of}
 use Rattle.hay_cluster.proofs.Maintaining.{maintained, not_maintained, nowhere}
@@ -150,25 +151,48 @@ returns-in-Err-clause-damaged g c = λ tells by place is j on.
     let there : replica_on (c.args.self.now).settings c.args.volume c.args.machine ≡ Some c.in-Some.replica =
     ap (λ (s : Settings). replica_on s c.args.volume c.args.machine) (sym same) ∙ sym c.replica_on.ensures.is ∙ c.in-Some.is in
     let fault : c.in-Err.fault ≡ refusal.Damaged by place = work_damage c.args.volume c.refused.result c.args.volume by place is c.args.machine c.in-Err.fault c.refused.ensures.is in
-    subst (λ i. FileAt (c.args.self.now).settings (contents_in g.D.Disk.files c.args.self.now) (store_seen c.args.self.now) c.args.volume i (LacksWork c.args.work place)) (same_Some c.in-Some.replica j (sym there ∙ on))
+    subst (λ i. FileAt (c.args.self.now).settings (contents_in g.D.Disk.files c.args.self.now) (store_seen c.args.self.now) c.args.volume i (LacksWork ((store_seen c.args.self.now).places c.args.volume) i c.args.work place)) (same_Some c.in-Some.replica j (sym there ∙ on))
     (c.maintain_in.ensures.damaged tells by place (c.in-Err.is ∙ ap Err fault))
 
 pub returns-in_default-clause-told : goal.returns-in_default-clause-told
-returns-in_default-clause-told g c = λ tells number is. absurd (nowhere_done c.args.volume c.args.machine number c.args.work is)
+returns-in_default-clause-told g c = λ tells. record {
+  done = λ number is. absurd (nowhere_done c.args.volume c.args.machine number c.args.work is);
+  part = λ is. absurd cc;
+}
 
 pub returns-in-Ok-clause-told : goal.returns-in-Ok-clause-told
-returns-in-Ok-clause-told g c = λ tells number is j on.
+returns-in-Ok-clause-told g c = λ tells.
     let settings = (c.args.self.now).settings in
     let contents = contents_in g.D.Disk.files c.args.self.now in
     let old = store_seen c.args.self.now in
     let new = store_seen c.maintain_in.new.self in
+    let sights : Sights = old.places c.args.volume in
     let same = ap (λ (st : Open g.row.D.Denot g.row.D-Piece.Denot g.row.A.Denot). st.settings) c.self.view_is in
     let there : replica_on settings c.args.volume c.args.machine ≡ Some c.in-Some.replica =
     ap (λ (s : Settings). replica_on s c.args.volume c.args.machine) (sym same) ∙ sym c.replica_on.ensures.is ∙ c.in-Some.is in
-    let one : number ≡ c.in-Ok.number = done_number c.args.volume c.args.machine c.args.work number c.in-Ok.number (sym is ∙ c.done.ensures.is) in
-    let led = IfOk-at_ok (λ n. FileAt settings contents old c.args.volume c.in-Some.replica (λ r file. VolumeAt c.args.volume (SeesAt c.in-Some.replica (λ r'. LeadsWork c.args.work n r r' file)) new)) c.in-Ok.is (c.maintain_in.ensures.lead tells) in
-    subst (λ i. FileAt settings contents old c.args.volume i (λ r file. VolumeAt c.args.volume (SeesAt i (λ r'. LeadsWork c.args.work number r r' file)) new)) (same_Some c.in-Some.replica j (sym there ∙ on))
-    (subst (λ n. FileAt settings contents old c.args.volume c.in-Some.replica (λ r file. VolumeAt c.args.volume (SeesAt c.in-Some.replica (λ r'. LeadsWork c.args.work n r r' file)) new)) (sym one) led)
+    record {
+      done = λ number is j on.
+          let one : number ≡ c.in-Ok.number = done_number c.args.volume c.args.machine c.args.work number c.in-Ok.number (sym is ∙ c.done.ensures.is) in
+          let led = IfOk-at_ok (λ n. FileAt settings contents old c.args.volume c.in-Some.replica (λ r file. VolumeAt c.args.volume (SeesAt c.in-Some.replica (λ r'. LeadsWork sights c.in-Some.replica c.args.work n r r' file)) new)) c.in-Ok.is (c.maintain_in.ensures.lead tells) in
+          subst (λ i. FileAt settings contents old c.args.volume i (λ r file. VolumeAt c.args.volume (SeesAt i (λ r'. LeadsWork sights i c.args.work number r r' file)) new)) (same_Some c.in-Some.replica j (sym there ∙ on))
+          (subst (λ n. FileAt settings contents old c.args.volume c.in-Some.replica (λ r file. VolumeAt c.args.volume (SeesAt c.in-Some.replica (λ r'. LeadsWork sights c.in-Some.replica c.args.work n r r' file)) new)) (sym one) led);
+      part = λ is. absurd (memory_undone c.args.volume c.args.machine c.in-Ok.number c.args.work (sym is ∙ c.done.ensures.is));
+    }
 
 pub returns-in-Err-clause-told : goal.returns-in-Err-clause-told
-returns-in-Err-clause-told g c = λ tells number is. absurd (refused_done c.args.volume c.args.machine number c.args.work c.refused.result c.in-Err.fault c.refused.ensures.is is)
+returns-in-Err-clause-told g c = λ tells.
+    let settings = (c.args.self.now).settings in
+    let contents = contents_in g.D.Disk.files c.args.self.now in
+    let old = store_seen c.args.self.now in
+    let new = store_seen c.maintain_in.new.self in
+    let sights : Sights = old.places c.args.volume in
+    let same = ap (λ (st : Open g.row.D.Denot g.row.D-Piece.Denot g.row.A.Denot). st.settings) c.self.view_is in
+    let there : replica_on settings c.args.volume c.args.machine ≡ Some c.in-Some.replica =
+    ap (λ (s : Settings). replica_on s c.args.volume c.args.machine) (sym same) ∙ sym c.replica_on.ensures.is ∙ c.in-Some.is in
+    record {
+      done = λ number is. absurd (refused_done c.args.volume c.args.machine number c.args.work c.refused.result c.in-Err.fault c.refused.ensures.is is);
+      part = λ is j on.
+          let led = IfErr-at_err (λ fault. MayWantMemory fault → FileAt settings contents old c.args.volume c.in-Some.replica (λ r file. VolumeAt c.args.volume (SeesAt c.in-Some.replica (λ r'. LeadsPart sights c.in-Some.replica c.args.work r r' file)) new)) c.in-Err.is (c.maintain_in.ensures.part tells) in
+          subst (λ i. FileAt settings contents old c.args.volume i (λ r file. VolumeAt c.args.volume (SeesAt i (λ r'. LeadsPart sights i c.args.work r r' file)) new)) (same_Some c.in-Some.replica j (sym there ∙ on))
+          (led (refused_memory c.args.volume c.args.machine c.refused.result c.in-Err.fault c.refused.ensures.is is));
+    }

@@ -2,7 +2,7 @@ use Rattle.std.proofs.Common.{◌≡◌, ◌<◌, ℕ, List, ap, length, refl, s
 use Rattle.std.specs.Prelude.{Result, Ok, Err, slice_index_or, slice_set, IfErr, IfOk}
 use Rattle.std.proofs.lemmas.List.{with_items_is}
 use Rattle.std.proofs.lemmas.Option.{slice_get_within}
-use Rattle.std.proofs.lemmas.Result.{IfErr-weaker, IfOk-at_ok, on_ok_weaker, on_err_weaker}
+use Rattle.std.proofs.lemmas.Result.{IfErr-at_err, IfErr-weaker, IfOk-at_ok, on_ok_weaker, on_err_weaker}
 use borrow.Author.Rules.{scaled_Fits}
 use Rattle.hay_needle.specs.declared.settings.Settings.{Settings}
 use Rattle.hay_logical.specs.Fits.{At}
@@ -12,7 +12,9 @@ use Rattle.hay_cluster.specs.Store.{Open, disks_of, contents_in}
 use Rattle.hay_cluster.proofs.Calls.{called_open, called_up, replica_cause}
 use Rattle.hay_cluster.proofs.Lists.{length-set, map-at, slice_get-set}
 use Rattle.hay_cluster.proofs.Needling.{file_on}
-use Rattle.hay_cluster.specs.Needles.{LacksWork, LeadsWork}
+use Rattle.hay_cluster.specs.Needles.{LacksWork, LeadsPart, LeadsWork}
+use Rattle.hay_cluster.specs.Maintenance.{MayWantMemory}
+use Rattle.hay_logical.specs.Sights.{Sights, sights_of}
 use Rattle.hay_cluster.proofs.ClosingStore.{order_item}
 use Rattle.hay_cluster.proofs.Moves.{Called, called_fuses, called_later, called_shape, in_volume, volume_of, with_one}
 use Rattle.hay_cluster.specs.Leaving.{IsApart, LeavesIn, WorkKeeps}
@@ -23,13 +25,17 @@ use Rattle.hay_logical.specs.Seen.{SeesAt, replica_seen, volume_seen}
 use Rattle.hay_cluster.specs.Seen.{VolumeAt, WorkRefusedSeen, WorkSeen, store_seen}
 use Rattle.hay_cluster.proofs.Seeing.{volume_moves}
 use Rattle.std.proofs.lemmas.Result.{IfOk-weaker}
-use Rattle.hay_cluster.proofs.Sighting.{volume_photos, volume_kept_photos}
+use Rattle.hay_cluster.proofs.Sighting.{photos_at, volume_photos, volume_kept_photos}
 use Rattle.hay_cluster.specs.Sights.{DoneSights}
 use Rattle.hay_cluster.proofs.cluster.Cluster.maintain_in.Goals as goal
 
 if_ok_made : {T E : Type 0} (r : Result T E) (P : T → Type 0) → ((x : T) → r ≡ Ok x → P x) → IfOk r P
 if_ok_made (Ok x) P makes = makes x refl
 if_ok_made (Err e) P makes = tt
+
+if_err_made : {T E : Type 0} (r : Result T E) (P : E → Type 0) → ((e : E) → r ≡ Err e → P e) → IfErr r P
+if_err_made (Ok x) P makes = tt
+if_err_made (Err e) P makes = makes e refl
 
 pub offset_bounds-as_mut_slice-volume : goal.offset_bounds-as_mut_slice-volume
 offset_bounds-as_mut_slice-volume g c =
@@ -212,7 +218,9 @@ returns-clause-damaged g c = λ tells m place is.
     let volume : Volume g.row.D.Denot g.row.D-Piece.Denot = slice_index_or c.as_mut_slice.result.now c.args.volume c.index-as_mut_slice-volume.result in
     let at : At store.volumes c.args.volume volume = subst (λ (vs : List (Volume g.row.D.Denot g.row.D-Piece.Denot)). At vs c.args.volume volume) c.as_mut_slice.ensures.value
     (at_read c.as_mut_slice.result.now c.args.volume c.index-as_mut_slice-volume.result (let long = ap length c.as_mut_slice.ensures.value in omega (arith, within, long))) in
-    file_on g.D.Disk.files c.args.self.now store c.self.view_is c.self.invariant c.args.volume volume at (LacksWork c.args.work place) c.args.replica c.requires.replica (c.maintain.ensures.damaged tells m place is)
+    let seen : (store_seen c.args.self.now).places c.args.volume ≡ sights_of volume.rows = photos_at c.args.self.now store c.self.view_is c.args.volume volume at in
+    file_on g.D.Disk.files c.args.self.now store c.self.view_is c.self.invariant c.args.volume volume at (LacksWork ((store_seen c.args.self.now).places c.args.volume) c.args.replica c.args.work place) c.args.replica c.requires.replica
+    (λ r there. subst (λ (sights : Sights). LacksWork sights c.args.replica c.args.work place (replica_seen r) (volume_bytes g.D.Disk.files r)) (sym seen) (c.maintain.ensures.damaged tells m place is r there))
 
 pub returns-clause-lead : goal.returns-clause-lead
 returns-clause-lead g c = λ tells.
@@ -226,14 +234,50 @@ returns-clause-lead g c = λ tells.
     let after = c.maintain.new.volume in
     let next : Open g.row.D.Denot g.row.D-Piece.Denot g.row.A.Denot = with_one store c.args.volume after in
     let many = (c.maintain.ensures.counts).count in
+    let seen : (store_seen c.args.self.now).places c.args.volume ≡ sights_of volume.rows = photos_at c.args.self.now store c.self.view_is c.args.volume volume at in
     rw items
     (if_ok_made c.maintain.result _
     (λ number is. file_on g.D.Disk.files c.args.self.now store c.self.view_is c.self.invariant c.args.volume volume at
-    (λ r file. VolumeAt c.args.volume (SeesAt c.args.replica (λ r'. LeadsWork c.args.work number r r' file)) (store_seen next)) c.args.replica c.requires.replica
+    (λ r file. VolumeAt c.args.volume (SeesAt c.args.replica (λ r'. LeadsWork ((store_seen c.args.self.now).places c.args.volume) c.args.replica c.args.work number r r' file)) (store_seen next)) c.args.replica c.requires.replica
     (λ r was.
     let low = slice_get_within volume.replicas c.args.replica r was in
     let r' = order_item after.replicas c.args.replica (let less : c.args.replica < length after.replicas = omega (arith, low, many) in less) in (
       volume_seen after,
       map-at volume_seen (slice_set store.volumes c.args.volume after) c.args.volume after (slice_get-set store.volumes c.args.volume volume after at),
-      (replica_seen r'.0, map-at replica_seen after.replicas c.args.replica r'.0 r'.1, IfOk-at_ok (λ n. LeadsWork c.args.work n (replica_seen r) (replica_seen r'.0) (volume_bytes g.D.Disk.files r)) is (c.maintain.ensures.lead tells r r'.0 was r'.1)),
+      (
+        replica_seen r'.0,
+        map-at replica_seen after.replicas c.args.replica r'.0 r'.1,
+        subst (λ (sights : Sights). LeadsWork sights c.args.replica c.args.work number (replica_seen r) (replica_seen r'.0) (volume_bytes g.D.Disk.files r)) (sym seen)
+            (IfOk-at_ok (λ n. LeadsWork (sights_of volume.rows) c.args.replica c.args.work n (replica_seen r) (replica_seen r'.0) (volume_bytes g.D.Disk.files r)) is (c.maintain.ensures.lead tells r r'.0 was r'.1)),
+      ),
+    ))))
+
+pub returns-clause-part : goal.returns-clause-part
+returns-clause-part g c = λ tells.
+    let store : Open g.row.D.Denot g.row.D-Piece.Denot g.row.A.Denot = record { settings = c.self.inside.settings; directory = c.self.inside.directory; volumes = c.self.inside.volumes.items; arms = c.self.inside.seats.items } in
+    let within : c.args.volume < length c.self.inside.volumes.items = let same = ap (λ (st : Open g.row.D.Denot g.row.D-Piece.Denot g.row.A.Denot). (st.settings).volumes) c.self.view_is in omega (arith, c.requires.volume, c.self.invariant.many, same) in
+    let volume : Volume g.row.D.Denot g.row.D-Piece.Denot = slice_index_or c.as_mut_slice.result.now c.args.volume c.index-as_mut_slice-volume.result in
+    let at : At store.volumes c.args.volume volume = subst (λ (vs : List (Volume g.row.D.Denot g.row.D-Piece.Denot)). At vs c.args.volume volume) c.as_mut_slice.ensures.value
+    (at_read c.as_mut_slice.result.now c.args.volume c.index-as_mut_slice-volume.result (let long = ap length c.as_mut_slice.ensures.value in omega (arith, within, long))) in
+    let items = with_items_is c.self.inside.volumes (slice_set c.as_mut_slice.result.now c.args.volume c.maintain.new.volume) (length-set c.as_mut_slice.result.now c.args.volume c.maintain.new.volume ∙ c.as_mut_slice.ensures.len)
+    ∙ ap (λ (vs : List (Volume g.row.D.Denot g.row.D-Piece.Denot)). slice_set vs c.args.volume c.maintain.new.volume) c.as_mut_slice.ensures.value in
+    let after = c.maintain.new.volume in
+    let next : Open g.row.D.Denot g.row.D-Piece.Denot g.row.A.Denot = with_one store c.args.volume after in
+    let many = (c.maintain.ensures.counts).count in
+    let seen : (store_seen c.args.self.now).places c.args.volume ≡ sights_of volume.rows = photos_at c.args.self.now store c.self.view_is c.args.volume volume at in
+    rw items
+    (if_err_made c.maintain.result _
+    (λ fault is wants. file_on g.D.Disk.files c.args.self.now store c.self.view_is c.self.invariant c.args.volume volume at
+    (λ r file. VolumeAt c.args.volume (SeesAt c.args.replica (λ r'. LeadsPart ((store_seen c.args.self.now).places c.args.volume) c.args.replica c.args.work r r' file)) (store_seen next)) c.args.replica c.requires.replica
+    (λ r was.
+    let low = slice_get_within volume.replicas c.args.replica r was in
+    let r' = order_item after.replicas c.args.replica (let less : c.args.replica < length after.replicas = omega (arith, low, many) in less) in (
+      volume_seen after,
+      map-at volume_seen (slice_set store.volumes c.args.volume after) c.args.volume after (slice_get-set store.volumes c.args.volume volume after at),
+      (
+        replica_seen r'.0,
+        map-at replica_seen after.replicas c.args.replica r'.0 r'.1,
+        subst (λ (sights : Sights). LeadsPart sights c.args.replica c.args.work (replica_seen r) (replica_seen r'.0) (volume_bytes g.D.Disk.files r)) (sym seen)
+            (IfErr-at_err (λ f. MayWantMemory f → LeadsPart (sights_of volume.rows) c.args.replica c.args.work (replica_seen r) (replica_seen r'.0) (volume_bytes g.D.Disk.files r)) is (c.maintain.ensures.part tells r r'.0 was r'.1) wants),
+      ),
     ))))

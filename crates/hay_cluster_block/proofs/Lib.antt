@@ -1,0 +1,9 @@
+pub mod Noting
+pub mod Homes
+pub mod RowsTold
+pub mod Named
+pub mod Slots
+pub mod Rising
+pub mod Standing
+pub mod Behind
+pub mod Whole

@@ -1,0 +1,3 @@
+pub mod Notes
+pub mod Rows
+pub mod Blocks

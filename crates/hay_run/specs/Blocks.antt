@@ -1,0 +1,85 @@
+-- Blocks of lines: what is asked of one, how its lines come to their lanes, and the text that answers it.
+use Rattle.std.specs.Prelude.{◌≡◌, ◌≢◌, ℕ, ◌<◌, ◌≤◌, ◌==◌, List, [], ◌∷◌, ◌++◌, length, map, flat_map, filter, take, slice_get, slice_index_or, slice_set, Some}
+use Rattle.std.specs.List.{AllByRecursion as Each}
+use Rattle.hay_reply.specs.declared.Note.{Note}
+use Rattle.hay_reply.specs.declared.Reply.{Reply}
+use Rattle.hay_reply.specs.declared.Reply.TheVariants.{BadLine}
+use Rattle.hay_reply.specs.Fits.{FitsNote, FitsReply}
+use Rattle.hay_reply.specs.Replies.{note_line}
+use Rattle.hay_legal.specs.declared.turn.Item.TheVariants as item
+use Rattle.hay_legal.specs.declared.turn.LaneItem.{LaneItem}
+use Rattle.hay_legal.specs.Items.{InBlock, OpenBlock, line_asked}
+use Rattle.hay_legal.specs.Known.{EachPair}
+use Rattle.hay_legal.specs.Transcript.{answered_line}
+use Rattle.hay_block.specs.declared.worker.Job.{Job}
+use Rattle.hay_block.specs.Lines.{IsServed}
+use Rattle.hay_cluster_block.specs.Notes.{AreBlockNotes}
+use Rattle.hay_run.specs.declared.deal.Place.{Place}
+
+-- The lines of a block of so many lanes: each may stand in its lane, and no two have one number.
+pub record IsBlockOf (lanes : ℕ) (lines : List InBlock) : Type 0 where
+  pub some : 0 < lanes
+  pub few : lanes ≤ 8
+  pub low : Each (λ line. line.lane < lanes) lines
+  pub served : Each (λ line. IsServed line.item) lines
+  pub distinct : EachPair (λ a b. a.line ≢ b.line) lines
+
+-- A block that is read: its lines have numbers below the one that comes next.
+pub record IsBlockBelow (next : ℕ) (block : OpenBlock) : Type 0 where
+  pub lines : IsBlockOf block.lanes block.lines
+  pub before : Each (λ line. line.line < next) block.lines
+
+-- LINES AND LANES
+
+-- the lines of a lane, in their order
+abbrev pub lane_lines : ℕ → List InBlock → List InBlock
+lane_lines lane lines = filter (λ line. line.lane == lane) lines
+
+abbrev pub job_of : InBlock → Job
+job_of line = record { line = line.line; item = line.item }
+
+-- the jobs of a lane, and all jobs with one more
+abbrev pub lane_jobs : List (List Job) → ℕ → List Job
+lane_jobs jobs lane = slice_index_or jobs lane []
+
+abbrev pub with_job : List (List Job) → InBlock → List (List Job)
+with_job jobs line = slice_set jobs line.lane (lane_jobs jobs line.lane ++ job_of line ∷ [])
+
+-- the jobs are those of the lines, lane by lane
+pub record AreJobs (lanes : ℕ) (lines : List InBlock) (jobs : List (List Job)) : Type 0 where
+  pub many : length jobs ≡ lanes
+  pub each : (lane : ℕ) (own : List Job) → slice_get jobs lane ≡ Some own → own ≡ map job_of (lane_lines lane lines)
+
+-- where the line of this number in the block stands: in its lane, behind so many lines of that lane
+abbrev pub place_of : List InBlock → ℕ → InBlock → Place
+place_of lines i line = record { line = line.line; lane = line.lane; nth = length (lane_lines line.lane (take i lines)) }
+
+-- so it is told of each line
+pub record ArePlaces (lines : List InBlock) (places : List Place) : Type 0 where
+  pub many : length places ≡ length lines
+  pub each : (i : ℕ) (line : InBlock) → slice_get lines i ≡ Some line → slice_get places i ≡ Some (place_of lines i line)
+
+-- The lines with their replies: to each lane's lines, in order, what the lane answered.
+pub record AreAnswered (lines : List InBlock) (replies : List (List Reply)) (items : List LaneItem) : Type 0 where
+  pub asked : map line_asked items ≡ lines
+  pub low : Each (λ item. item.lane < length replies) items
+  pub each : (lane : ℕ) (own : List Reply) → slice_get replies lane ≡ Some own → map (λ item. item.reply) (filter (λ item. item.lane == lane) items) ≡ own
+
+-- THE TEXT OF A BLOCK
+
+abbrev pub answered_text : List LaneItem → List Note → List ℕ
+answered_text items notes = flat_map answered_line items ++ flat_map note_line notes
+
+-- a reply with numbers of their types, and to a bad line that it is one
+abbrev pub FitsLine : LaneItem → Type 0
+FitsLine answered = FitsReply answered.reply × (answered.item ≡ item.Bad → answered.reply ≡ BadLine)
+
+-- These lines were answered so, whatever the disks tell: each has its reply, and notes on new entries and on new rows stand behind them.
+pub record IsBlockText (lines : List InBlock) (text : List ℕ) : Type 0 where
+  pub items : List LaneItem
+  pub asked : map line_asked items ≡ lines
+  pub fits : Each FitsLine items
+  pub notes : List Note
+  pub told : AreBlockNotes notes
+  pub fit : Each FitsNote notes
+  pub is : text ≡ answered_text items notes
