@@ -16,7 +16,7 @@ Looked at are README.md, CHANGELOG.md and all of docs/:
 - each figure is drawn from its numbers, which the tables of docs/benchmarks.md have too.
 
 With --program the examples are tried too: those of examples/, the scripts of docs/script.md beside their transcripts, the commands of
-docs/check.md with what they print, and how many descriptors a run needs.
+docs/check.md and docs/audit.md with what they print, and how many descriptors a run needs.
 """
 
 import argparse
@@ -35,7 +35,7 @@ ROOT = Path(__file__).resolve().parent.parent
 CRATES = sorted(path.name for path in (ROOT / "crates").iterdir() if path.is_dir())
 DOCUMENTS = [path for path in (ROOT / "README.md", ROOT / "CHANGELOG.md") if path.exists()] + sorted((ROOT / "docs").glob("*.*"))
 # pages that tell what the program does, in which no measured figure stands
-EXACT = ("README.md", "script.md", "check.md", "file-formats.md", "glossary.md", "rules.md", "architecture.md", "model.md", "haystack.1")
+EXACT = ("README.md", "script.md", "check.md", "audit.md", "file-formats.md", "glossary.md", "rules.md", "architecture.md", "model.md", "haystack.1")
 faults = []
 
 
@@ -184,10 +184,10 @@ def check_modes():
 def check_statuses():
     said = {int(status): message for status, message in re.findall(r'(\d+) => Some\("haystack: ([a-z ]+)"\)', text_of("crates/haystack/src/main.rt"))}
     manual = ROOT / "docs/haystack.1"
-    told = {int(status): message for status, message in re.findall(r"^\.TP\n\.B (\d)\n\.I ([a-z ]+)\n", manual.read_text(encoding="utf-8"), re.MULTILINE)}
+    told = {int(status): message for status, message in re.findall(r"^\.TP\n\.B (\d+)\n\.I ([a-z ]+)\n", manual.read_text(encoding="utf-8"), re.MULTILINE)}
     if told != said:
         fault(manual, f"statuses {told}, and the program has {said}")
-    for name in ("script.md", "check.md"):
+    for name in ("script.md", "check.md", "audit.md"):
         path = ROOT / "docs" / name
         for message in set(re.findall(r"`haystack: ([a-z ]+)`", path.read_text(encoding="utf-8"))) - set(said.values()):
             fault(path, f"no message: {message}")
@@ -276,8 +276,9 @@ LIMITS = {
         "A photo has 0 to {photo:,} bytes, a line of the script at most {line:,}, and a script at most {script:,}.",
         "A block has 1 to {lanes} lanes, and at most {commands:,} commands.",
         "A replica is compacted at most {generation:,} times.",
-        "a byte came behind {script:,} bytes of script",
+        "a byte came behind {script:,} bytes of script, or, in an audit, of the transcript",
     ),
+    "docs/audit.md": ("N is a decimal number of at most {script:,}, and the transcript has at most so many bytes",),
     "docs/rules.md": (
         "a photo has at most {photo:,} bytes, in version 1 at most {photo_one:,} |",
         "1 to {machines} machines, 1 to {volumes} volumes, 1 to {replicas} replicas and no more than the machines, "
@@ -302,6 +303,7 @@ LIMITS = {
         "at most {generation:,} ",
         "the generation is {generation:,} ",
         "With status 7 exactly {script:,} bytes were taken",
+        "is at most {script:,}. An input is one frame at most",
         "{opening} bytes at most of a volume file",
     ),
     "docs/testing.md": ("a photo of {photo:,} bytes and a line of {line:,} go through the whole program",),
@@ -457,7 +459,12 @@ def check_scripts(program):
 
 def check_commands(program):
     """The commands behind a dollar sign print what stands below them."""
-    path = ROOT / "docs/check.md"
+    for path, folder in ((ROOT / "docs/check.md", None), (ROOT / "docs/audit.md", ROOT)):
+        check_commands_of(program, path, folder)
+
+
+def check_commands_of(program, path, folder):
+    """The commands of one page, which begin in this folder, or in an empty one."""
     for _, block in blocks_of(path):
         if not block.startswith("\n$ "):
             continue
@@ -466,7 +473,7 @@ def check_commands(program):
         with tempfile.TemporaryDirectory() as scratch:
             os.symlink(program, Path(scratch, "haystack"))
             paths = {**os.environ, "PATH": f"{scratch}:{os.environ['PATH']}"}
-            done = subprocess.run(["sh"], input="\n".join(commands), cwd=scratch, env=paths, stdout=subprocess.PIPE, stderr=subprocess.STDOUT, text=True, check=False)
+            done = subprocess.run(["sh"], input="\n".join(commands), cwd=folder or scratch, env=paths, stdout=subprocess.PIPE, stderr=subprocess.STDOUT, text=True, check=False)
         if done.stdout.splitlines() != due:
             fault(path, f"its commands print: {done.stdout}")
 

@@ -1,0 +1,142 @@
+#!/usr/bin/env python3
+"""The script of a day's use and its summary, written from the rule and from no code of the program.
+
+    bench/drill.py script COUNT FIRST
+    bench/drill.py summary COUNT FIRST
+    bench/drill.py numbers [--most N]
+
+Photo i, from 0 on, has the key FIRST + i, which goes on at 0 behind 2^64 - 1, and under the alternate keys 1 to 4 it has 65,536, 16,384,
+4,096 and 1,024 bytes, each of them i mod 256. `script` prints the lines: all puts; for every fifth photo another put of the largest, of
+the bytes 255 - i mod 256; for every seventh a delete of the second; a flush of each replica; a block in which lanes 0 to 3 read all while
+lane 4 compacts each replica; a restart; and all reads again. `summary` prints what a store without faults sums up of it. `numbers` plays
+the lines of all counts of photos to N, the first key at and near both ends, by a plain table of photos, and compares with the sums.
+"""
+
+import argparse
+import collections
+import sys
+
+import block_text as text
+
+SIZES = {1: 65_536, 2: 16_384, 3: 4_096, 4: 1_024}
+STORE = text.Settings(machines=4, volumes=8, replicas=2)
+LAST = 2**64 - 1
+FIRSTS = (0, 1, 2**63, LAST - 6, LAST)
+NAMES = ("stored", "deleted", "photo", "gone", "flushed", "compacted", "rows", "other")
+
+
+# THE SCRIPT
+
+
+def key_of(first, photo):
+    return (first + photo) % 2**64
+
+
+def put_line(first, photo, alt, byte):
+    return f"put {key_of(first, photo)} {alt} x{SIZES[alt]}:{byte:02x}"
+
+
+def reads_of(count, first, lane):
+    for photo in range(count):
+        key = key_of(first, photo)
+        for alt in SIZES:
+            yield f"{lane(photo)}read {key} {alt} {text.cookie_of(STORE.secret, key):016x}"
+
+
+def replica_lines(verb):
+    for volume in range(STORE.volumes):
+        for replica in range(STORE.replicas):
+            yield f"{verb} {volume} {STORE.machine_of(volume, replica)}"
+
+
+def lines_of(count, first):
+    for photo in range(count):
+        for alt in SIZES:
+            yield put_line(first, photo, alt, photo % 256)
+    for photo in range(0, count, 5):
+        yield put_line(first, photo, 1, 255 - photo % 256)
+    for photo in range(0, count, 7):
+        yield f"del {key_of(first, photo)} 2"
+    yield from replica_lines("flush")
+    yield "lanes 5"
+    yield from reads_of(count, first, lambda photo: f"{photo % 4} ")
+    yield from replica_lines("4 compact")
+    yield "end"
+    yield "restart 0"
+    yield from reads_of(count, first, lambda photo: "")
+
+
+# THE NUMBERS
+
+
+def summed(count):
+    """The numbers by arithmetic."""
+    fifths, sevenths = (count + 4) // 5, (count + 6) // 7
+    shown = 4 * count - sevenths
+    shown_bytes = sum(SIZES.values()) * count - SIZES[2] * sevenths
+    replicas = STORE.volumes * STORE.replicas
+    numbers = (4 * count + fifths, sevenths, f"{2 * shown} {2 * shown_bytes}", 2 * sevenths, replicas, replicas, 4 * count, 0)
+    return dict(zip(NAMES, numbers, strict=True))
+
+
+def played(lines):
+    """The numbers by a plain table: what each line is answered where nothing fails."""
+    sizes, counts, shown_bytes = {}, collections.Counter(), 0
+    for line in lines:
+        words = line.removeprefix(line.split()[0] if line[0].isdigit() else "").split()
+        pair = tuple(words[1:3])
+        if words[0] == "put":
+            sizes[pair] = int(words[3][1:].split(":")[0])
+            counts["stored"] += 1
+        elif words[0] == "del":
+            counts["deleted" if sizes.get(pair) else "gone"] += 1
+            sizes[pair] = None
+        elif words[0] == "read":
+            counts["photo" if sizes[pair] else "gone"] += 1
+            shown_bytes += sizes[pair] or 0
+        else:
+            counts[{"flush": "flushed", "compact": "compacted", "lanes": "", "end": "", "restart": ""}[words[0]]] += 1
+    numbers = {name: counts[name] for name in NAMES}
+    return numbers | {"photo": f"{counts['photo']} {shown_bytes}", "rows": len(sizes)}
+
+
+def summary_text(count, first):
+    return "".join(f"{name} {number}\n" for name, number in ({"drill": f"{count} {first}"} | summed(count)).items())
+
+
+def check_numbers(most):
+    """Each count's numbers, and that the script's lines are of the grammar."""
+    for count in range(1, most + 1):
+        for first in FIRSTS if count < 20 or count == most else (0,):
+            lines = list(lines_of(count, first))
+            if played(lines) != summed(count):
+                sys.exit(f"{count} {first}: {played(lines)}, and not {summed(count)}")
+            if count < 20 and any(asked.command is None for asked in asked_of(lines)):
+                sys.exit(f"{count} {first}: a bad line")
+    print(f"1 to {most} photos: the numbers agree")
+
+
+def asked_of(lines):
+    for item in text.items_of("".join(f"{line}\n" for line in lines).encode()):
+        yield from item.asked if isinstance(item, text.Block) else (item,)
+
+
+def main():
+    parser = argparse.ArgumentParser(description=__doc__.splitlines()[0])
+    modes = parser.add_subparsers(dest="mode", required=True)
+    for name in ("script", "summary"):
+        mode = modes.add_parser(name)
+        mode.add_argument("count", type=int)
+        mode.add_argument("first", type=int)
+    modes.add_parser("numbers").add_argument("--most", type=int, default=1000)
+    options = parser.parse_args()
+    if options.mode == "numbers":
+        check_numbers(options.most)
+    elif options.mode == "script":
+        sys.stdout.writelines(f"{line}\n" for line in lines_of(options.count, options.first))
+    else:
+        sys.stdout.write(summary_text(options.count, options.first))
+
+
+if __name__ == "__main__":
+    main()
