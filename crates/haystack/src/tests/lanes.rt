@@ -212,7 +212,7 @@ fn a_block_is_cut_where_the_sink_fails(rt: HostRuntime) -> Result<(), Fail> {
 }
 
 /// A script of so many puts to each of two volumes, in a lane each, in which every reply is known before.
-fn many(alloc: Global, lines: u64) -> Result<(String, String), Fail> {
+fn many(alloc: Global, lines: u32) -> Result<(String, String), Fail> {
     let mut script = format!(in alloc; "put 0 1 61\nput 1 1 61\nlanes 2\n")?;
     let mut transcript = format!(in alloc;
         "haystack 1 2 1 67108864\n1 stored 0 1 1 903df1a0ade0b876\n2 stored 1 1 2 fb7815c6d6df3fef\n"
@@ -221,7 +221,8 @@ fn many(alloc: Global, lines: u64) -> Result<(String, String), Fail> {
     let mut second = format!(in alloc; "log 1 1")?;
     for i in 0..lines {
         write!(script, "0 put 0 1 61\n1 put 1 1 62\n")?;
-        let (line, position) = (4 + 2 * i, i + 2);
+        let nth = u64::from(i);
+        let (line, position) = (4 + 2 * nth, nth + 2);
         write!(
             transcript,
             "{line} stored 0 {position} 2 903df1a0ade0b876\n{} stored 1 {position} 2 fb7815c6d6df3fef\n",
