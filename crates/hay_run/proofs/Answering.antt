@@ -31,7 +31,7 @@ use Rattle.hay_run.specs.Causing.{Caused, IsLaterTally, StopCaused, Tally, Wante
 use Rattle.hay_run.specs.Turns.{AnswersAll, AnswersPart, AnyTurn, IsGoingOn}
 use Rattle.hay_run.proofs.Blocked.{NotesOf, block_ran, block_told, err_here, ok_by, ok_here}
 use Rattle.hay_run.proofs.Causing.{caused_one, part_stops}
-use Rattle.hay_run.proofs.Dealing.{answered_by, are_items, distinct_items, each_job, each_mapped, jobs_long, zip_mapped}
+use Rattle.hay_run.proofs.Dealing.{answered_by, are_items, distinct_items, each_job, each_mapped, each_reply, jobs_long, zip_mapped}
 use Rattle.hay_run.proofs.Turning.{block_goes_on}
 
 -- DEALT OUT
@@ -93,6 +93,10 @@ module _ (lanes : ℕ) (lines : List InBlock) (jobs : List (Vec Job Global)) (pl
     pub items_differ : (items : List LaneItem) → AreAnswered lines (own_replies replies) items → EachPair (λ a b. a.line ≢ b.line) items
     items_differ items are = distinct_items items lines are.asked d.block.distinct
 
+    pub items_fit : (items : List LaneItem) → AreAnswered lines (own_replies replies) items → Each (λ (rs : Vec Reply Global). Each FitsReply rs.items) replies → Each (λ answered. FitsReply answered.reply) items
+    items_fit items are fits =
+        each_reply FitsReply lines (own_replies replies) items (each_mapped (λ (own : Vec Reply Global). own.items) (λ (own : List Reply). Each FitsReply own) replies fits) are
+
     zip_many : {A B : Type 0} (R : A → B → Type 0) (xs : List A) (ys : List B) → AllZip R xs ys → length xs ≡ length ys
     zip_many R [] [] all = refl
     zip_many R [] (y ∷ ys) all = absurd all
@@ -116,20 +120,20 @@ err_by P (Err e) by = by e refl
 
 -- where the disks tell
 module _ {D P A : Type 0} (files : D → Files) (DiskTells Tells : Type 0) (faults fuses : D → ℕ) (arm_faults : A → ℕ) (lines : List InBlock) (items : List LaneItem) (told : Result (Vec Note Global) NoMemory)
-    (written written' : Option (List ℕ)) (store store' : Open D P A) (asked : map line_asked items ≡ lines)
+    (written written' : Option (List ℕ)) (store store' : Open D P A) (asked : map line_asked items ≡ lines) (fits : Each (λ answered. FitsReply answered.reply) items)
     (legal : DiskTells → (k : Known) → Stands files Tells faults fuses arm_faults store k → RanBlock files Tells faults fuses arm_faults k items told store') where
   pub block_whole : {X : Type 0} (r : Result X Stop) → ((notes : List Note) → IfOk told (λ (own : Vec Note Global). own.items ≡ notes) → OnOk r (Wrote written (answered_text items notes) written'))
       → OnOk r (AnswersAll DiskTells (Stands files Tells faults fuses arm_faults) (Block lines ∷ []) store written store' written')
   block_whole r wrote = ok_by (AnswersAll DiskTells (Stands files Tells faults fuses arm_faults) (Block lines ∷ []) store written store' written') r (λ x is tells k stands.
       let ran = legal tells k stands in
-      block_ran files Tells faults fuses arm_faults (Stands files Tells faults fuses arm_faults) IsGoingOn block_goes_on Wrote k lines items told written written' store' ran asked ran.stands
+      block_ran files Tells faults fuses arm_faults (Stands files Tells faults fuses arm_faults) IsGoingOn block_goes_on Wrote k lines items told written written' store' ran asked fits ran.stands
       (ok_here (Wrote written (answered_text items (block_notes ran.logs ran.rows)) written') r x is (wrote (block_notes ran.logs ran.rows) ran.notes_are)))
 
   pub block_part : {X : Type 0} (r : Result X Stop) → ((notes : List Note) → IfOk told (λ (own : Vec Note Global). own.items ≡ notes) → OnErr r (WrotePart written (answered_text items notes) written'))
       → OnErr r (AnswersPart DiskTells (Stands files Tells faults fuses arm_faults) (Holds files faults fuses arm_faults) (Block lines ∷ []) store written store' written')
   block_part r part = err_by (AnswersPart DiskTells (Stands files Tells faults fuses arm_faults) (Holds files faults fuses arm_faults) (Block lines ∷ []) store written store' written') r (λ e is tells k stands.
       let ran = legal tells k stands in
-      block_ran files Tells faults fuses arm_faults (Holds files faults fuses arm_faults) AnyTurn (λ items logs rows after. tt) WrotePart k lines items told written written' store' ran asked
+      block_ran files Tells faults fuses arm_faults (Holds files faults fuses arm_faults) AnyTurn (λ items logs rows after. tt) WrotePart k lines items told written written' store' ran asked fits
       (stands_holds files Tells faults fuses arm_faults store' ran.known ran.stands)
       (err_here (WrotePart written (answered_text items (block_notes ran.logs ran.rows)) written') r e is (part (block_notes ran.logs ran.rows) ran.notes_are)))
 

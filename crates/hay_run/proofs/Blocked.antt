@@ -54,10 +54,10 @@ block_text items logs rows after =
 pub block_ran : {D P A : Type 0} (files : D → Files) (Tells : Type 0) (faults fuses : D → ℕ) (arm_faults : A → ℕ) (Left : Standing D P A) (Is : Turn → Type 0)
     → ((items : List LaneItem) (logs : List LogNote) (rows : RowNote) (after : Known) → Is (Lanes items logs rows after)) → (Writes : Writing) (k : Known) (lines : List InBlock) (items : List LaneItem)
     (told : Result (Vec Note Global) NoMemory) (written written' : Option (List ℕ)) (store : Open D P A) (ran : RanBlock files Tells faults fuses arm_faults k items told store)
-    → map line_asked items ≡ lines → Left store ran.known → Writes written (answered_text items (block_notes ran.logs ran.rows)) written'
+    → map line_asked items ≡ lines → Each (λ answered. FitsReply answered.reply) items → Left store ran.known → Writes written (answered_text items (block_notes ran.logs ran.rows)) written'
     → AnswersTurns Is Writes Left k (Block lines ∷ []) written store written'
-block_ran files Tells faults fuses arm_faults Left Is is Writes k lines items told written written' store ran asked left wrote =
-    answers_block Left Is is Writes k ran.known lines items ran.logs ran.rows written written' store asked ran.legal left
+block_ran files Tells faults fuses arm_faults Left Is is Writes k lines items told written written' store ran asked fits left wrote =
+    answers_block Left Is is Writes k ran.known lines items ran.logs ran.rows written written' store asked fits ran.legal left
     (subst (λ (text : List ℕ). Writes written text written') (block_text items ran.logs ran.rows ran.known) wrote)
 
 -- WHATEVER THE DISKS TELL

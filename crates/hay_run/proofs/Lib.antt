@@ -12,6 +12,7 @@ pub mod Dealing
 pub mod Giving
 pub mod Loading
 pub mod Lying
+pub mod NeverUnlawful
 pub mod Ran
 pub mod Reading
 pub mod Refusing
@@ -22,5 +23,6 @@ pub mod Serving
 pub mod Stopping
 pub mod Turning
 pub mod Unread
+pub mod VoidDisks
 pub mod Drawing
 pub mod Writes

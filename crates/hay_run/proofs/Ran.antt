@@ -34,11 +34,11 @@ use Rattle.hay_run.specs.Stops.{ending_of}
 use Rattle.hay_lines.specs.Stream.{Held, rest_of}
 use Rattle.hay_lines.specs.Lines.{TookPart, TookOver, TookSome}
 use Rattle.hay_run.specs.Items.{TookItems, TookOpen}
-use Rattle.hay_run.specs.Turns.{Writing, Standing, AnswersTurns, IsGoingOn, Keeps, Refused, TurnedPart, RefusesRestart, Broke, HoldsNone, StopsTurn}
+use Rattle.hay_run.specs.Turns.{Writing, Standing, AnswersTurns, FitsAnswers, IsGoingOn, Keeps, Refused, TurnedPart, RefusesRestart, Broke, HoldsNone, StopsTurn}
 use Rattle.hay_run.specs.Runs.{RanTo, ReadFront}
 use Rattle.hay_run.proofs.Asking.{took_items_more}
 use Rattle.hay_run.proofs.Reading.{ReadsFront, rest_none, breaks_off, over_part, front_some, front_read}
-use Rattle.hay_run.proofs.Turning.{legal_more}
+use Rattle.hay_run.proofs.Turning.{each_more, legal_more}
 
 -- WHAT IS WRITTEN
 
@@ -119,6 +119,7 @@ pub record RanPart (settings : Settings) (k : Known) (script : List ℕ) (left :
   pub t : Known
   pub legal : Legal settings opened turns t
   pub last : LastWants turns
+  pub fits : AllByRecursion FitsAnswers turns
   pub ends : statuses.Interrupted IsReplica OpensRows IsVoid settings k script read taken turns t text given
 
 pub ran_output : (settings : Settings) (k : Known) (script : List ℕ) (left : Option (List ℕ)) (taken given : Outside) (held : List ℕ) (written : Option (List ℕ))
@@ -137,6 +138,7 @@ ran_output settings k script left taken given held written part = record {
     wanting = λ before line pick notes after behind is. (part.last before line pick notes after behind is, inr refl);
     ends = part.ends;
   };
+  fits = part.fits;
 }
 
 pub ran_memory : (settings : Settings) (k : Known) (script : List ℕ) (left : Option (List ℕ)) (taken given : Outside) (held : List ℕ) (written : Option (List ℕ))
@@ -155,6 +157,7 @@ ran_memory settings k script left taken given held written part = record {
     wanting = λ before line pick notes after behind is. (part.last before line pick notes after behind is, inl refl);
     ends = part.ends;
   };
+  fits = part.fits;
 }
 
 -- the count that a refused restart tells is one of the disks given back
@@ -191,6 +194,7 @@ module _ {D P A : Type 0} (Tells : Type 0) (Begins Left : Standing D P A) (setti
           wanting = wants_none ReadAll answers.turns answers.each;
           ends = record { asked = answers.items ∙ all; wrote = refl; stands = closed answers.t (weaken store' store'_is answers.t answers.left) };
         };
+        fits = answers.fits;
       }
 
   module _ (asked : List Asked) (number : ℕ) (rest : Option (List ℕ)) (mid : Open D P A) (text : Option (List ℕ)) (holding : Held)
@@ -235,6 +239,7 @@ module _ {D P A : Type 0} (Tells : Type 0) (Begins Left : Standing D P A) (setti
             wanting = wants_none InputFault answers.turns answers.each;
             ends = record { asked = answers.items ∙ off.items; wrote = refl; stands = mid_closed same };
           };
+          fits = answers.fits;
         }
 
     pub ran_over : HoldsNone stop.TooLong holding → ((last : List ℕ) → left ≡ Some last → length script ≡ 1073741825 + length last)
@@ -259,6 +264,7 @@ module _ {D P A : Type 0} (Tells : Type 0) (Begins Left : Standing D P A) (setti
             wanting = wants_none TooLong answers.turns answers.each;
             ends = record { asked = answers.items ∙ over.items; wrote = refl; stands = mid_closed same };
           };
+          fits = answers.fits;
         }
 
     pub ran_same : TookSome rest (rest_of left holding) → Keeps Tells Begins mid store' → written' ≡ text → RanPart settings k script left taken given held written'
@@ -277,6 +283,7 @@ module _ {D P A : Type 0} (Tells : Type 0) (Begins Left : Standing D P A) (setti
           t = answers.t;
           legal = mid_legal;
           last = last_none answers.turns answers.each;
+          fits = answers.fits;
           ends = inl (record {
             asked = subst P (sym answers.items) reads.front;
             whole_lines = subst W (sym answers.items) reads.whole;
@@ -314,6 +321,7 @@ module _ {D P A : Type 0} (Tells : Type 0) (Begins Left : Standing D P A) (setti
           t = last.t;
           legal = legal_more settings start answers.turns answers.t last.turns last.t mid_legal (subst P store'_is last.legal);
           last = last_more answers.turns last.turns answers.each one;
+          fits = each_more FitsAnswers answers.turns last.turns answers.fits last.fits;
           ends = inl (record {
             asked = subst Q (sym items) reads.front;
             whole_lines = subst W (sym items) reads.whole;
@@ -361,6 +369,7 @@ module _ {D P A : Type 0} (Tells : Type 0) (Begins Left : Standing D P A) (setti
           t = answers.t;
           legal = mid_legal;
           last = last_none answers.turns answers.each;
+          fits = answers.fits;
           ends = inr (inr (inr (record {
             next = (number, r.pick, subst P (sym answers.items) reads.front);
             whole_lines = (number, r.pick, subst W (sym answers.items) reads.whole);
@@ -406,6 +415,7 @@ module _ {D P A : Type 0} (Tells : Type 0) (Begins Left : Standing D P A) (setti
               left = refused_left Wrote f;
             });
           };
+          fits = answers.fits;
         }
 
     pub ran_memory_or : (TookSome rest (rest_of left holding) × Keeps Tells Begins mid store' × (written' ≡ text)) ⊎ Broke Tells Begins Left mid number rest text store' (rest_of left holding) written'

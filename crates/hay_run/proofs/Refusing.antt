@@ -142,6 +142,7 @@ module _ (settings : Settings) (shelf shelf' : ℕ) (disks disks' : ℕ → Held
       t = k;
       legal = refl;
       last = no_last;
+      fits = tt;
       ends = inr (inr (inl (record {
         none = refl;
         unread = refl;
@@ -169,6 +170,7 @@ module _ (settings : Settings) (shelf shelf' : ℕ) (disks disks' : ℕ → Held
       t = k;
       legal = refl;
       last = no_last;
+      fits = tt;
       ends = inr (inl (record { none = refl; unread = refl; wrote = ([], refl); left = unopened }));
     }
 
@@ -189,6 +191,7 @@ module _ (settings : Settings) (shelf shelf' : ℕ) (disks disks' : ℕ → Held
         wanting = wants_none NotOpened [] tt;
         ends = inl (record { none = refl; unread = refl; note = note; tells = tells; wrote = (note_line note, refl, refl); left = unopened });
       };
+      fits = tt;
     }
 
     not_store : {X : Type 0} (why : Stop) → why ≢ stop.Store → (why ≡ stop.Store) ⊎ X → X
@@ -243,6 +246,7 @@ ran_header settings taken k is script held written' wrote = record {
   t = k;
   legal = refl;
   last = no_last;
+  fits = tt;
   ends = inr (inl (record {
     none = refl;
     unread = refl;
@@ -383,6 +387,7 @@ ran_nothing settings taken k is_taken script held written same ending is =
       t = k;
       legal = refl;
       last = no_last;
+      fits = tt;
       ends = inr (inl (record { none = refl; unread = refl; wrote = (header_line settings ++ [], refl); left = untouched settings taken k is_taken }));
     }))
 

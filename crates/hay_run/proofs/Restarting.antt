@@ -1,11 +1,13 @@
 -- A restart, and its refusals.
-use Rattle.std.proofs.Common.{◌≡◌, ◌≢◌, ◌⊎◌, inl, inr, ℕ, ◌<◌, List, [], ◌∷◌, ◌++◌, Option, Some, refl, sym, ap, subst, ◌∙◌, arith}
+use Rattle.std.proofs.Common.{◌≡◌, ◌≢◌, ◌⊎◌, inl, inr, ℕ, ◌^◌, ◌<◌, List, [], ◌∷◌, ◌++◌, Option, Some, refl, sym, ap, subst, ◌∙◌, arith}
 use Rattle.std.specs.Prelude.{flat_map, slice_index, Err, IsErrOf}
+use Rattle.std.specs.List.{AllByRecursion}
 use Rattle.std.proofs.lemmas.List.{append-nil}
 use Rattle.hay_disk.specs.Counts.{Rose}
 use Rattle.hay_disk.specs.Disk.{Files}
 use Rattle.hay_disk.specs.Streams.{Wrote, WrotePart}
 use Rattle.hay_script.specs.declared.Command.TheVariants as asks
+use Rattle.hay_reply.specs.Fits.{FitsNote}
 use Rattle.hay_reply.specs.declared.Note.{Note}
 use Rattle.hay_reply.specs.declared.Note.TheVariants.{OpenFailed, OpenDamaged}
 use Rattle.hay_reply.specs.declared.Reply.TheVariants.{Restarted, NoMem}
@@ -49,12 +51,12 @@ holds_counts files faults fuses arm_faults store k holds = holds.fault_counts
 -- the reply to a restart, with its notes
 pub restarted : {D P A : Type 0} (Left : Standing D P A) (Is : Turn → Type 0) → ((line pick d : ℕ) (notes : List Note) (after : Known) → Is (Restart line pick (Restarted d) notes after))
     → (Writes : Writing) (k t : Known) (number pick rows count : ℕ) (notes slice : List Note) (written written' : Option (List ℕ)) (store : Open D P A)
-    → IsRestarted store.settings k count notes t → rows ≡ count → slice ≡ notes → Left store t → Writes written (numbered_line number (Restarted rows) ++ flat_map note_line slice) written'
+    → IsRestarted store.settings k count notes t → rows < 2 ^ 64 → AllByRecursion FitsNote notes → rows ≡ count → slice ≡ notes → Left store t → Writes written (numbered_line number (Restarted rows) ++ flat_map note_line slice) written'
     → AnswersTurns Is Writes Left k (Alone number (item.Command (asks.Restart pick)) ∷ []) written store written'
-restarted Left Is is_one Writes k t number pick rows count notes slice written written' store is same_rows same_notes left wrote =
+restarted Left Is is_one Writes k t number pick rows count notes slice written written' store is large fits same_rows same_notes left wrote =
     let P : ℕ → Type 0 = λ d. IsRestarted store.settings k d notes t in
     let Q : List Note → Type 0 = λ told. Writes written (numbered_line number (Restarted rows) ++ flat_map note_line told) written' in
-    answers_restart Left Is Writes k t number pick (Restarted rows) notes written written' store (is_one number pick rows notes t) (subst P (sym same_rows) is) left (subst Q same_notes wrote)
+    answers_restart Left Is Writes k t number pick (Restarted rows) notes written written' store (is_one number pick rows notes t) (large, fits) (subst P (sym same_rows) is) left (subst Q same_notes wrote)
 
 -- WHAT A REFUSAL LEAVES
 
@@ -108,7 +110,7 @@ module _ {D P A : Type 0} (Tells : Type 0) (Begins Left : Standing D P A) (files
   not_restarted wrote = inl (λ tells k stands.
       let at = left tells k stands in
       let P : List ℕ → Type 0 = λ text. WrotePart written text written' in
-      answers_restart Left AnyTurn WrotePart k at.0 number pick NoMem [] written written' store' tt
+      answers_restart Left AnyTurn WrotePart k at.0 number pick NoMem [] written written' store' tt (tt, tt)
       (record { leaves = at.1; told = refl }) at.2 (subst P (sym (append-nil (numbered_line number NoMem))) wrote))
 
   abbrev CauseOf : ClusterFault → Type 0

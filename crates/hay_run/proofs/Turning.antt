@@ -11,6 +11,7 @@ use Rattle.hay_disk.specs.Streams.{Wrote, WrotePart}
 use Rattle.hay_needle.specs.declared.settings.Settings.{Settings}
 use Rattle.hay_script.specs.declared.Command.{Command}
 use Rattle.hay_script.specs.declared.Command.TheVariants as asks
+use Rattle.hay_reply.specs.Fits.{FitsNote, FitsReply}
 use Rattle.hay_reply.specs.declared.Note.{Note}
 use Rattle.hay_reply.specs.declared.Reply.{Reply}
 use Rattle.hay_reply.specs.declared.Reply.TheVariants.{BadLine, Restarted}
@@ -32,7 +33,7 @@ use Rattle.hay_legal.specs.Plain.{LegalCommand}
 use Rattle.hay_legal.specs.Restarts.{LegalRestart}
 use Rattle.hay_legal.specs.Transcript.{turn_text}
 use Rattle.hay_cluster.specs.Store.{Open}
-use Rattle.hay_run.specs.Turns.{Writing, Standing, AnswersTurns, Appends, IsGoingOn}
+use Rattle.hay_run.specs.Turns.{Writing, Standing, AnswersTurns, Appends, FitsAnswers, IsGoingOn}
 use Rattle.hay_run.proofs.Counting.{NoneFalls-same}
 
 -- what holds of each error holds of these two
@@ -116,6 +117,7 @@ module _ {D P A : Type 0} (Left : Standing D P A) where
     turns = [];
     t = k;
     each = tt;
+    fits = tt;
     items = refl;
     legal = refl;
     left = left;
@@ -131,6 +133,7 @@ module _ {D P A : Type 0} (Left : Standing D P A) where
         turns = Plain number item.Bad BadLine k ∷ [];
         t = k;
         each = (is number item.Bad BadLine k, tt);
+        fits = (tt, tt);
         items = refl;
         legal = ((refl, leaves_same k), refl);
         left = left;
@@ -138,14 +141,15 @@ module _ {D P A : Type 0} (Left : Standing D P A) where
       }
 
   pub answers_plain : (Is : Turn → Type 0) → ((line : ℕ) (item : Item) (reply : Reply) (after : Known) → Is (Plain line item reply after)) → (Writes : Writing) (k t : Known) (number : ℕ) (command : Command) (reply : Reply) (written written' : Option (List ℕ)) (store : Open D P A)
-      → LegalCommand store.settings k (record { lane = 0; line = number }) command reply t → Left store t → Writes written (numbered_line number reply) written'
+      → FitsReply reply → LegalCommand store.settings k (record { lane = 0; line = number }) command reply t → Left store t → Writes written (numbered_line number reply) written'
       → AnswersTurns Is Writes Left k (Alone number (item.Command command) ∷ []) written store written'
-  answers_plain Is is Writes k t number command reply written written' store legal left wrote =
+  answers_plain Is is Writes k t number command reply written written' store fits legal left wrote =
       let P : List ℕ → Type 0 = λ text. Writes written text written' in
       record {
         turns = Plain number (item.Command command) reply t ∷ [];
         t = t;
         each = (is number (item.Command command) reply t, tt);
+        fits = (fits, tt);
         items = refl;
         legal = (legal, refl);
         left = left;
@@ -153,15 +157,16 @@ module _ {D P A : Type 0} (Left : Standing D P A) where
       }
 
   pub answers_restart : (Is : Turn → Type 0) (Writes : Writing) (k t : Known) (number pick : ℕ) (reply : Reply) (notes : List Note) (written written' : Option (List ℕ)) (store : Open D P A)
-      → Is (Restart number pick reply notes t)
+      → Is (Restart number pick reply notes t) → FitsReply reply × AllByRecursion FitsNote notes
       → LegalRestart store.settings k reply notes t → Left store t → Writes written (numbered_line number reply ++ flat_map note_line notes) written'
       → AnswersTurns Is Writes Left k (Alone number (item.Command (asks.Restart pick)) ∷ []) written store written'
-  answers_restart Is Writes k t number pick reply notes written written' store is legal left wrote =
+  answers_restart Is Writes k t number pick reply notes written written' store is fits legal left wrote =
       let P : List ℕ → Type 0 = λ text. Writes written text written' in
       record {
         turns = Restart number pick reply notes t ∷ [];
         t = t;
         each = (is, tt);
+        fits = (fits, tt);
         items = refl;
         legal = (legal, refl);
         left = left;
@@ -170,14 +175,15 @@ module _ {D P A : Type 0} (Left : Standing D P A) where
 
   pub answers_block : (Is : Turn → Type 0) → ((items : List LaneItem) (logs : List LogNote) (rows : RowNote) (after : Known) → Is (Lanes items logs rows after)) → (Writes : Writing) (k t : Known) (lines : List InBlock)
       (items : List LaneItem) (logs : List LogNote) (rows : RowNote) (written written' : Option (List ℕ)) (store : Open D P A)
-      → map line_asked items ≡ lines → LegalBlock store.settings k items logs rows t → Left store t → Writes written (turn_text (Lanes items logs rows t)) written'
+      → map line_asked items ≡ lines → AllByRecursion (λ answered. FitsReply answered.reply) items → LegalBlock store.settings k items logs rows t → Left store t → Writes written (turn_text (Lanes items logs rows t)) written'
       → AnswersTurns Is Writes Left k (Block lines ∷ []) written store written'
-  answers_block Is is Writes k t lines items logs rows written written' store asked legal left wrote =
+  answers_block Is is Writes k t lines items logs rows written written' store asked fits legal left wrote =
       let P : List ℕ → Type 0 = λ text. Writes written text written' in
       record {
         turns = Lanes items logs rows t ∷ [];
         t = t;
         each = (is items logs rows t, tt);
+        fits = (fits, tt);
         items = ap (λ (own : List InBlock). Block own ∷ []) asked;
         legal = (legal, refl);
         left = left;
@@ -197,6 +203,7 @@ answers_more Stands k asked more written written' written'' store store' same fi
       turns = first.turns ++ next.turns;
       t = next.t;
       each = each_more IsGoingOn first.turns next.turns first.each next.each;
+      fits = each_more FitsAnswers first.turns next.turns first.fits next.fits;
       items = map-append item_of_turn first.turns next.turns ∙ ap (λ (items : List Asked). items ++ map item_of_turn next.turns) first.items ∙ ap (λ (items : List Asked). asked ++ items) next.items;
       legal = legal_more store'.settings k first.turns first.t next.turns next.t (subst P (sym same) first.legal) next.legal;
       left = next.left;

@@ -1,5 +1,6 @@
 -- What a run does.
 use Rattle.std.specs.Prelude.{◌≡◌, ◌⊎◌, ◌<◌, ℕ, List, ◌∷◌, ◌++◌, [], length, Option, Some, option_map, Result, Ok, Err}
+use Rattle.std.specs.List.{AllByRecursion}
 use Rattle.hay_disk.specs.Counts.{Rose, StaysSure}
 use Rattle.hay_disk.specs.Shelf.{HeldArm, HeldDisk}
 use Rattle.hay_needle.specs.declared.settings.Settings.{Settings}
@@ -17,6 +18,7 @@ use Rattle.hay_cluster.specs.Causes.{HasFile}
 use Rattle.hay_cluster.specs.Outside.{AreSoundBelow, CountsOn, IsDamagedDisk, IsKept, IsUndamaged, IsUndamagedBelow, IsVoid}
 use Rattle.hay_run.specs.declared.stops.Stop.{Stop}
 use Rattle.hay_run.specs.declared.stops.Stop.TheVariants as stop
+use Rattle.hay_run.specs.Turns.{FitsAnswers}
 
 -- The disks that were taken are void, or have rows and replicas of these settings: they hold k.
 abbrev pub IsTaken : Settings → Outside → Known → Type 0
@@ -44,6 +46,7 @@ pub record RanTo (settings : Settings) (k : Known) (ending : Ending) (script : L
   pub text : List ℕ
   pub wrote : written ≡ Some (held ++ text)
   pub runs : RunsTo IsReplica OpensRows IsVoid settings k ending script read taken text given
+  pub fits : AllByRecursion FitsAnswers (runs.turns)
 
 -- a source that tells has still what it had
 abbrev pub IsUnread : Option (List ℕ) → Option (List ℕ) → Type 0

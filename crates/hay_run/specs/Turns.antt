@@ -8,11 +8,12 @@ use Rattle.hay_script.specs.declared.Command.TheVariants as command
 use Rattle.hay_reply.specs.declared.Note.{Note}
 use Rattle.hay_reply.specs.declared.Note.TheVariants.{OpenFailed, OpenDamaged}
 use Rattle.hay_reply.specs.declared.Reply.TheVariants.{NoMem}
+use Rattle.hay_reply.specs.Fits.{FitsNote, FitsReply}
 use Rattle.hay_reply.specs.Replies.{note_line}
 use Rattle.hay_legal.specs.declared.known.Known.{Known}
 use Rattle.hay_legal.specs.declared.turn.Item.TheVariants as item
 use Rattle.hay_legal.specs.declared.turn.Turn.{Turn}
-use Rattle.hay_legal.specs.declared.turn.Turn.TheVariants.{Restart}
+use Rattle.hay_legal.specs.declared.turn.Turn.TheVariants.{Plain, Lanes, Restart}
 use Rattle.hay_legal.specs.Items.{Asked, item_of_turn}
 use Rattle.hay_legal.specs.Items.Asked.{Alone}
 use Rattle.hay_legal.specs.Known.{CameUp, FaultsRose, disk_count, fault_count}
@@ -42,11 +43,18 @@ IsGoingOn turn = (line pick : ℕ) (notes : List Note) (after : Known) → turn 
 abbrev pub AnyTurn : Turn → Type 0
 AnyTurn turn = Unit {0}
 
+-- Each reply of a turn, and each note behind a restart, has numbers of their types.
+abbrev pub FitsAnswers : Turn → Type 0
+FitsAnswers (Plain line item reply after) = FitsReply reply
+FitsAnswers (Lanes items logs rows after) = AllByRecursion (λ item. FitsReply item.reply) items
+FitsAnswers (Restart line pick reply notes after) = FitsReply reply × AllByRecursion FitsNote notes
+
 -- Turns of this kind, legal from k, answer these items, and the store is left at what the last one left. Their text was written.
 pub record AnswersTurns {D P A : Type 0} (Is : Turn → Type 0) (Writes : Writing) (Left : Standing D P A) (k : Known) (asked : List Asked) (written : Option (List ℕ)) (store : Open D P A) (written' : Option (List ℕ)) : Type 0 where
   pub turns : List Turn
   pub t : Known
   pub each : AllByRecursion Is turns
+  pub fits : AllByRecursion FitsAnswers turns
   pub items : map item_of_turn turns ≡ asked
   pub legal : Legal store.settings k turns t
   pub left : Left store t

@@ -8,7 +8,7 @@ use Rattle.hay_run.specs.declared.stops.Stop.TheVariants as stop
 use Rattle.hay_run.specs.Blocks.{answered_text}
 use Rattle.hay_run.specs.Causing.{tally_of}
 use Rattle.hay_run.specs.Turns.{AnswersPart}
-use Rattle.hay_run.proofs.Answering.{Dealt, answered, block_caused, block_part, block_stops, block_whole, dealt, few_jobs, items_are, items_differ, low_lines, served_jobs, some_jobs, text_told, wanted_stops}
+use Rattle.hay_run.proofs.Answering.{Dealt, answered, block_caused, block_part, block_stops, block_whole, dealt, few_jobs, items_are, items_differ, items_fit, low_lines, served_jobs, some_jobs, text_told, wanted_stops}
 use Rattle.hay_run.proofs.Blocked.{err_here, notes_of_told, same_block, wanted_block}
 use Rattle.hay_run.proofs.Counting.{NoneFalls-same, StaySure-lanes}
 use Rattle.hay_run.proofs.lanes.answer_block.Goals as goal
@@ -73,7 +73,7 @@ returns-in-Ok-outcome-clause-answers g c =
     let told = c.in-Ok-outcome.answers.notes in
     let same = rw c.in-Ok-outcome.is at c.run_block-cluster.ensures.replies in
     let a = answered c.args.block.lanes lines jobs places d replies same in
-    block_whole D.files D.Tells g.D.Piece.Piece.Tells D.fault_count D.fuse_count A.fault_count lines a.0 told (K.written c.args.sink.now) (K.written c.write_answers-written.new.sink) c.args.cluster c.run_block-cluster.result.0 a.1.asked
+    block_whole D.files D.Tells g.D.Piece.Piece.Tells D.fault_count D.fuse_count A.fault_count lines a.0 told (K.written c.args.sink.now) (K.written c.write_answers-written.new.sink) c.args.cluster c.run_block-cluster.result.0 a.1.asked (items_fit c.args.block.lanes lines jobs places d replies same a.0 a.1 (rw c.in-Ok-outcome.is at c.run_block-cluster.ensures.fits))
     (λ tells k stands. (rw c.in-Ok-outcome.is at (c.run_block-cluster.ensures.legal tells)) k stands a.0 (items_are c.args.block.lanes lines jobs places d replies same a.0 a.1) (items_differ c.args.block.lanes lines jobs places d replies same a.0 a.1)) c.write_answers-written.result
     (λ notes are. c.write_answers-written.ensures.wrote lines a.0 notes d.places_are a.1 are)
 
@@ -93,7 +93,7 @@ returns-in-Ok-outcome-clause-part g c =
     let same = rw c.in-Ok-outcome.is at c.run_block-cluster.ensures.replies in
     let a = answered c.args.block.lanes lines jobs places d replies same in
     λ is. err_here (AnswersPart D.Tells (Stands D.files g.D.Piece.Piece.Tells D.fault_count D.fuse_count A.fault_count) (Holds D.files D.fault_count D.fuse_count A.fault_count) (Block lines ∷ []) c.args.cluster (K.written c.args.sink.now) c.run_block-cluster.result.0 (K.written c.write_answers-written.new.sink)) c.write_answers-written.result stop.Output is
-    (block_part D.files D.Tells g.D.Piece.Piece.Tells D.fault_count D.fuse_count A.fault_count lines a.0 told (K.written c.args.sink.now) (K.written c.write_answers-written.new.sink) c.args.cluster c.run_block-cluster.result.0 a.1.asked
+    (block_part D.files D.Tells g.D.Piece.Piece.Tells D.fault_count D.fuse_count A.fault_count lines a.0 told (K.written c.args.sink.now) (K.written c.write_answers-written.new.sink) c.args.cluster c.run_block-cluster.result.0 a.1.asked (items_fit c.args.block.lanes lines jobs places d replies same a.0 a.1 (rw c.in-Ok-outcome.is at c.run_block-cluster.ensures.fits))
     (λ tells k stands. (rw c.in-Ok-outcome.is at (c.run_block-cluster.ensures.legal tells)) k stands a.0 (items_are c.args.block.lanes lines jobs places d replies same a.0 a.1) (items_differ c.args.block.lanes lines jobs places d replies same a.0 a.1)) c.write_answers-written.result
     (λ notes are. c.write_answers-written.ensures.part lines a.0 notes d.places_are a.1 are))
 
@@ -113,7 +113,7 @@ returns-in-Ok-outcome-clause-memory g c =
     let same = rw c.in-Ok-outcome.is at c.run_block-cluster.ensures.replies in
     let a = answered c.args.block.lanes lines jobs places d replies same in
     λ is. inl (err_here (AnswersPart D.Tells (Stands D.files g.D.Piece.Piece.Tells D.fault_count D.fuse_count A.fault_count) (Holds D.files D.fault_count D.fuse_count A.fault_count) (Block lines ∷ []) c.args.cluster (K.written c.args.sink.now) c.run_block-cluster.result.0 (K.written c.write_answers-written.new.sink)) c.write_answers-written.result stop.NoMemory is
-    (block_part D.files D.Tells g.D.Piece.Piece.Tells D.fault_count D.fuse_count A.fault_count lines a.0 told (K.written c.args.sink.now) (K.written c.write_answers-written.new.sink) c.args.cluster c.run_block-cluster.result.0 a.1.asked
+    (block_part D.files D.Tells g.D.Piece.Piece.Tells D.fault_count D.fuse_count A.fault_count lines a.0 told (K.written c.args.sink.now) (K.written c.write_answers-written.new.sink) c.args.cluster c.run_block-cluster.result.0 a.1.asked (items_fit c.args.block.lanes lines jobs places d replies same a.0 a.1 (rw c.in-Ok-outcome.is at c.run_block-cluster.ensures.fits))
     (λ tells k stands. (rw c.in-Ok-outcome.is at (c.run_block-cluster.ensures.legal tells)) k stands a.0 (items_are c.args.block.lanes lines jobs places d replies same a.0 a.1) (items_differ c.args.block.lanes lines jobs places d replies same a.0 a.1)) c.write_answers-written.result
     (λ notes are. c.write_answers-written.ensures.part lines a.0 notes d.places_are a.1 are)))
 

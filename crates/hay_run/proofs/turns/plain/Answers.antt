@@ -21,7 +21,7 @@ returns-clause-answers g c =
     let answered = c.answer-reply.ensures.legal tells k stands in
     answers_plain (Stands D.files g.D.Piece.Piece.Tells D.fault_count D.fuse_count A.fault_count) IsGoingOn plain_goes_on Wrote k answered.known c.args.number c.args.command.now c.answer-reply.result
     (g.K.Sink.written c.args.sink.now) (g.K.Sink.written c.write_reply.new.sink) c.answer-reply.new.self
-    answered.legal answered.stands wrote)
+    c.answer-reply.ensures.fits answered.legal answered.stands wrote)
     c.write_reply.ensures.wrote
 
 pub returns-clause-part : goal.returns-clause-part
@@ -32,7 +32,7 @@ returns-clause-part g c =
     let answered = c.answer-reply.ensures.legal tells k stands in
     answers_plain (Holds D.files D.fault_count D.fuse_count A.fault_count) AnyTurn (λ line item reply after. tt) WrotePart k answered.known c.args.number c.args.command.now c.answer-reply.result
     (g.K.Sink.written c.args.sink.now) (g.K.Sink.written c.write_reply.new.sink) c.answer-reply.new.self
-    answered.legal (stands_holds D.files g.D.Piece.Piece.Tells D.fault_count D.fuse_count A.fault_count c.answer-reply.new.self answered.known answered.stands) wrote)
+    c.answer-reply.ensures.fits answered.legal (stands_holds D.files g.D.Piece.Piece.Tells D.fault_count D.fuse_count A.fault_count c.answer-reply.new.self answered.known answered.stands) wrote)
     c.write_reply.ensures.part
 
 pub returns-clause-caused : goal.returns-clause-caused

@@ -27,22 +27,24 @@ pub returns-in-Ok-clause-answers : goal.returns-in-Ok-clause-answers
 returns-in-Ok-clause-answers g c =
     let D = g.D.Disk in
     let A = g.A.Arm in
+    let large : c.rows.result < 2 ^ 64 = omega arith in
     on_ok_weaker c.write_restarted.result (λ wrote tells k stands.
     let done = c.in-Ok.ensures.reopened tells k stands in
     restarted (Stands D.files g.D.Piece.Piece.Tells D.fault_count D.fuse_count A.fault_count) IsGoingOn restarted_goes_on Wrote k done.0 c.args.number c.args.pick c.rows.result _ c.in-Ok.notes c.as_slice.result.now
     (g.K.Sink.written c.args.sink.now) (g.K.Sink.written c.write_restarted.new.sink) c.restart.new.self
-    done.1 c.rows.ensures.count c.as_slice.ensures done.2 wrote)
+    done.1 large c.in-Ok.ensures.fits c.rows.ensures.count c.as_slice.ensures done.2 wrote)
     c.write_restarted.ensures.wrote
 
 pub returns-in-Ok-clause-broke : goal.returns-in-Ok-clause-broke
 returns-in-Ok-clause-broke g c = λ stopped.
     let D = g.D.Disk in
     let A = g.A.Arm in
+    let large : c.rows.result < 2 ^ 64 = omega arith in
     inl (λ tells k stands.
     let done = c.in-Ok.ensures.reopened tells k stands in
     restarted (Holds D.files D.fault_count D.fuse_count A.fault_count) AnyTurn (λ line pick d notes after. tt) WrotePart k done.0 c.args.number c.args.pick c.rows.result _ c.in-Ok.notes c.as_slice.result.now
     (g.K.Sink.written c.args.sink.now) (g.K.Sink.written c.write_restarted.new.sink) c.restart.new.self
-    done.1 c.rows.ensures.count c.as_slice.ensures (stands_holds D.files g.D.Piece.Piece.Tells D.fault_count D.fuse_count A.fault_count c.restart.new.self done.0 done.2)
+    done.1 large c.in-Ok.ensures.fits c.rows.ensures.count c.as_slice.ensures (stands_holds D.files g.D.Piece.Piece.Tells D.fault_count D.fuse_count A.fault_count c.restart.new.self done.0 done.2)
     (on_either c.write_restarted.result stop.Output stop.NoMemory c.write_restarted.ensures.part stopped))
 
 pub returns-in-Err-clause-broke : goal.returns-in-Err-clause-broke
