@@ -11,6 +11,7 @@ ghost use Rattle.hay_turn.specs.Seats.{SeatState, seat_state, AreNew, IsSeat, Ho
 ghost use Rattle.hay_turn.specs.declared.rule.Slot.TheVariants.{Empty};
 ghost use Rattle.hay_turn.specs.declared.rule.Stage.TheVariants.{Idle, Waiting, Called, Holding, Given};
 
+use crate::door::Door;
 use crate::kept::Kept;
 use crate::plays::{Draw, Give, Learn, Look, Merge, Note, ReadTurn, Serve, SplitFirst, Take, Tell};
 use crate::rule::{About, InTurn, SeatView, Slot};
@@ -39,6 +40,7 @@ type Slots<T> = Table<
 #[derive(Drop)]
 pub struct Turn<T: Kept> {
     table: Slots<T>,
+    door: Door,
 }
 
 impl<T: Kept> Model for Turn<T> {
@@ -111,7 +113,10 @@ impl<T: Kept> Turn<T> {
         match Table::new(alloc, &[0, 0], slots, &about) {
             Ok((table, mut maker)) => {
                 table.shared.load::<Learn<T>>(&mut maker, 0);
-                let turn = Turn { table };
+                let turn = Turn {
+                    table,
+                    door: Door::new(),
+                };
                 let made_seats = turn.make_seats(room, maker, seats);
                 Ok((turn, made_seats))
             }
@@ -260,6 +265,7 @@ impl<T: Kept> Turn<T> {
         requires idle { seat.old.holds ≡ false }
         ensures { Holds T.by T.stands seat.old seat.new result }
     {
+        self.door.enter(rt);
         let token = &mut *seat.token;
         let ticket = self.draw(token);
         self.wait(rt, token, ticket);
@@ -278,6 +284,7 @@ impl<T: Kept> Turn<T> {
         self.tell(token, made);
         self.give(token, value);
         self.serve(token);
+        self.door.leave();
     }
 
     /// What the other seat has seen, this one then has seen too. Neither holds a turn.
@@ -321,7 +328,7 @@ impl<T: Kept> Turn<T> {
             let before = seat.into_token();
             token = self.join(before, token);
         }
-        let Turn { table } = self;
+        let Turn { table, door: _ } = self;
         let mut closed = table.close_with(token);
         let Slot::Value(value) = closed.take(0) else {
             unreachable!()
