@@ -310,6 +310,6 @@ pub(crate) fn fits(reply: &Reply)
         | Reply::Drained { .. }
         | Reply::Undrained { .. }
         | Reply::FusedDir { .. } => fit_short(reply),
-        Reply::ReadOnlyDir | Reply::Nowhere | Reply::BadLine | Reply::Unbuilt | Reply::NoMem => {}
+        Reply::ReadOnlyDir | Reply::Nowhere | Reply::BadLine | Reply::NoMem => {}
     }
 }

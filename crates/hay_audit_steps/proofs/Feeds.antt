@@ -145,7 +145,6 @@ fine_reply (reply.FusedDir n) h = one (codes "fused dir") n refl (wide n h)
 fine_reply reply.Nowhere h = refl
 fine_reply (reply.Restarted d) h = one (codes "restarted") d refl h
 fine_reply reply.BadLine h = refl
-fine_reply reply.Unbuilt h = refl
 fine_reply reply.NoMem h = refl
 
 -- ONE TEXT, ONE READING

@@ -58,7 +58,6 @@ of_reply (reply.FusedDir n) = one_other
 of_reply reply.Nowhere = one_other
 of_reply (reply.Restarted d) = nothing
 of_reply reply.BadLine = one_other
-of_reply reply.Unbuilt = one_other
 of_reply reply.NoMem = one_other
 
 -- What a note adds: one of a change that had failed is another, whether the change was kept or lost.

@@ -76,7 +76,7 @@ fn of_reply(reply: &Reply) -> Summary
         Reply::Stepped { .. } | Reply::Busy { .. } | Reply::Idle { .. } => ONE_OTHER,
         Reply::Worn { .. } | Reply::Drained { .. } | Reply::Undrained { .. } => ONE_OTHER,
         Reply::Fused { .. } | Reply::FusedDir { .. } | Reply::Nowhere => ONE_OTHER,
-        Reply::BadLine | Reply::Unbuilt | Reply::NoMem => ONE_OTHER,
+        Reply::BadLine | Reply::NoMem => ONE_OTHER,
     }
 }
 

@@ -25,7 +25,7 @@ use Rattle.hay_reply.specs.declared.LineVolume.{LineVolume}
 use Rattle.hay_reply.specs.declared.Note.{Note}
 use Rattle.hay_reply.specs.declared.Note.TheVariants.{Kept, Lost, KeptDir, LostDir, Log, Rows, OpenShelf, OpenFailed, OpenDamaged}
 use Rattle.hay_reply.specs.declared.Reply.{Reply}
-use Rattle.hay_reply.specs.declared.Reply.TheVariants.{Stored, Deleted, Photo, Gone, Absent, WrongCookie, Unknown, Moved, Url, Full, ReadOnly, ReadOnlyDir, Failed, FailedDir, Unreadable, Damaged, Flushed, Begun, Stepped, Compacted, Busy, Idle, Worn, Drained, Undrained, Fused, FusedDir, Nowhere, Restarted, BadLine, Unbuilt, NoMem}
+use Rattle.hay_reply.specs.declared.Reply.TheVariants.{Stored, Deleted, Photo, Gone, Absent, WrongCookie, Unknown, Moved, Url, Full, ReadOnly, ReadOnlyDir, Failed, FailedDir, Unreadable, Damaged, Flushed, Begun, Stepped, Compacted, Busy, Idle, Worn, Drained, Undrained, Fused, FusedDir, Nowhere, Restarted, BadLine, NoMem}
 use Rattle.hay_reply.specs.Replies.{field, place, sight, reply_text, note_text, refused_text, closed_text, cause_text, passed_text, row_text, data_text}
 use Rattle.hay_reply.specs.Fits.{FitsReply, FitsNote, FitsRefused, FitsClosed, FitsCause, FitsPassed, FitsRow, IsLarge}
 use Rattle.hay_reply.specs.Reading.{is_mark, parts_of, words_of, large, closed_of, two_of, of_replica, reply_of, note_of, refused_of, refused_by, passed_of, passed_by, row_of, row_by, photo_of, run_by, readonly_by, changed_of}
@@ -335,7 +335,6 @@ back_reply (FusedDir n) h = ap reply_of (three_words 32 (codes "fused") (codes "
 back_reply Nowhere h = refl
 back_reply (Restarted d) h = ap reply_of (two_words 32 (codes "restarted") (decimal d) refl (spaceless d h)) ∙ rw (large_back d h) refl
 back_reply BadLine h = refl
-back_reply Unbuilt h = refl
 back_reply NoMem h = refl
 
 -- NOTES

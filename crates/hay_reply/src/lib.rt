@@ -189,8 +189,6 @@ pub enum Reply {
         rows: u64,
     },
     BadLine,
-    /// The command is of the grammar, and not built yet.
-    Unbuilt,
     NoMem,
 }
 

@@ -234,8 +234,6 @@ fn read_alone(head: &[u8]) -> Option<Reply>
 {
     if is(head, "nowhere") {
         Some(Reply::Nowhere)
-    } else if is(head, "unbuilt") {
-        Some(Reply::Unbuilt)
     } else if is(head, "nomem") {
         Some(Reply::NoMem)
     } else {

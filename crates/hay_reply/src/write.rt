@@ -196,7 +196,6 @@ fn write_reply(alloc: Global, reply: &Reply, out: &mut String) -> Result<(), NoM
         Reply::Nowhere => write!(out, "nowhere")?,
         Reply::Restarted { rows } => write!(out, "restarted {rows}")?,
         Reply::BadLine => write!(out, "bad line")?,
-        Reply::Unbuilt => write!(out, "unbuilt")?,
         Reply::NoMem => write!(out, "nomem")?,
     }
     Ok(())

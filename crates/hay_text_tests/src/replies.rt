@@ -150,7 +150,6 @@ fn every_reply(rt: HostRuntime) {
         "restarted 4",
         "nowhere",
         "bad line",
-        "unbuilt",
         "nomem",
     ] {
         assert_eq!(rt; is_reply(alloc, text), Ok(true), "{text}");
@@ -165,6 +164,7 @@ fn no_replies(rt: HostRuntime) {
         " nowhere",
         "nowhere ",
         "Nomem",
+        "unbuilt",
         "bad",
         "bad lines",
         "unknown 01",
