@@ -1,6 +1,6 @@
--- A legal block keeps what a store of these settings is, and its photos in their homes.
-use Rattle.std.specs.Prelude.{slice_get, slice_index_or, unwrap_or, ◌≡◌, ℕ, suc, ◌+◌, ◌-◌, ◌<◌, ◌≤◌, ◌⊎◌, List, [], ◌∷◌, ◌++◌, length, map, drop, take, Contains, Option, Some, None}
-use Rattle.std.specs.List.{AllByRecursion as Each, AllZip, enumerate_from}
+-- A legal block keeps its photos in their homes, and what stands at a pair that no line of it changed.
+use Rattle.std.specs.Prelude.{slice_get, unwrap_or, ◌≡◌, ℕ, suc, ◌+◌, ◌-◌, ◌<◌, ◌≤◌, ◌⊎◌, List, [], ◌∷◌, ◌++◌, length, map, drop, take, Contains, Option, Some, None}
+use Rattle.std.specs.List.{AllByRecursion as Each, enumerate_from}
 use Rattle.std.proofs.Common.{refl, sym, ap, subst, inl, inr, ◌∙◌, arith}
 use Rattle.std.proofs.lemmas.Bool.{cases_Bool, cases_lt, cond-false}
 use Rattle.std.proofs.lemmas.List.{get_or_past, take-append-drop}
@@ -14,17 +14,14 @@ use Rattle.hay_needle.specs.declared.settings.Settings.{Settings}
 use Rattle.hay_needle.specs.Tables.{Table, look_after, outcome_at, pair_eq}
 use Rattle.hay_needle.proofs.TableLaws.{look_append, pair_same}
 use Rattle.hay_script.specs.declared.Command.TheVariants as command
-use Rattle.hay_reply.specs.declared.LineVolume.{LineVolume}
 use Rattle.hay_reply.specs.declared.Reply.{Reply}
 use Rattle.hay_reply.specs.declared.Reply.TheVariants as reply
 use Rattle.hay_core.specs.declared.entry.Entry.{Entry}
 use Rattle.hay_core.specs.declared.entry.Logged.{Logged}
 use Rattle.hay_core.specs.Entries.{entry_row, logged_row}
-use Rattle.hay_legal.specs.declared.known.DirKnown.{DirKnown}
 use Rattle.hay_legal.specs.declared.known.HomeRow.{HomeRow}
 use Rattle.hay_legal.specs.declared.known.Known.{Known}
 use Rattle.hay_legal.specs.declared.known.Pending.{Pending}
-use Rattle.hay_legal.specs.declared.known.PendingRow.{PendingRow}
 use Rattle.hay_legal.specs.declared.known.VolumeKnown.{VolumeKnown}
 use Rattle.hay_legal.specs.declared.turn.Item.{Item}
 use Rattle.hay_legal.specs.declared.turn.Item.TheVariants as asks
@@ -33,44 +30,15 @@ use Rattle.hay_legal.specs.declared.turn.LogNote.{LogNote}
 use Rattle.hay_legal.specs.declared.turn.RowNote.{RowNote}
 use Rattle.hay_legal.specs.declared.turn.Turn.{Turn}
 use Rattle.hay_legal.specs.declared.turn.Turn.TheVariants.{Plain, Lanes, Restart}
-use Rattle.hay_legal.specs.Known.{Leaves, empty_volume, home_in, home_of, replica_at, volume_at}
-use Rattle.hay_legal.specs.Blocks.{EnteredAt, FreezeIsLegal, Freezes, HomeAt, IsEntered, IsMade, IsNewRow, LegalBlock, LineIsLegal, LogIsLegal, ReplicaIsLegal, VolumeIsLegal, acknowledged, entry_of_item, is_failed, new_entries, new_rows, pending_behind, tag_of}
-use Rattle.hay_legal.specs.Legal.{Legal, LegalTurn, known_after}
-use Rattle.hay_legal.specs.Subject.{IsLast, IsOf, IsTidy, Spares, pair_of}
+use Rattle.hay_legal.specs.Known.{empty_volume, home_in, home_of, replica_at, volume_at}
+use Rattle.hay_legal.specs.Blocks.{EnteredAt, FreezeIsLegal, Freezes, HomeAt, IsEntered, IsMade, LegalBlock, LineIsLegal, LogIsLegal, ReplicaIsLegal, VolumeIsLegal, acknowledged, entry_of_item, is_failed, new_entries, new_rows, pending_behind, tag_of}
+use Rattle.hay_legal.specs.Legal.{LegalTurn, known_after}
+use Rattle.hay_legal.specs.Subject.{IsLast, IsOf, IsTidy, Spares, TidyStays, pair_of}
 use Rattle.hay_legal.proofs.Subject.Shown.{at-now, last_look, map-append_rows, outcome_of, row_pair, spared_look}
-use Rattle.hay_legal.proofs.Subject.Effects.{each_append, each_try, home_stays}
-use Rattle.hay_legal.proofs.Subject.Entries.{each_in_range, home_bounded, plain_is_of, restart_is_of}
+use Rattle.hay_legal.proofs.Subject.Effects.{home_stays}
+use Rattle.hay_legal.proofs.Subject.Entries.{block_is_of, each_in_range, home_bounded, turn_is_of}
 use Rattle.hay_legal.proofs.Subject.Tidy.{plain_tidy, restart_is_tidy}
 use Rattle.hay_legal.proofs.Subject.Standing.{Standing, at_replica}
-
--- each new row is for a volume of the store
-rows_below : (settings : Settings) (k : Known) (items : List LaneItem) (t : Known) (named : List LineVolume) (rows : List HomeRow)
-    → AllZip (IsNewRow settings k items t) named rows → Each (λ row. row.volume < settings.volumes) rows
-rows_below settings k items t [] [] zip = tt
-rows_below settings k items t (name ∷ named) (row ∷ rows) zip =
-    (each_try settings row.pair row.volume ((zip.0).gets).tried, rows_below settings k items t named rows zip.1)
-rows_below settings k items t [] (row ∷ rows) zip = absurd zip
-rows_below settings k items t (name ∷ named) [] zip = absurd zip
-
--- Behind a legal block the store has its volumes and replicas, and each home is one of its volumes.
-pub block_is_of : (settings : Settings) (k : Known) (items : List LaneItem) (logs : List LogNote) (rows : RowNote) (t : Known)
-    → IsOf settings k → LegalBlock settings k items logs rows t → IsOf settings t
-block_is_of settings k items logs rows t is b = record {
-  volumes = b.many ∙ is.volumes;
-  replicas = λ v below.
-      (each_in_range (VolumeIsLegal settings k items rows t) 0 settings.volumes v b.volumes (omega arith) (omega (arith, below))).many ∙ is.replicas v below;
-  homes = subst (λ (rows : List HomeRow). Each (λ row. row.volume < settings.volumes) rows)
-      (ap (λ (old : List HomeRow). old ++ new_rows k t) (sym (b.homes).kept) ∙ take-append-drop (length k.directory.rows) t.directory.rows)
-      (each_append (λ row. row.volume < settings.volumes) k.directory.rows (new_rows k t) is.homes
-      (rows_below settings k items t rows.rows (new_rows k t) (b.homes).each));
-  pending = λ pending left. elim b.directory [
-    | inl same ↦ is.pending pending (sym same.1 ∙ left)
-    | inr froze ↦
-        subst (λ (row : HomeRow). row.volume < settings.volumes)
-        (ap (λ (p : PendingRow). p.row) (same_Some _ _ (sym (froze.pending).2 ∙ left)))
-        (each_try settings froze.pair froze.volume (froze.gets).tried)
-  ];
-}
 
 -- HOMES
 
@@ -294,18 +262,12 @@ block_changed settings k items logs rows t item change v p is b among asked said
 
 -- OVER ALL TURNS
 
-pub turn_is_of : (settings : Settings) (k : Known) (turn : Turn) → IsOf settings k → LegalTurn settings k turn → IsOf settings (known_after turn)
-turn_is_of settings k (Plain line i r after) is legal = plain_is_of settings k line i r after is legal
-turn_is_of settings k (Lanes items logs rows after) is block = block_is_of settings k items logs rows after is block
-turn_is_of settings k (Restart line pick r notes after) is legal = restart_is_of settings k r notes after is legal
-
 pub turn_is_tidy : (settings : Settings) (k : Known) (turn : Turn) → IsOf settings k → LegalTurn settings k turn → IsTidy settings k → IsTidy settings (known_after turn)
 turn_is_tidy settings k (Plain line i r after) is legal tidy = plain_tidy settings k line i r after legal tidy
 turn_is_tidy settings k (Lanes items logs rows after) is block tidy = block_is_tidy settings k items logs rows after is block tidy
 turn_is_tidy settings k (Restart line pick r notes after) is legal tidy = restart_is_tidy settings k r notes after is legal tidy
 
--- A store keeps its volumes and its homes over turns of every kind.
-pub turns_keep : (settings : Settings) (k t : Known) (turns : List Turn) → IsOf settings k → IsTidy settings k → Legal settings k turns t → IsOf settings t × IsTidy settings t
-turns_keep settings k t [] is tidy legal = (subst (λ (x : Known). IsOf settings x) (sym legal) is, subst (λ (x : Known). IsTidy settings x) (sym legal) tidy)
-turns_keep settings k t (turn ∷ turns) is tidy legal =
-    turns_keep settings (known_after turn) t turns (turn_is_of settings k turn is legal.0) (turn_is_tidy settings k turn is legal.0 tidy) legal.1
+pub tidy_stays : TidyStays
+tidy_stays settings k t [] is tidy legal = subst (λ (x : Known). IsTidy settings x) (sym legal) tidy
+tidy_stays settings k t (turn ∷ turns) is tidy legal =
+    tidy_stays settings (known_after turn) t turns (turn_is_of settings k turn is legal.0) (turn_is_tidy settings k turn is legal.0 tidy) legal.1

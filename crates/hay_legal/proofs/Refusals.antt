@@ -428,7 +428,7 @@ begun_runs settings k v m g t (Some j) e is h =
     (j, e, (made, ap (λ (r : ReplicaKnown). r.run) found))
 
 pub begun_is_not_idle : BegunIsNotIdle
-begun_is_not_idle settings k t earlier between later line line' v m g asked after after' is none legal calm leaves =
+begun_is_not_idle settings k t earlier between later line line' v m g asked after after' is legal calm leaves =
     let first : Turn = Plain line (item.Command (command.Begin v m)) (reply.Begun v m g) after in
     let rest : List Turn = between ++ Plain line' asked (reply.Idle v m) after' ∷ later in
     let parts = legal_split settings k t earlier (first ∷ rest) legal in
@@ -436,7 +436,7 @@ begun_is_not_idle settings k t earlier between later line line' v m g asked afte
     let before = counts_rise settings k b earlier parts.0 in
     let here = turn_counts settings b first parts.1.0 in
     let later_counts = counts_rise settings after t rest parts.1.1 in
-    let runs = begun_runs settings b v m g after (replica_on settings v m) refl (is_of_behind settings k b earlier is none parts.0) parts.1.0 in
+    let runs = begun_runs settings b v m g after (replica_on settings v m) refl (is_of_behind settings k b earlier is parts.0) parts.1.0 in
     let calm_after : NothingFailed after t =
     nothing_failed_within b after t t here later_counts (none_falls t.faults, none_falls t.arms)
     (nothing_failed_within k b t t before (rise_trans b after t here later_counts) (none_falls t.faults, none_falls t.arms) calm) in

@@ -12,4 +12,5 @@ pub use Rattle.hay_legal.proofs.Subject.Entries.{stored_is_the_last_entry, delet
 pub use Rattle.hay_legal.proofs.Subject.Standing.{stored_is_read, deleted_is_gone}
 pub use Rattle.hay_legal.proofs.Subject.Reopened.{stored_is_read_behind_restarts, failed_put_is_pending, kept_is_read, kept_is_gone}
 pub use Rattle.hay_legal.proofs.Subject.Waiting.{failed_put_that_was_kept_is_read}
-pub use Rattle.hay_legal.proofs.Subject.Tidy.{tidy_stays, is_tidy-fresh, deleted_is_gone_behind_restarts}
+pub use Rattle.hay_legal.proofs.Subject.Tidy.{is_tidy-fresh, deleted_is_gone_behind_restarts}
+pub use Rattle.hay_legal.proofs.BlocksKeep.{tidy_stays}

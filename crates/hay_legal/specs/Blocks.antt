@@ -18,7 +18,7 @@ use Rattle.hay_reply.specs.declared.Cause.TheVariants.{Arm, Disk, Damage}
 use Rattle.hay_reply.specs.declared.Passed.{Passed}
 use Rattle.hay_reply.specs.declared.LineVolume.{LineVolume}
 use Rattle.hay_reply.specs.declared.Reply.{Reply}
-use Rattle.hay_reply.specs.declared.Reply.TheVariants.{Stored, Deleted, Photo, Gone, Absent, WrongCookie, Unknown, Moved, Url, Full, ReadOnly, ReadOnlyDir, Failed, FailedDir, Unreadable, Damaged, Flushed, Begun, Stepped, Compacted, Busy, Idle, Worn, Drained, Undrained, Fused, FusedDir, Nowhere, Restarted, BadLine, Unbuilt, NoMem}
+use Rattle.hay_reply.specs.declared.Reply.TheVariants.{Stored, Deleted, Photo, Gone, Absent, WrongCookie, Unknown, Moved, Url, Full, ReadOnly, ReadOnlyDir, Failed, FailedDir, Unreadable, Damaged, Flushed, Begun, Stepped, Compacted, Busy, Idle, Worn, Drained, Undrained, Fused, FusedDir, Nowhere, Restarted, BadLine, NoMem}
 use Rattle.hay_core.specs.declared.entry.Entry.{Entry}
 use Rattle.hay_core.specs.declared.entry.Entry.TheVariants as entry
 use Rattle.hay_core.specs.declared.entry.CoreTag.{CoreTag}
@@ -95,7 +95,6 @@ told (Undrained m) = NotInBlocks
 told (Fused v m n) = NotInBlocks
 told (FusedDir n) = NotInBlocks
 told (Restarted d) = NotInBlocks
-told Unbuilt = NotInBlocks
 
 -- WHAT IS NEW
 
@@ -949,7 +948,6 @@ generation_print v m item = prints item.reply
     prints Nowhere = []
     prints (Restarted d) = []
     prints BadLine = []
-    prints Unbuilt = []
     prints NoMem = []
 
 abbrev pub is_failed : Reply → Bool
@@ -1180,7 +1178,6 @@ refusals_of (FusedDir n) = []
 refusals_of Nowhere = []
 refusals_of (Restarted d) = []
 refusals_of BadLine = []
-refusals_of Unbuilt = []
 refusals_of NoMem = []
 
 -- a reply tells of the volume what depends on its front, and does not print it: want of room, or the records of a replica
@@ -1215,7 +1212,6 @@ tells_unprinted v (FusedDir n) = false
 tells_unprinted v Nowhere = false
 tells_unprinted v (Restarted d) = false
 tells_unprinted v BadLine = false
-tells_unprinted v Unbuilt = false
 tells_unprinted v NoMem = false
 
 -- what a line tells of the fronts of the volume: the one at which it met the volume, by its number, or the one that it prints

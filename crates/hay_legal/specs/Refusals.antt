@@ -5,7 +5,7 @@ use Rattle.hay_needle.specs.declared.settings.Settings.{Settings}
 use Rattle.hay_script.specs.declared.Command.TheVariants as command
 use Rattle.hay_reply.specs.declared.ClosedBy.{ClosedBy}
 use Rattle.hay_reply.specs.declared.Reply.{Reply}
-use Rattle.hay_reply.specs.declared.Reply.TheVariants.{Failed, FailedDir, NoMem, Restarted, Drained, Undrained, ReadOnly, ReadOnlyDir, Begun, Compacted, Idle, Stored, Deleted, Photo, Gone, Absent, WrongCookie, Unknown, Moved, Url, Full, Unreadable, Damaged, Flushed, Stepped, Busy, Worn, Fused, FusedDir, Nowhere, BadLine, Unbuilt}
+use Rattle.hay_reply.specs.declared.Reply.TheVariants.{Failed, FailedDir, NoMem, Restarted, Drained, Undrained, ReadOnly, ReadOnlyDir, Begun, Compacted, Idle, Stored, Deleted, Photo, Gone, Absent, WrongCookie, Unknown, Moved, Url, Full, Unreadable, Damaged, Flushed, Stepped, Busy, Worn, Fused, FusedDir, Nowhere, BadLine}
 use Rattle.hay_legal.specs.declared.known.HomeRow.{HomeRow}
 use Rattle.hay_legal.specs.declared.known.Known.{Known}
 use Rattle.hay_legal.specs.declared.turn.Item.{Item}
@@ -17,7 +17,7 @@ use Rattle.hay_legal.specs.Legal.{Legal}
 use Rattle.hay_legal.specs.Stands.{Contents, Found, Outside}
 use Rattle.hay_legal.specs.Statuses.{Ending, HoldsNew, IsNew, RunsTo, status_of}
 use Rattle.hay_legal.specs.Statuses.Ending.{OutputFault, InputFault, NoMemory, TooLong}
-use Rattle.hay_legal.specs.Subject.{IsNoBlock, IsOf, NothingFailed}
+use Rattle.hay_legal.specs.Subject.{IsOf, NothingFailed}
 
 -- a reply that tells neither of a failed change nor of want of memory
 abbrev pub IsUntroubled : Reply → Type 0
@@ -52,7 +52,6 @@ IsUntroubled (FusedDir n) = Unit {0}
 IsUntroubled Nowhere = Unit {0}
 IsUntroubled (Restarted d) = Unit {0}
 IsUntroubled BadLine = Unit {0}
-IsUntroubled Unbuilt = Unit {0}
 
 -- a plain turn or a restart that is answered so
 abbrev pub GoesWell : Turn → Type 0
@@ -112,7 +111,7 @@ LeavesStanding v m (Restart line pick reply notes after) = ⊥
 abbrev pub BegunIsNotIdle : Type 0
 BegunIsNotIdle =
     (settings : Settings) (k t : Known) (earlier between later : List Turn) (line line' v m g : ℕ) (asked : Item) (after after' : Known)
-    → IsOf settings k → Each IsNoBlock earlier
+    → IsOf settings k
     → Legal settings k
     (earlier ++ Plain line (item.Command (command.Begin v m)) (Begun v m g) after
     ∷ (between ++ Plain line' asked (Idle v m) after' ∷ later)) t

@@ -13,7 +13,7 @@ use Rattle.hay_script.specs.declared.Command.TheVariants as command
 use Rattle.hay_reply.specs.declared.Note.{Note}
 use Rattle.hay_reply.specs.declared.Note.TheVariants.{Kept, Lost}
 use Rattle.hay_reply.specs.declared.Reply.{Reply}
-use Rattle.hay_reply.specs.declared.Reply.TheVariants.{Stored, Deleted, Photo, Gone, WrongCookie, Unknown, Moved, Nowhere, Failed, FailedDir, Unreadable, Damaged, Restarted, NoMem, Absent, Url, Full, ReadOnly, ReadOnlyDir, Flushed, Begun, Stepped, Compacted, Busy, Idle, Worn, Drained, Undrained, Fused, FusedDir, BadLine, Unbuilt}
+use Rattle.hay_reply.specs.declared.Reply.TheVariants.{Stored, Deleted, Photo, Gone, WrongCookie, Unknown, Moved, Nowhere, Failed, FailedDir, Unreadable, Damaged, Restarted, NoMem, Absent, Url, Full, ReadOnly, ReadOnlyDir, Flushed, Begun, Stepped, Compacted, Busy, Idle, Worn, Drained, Undrained, Fused, FusedDir, BadLine}
 use Rattle.hay_core.specs.declared.entry.Entry.{Entry}
 use Rattle.hay_core.specs.declared.entry.Entry.TheVariants as entry
 use Rattle.hay_core.specs.declared.entry.CoreTag.{CoreTag}
@@ -44,11 +44,6 @@ abbrev pub IsNoRestart : Turn → Type 0
 IsNoRestart (Plain line item reply after) = Unit {0}
 IsNoRestart (Lanes items logs rows after) = Unit {0}
 IsNoRestart (Restart line pick reply notes after) = ⊥
-
-abbrev pub IsNoBlock : Turn → Type 0
-IsNoBlock (Plain line item reply after) = Unit {0}
-IsNoBlock (Lanes items logs rows after) = ⊥
-IsNoBlock (Restart line pick reply notes after) = Unit {0}
 
 -- A store of these settings: it has their volumes and replicas, and each home, also one that is pending, is one of its volumes.
 pub record IsOf (settings : Settings) (k : Known) : Type 0 where
@@ -137,7 +132,7 @@ pub record IsAppended (k : Known) (v p : ℕ) (logged : Logged) (t : Known) : Ty
 abbrev pub StoredIsTheLastEntry : Type 0
 StoredIsTheLastEntry =
     (settings : Settings) (k t : Known) (earlier later : List Turn) (line : ℕ) (pair : Pair) (bytes : List ℕ) (v p d : ℕ) (c : Cookie) (after : Known)
-    → IsOf settings k → Each IsNoBlock earlier
+    → IsOf settings k
     → Legal settings k (earlier ++ Plain line (item.Command (command.Put pair bytes)) (Stored v p d c) after ∷ later) t
     → IsAppended (known_behind k earlier) v p (record { tag = record { lane = 0; line = line }; entry = entry.Put pair c bytes }) after
     × (c ≡ cookie_of settings.secret pair.key) × (home_of after pair ≡ Some v)
@@ -146,7 +141,7 @@ StoredIsTheLastEntry =
 abbrev pub DeletedIsTheLastEntry : Type 0
 DeletedIsTheLastEntry =
     (settings : Settings) (k t : Known) (earlier later : List Turn) (line : ℕ) (pair : Pair) (v p d : ℕ) (after : Known)
-    → IsOf settings k → Each IsNoBlock earlier
+    → IsOf settings k
     → Legal settings k (earlier ++ Plain line (item.Command (command.Del pair)) (Deleted v p d) after ∷ later) t
     → IsAppended (known_behind k earlier) v p (record { tag = record { lane = 0; line = line }; entry = entry.Del pair }) after
     × (home_of after pair ≡ Some v)
@@ -225,7 +220,7 @@ abbrev pub StoredIsRead : Type 0
 StoredIsRead =
     (settings : Settings) (k t : Known) (earlier between later : List Turn) (line line' : ℕ) (pair : Pair) (bytes : List ℕ) (v p d : ℕ) (c : Cookie) (after after' : Known)
     (request : Command) (cookie : Cookie) (reply : Reply)
-    → IsOf settings k → Each IsNoBlock earlier
+    → IsOf settings k
     → Legal settings k
     (earlier ++ Plain line (item.Command (command.Put pair bytes)) (Stored v p d c) after
     ∷ (between ++ Plain line' (item.Command request) reply after' ∷ later)) t
@@ -239,7 +234,7 @@ abbrev pub DeletedIsGone : Type 0
 DeletedIsGone =
     (settings : Settings) (k t : Known) (earlier between later : List Turn) (line line' : ℕ) (pair : Pair) (v p d : ℕ) (after after' : Known)
     (request : Command) (cookie : Cookie) (reply : Reply)
-    → IsOf settings k → Each IsNoBlock earlier
+    → IsOf settings k
     → Legal settings k
     (earlier ++ Plain line (item.Command (command.Del pair)) (Deleted v p d) after
     ∷ (between ++ Plain line' (item.Command request) reply after' ∷ later)) t
@@ -282,7 +277,7 @@ abbrev pub StoredIsReadBehindRestarts : Type 0
 StoredIsReadBehindRestarts =
     (settings : Settings) (k t : Known) (earlier between later : List Turn) (line line' : ℕ) (pair : Pair) (bytes : List ℕ) (v p d : ℕ) (c : Cookie) (after after' : Known)
     (request : Command) (cookie : Cookie) (reply : Reply)
-    → IsOf settings k → 0 < settings.replicas → Each IsNoBlock earlier
+    → IsOf settings k → 0 < settings.replicas
     → Legal settings k
     (earlier ++ Plain line (item.Command (command.Put pair bytes)) (Stored v p d c) after
     ∷ (between ++ Plain line' (item.Command request) reply after' ∷ later)) t
@@ -294,7 +289,7 @@ StoredIsReadBehindRestarts =
 abbrev pub FailedPutIsPending : Type 0
 FailedPutIsPending =
     (settings : Settings) (k t : Known) (earlier later : List Turn) (line : ℕ) (pair : Pair) (bytes : List ℕ) (v m f : ℕ) (after : Known)
-    → IsOf settings k → Each IsNoBlock earlier
+    → IsOf settings k
     → Legal settings k (earlier ++ Plain line (item.Command (command.Put pair bytes)) (Failed v m f) after ∷ later) t
     → ((volume_at after v).pending ≡ Some (record { tag = record { lane = 0; line = line }; entry = entry.Put pair (cookie_of settings.secret pair.key) bytes; failed = true }))
     × (home_of after pair ≡ Some v)
@@ -311,7 +306,7 @@ abbrev pub FailedPutThatWasKeptIsRead : Type 0
 FailedPutThatWasKeptIsRead =
     (settings : Settings) (k t : Known) (earlier waiting between later : List Turn) (line line' line'' pick d : ℕ) (notes : List Note)
     (pair : Pair) (bytes : List ℕ) (v m f : ℕ) (after after' after'' : Known) (request : Command) (cookie : Cookie) (reply : Reply)
-    → IsOf settings k → 0 < settings.replicas → Each IsNoBlock earlier
+    → IsOf settings k → 0 < settings.replicas
     → Legal settings k
     (earlier ++ Plain line (item.Command (command.Put pair bytes)) (Failed v m f) after
     ∷ (waiting ++ Restart line' pick (Restarted d) notes after'
@@ -327,7 +322,7 @@ abbrev pub KeptIsRead : Type 0
 KeptIsRead =
     (settings : Settings) (k t : Known) (earlier between later : List Turn) (line line' pick d : ℕ) (notes : List Note) (pair : Pair) (own : Cookie) (bytes : List ℕ)
     (v : ℕ) (pending : Pending) (after after' : Known) (request : Command) (cookie : Cookie) (reply : Reply)
-    → IsOf settings k → 0 < settings.replicas → Each IsNoBlock earlier
+    → IsOf settings k → 0 < settings.replicas
     → Legal settings k
     (earlier ++ Restart line pick (Restarted d) notes after ∷ (between ++ Plain line' (item.Command request) reply after' ∷ later)) t
     → (volume_at (known_behind k earlier) v).pending ≡ Some pending → pending.entry ≡ entry.Put pair own bytes
@@ -341,7 +336,7 @@ abbrev pub KeptIsGone : Type 0
 KeptIsGone =
     (settings : Settings) (k t : Known) (earlier between later : List Turn) (line line' pick d : ℕ) (notes : List Note) (pair : Pair)
     (v : ℕ) (pending : Pending) (after after' : Known) (request : Command) (cookie : Cookie) (reply : Reply)
-    → IsOf settings k → 0 < settings.replicas → Each IsNoBlock earlier
+    → IsOf settings k → 0 < settings.replicas
     → Legal settings k
     (earlier ++ Restart line pick (Restarted d) notes after ∷ (between ++ Plain line' (item.Command request) reply after' ∷ later)) t
     → (volume_at (known_behind k earlier) v).pending ≡ Some pending → pending.entry ≡ entry.Del pair
@@ -356,11 +351,11 @@ pub record IsTidy (settings : Settings) (k : Known) : Type 0 where
       (outcome_at (now (volume_at k v) (replica_at (volume_at k v) j)) pair ≡ outcome.Nothing) ⊎ (home_of k pair ≡ Some v)
   pub pending : (v : ℕ) (pending : Pending) → (volume_at k v).pending ≡ Some pending → home_of k (pair_of pending.entry) ≡ Some v
 
--- Over plain turns and restarts a store stays tidy, as it is when it was formatted.
+-- Over turns of every kind a store stays tidy, as it is when it was formatted.
 abbrev pub TidyStays : Type 0
 TidyStays =
     (settings : Settings) (k t : Known) (turns : List Turn)
-    → IsOf settings k → IsTidy settings k → Each IsNoBlock turns → Legal settings k turns t
+    → IsOf settings k → IsTidy settings k → Legal settings k turns t
     → IsTidy settings t
 
 -- a reader that is shown no photo, and finds no cookie wrong
@@ -374,7 +369,7 @@ abbrev pub DeletedIsGoneBehindRestarts : Type 0
 DeletedIsGoneBehindRestarts =
     (settings : Settings) (k t : Known) (earlier between later : List Turn) (line line' : ℕ) (pair : Pair) (v p d : ℕ) (after after' : Known)
     (request : Command) (cookie : Cookie) (reply : Reply)
-    → IsOf settings k → Each IsNoBlock earlier → IsTidy settings (known_behind k earlier)
+    → IsOf settings k → IsTidy settings (known_behind k earlier)
     → Legal settings k
     (earlier ++ Plain line (item.Command (command.Del pair)) (Deleted v p d) after
     ∷ (between ++ Plain line' (item.Command request) reply after' ∷ later)) t
@@ -422,7 +417,6 @@ BlamesNothing (FusedDir n) = Unit {0}
 BlamesNothing Nowhere = Unit {0}
 BlamesNothing (Restarted d) = Unit {0}
 BlamesNothing BadLine = Unit {0}
-BlamesNothing Unbuilt = Unit {0}
 BlamesNothing NoMem = Unit {0}
 
 -- Where nothing failed, no reply blames a disk or an arm.

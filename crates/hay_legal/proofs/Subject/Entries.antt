@@ -1,14 +1,16 @@
 -- A store keeps its volumes, and an acknowledged change is the last entry of its log.
 use Rattle.std.proofs.Common.{length-append, ◌≡◌, ℕ, zero, suc, ◌+◌, ◌<◌, ◌≤◌, Bool, true, false, List, [], ◌∷◌, ◌++◌, length, drop, Option, Some, None, refl, sym, ap, subst, ◌∙◌, ◌⊎◌, inl, inr, arith, append_assoc}
-use Rattle.std.specs.List.{AllByRecursion as Each}
+use Rattle.std.specs.List.{AllByRecursion as Each, AllZip}
 use Rattle.std.specs.Prelude.{slice_index_or, find, is_none}
 use Rattle.std.specs.List.{range_with_len}
 use Rattle.std.proofs.Math.Nat.{eq-or-lt_of_le}
 use Rattle.std.proofs.lemmas.List.{append-nil, length-replicate, get_or-replicate, take-append-drop}
 use Rattle.std.proofs.lemmas.Bool.{cases_Bool, cond-true, cond-false}
+use Rattle.std.proofs.lemmas.Option.{same_Some}
 use Rattle.hay_needle.specs.declared.needle.Pair.{Pair}
 use Rattle.hay_needle.specs.declared.settings.Settings.{Settings}
 use Rattle.hay_needle.specs.Tables.{pair_eq}
+use Rattle.hay_reply.specs.declared.LineVolume.{LineVolume}
 use Rattle.hay_reply.specs.declared.Reply.{Reply}
 use Rattle.hay_reply.specs.declared.Reply.TheVariants as reply
 use Rattle.hay_core.specs.declared.entry.Entry.TheVariants as entry
@@ -32,9 +34,9 @@ use Rattle.hay_legal.specs.Known.{home_of, home_in, volume_at, empty_volume, emp
 use Rattle.hay_legal.specs.Plain.{IsStored, IsDeleted, LegalPlain}
 use Rattle.hay_reply.specs.declared.Note.{Note}
 use Rattle.hay_legal.specs.Restarts.{Reopens, ReopenedVolumes, ReopenedVolume, ReopenedReplicas, ReopenedReplica, LegalRestart, kept_row, kept_entry, is_kept}
-use Rattle.hay_legal.specs.Blocks.{LegalBlock, LogIsLegal}
-use Rattle.hay_legal.specs.Legal.{Legal}
-use Rattle.hay_legal.specs.Subject.{known_behind, IsOf, IsAppended, StoredIsTheLastEntry, DeletedIsTheLastEntry, LogsGrow, IsNoBlock}
+use Rattle.hay_legal.specs.Blocks.{IsNewRow, LegalBlock, LogIsLegal, VolumeIsLegal, new_rows}
+use Rattle.hay_legal.specs.Legal.{Legal, LegalTurn, known_after}
+use Rattle.hay_legal.specs.Subject.{known_behind, IsOf, IsAppended, StoredIsTheLastEntry, DeletedIsTheLastEntry, LogsGrow}
 use Rattle.hay_legal.proofs.Subject.Shown.{legal_split}
 use Rattle.hay_legal.proofs.Subject.Effects.{Bounded, RowsGrow, each_append, calm_undisturbed, unchanged, find_of, each_try, taken_home, Disturbed, put_disturbed, del_disturbed, plain_effect}
 
@@ -129,14 +131,52 @@ restart_is_of settings k reply.NoMem notes t is h =
     let same = calm_undisturbed settings k t (unchanged settings k t (rises_leaves k t h.leaves)) in is_of_grown settings k t is same.many (λ w. (same.each w).many) same.grow
 restart_is_of settings k _ notes t is h = absurd h
 
--- over turns outside blocks
-pub is_of_behind : (settings : Settings) (k t : Known) (turns : List Turn) → IsOf settings k → Each IsNoBlock turns → Legal settings k turns t → IsOf settings t
-is_of_behind settings k t [] is none h = subst (λ (x : Known). IsOf settings x) (sym h) is
-is_of_behind settings k t (Plain line i r after ∷ turns) is none h =
-    is_of_behind settings after t turns (plain_is_of settings k line i r after is h.0) none.1 h.1
-is_of_behind settings k t (Lanes items logs rows after ∷ turns) is none h = absurd none.0
-is_of_behind settings k t (Restart line pick r notes after ∷ turns) is none h =
-    is_of_behind settings after t turns (restart_is_of settings k r notes after is h.0) none.1 h.1
+pub each_in_range : (P : ℕ → Type 0) (a n v : ℕ) → Each P (range_with_len a n) → a ≤ v → v < a + n → P v
+each_in_range P a zero v h low high = absurd (omega (arith, low, high))
+each_in_range P a (suc n) v h low high =
+    elim (eq-or-lt_of_le low) [
+      | inl e ↦ subst P e h.0
+      | inr less ↦ each_in_range P (a + 1) n v h.1 (omega (arith, less)) (omega (arith, high))
+    ]
+
+-- each new row is for a volume of the store
+rows_below : (settings : Settings) (k : Known) (items : List LaneItem) (t : Known) (named : List LineVolume) (rows : List HomeRow)
+    → AllZip (IsNewRow settings k items t) named rows → Each (λ row. row.volume < settings.volumes) rows
+rows_below settings k items t [] [] zip = tt
+rows_below settings k items t (name ∷ named) (row ∷ rows) zip =
+    (each_try settings row.pair row.volume ((zip.0).gets).tried, rows_below settings k items t named rows zip.1)
+rows_below settings k items t [] (row ∷ rows) zip = absurd zip
+rows_below settings k items t (name ∷ named) [] zip = absurd zip
+
+-- Behind a legal block the store has its volumes and replicas, and each home is one of its volumes.
+pub block_is_of : (settings : Settings) (k : Known) (items : List LaneItem) (logs : List LogNote) (rows : RowNote) (t : Known)
+    → IsOf settings k → LegalBlock settings k items logs rows t → IsOf settings t
+block_is_of settings k items logs rows t is b = record {
+  volumes = b.many ∙ is.volumes;
+  replicas = λ v below.
+      (each_in_range (VolumeIsLegal settings k items rows t) 0 settings.volumes v b.volumes (omega arith) (omega (arith, below))).many ∙ is.replicas v below;
+  homes = subst (λ (rows : List HomeRow). Each (λ row. row.volume < settings.volumes) rows)
+      (ap (λ (old : List HomeRow). old ++ new_rows k t) (sym (b.homes).kept) ∙ take-append-drop (length k.directory.rows) t.directory.rows)
+      (each_append (λ row. row.volume < settings.volumes) k.directory.rows (new_rows k t) is.homes
+      (rows_below settings k items t rows.rows (new_rows k t) (b.homes).each));
+  pending = λ pending left. elim b.directory [
+    | inl same ↦ is.pending pending (sym same.1 ∙ left)
+    | inr froze ↦
+        subst (λ (row : HomeRow). row.volume < settings.volumes)
+        (ap (λ (p : PendingRow). p.row) (same_Some _ _ (sym (froze.pending).2 ∙ left)))
+        (each_try settings froze.pair froze.volume (froze.gets).tried)
+  ];
+}
+
+-- over turns of every kind
+pub turn_is_of : (settings : Settings) (k : Known) (turn : Turn) → IsOf settings k → LegalTurn settings k turn → IsOf settings (known_after turn)
+turn_is_of settings k (Plain line i r after) is legal = plain_is_of settings k line i r after is legal
+turn_is_of settings k (Lanes items logs rows after) is block = block_is_of settings k items logs rows after is block
+turn_is_of settings k (Restart line pick r notes after) is legal = restart_is_of settings k r notes after is legal
+
+pub is_of_behind : (settings : Settings) (k t : Known) (turns : List Turn) → IsOf settings k → Legal settings k turns t → IsOf settings t
+is_of_behind settings k t [] is h = subst (λ (x : Known). IsOf settings x) (sym h) is
+is_of_behind settings k t (turn ∷ turns) is h = is_of_behind settings (known_after turn) t turns (turn_is_of settings k turn is h.0) h.1
 
 -- a store that was just formatted
 pub is_of-fresh : (settings : Settings) → IsOf settings (fresh_unharmed settings)
@@ -182,10 +222,10 @@ appended settings k v p logged t below position h = record {
 }
 
 pub stored_is_the_last_entry : StoredIsTheLastEntry
-stored_is_the_last_entry settings k t earlier later line pair bytes v p d c after is none legal =
+stored_is_the_last_entry settings k t earlier later line pair bytes v p d c after is legal =
     let parts = legal_split settings k t earlier _ legal in
     let b : Known = known_behind k earlier in
-    let now_of : IsOf settings b = is_of_behind settings k b earlier is none parts.0 in
+    let now_of : IsOf settings b = is_of_behind settings k b earlier is parts.0 in
     let tag : CoreTag = record { lane = 0; line = line } in
     let h : IsStored settings b tag pair bytes v p d c after = parts.1.0 in
     let test : ℕ → Bool = λ u. is_none (refusal_of settings b (length bytes) u) in
@@ -197,10 +237,10 @@ stored_is_the_last_entry settings k t earlier later line pair bytes v p d c afte
     )
 
 pub deleted_is_the_last_entry : DeletedIsTheLastEntry
-deleted_is_the_last_entry settings k t earlier later line pair v p d after is none legal =
+deleted_is_the_last_entry settings k t earlier later line pair v p d after is legal =
     let parts = legal_split settings k t earlier _ legal in
     let b : Known = known_behind k earlier in
-    let now_of : IsOf settings b = is_of_behind settings k b earlier is none parts.0 in
+    let now_of : IsOf settings b = is_of_behind settings k b earlier is parts.0 in
     let tag : CoreTag = record { lane = 0; line = line } in
     let h : IsDeleted settings b tag pair v p d after = parts.1.0 in
     let below_all : v < length b.volumes = subst (λ (n : ℕ). v < n) (sym now_of.volumes) (home_bounded settings b.directory.rows pair v now_of.homes (h.home).home) in (
@@ -212,14 +252,6 @@ deleted_is_the_last_entry settings k t earlier later line pair v p d after is no
 
 abbrev pub Grows : List Logged → List Logged → Type 0
 Grows old log = (new : List Logged) × (log ≡ old ++ new)
-
-pub each_in_range : (P : ℕ → Type 0) (a n v : ℕ) → Each P (range_with_len a n) → a ≤ v → v < a + n → P v
-each_in_range P a zero v h low high = absurd (omega (arith, low, high))
-each_in_range P a (suc n) v h low high =
-    elim (eq-or-lt_of_le low) [
-      | inl e ↦ subst P e h.0
-      | inr less ↦ each_in_range P (a + 1) n v h.1 (omega (arith, less)) (omega (arith, high))
-    ]
 
 pub block_grows : (settings : Settings) (k : Known) (items : List LaneItem) (logs : List LogNote) (rows : RowNote) (t : Known) (v : ℕ) → v < settings.volumes
     → LegalBlock settings k items logs rows t → Grows (volume_at k v).log (volume_at t v).log

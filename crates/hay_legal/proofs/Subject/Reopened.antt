@@ -219,10 +219,10 @@ standing_over settings k t (Restart line pick r notes after ∷ turns) pair phot
     (restart_alone settings k line pick r notes after pair photo is some legal.0 alone.0 stands)
 
 pub stored_is_read_behind_restarts : StoredIsReadBehindRestarts
-stored_is_read_behind_restarts settings k t earlier between later line line' pair bytes v p d c after after' request cookie r is some none legal alone asks =
+stored_is_read_behind_restarts settings k t earlier between later line line' pair bytes v p d c after after' request cookie r is some legal alone asks =
     let parts = legal_split settings k t earlier _ legal in
     let b : Known = known_behind k earlier in
-    let now_of : IsOf settings b = is_of_behind settings k b earlier is none parts.0 in
+    let now_of : IsOf settings b = is_of_behind settings k b earlier is parts.0 in
     let after_of : IsOf settings after = plain_is_of settings b line (item.Command (command.Put pair bytes)) (reply.Stored v p d c) after now_of parts.1.0 in
     let rest = legal_split settings after t between _ parts.1.1 in
     answer_photo settings (known_behind after between) (record { lane = 0; line = line' }) request r after' pair cookie (cookie_of settings.secret pair.key) bytes
@@ -230,10 +230,10 @@ stored_is_read_behind_restarts settings k t earlier between later line line' pai
     (stored_stands settings b line pair bytes v p d c after now_of parts.1.0)) asks rest.1.0
 
 pub failed_put_is_pending : FailedPutIsPending
-failed_put_is_pending settings k t earlier later line pair bytes v m f after is none legal =
+failed_put_is_pending settings k t earlier later line pair bytes v m f after is legal =
     let parts = legal_split settings k t earlier _ legal in
     let b : Known = known_behind k earlier in
-    let now_of : IsOf settings b = is_of_behind settings k b earlier is none parts.0 in
+    let now_of : IsOf settings b = is_of_behind settings k b earlier is parts.0 in
     let tag : CoreTag = record { lane = 0; line = line } in
     let h : PutFailed settings b tag pair bytes v m f after = parts.1.0 in
     let test : ℕ → Bool = λ u. is_none (refusal_of settings b (length bytes) u) in
@@ -245,10 +245,10 @@ failed_put_is_pending settings k t earlier later line pair bytes v m f after is 
     )
 
 pub kept_is_read : KeptIsRead
-kept_is_read settings k t earlier between later line line' pick d notes pair own bytes v pending after after' request cookie r is some none legal there entry_is home lost alone asks =
+kept_is_read settings k t earlier between later line line' pick d notes pair own bytes v pending after after' request cookie r is some legal there entry_is home lost alone asks =
     let parts = legal_split settings k t earlier _ legal in
     let b : Known = known_behind k earlier in
-    let now_of : IsOf settings b = is_of_behind settings k b earlier is none parts.0 in
+    let now_of : IsOf settings b = is_of_behind settings k b earlier is parts.0 in
     let after_of : IsOf settings after = restart_is_of settings b (reply.Restarted d) notes after now_of parts.1.0 in
     let rest = legal_split settings after t between _ parts.1.1 in
     let stands : Standing settings after pair (outcome.Photo (record { cookie = own; bytes = bytes })) =
@@ -258,10 +258,10 @@ kept_is_read settings k t earlier between later line line' pick d notes pair own
     (standing_over settings after (known_behind after between) between pair _ after_of some rest.0 alone stands) asks rest.1.0
 
 pub kept_is_gone : KeptIsGone
-kept_is_gone settings k t earlier between later line line' pick d notes pair v pending after after' request cookie r is some none legal there entry_is home lost quiet asks =
+kept_is_gone settings k t earlier between later line line' pick d notes pair v pending after after' request cookie r is some legal there entry_is home lost quiet asks =
     let parts = legal_split settings k t earlier _ legal in
     let b : Known = known_behind k earlier in
-    let now_of : IsOf settings b = is_of_behind settings k b earlier is none parts.0 in
+    let now_of : IsOf settings b = is_of_behind settings k b earlier is parts.0 in
     let rest = legal_split settings after t between _ parts.1.1 in
     let stands : Standing settings after pair outcome.Nothing =
     subst (λ (e : Entry). Standing settings after pair (outcome_of e)) entry_is

@@ -283,20 +283,20 @@ deleted_stands settings b line pair v p d after is h =
     standing_changed settings b v logged after below home (del_disturbed settings b tag pair v p d after deleted)
 
 pub stored_is_read : StoredIsRead
-stored_is_read settings k t earlier between later line line' pair bytes v p d c after after' request cookie r is none legal quiet asks =
+stored_is_read settings k t earlier between later line line' pair bytes v p d c after after' request cookie r is legal quiet asks =
     let parts = legal_split settings k t earlier _ legal in
     let b : Known = known_behind k earlier in
-    let now_of : IsOf settings b = is_of_behind settings k b earlier is none parts.0 in
+    let now_of : IsOf settings b = is_of_behind settings k b earlier is parts.0 in
     let rest = legal_split settings after t between _ parts.1.1 in
     answer_photo settings (known_behind after between) (record { lane = 0; line = line' }) request r after' pair cookie (cookie_of settings.secret pair.key) bytes
     (standing_between settings after (known_behind after between) between pair _ rest.0 quiet
     (stored_stands settings b line pair bytes v p d c after now_of parts.1.0)) asks rest.1.0
 
 pub deleted_is_gone : DeletedIsGone
-deleted_is_gone settings k t earlier between later line line' pair v p d after after' request cookie r is none legal quiet asks =
+deleted_is_gone settings k t earlier between later line line' pair v p d after after' request cookie r is legal quiet asks =
     let parts = legal_split settings k t earlier _ legal in
     let b : Known = known_behind k earlier in
-    let now_of : IsOf settings b = is_of_behind settings k b earlier is none parts.0 in
+    let now_of : IsOf settings b = is_of_behind settings k b earlier is parts.0 in
     let rest = legal_split settings after t between _ parts.1.1 in
     answer_gone settings (known_behind after between) (record { lane = 0; line = line' }) request r after' pair cookie
     (standing_between settings after (known_behind after between) between pair _ rest.0 quiet

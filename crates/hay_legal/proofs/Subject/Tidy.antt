@@ -33,7 +33,7 @@ use Rattle.hay_legal.specs.Plain.{IsDeleted, LegalPlain, LegalCommand, LegalShow
 use Rattle.hay_reply.specs.declared.Note.{Note}
 use Rattle.hay_legal.specs.Restarts.{Reopens, LegalRestart, IsRestarted, kept_entry, is_kept, with_entries}
 use Rattle.hay_legal.specs.Legal.{Legal}
-use Rattle.hay_legal.specs.Subject.{known_behind, pair_of, AsksFor, IsOf, changed_pair, SaysNothing, LosesChanges, LeavesAloneFrom, AllLeaveAlone, IsTidy, TidyStays, IsRefusedAsAbsent, DeletedIsGoneBehindRestarts}
+use Rattle.hay_legal.specs.Subject.{known_behind, pair_of, AsksFor, IsOf, changed_pair, SaysNothing, LosesChanges, LeavesAloneFrom, AllLeaveAlone, IsTidy, IsRefusedAsAbsent, DeletedIsGoneBehindRestarts}
 use Rattle.hay_legal.proofs.Subject.Shown.{legal_split, row_pair, pair_differs, Tells}
 use Rattle.hay_legal.proofs.Subject.Effects.{calm_undisturbed, del_disturbed, plain_effect}
 use Rattle.hay_legal.proofs.Subject.Entries.{plain_is_of, reopened_many, volume_reopened, restart_is_of, is_of_behind, home_bounded}
@@ -164,14 +164,6 @@ restart_is_tidy settings k reply.NoMem notes t is h tidy = record {
 }
 restart_is_tidy settings k _ notes t is h tidy = absurd h
 
-pub tidy_stays : TidyStays
-tidy_stays settings k t [] is tidy none legal = subst (λ (x : Known). IsTidy settings x) (sym legal) tidy
-tidy_stays settings k t (Plain line i r after ∷ turns) is tidy none legal =
-    tidy_stays settings after t turns (plain_is_of settings k line i r after is legal.0) (plain_tidy settings k line i r after legal.0 tidy) none.1 legal.1
-tidy_stays settings k t (Lanes items logs rows after ∷ turns) is tidy none legal = absurd none.0
-tidy_stays settings k t (Restart line pick r notes after ∷ turns) is tidy none legal =
-    tidy_stays settings after t turns (restart_is_of settings k r notes after is legal.0) (restart_is_tidy settings k r notes after is legal.0 tidy) none.1 legal.1
-
 -- a store that was just formatted
 pub is_tidy-fresh : (settings : Settings) → IsTidy settings (fresh_unharmed settings)
 is_tidy-fresh settings = record {
@@ -294,10 +286,10 @@ deleted_absent settings b line pair v p d after is tidy h =
     }
 
 pub deleted_is_gone_behind_restarts : DeletedIsGoneBehindRestarts
-deleted_is_gone_behind_restarts settings k t earlier between later line line' pair v p d after after' request cookie r is none tidy legal alone asks =
+deleted_is_gone_behind_restarts settings k t earlier between later line line' pair v p d after after' request cookie r is tidy legal alone asks =
     let parts = legal_split settings k t earlier _ legal in
     let b : Known = known_behind k earlier in
-    let now_of : IsOf settings b = is_of_behind settings k b earlier is none parts.0 in
+    let now_of : IsOf settings b = is_of_behind settings k b earlier is parts.0 in
     let after_of : IsOf settings after = plain_is_of settings b line (item.Command (command.Del pair)) (reply.Deleted v p d) after now_of parts.1.0 in
     let rest = legal_split settings after t between _ parts.1.1 in
     let end = absent_over settings after (known_behind after between) between pair after_of rest.0 alone

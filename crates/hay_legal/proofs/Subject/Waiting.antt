@@ -29,7 +29,7 @@ use Rattle.hay_url.specs.declared.Url.{Url as UrlParts}
 use Rattle.hay_url.specs.Url.{cookie_of}
 use Rattle.hay_legal.specs.Plain.{PutFailed, LegalPlain, LegalCommand, LegalShow, LegalGetAt, start_of, LegalPut, LegalDel, LegalUrl, LegalFlush, LegalBegin, LegalStep, LegalFinish, LegalCompact, LegalDrain, LegalUndrain, LegalFuse, LegalFuseDir, OnReplica, IsLoose, IsTight, replica_of, Swaps, SwapFailed, SwapNoMem, IsAtRest, IsOpen, MayFinish, change_volume, change_replica, frozen_by, frozen_with, without_run, with_bare, with_stuck, with_run, swapped, stepped, poised, poised_by, as_it_is, put_frozen, put_entry, first_machine, with_put, with_del}
 use Rattle.hay_legal.specs.Legal.{Legal}
-use Rattle.hay_legal.specs.Subject.{known_behind, pair_of, IsOf, IsNoBlock, IsPlain, FailedPutThatWasKeptIsRead}
+use Rattle.hay_legal.specs.Subject.{known_behind, pair_of, IsOf, IsPlain, FailedPutThatWasKeptIsRead}
 use Rattle.hay_legal.proofs.Subject.Shown.{legal_split}
 use Rattle.hay_legal.proofs.Subject.Effects.{read_set, find_of, taken_home}
 use Rattle.hay_legal.proofs.Subject.Entries.{plain_is_of, is_of_behind, taken_bounded}
@@ -331,12 +331,6 @@ plain_turns_is_of settings k t (Plain line i r after ∷ turns) is answered lega
 plain_turns_is_of settings k t (Lanes items logs rows after ∷ turns) is answered legal = absurd answered.0
 plain_turns_is_of settings k t (Restart line pick r notes after ∷ turns) is answered legal = absurd answered.0
 
-pub plain_turns_no_block : (turns : List Turn) → Each IsPlain turns → Each IsNoBlock turns
-plain_turns_no_block [] h = tt
-plain_turns_no_block (Plain line i r after ∷ turns) h = (tt, plain_turns_no_block turns h.1)
-plain_turns_no_block (Lanes items logs rows after ∷ turns) h = absurd h.0
-plain_turns_no_block (Restart line pick r notes after ∷ turns) h = absurd h.0
-
 pub failed_froze : (settings : Settings) (b : Known) (tag : CoreTag) (pair : Pair) (bytes : List ℕ) (v m f : ℕ) (after : Known) → IsOf settings b
     → PutFailed settings b tag pair bytes v m f after
     → volume_at after v ≡ frozen_with m tag (put_entry settings pair bytes) true (volume_at b v)
@@ -348,21 +342,21 @@ failed_froze settings b tag pair bytes v m f after is h =
 
 pub failed_put_that_was_kept_is_read : FailedPutThatWasKeptIsRead
 failed_put_that_was_kept_is_read settings k t earlier waiting between later line line' line'' pick d notes pair bytes v m f after after' after'' request cookie r
-    is some none legal answered lost alone asks =
+    is some legal answered lost alone asks =
     let parts = legal_split settings k t earlier _ legal in
     let b : Known = known_behind k earlier in
     let tag : CoreTag = record { lane = 0; line = line } in
-    let now_of : IsOf settings b = is_of_behind settings k b earlier is none parts.0 in
+    let now_of : IsOf settings b = is_of_behind settings k b earlier is parts.0 in
     let after_of : IsOf settings after = plain_is_of settings b line (item.Command (command.Put pair bytes)) (reply.Failed v m f) after now_of parts.1.0 in
     let rest = legal_split settings after t waiting _ parts.1.1 in
     let e : Known = known_behind after waiting in
     let froze = failed_froze settings b tag pair bytes v m f after now_of parts.1.0 in
-    let pending = (failed_put_is_pending settings k t earlier _ line pair bytes v m f after is none legal) in
+    let pending = failed_put_is_pending settings k t earlier _ line pair bytes v m f after is legal in
     let steady = steady_over settings after e waiting v m (ap (λ (volume : VolumeKnown). volume.frozen) froze) answered rest.0 in
     let end = plain_turns_is_of settings after e waiting after_of answered rest.0 in
     kept_is_read settings after t waiting between later line' line'' pick d notes pair (cookie_of settings.secret pair.key) bytes v
     (record { tag = tag; entry = entry.Put pair (cookie_of settings.secret pair.key) bytes; failed = true }) after' after'' request cookie r
-    after_of some (plain_turns_no_block waiting answered) parts.1.1
+    after_of some parts.1.1
     (steady.pending ∙ pending.0) refl (end.1 pair v pending.1) lost alone asks
 
 -- WHAT BECOMES PENDING
