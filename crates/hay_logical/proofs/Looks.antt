@@ -1,12 +1,14 @@
 -- The replicas of an opening behind the looks at a place of each.
 use Rattle.std.proofs.Common.{◌≡◌, inl, inr, ℕ, ◌+◌, ◌*◌, ◌<◌, ◌≤◌, false, List, length, Err, refl, sym, ap, subst, ◌∙◌, arith}
 use Rattle.std.proofs.Math.Path.{fun_ext}
-use Rattle.std.specs.Prelude.{Bool, IfErr, Ok, OnErr, OnOk, Result}
+use Rattle.std.specs.Prelude.{Bool, IfErr, Ok, OnErr, OnOk, Option, Result}
 use Rattle.std.proofs.lemmas.Bool.{cases_eq}
 use Rattle.hay_needle.specs.declared.needle.Pair.{Pair}
 use Rattle.hay_disk.specs.Disk.{Files}
 use Rattle.hay_map.specs.MapRows.{MapRows}
 use Rattle.hay_map.specs.Places.{place_in}
+use Rattle.hay_map.specs.declared.place.Place.{Place}
+use Rattle.hay_map.specs.declared.place.Place.TheVariants as place
 use Rattle.hay_map.specs.Rows.{row_at}
 use Rattle.hay_open.specs.Damage.{IsOpeningDamage}
 use Rattle.hay_open.specs.Stored.{Stored}
@@ -14,13 +16,17 @@ use Rattle.hay_compact.specs.Finishing.{IsSeen}
 use Rattle.hay_physical.specs.declared.fault.ReplicaFault.{ReplicaFault}
 use Rattle.hay_physical.specs.declared.fault.ReplicaFault.TheVariants as fault
 use Rattle.hay_physical.specs.declared.state.Phase.{Phase}
-use Rattle.hay_physical.specs.Copies.{Copy, HasFrozen, IsOpenCopy, IsOpenPhase, bare_of, end_of, generation_of, goal_of, is_frozen, is_stuck}
+use Rattle.hay_physical.specs.Copies.{Copy, HasFrozen, IsOpenCopy, IsOpenPhase, bare_of, end_of, generation_of, goal_of, is_frozen, is_stuck, volume_bytes}
 use Rattle.hay_physical.specs.Replicas as physical
 use Rattle.hay_open.specs.declared.fault.OpenFault.{OpenFault}
 use Rattle.hay_open.specs.declared.fault.OpenFault.TheVariants as open_fault
 use Rattle.hay_logical.specs.Fits.{At}
 use Rattle.hay_logical.specs.declared.fault.Unopened.{Unopened}
-use Rattle.hay_logical.specs.Sights.{LiesWithinAt, sights_of}
+use Rattle.hay_logical.specs.Needles.{LacksSeen, TellsNeedle}
+use Rattle.hay_logical.specs.Notes.{IsToldPlace, ToldUnsure}
+use Rattle.hay_logical.specs.Sights.{LiesWithinAt, Sight, sight, sights_of}
+use Rattle.hay_logical.specs.Sights.Sight.{Gone, Live, Never, Unseen}
+use Rattle.hay_logical.specs.declared.unsure.Unsure.{Unsure}
 use Rattle.hay_logical.specs.Steps.{CallsOne, IsLookFault, IsOpenFault, IsRefusedAt, IsUnseenAt, KeepsBytes, KeepsDisk, LeftAt, LooksAt, OpensAt, PlacesAre, SeesRow, SightsAt}
 use Rattle.hay_logical.specs.Volumes.{CanReach, KeepsCounts}
 use Rattle.hay_logical.proofs.Calls.{counted_same, keeps_counts, up_open, up_thawed}
@@ -29,10 +35,28 @@ use Rattle.hay_logical.proofs.Lists.{at_below, at_same, at_there}
 use Rattle.hay_logical.proofs.Looking.{looks_still}
 use Rattle.hay_logical.proofs.Methods.{one_after}
 use Rattle.hay_logical.proofs.Sighting.{looks_one, other_places, place_seen}
-use Rattle.hay_logical.proofs.Bytes.{bytes_more}
+use Rattle.hay_logical.proofs.Bytes.{bytes_more, looked_bytes}
 use Rattle.hay_logical.proofs.Through.{counts_through}
 
+-- a place that was looked at
+seen_told : {P : Type 0} (p : Place P) (file : List ℕ) → IsSeen p → IsToldPlace (sight p) file
+seen_told place.None file seen = tt
+seen_told (place.Live needle) file seen = tt
+seen_told place.Gone file seen = tt
+seen_told (place.Unseen at size) file seen = absurd seen
+
+-- one whose look met damage
+lacks_told : (file : List ℕ) (at : ℕ) (s : Sight) → LacksSeen file at s → IsToldPlace s file
+lacks_told file at (Unseen there size) lacks = lacks.1
+lacks_told file at Never lacks = tt
+lacks_told file at (Live there) lacks = tt
+lacks_told file at Gone lacks = tt
+
 module _ {D P : Type 0} (DiskTells : Type 0) (files : D → Files) (Tells : Type 0) where
+  -- looks have left the bytes
+  file_looked : (rows rows' : MapRows P) (j : ℕ) (r x : Copy D) → DiskTells → LooksAt DiskTells files Tells rows rows' j r x → volume_bytes files x ≡ volume_bytes files r
+  file_looked rows rows' j r x tells looks = looked_bytes files r x (looks.keeps tells) (ap (λ (z : Copy D). generation_of z) looks.copy)
+
   pub looks_more : (a b c : MapRows P) (j : ℕ) (r x y : Copy D) → LooksAt DiskTells files Tells a b j r x → LooksAt DiskTells files Tells b c j x y → LooksAt DiskTells files Tells a c j r y
   looks_more a b c j r x y first second = record {
     copy = second.copy ∙ ap (λ (z : Copy D). record z { disk = y.disk }) first.copy;
@@ -98,6 +122,29 @@ module _ {D P : Type 0} (DiskTells : Type 0) (files : D → Files) (Tells : Type
               let less : j < at = omega (arith, within, apart) in
               subst IsSeen (sym (other_places pair at rows rows' result row j apart pair)) (seen j r s less e stands places)
         ]
+
+        pub told_on : DiskTells → ((f : ReplicaFault) → result ≡ Err f → (k : ℕ) × (f ≡ fault.Damaged k))
+            → ((x : Copy D) → At items at x → TellsNeedle (volume_bytes files x) pair at rows rows' result)
+            → ((j : ℕ) (r : Copy D) → j < at → At old j r → IsToldPlace (sights_of rows pair j) (volume_bytes files r))
+            → (j : ℕ) (r : Copy D) → j < at + 1 → At old j r → IsToldPlace (sights_of rows' pair j) (volume_bytes files r)
+        told_on tells only needle told j r within e = elim (cases_eq j at) [
+          | inl same ↦
+              let x = mid j r e in
+              let there : At items at x.0 = subst (λ n. At items n x.0) same x.1 in
+              subst (λ n. IsToldPlace (sights_of rows' pair n) (volume_bytes files r)) (sym same)
+              (subst (λ (l : List ℕ). IsToldPlace (sights_of rows' pair at) l) (file_looked before rows j r x.0 tells (looks.each j r x.0 e x.1)) (by_answer (volume_bytes files x.0) (needle x.0 there) result refl))
+          | inr apart ↦
+              let less : j < at = omega (arith, within, apart) in
+              subst (λ (p : Place P). IsToldPlace (sight p) (volume_bytes files r)) (sym (other_places pair at rows rows' result row j apart pair)) (told j r less e)
+        ]
+          where
+            by_answer : (file : List ℕ) → TellsNeedle file pair at rows rows' result → (x : Result Unit ReplicaFault) → result ≡ x → IsToldPlace (sights_of rows' pair at) file
+            by_answer file tells_it (Ok value) is = seen_told (place_in (row_at rows' pair) at) file (subst (λ x. OnOk x (IsSeen (place_in (row_at rows' pair) at))) is sights.seen)
+            by_answer file tells_it (Err f) is =
+                let damaged = only f is in
+                let still : (other : Pair) → row_at rows' other ≡ row_at rows other = subst (λ x. OnErr x ((other : Pair) → row_at rows' other ≡ row_at rows other)) is row.kept in
+                subst (λ l. IsToldPlace (sight (place_in l at)) file) (sym (still pair))
+                (lacks_told file damaged.0 (sights_of rows pair at) (tells_it.lacks damaged.0 (is ∙ ap (λ x. Err x) damaged.1)))
 
         -- the look that ended an opening
         pub unseen : (cause : OpenFault) → IsLookFault (faults (one.before).disk) (faults (one.after).disk) cause → IsUnseenAt faults old new (record { replica = at; fault = cause })
@@ -194,6 +241,12 @@ module _ {D P : Type 0} (DiskTells : Type 0) (files : D → Files) (Tells : Type
 
     pub kept_all : DiskTells → ((j : ℕ) (r x : Copy D) → At olds j r → At mids j x → KeepsDisk files r x) → (j : ℕ) (r y : Copy D) → At olds j r → At news j y → KeepsDisk files r y
     kept_all tells = through (λ j r x. KeepsDisk files r x) (λ j r y. KeepsDisk files r y) (λ j r x y was l. disk_looked files r x y was (l.keeps tells))
+
+    pub told_all : DiskTells → (unsure : Option Unsure) → ((j : ℕ) (x : Copy D) → At mids j x → ToldUnsure unsure (sights_of rows') j (volume_bytes files x))
+        → (j : ℕ) (y : Copy D) → At news j y → ToldUnsure unsure (sights_of rows') j (volume_bytes files y)
+    told_all tells unsure told j y f =
+        let x = mid_at j y f in
+        subst (λ (l : List ℕ). ToldUnsure unsure (sights_of rows') j l) (sym (file_looked DiskTells files Tells rows rows' j x.0 y tells (looks j x.0 y x.1 f))) (told j x.0 x.1)
 
     pub reached_all : CanReach DiskTells files Tells mids rows → CanReach DiskTells files Tells news rows'
     reached_all can = λ tells j y f. let x = mid_at j y f in (looks j x.0 y x.1 f).reach tells (can tells j x.0 x.1)

@@ -98,3 +98,8 @@ module _ (settings : Settings) (v at : ℕ) {D : Type 0} (faults : D → ℕ) (r
 pub unfinished_damaged : (settings : Settings) (v replica : ℕ) (u : Unswapped) (m place : ℕ) → (unfinished_by settings v replica u).fault ≡ refusal.Damaged m place → u ≡ Refused (fault.Damaged place)
 unfinished_damaged settings v replica (Refused f) m place e = ap (λ x. Refused x) (damaged_answer (machine_of settings v replica) f m place e)
 unfinished_damaged settings v replica (Perhaps printed) m place e = absurd cc
+
+-- and the volume is frozen only where its files may be switched
+pub unfinished_unsure : (settings : Settings) (v replica : ℕ) (u : Unswapped) (m : ℕ) → (unfinished_by settings v replica u).frozen ≡ Some m → (f : ℕ) × (u ≡ Perhaps f)
+unfinished_unsure settings v replica (Refused f) m e = absurd cc
+unfinished_unsure settings v replica (Perhaps printed) m e = (printed, refl)

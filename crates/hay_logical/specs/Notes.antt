@@ -3,6 +3,7 @@ use Rattle.std.specs.Prelude.{◌≡◌, ℕ, nat_lt, not, Bool, true, false, Li
 use Rattle.hay_needle.specs.declared.settings.Settings.{Settings}
 use Rattle.hay_reply.specs.declared.Note.{Note}
 use Rattle.hay_legal.specs.Restarts.{replica_notes}
+use Rattle.hay_volume.specs.Needles.{LacksNeedleOf}
 use Rattle.hay_map.specs.MapRows.{MapRows}
 use Rattle.hay_map.specs.Places.{place_in}
 use Rattle.hay_map.specs.Rows.{row_at}
@@ -55,3 +56,19 @@ abbrev pub NotesTell : Settings → ℕ → Option Unsure → Sights → List Re
 NotesTell settings v None sights replicas notes = notes ≡ []
 NotesTell settings v (Some unsure) sights replicas notes =
     (kept : List Bool) × KeptIn unsure.change sights replicas kept × (notes ≡ replica_notes settings v (unsure.tag).line 0 kept)
+
+-- Where the disk tells, no needle of the recorded size begins at a place that the opening left not looked at.
+abbrev pub IsToldPlace : Sight → List ℕ → Type 0
+IsToldPlace (Unseen at size) file = LacksNeedleOf size at file
+IsToldPlace Never file = Unit {0}
+IsToldPlace (Live at) file = Unit {0}
+IsToldPlace Gone file = Unit {0}
+
+-- so it is on replica j at the pair of a deletion that was broken off
+abbrev pub ToldChange : Change → Sights → ℕ → List ℕ → Type 0
+ToldChange (change.Put ends) sights j file = Unit {0}
+ToldChange (change.Delete pair) sights j file = IsToldPlace (sights pair j) file
+
+abbrev pub ToldUnsure : Option Unsure → Sights → ℕ → List ℕ → Type 0
+ToldUnsure None sights j file = Unit {0}
+ToldUnsure (Some unsure) sights j file = ToldChange unsure.change sights j file

@@ -6,6 +6,7 @@ use Rattle.hay_needle.specs.declared.needle.Version.TheVariants.{Two}
 use Rattle.hay_needle.specs.Sizes.{max_photo, needle_total}
 use Rattle.hay_core.specs.declared.entry.CoreTag.{CoreTag}
 use Rattle.hay_legal.specs.Known.{machine_of}
+use Rattle.hay_open.specs.Stored.{Stored}
 use Rattle.hay_physical.specs.Copies.{Copy, bare_of, end_of, generation_of, goal_of, is_stuck, next_of}
 use Rattle.hay_logical.specs.declared.fault.LogicalFault.{LogicalFault}
 use Rattle.hay_logical.specs.declared.fault.LogicalFault.TheVariants.{Busy, Damaged, Failed, Full, Gone, Idle, NoMemory, ReadOnly, Worn}
@@ -358,6 +359,10 @@ pub record IsFresh (r : ReplicaSeen) : Type 0 where
   pub loose : r.stuck ≡ false
   pub most : r.generation ≤ 65535
   pub from : 64 + r.bare * needle_total 0 ≤ r.end
+
+-- what stood on its disk was found: the generation, and where the cells end
+abbrev pub IsFoundAs : Stored → ReplicaSeen → Type 0
+IsFoundAs s r = (r.end ≡ s.end) × (r.generation ≡ s.generation)
 
 pub record OpenSeen (seen : VolumeSeen) : Type 0 where
   pub front : seen.front ≡ 0

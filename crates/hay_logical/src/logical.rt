@@ -12,6 +12,7 @@ ghost use Rattle.hay_map.specs.Places.{PlaceMeans, place_in};
 ghost use Rattle.hay_map.specs.Rows.{ChangesRows, HasRoom, row_at};
 ghost use Rattle.hay_map.specs.declared.view.MapOp.TheVariants as map_op;
 ghost use Rattle.hay_open.specs.Damage.{IsOpeningDamage};
+ghost use Rattle.hay_open.specs.Stored.{OpensAs, Stored};
 ghost use Rattle.hay_open.specs.declared.fault.OpenFault.TheVariants as open_fault;
 ghost use Rattle.hay_physical.specs.declared.state.Phase.TheVariants.{Closed};
 ghost use Rattle.hay_physical.specs.Copies.{Copy, contents_of, generation_of, goal_of, is_stuck, next_of, volume_bytes};
@@ -20,9 +21,9 @@ ghost use Rattle.hay_physical.specs.Replicas.{HasWholeNeedle};
 ghost use Rattle.hay_compact.specs.Finishing.{IsSeen};
 ghost use Rattle.hay_logical.specs.Draws.{DrewAt, HasDrawnNothing, looked_pair};
 ghost use Rattle.hay_logical.specs.Fits.{At, PlaceStands, super_of};
-ghost use Rattle.hay_logical.specs.Notes.{NotesTell};
+ghost use Rattle.hay_logical.specs.Notes.{NotesTell, ToldUnsure};
 ghost use Rattle.hay_logical.specs.Refusals.{IsUntouchedBy};
-ghost use Rattle.hay_logical.specs.Seen.{AreEnds, BeginRefusedSeen, BeginSeen, ChangesAt, CompactRefusedSeen, CompactSeen, DeleteRefusedSeen, EraseSeen, FinishRefusedSeen, FinishSeen, FlushRefusedSeen, FlushSeen, FreezesSeen, HideSeen, IsEnded, OpenSeen, PutRefusedSeen, PutSeen, ReplicaSeen, RoomRefusedSeen, RoomSeen, StepRefusedSeen, StepSeen, WriteSeen, begun, replica_seen, volume_seen};
+ghost use Rattle.hay_logical.specs.Seen.{AreEnds, BeginRefusedSeen, BeginSeen, ChangesAt, CompactRefusedSeen, CompactSeen, DeleteRefusedSeen, EraseSeen, FinishRefusedSeen, FinishSeen, FlushRefusedSeen, FlushSeen, FreezesSeen, HideSeen, IsEnded, IsFoundAs, OpenSeen, PutRefusedSeen, PutSeen, ReplicaSeen, RoomRefusedSeen, RoomSeen, StepRefusedSeen, StepSeen, WriteSeen, begun, replica_seen, volume_seen};
 ghost use Rattle.hay_logical.specs.Needles.{AreToldBy, DeletesTold, HeadsLead, HeadsLeadOn, HeadsLeadPart, IsDamagedCell, IsDamagedLook, LacksCell, LacksCellAnew, LacksCellLeft, LacksSeenOn};
 ghost use Rattle.hay_logical.specs.Sights.{DeleteRefusedSights, DeletesSights, ErasesSights, FindsPhoto, KeepsSights, LiesWithinEach, LookRefusedSights, LooksAtPair, SeeRefusedSights, SeesPair, StoresSights, SwapsSights, sights_of};
 ghost use Rattle.hay_logical.specs.Steps.{AllIdle, IsRefusedAt, IsSeenBy, KeepsAbove, KeepsDisk, KeepsFiles, KeepsRuns, KeepsStuck, LosesRun, RoomFor, SetsPlaceAt};
@@ -150,6 +151,9 @@ impl<D: Disk> Logical<D> {
         ensures reopened { D.Tells → (k : VolumeKnown) → Stopped D.files self.old k →
             IfOk result (λ notes. IsReopened D.files D.Piece.Tells k notes self.new) }
         ensures told { IfOk result (NotesTell self.old.settings self.old.number self.old.unsure (sights_of self.new.rows) (volume_seen self.new).replicas) }
+        // Where the disk tells, a place of a deletion that was broken off, and that was not looked at, has no needle of its size.
+        ensures told_places { D.Tells → OnOk result ((j : ℕ) (r : Copy D) → At self.new.replicas j r →
+            ToldUnsure self.old.unsure (sights_of self.new.rows) j (volume_bytes D.files r)) }
         ensures fits { IfOk result (AllByRecursion FitsNote) }
         ensures settled { OnOk result (self.new.unsure ≡ None) }
         // No disk is void then.
@@ -175,6 +179,9 @@ impl<D: Disk> Logical<D> {
 
         ensures counts { KeepsCounts D.fault_count D.fuse_count self.old.replicas self.new.replicas }
         ensures same { IsSame self.old self.new }
+        // A disk that is void or whole is found as what it has, whatever the others have.
+        ensures finds { D.Tells → OnOk result ((j : ℕ) (r r' : Copy D) (s : Stored) → At self.old.replicas j r → At self.new.replicas j r' →
+            OpensAs r.sup (contents_of D.files r.disk) s → IsFoundAs s (replica_seen r')) }
         ensures seen { OnOk result (OpenSeen (volume_seen self.new)) }
         ensures within { OnOk result (LiesWithinEach (sights_of self.new.rows) (volume_seen self.new).replicas) }
     {
@@ -903,6 +910,8 @@ impl<D: Disk> Logical<D> {
         ensures seen { IfOk result (λ files. FinishSeen replica files.generation files.end (volume_seen self.old) (volume_seen self.new)) }
         ensures refused_seen { IfErr result (FinishRefusedSeen self.old.settings self.old.number replica (volume_seen self.old) (volume_seen self.new)) }
         ensures lead { D.Tells → OnOk result ((r : Copy D) → At self.old.replicas replica r → HeadsLeadOn (sights_of self.old.rows) replica (replica_seen r) (volume_bytes D.files r)) }
+        ensures froze { D.Tells → self.old.frozen ≡ None → (m : ℕ) → self.new.frozen ≡ Some m → (r : Copy D) → At self.old.replicas replica r →
+            HeadsLeadOn (sights_of self.old.rows) replica (replica_seen r) (volume_bytes D.files r) }
         ensures damaged { D.Tells → (m place : ℕ) → result ≡ Err (LogicalFault.Damaged m place) → IsDamagedCell D.files self.old.replicas replica (LacksCellLeft (sights_of self.old.rows) replica place) }
         ensures sights { OnOk result (SwapsSights replica (volume_seen self.new).replicas (sights_of self.old.rows) (sights_of self.new.rows)) }
         ensures refused_sights { OnErr result (KeepsSights (sights_of self.old.rows) (sights_of self.new.rows)) }
@@ -956,6 +965,8 @@ impl<D: Disk> Logical<D> {
         ensures seen { IfOk result (λ generation. (end : ℕ) × FinishSeen replica generation end (volume_seen self.old) (volume_seen self.new)) }
         ensures refused_seen { IfErr result (FinishRefusedSeen self.old.settings self.old.number replica (volume_seen self.old) (volume_seen self.new)) }
         ensures lead { D.Tells → OnOk result ((r : Copy D) → At self.old.replicas replica r → HeadsLeadOn (sights_of self.old.rows) replica (replica_seen r) (volume_bytes D.files r)) }
+        ensures froze { D.Tells → self.old.frozen ≡ None → (m : ℕ) → self.new.frozen ≡ Some m → (r : Copy D) → At self.old.replicas replica r →
+            HeadsLeadOn (sights_of self.old.rows) replica (replica_seen r) (volume_bytes D.files r) }
         ensures damaged { D.Tells → (m place : ℕ) → result ≡ Err (LogicalFault.Damaged m place) → IsDamagedCell D.files self.old.replicas replica (LacksCellLeft (sights_of self.old.rows) replica place) }
         ensures sights { OnOk result (SwapsSights replica (volume_seen self.new).replicas (sights_of self.old.rows) (sights_of self.new.rows)) }
         ensures refused_sights { OnErr result (KeepsSights (sights_of self.old.rows) (sights_of self.new.rows)) }
@@ -1000,6 +1011,8 @@ impl<D: Disk> Logical<D> {
         ensures seen { IfOk result (λ files. CompactSeen replica files.generation files.end (volume_seen self.old) (volume_seen self.new)) }
         ensures refused_seen { IfErr result (CompactRefusedSeen self.old.settings self.old.number replica (volume_seen self.old) (volume_seen self.new)) }
         ensures lead { D.Tells → OnOk result ((r : Copy D) → At self.old.replicas replica r → HeadsLeadOn (sights_of self.old.rows) replica (begun (replica_seen r)) (volume_bytes D.files r)) }
+        ensures froze { D.Tells → self.old.frozen ≡ None → (m : ℕ) → self.new.frozen ≡ Some m → (r : Copy D) → At self.old.replicas replica r →
+            HeadsLeadOn (sights_of self.old.rows) replica (begun (replica_seen r)) (volume_bytes D.files r) }
         ensures damaged { D.Tells → (m place : ℕ) → result ≡ Err (LogicalFault.Damaged m place) → IsDamagedCell D.files self.old.replicas replica (LacksCellAnew (sights_of self.old.rows) replica place) }
         ensures sights { OnOk result (SwapsSights replica (volume_seen self.new).replicas (sights_of self.old.rows) (sights_of self.new.rows)) }
         ensures refused_sights { OnErr result (KeepsSights (sights_of self.old.rows) (sights_of self.new.rows)) }
@@ -1049,6 +1062,8 @@ impl<D: Disk> Logical<D> {
         ensures seen { IfOk result (λ generation. (end : ℕ) × CompactSeen replica generation end (volume_seen self.old) (volume_seen self.new)) }
         ensures refused_seen { IfErr result (CompactRefusedSeen self.old.settings self.old.number replica (volume_seen self.old) (volume_seen self.new)) }
         ensures lead { D.Tells → OnOk result ((r : Copy D) → At self.old.replicas replica r → HeadsLeadOn (sights_of self.old.rows) replica (begun (replica_seen r)) (volume_bytes D.files r)) }
+        ensures froze { D.Tells → self.old.frozen ≡ None → (m : ℕ) → self.new.frozen ≡ Some m → (r : Copy D) → At self.old.replicas replica r →
+            HeadsLeadOn (sights_of self.old.rows) replica (begun (replica_seen r)) (volume_bytes D.files r) }
         ensures damaged { D.Tells → (m place : ℕ) → result ≡ Err (LogicalFault.Damaged m place) → IsDamagedCell D.files self.old.replicas replica (LacksCellAnew (sights_of self.old.rows) replica place) }
         ensures sights { OnOk result (SwapsSights replica (volume_seen self.new).replicas (sights_of self.old.rows) (sights_of self.new.rows)) }
         ensures refused_sights { OnErr result (KeepsSights (sights_of self.old.rows) (sights_of self.new.rows)) }

@@ -122,6 +122,7 @@ pub(crate) fn finish_at<D: Disk>(
     ensures seen { (r r' : Copy D) → At replicas.old at r → At replicas.new at r' → IfOk result (λ files. SwapSeen files.generation files.end (replica_seen r) (replica_seen r')) }
     ensures kept { (r r' : Copy D) → At replicas.old at r → At replicas.new at r' → OnErr result (ChangesRun (replica_seen r) (replica_seen r')) }
     ensures lead { D.Tells → OnOk result ((r : Copy D) → At replicas.old at r → HeadsLeadOn (sights_of rows.old) at (replica_seen r) (volume_bytes D.files r)) }
+    ensures unsure { D.Tells → (f : ℕ) → result ≡ Err (Unswapped.Unsure f) → (r : Copy D) → At replicas.old at r → HeadsLeadOn (sights_of rows.old) at (replica_seen r) (volume_bytes D.files r) }
     ensures damaged { D.Tells → (place : ℕ) → result ≡ Err (Unswapped.Refused (ReplicaFault.Damaged place)) → IsDamagedCell D.files replicas.old at (LacksCellLeft (sights_of rows.old) at place) }
 {
     let result = finish(&mut replicas[at], at as u32, rows);
@@ -149,6 +150,7 @@ pub(crate) fn compact_at<D: Disk>(
     ensures seen { (r r' : Copy D) → At replicas.old at r → At replicas.new at r' → IfOk result (λ files. SwapSeen files.generation files.end (replica_seen r) (replica_seen r')) }
     ensures kept { (r r' : Copy D) → At replicas.old at r → At replicas.new at r' → OnErr result (ChangesRun (replica_seen r) (replica_seen r')) }
     ensures lead { D.Tells → OnOk result ((r : Copy D) → At replicas.old at r → HeadsLeadOn (sights_of rows.old) at (begun (replica_seen r)) (volume_bytes D.files r)) }
+    ensures unsure { D.Tells → (f : ℕ) → result ≡ Err (Unswapped.Unsure f) → (r : Copy D) → At replicas.old at r → HeadsLeadOn (sights_of rows.old) at (begun (replica_seen r)) (volume_bytes D.files r) }
     ensures damaged { D.Tells → (place : ℕ) → result ≡ Err (Unswapped.Refused (ReplicaFault.Damaged place)) → IsDamagedCell D.files replicas.old at (LacksCellAnew (sights_of rows.old) at place) }
 {
     let result = compact(&mut replicas[at], at as u32, rows, alloc);
@@ -186,6 +188,7 @@ fn compact<D: Disk>(
     ensures seen { IfOk result (λ files. SwapSeen files.generation files.end (replica_seen replica.old) (replica_seen replica.new)) }
     ensures kept { OnErr result (ChangesRun (replica_seen replica.old) (replica_seen replica.new)) }
     ensures lead { D.Tells → OnOk result (HeadsLeadOn (sights_of rows.old) at (begun (replica_seen replica.old)) (volume_bytes D.files replica.old)) }
+    ensures unsure { D.Tells → (f : ℕ) → result ≡ Err (Unswapped.Unsure f) → HeadsLeadOn (sights_of rows.old) at (begun (replica_seen replica.old)) (volume_bytes D.files replica.old) }
     ensures damaged { D.Tells → (place : ℕ) → result ≡ Err (Unswapped.Refused (ReplicaFault.Damaged place)) → LacksCellAnew (sights_of rows.old) at place (replica_seen replica.old) (volume_bytes D.files replica.old) }
 {
     match replica.begin(alloc) {
@@ -211,6 +214,7 @@ fn finish<D: Disk>(
     ensures seen { IfOk result (λ files. SwapSeen files.generation files.end (replica_seen replica.old) (replica_seen replica.new)) }
     ensures kept { OnErr result (ChangesRun (replica_seen replica.old) (replica_seen replica.new)) }
     ensures lead { D.Tells → OnOk result (HeadsLeadOn (sights_of rows.old) at (replica_seen replica.old) (volume_bytes D.files replica.old)) }
+    ensures unsure { D.Tells → (f : ℕ) → result ≡ Err (Unswapped.Unsure f) → HeadsLeadOn (sights_of rows.old) at (replica_seen replica.old) (volume_bytes D.files replica.old) }
     ensures damaged { D.Tells → (place : ℕ) → result ≡ Err (Unswapped.Refused (ReplicaFault.Damaged place)) → LacksCellLeft (sights_of rows.old) at place (replica_seen replica.old) (volume_bytes D.files replica.old) }
 {
     // There are fewer cells than bytes.

@@ -103,3 +103,11 @@ pub returns-in-Err-clause-damaged : goal.returns-in-Err-clause-damaged
 returns-in-Err-clause-damaged g c = λ tells place is.
     let same : c.in-Err.fault ≡ ReplicaFault.Damaged place = cc in
     absurd (subst (λ (f : ReplicaFault). physical_faults.IsBeginFault (g.D.Disk.fault_count (c.args.replica.now).disk) (g.D.Disk.fault_count (c.begin.new.self).disk) f) same c.in-Err.ensures.causes)
+
+pub returns-in-Ok-clause-unsure : goal.returns-in-Ok-clause-unsure
+returns-in-Ok-clause-unsure g c = λ tells f is.
+    heads_anew (sights_of c.args.rows.now) c.args.at (replica_seen c.args.replica.now) (replica_seen c.begin.new.self) (volume_bytes g.D.Disk.files c.args.replica.now) (volume_bytes g.D.Disk.files c.begin.new.self)
+    c.in-Ok.ensures.first c.begin.ensures.stays.1 (c.begin.ensures.bytes tells) (c.finish.ensures.unsure tells f is)
+
+pub returns-in-Err-clause-unsure : goal.returns-in-Err-clause-unsure
+returns-in-Err-clause-unsure g c = λ tells f is. absurd cc

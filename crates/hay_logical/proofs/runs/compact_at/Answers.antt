@@ -85,3 +85,9 @@ returns-clause-lead g c = λ tells.
     on_ok_one c.compact-result.result _ _
     (λ lead r e. subst (λ (x : Copy g.row.D.Denot). HeadsLeadOn (sights_of c.args.rows.now) c.args.at (begun (replica_seen x)) (volume_bytes g.D.Disk.files x)) (at_same c.args.replicas.now c.args.at here r there e) lead)
     (c.compact-result.ensures.lead tells)
+
+pub returns-clause-unsure : goal.returns-clause-unsure
+returns-clause-unsure g c = λ tells f is r e.
+    let here : Copy g.row.D.Denot = slice_index_or c.args.replicas.now c.args.at c.index-replicas-at.result in
+    let there : At c.args.replicas.now c.args.at here = at_read c.args.replicas.now c.args.at c.index-replicas-at.result c.requires.within in
+    subst (λ (x : Copy g.row.D.Denot). HeadsLeadOn (sights_of c.args.rows.now) c.args.at (begun (replica_seen x)) (volume_bytes g.D.Disk.files x)) (at_same c.args.replicas.now c.args.at here r there e) (c.compact-result.ensures.unsure tells f is)

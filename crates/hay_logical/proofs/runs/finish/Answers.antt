@@ -110,3 +110,12 @@ returns-in-Err-clause-damaged g c = λ tells place is.
     let same : c.in-Err.fault ≡ ReplicaFault.Damaged place = cc in
     subst (λ n. LacksCell (sights_of c.args.rows.now) c.args.at n place (replica_seen c.args.replica.now) (volume_bytes g.D.Disk.files c.args.replica.now)) c.end-most.ensures.is
     (c.in-Err.ensures.damaged tells place (ap (λ (f : ReplicaFault). Err f) same))
+
+pub returns-in-Ok-clause-unsure : goal.returns-in-Ok-clause-unsure
+returns-in-Ok-clause-unsure g c = λ tells f is.
+    let r : ReplicaSeen = replica_seen c.args.replica.now in
+    let x : ReplicaSeen = replica_seen c.step.new.replica in
+    heads_all (sights_of c.args.rows.now) c.args.at c.in-Ok.field-0 r x (volume_bytes g.D.Disk.files c.args.replica.now) (subst (λ n. StepsTo n c.in-Ok.field-0 r x) c.end-most.ensures.is c.in-Ok.ensures.seen) (c.in-Ok.ensures.lead tells)
+
+pub returns-in-Err-clause-unsure : goal.returns-in-Err-clause-unsure
+returns-in-Err-clause-unsure g c = λ tells f is. absurd cc

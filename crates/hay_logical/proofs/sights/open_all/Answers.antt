@@ -1,7 +1,7 @@
 use Rattle.std.proofs.Common.{◌≤◌, length, sym, ◌∙◌, arith}
 use Rattle.hay_logical.specs.Draws.{looked_pair}
 use Rattle.hay_logical.proofs.Drawing.{drew_all}
-use Rattle.hay_logical.proofs.Looks.{found_all, if_err_then, kept_all, left_all, on_err_now, on_ok_now, on_ok_then, opened_all, opened_open, reached_all, refused_all, thawed_all}
+use Rattle.hay_logical.proofs.Looks.{found_all, if_err_then, kept_all, left_all, on_err_now, on_ok_now, on_ok_then, opened_all, opened_open, reached_all, refused_all, thawed_all, told_all}
 use Rattle.hay_logical.proofs.Through.{counts_through}
 use Rattle.hay_logical.proofs.sights.open_all.Goals as goal
 
@@ -45,3 +45,10 @@ returns-in-Ok-clause-drew g c = λ tells.
     on_ok_now c.see_broken_off.result
     (drew_all g.D.Disk.files g.D.Disk.drawn c.open_each.new.rows g.D.Disk.Tells g.D.Disk.fault_count g.D.Disk.fuse_count (looked_pair c.args.unsure.now) c.args.replicas.now c.open_each.new.replicas c.see_broken_off.new.replicas c.see_broken_off.new.rows tells
     c.open_each.ensures.counts c.see_broken_off.ensures.looks (c.in-Ok.ensures.drew tells) (c.see_broken_off.ensures.drawn tells))
+
+pub returns-in-Ok-clause-told : goal.returns-in-Ok-clause-told
+returns-in-Ok-clause-told g c = λ tells.
+    on_ok_then c.see_broken_off.result
+    (told_all g.D.Disk.Tells g.D.Disk.files g.D.Piece.Piece.Tells g.D.Disk.fault_count g.D.Disk.fuse_count c.args.replicas.now c.open_each.new.replicas c.see_broken_off.new.replicas c.open_each.new.rows c.see_broken_off.new.rows c.open_each.ensures.counts
+    c.see_broken_off.ensures.counts c.see_broken_off.ensures.looks tells c.args.unsure.now)
+    (c.see_broken_off.ensures.told tells)

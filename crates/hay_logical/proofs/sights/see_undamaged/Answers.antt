@@ -4,7 +4,7 @@ use Rattle.hay_physical.specs.declared.fault.ReplicaFault.{ReplicaFault}
 use Rattle.hay_physical.specs.Faults.{IsSightFault}
 use Rattle.hay_logical.specs.Steps.{IsLookFault}
 use Rattle.hay_logical.proofs.Drawing.{draws_each, draws_one}
-use Rattle.hay_logical.proofs.Looks.{looks_none, looks_on, seen_on, still_open, still_reached, unseen}
+use Rattle.hay_logical.proofs.Looks.{looks_none, looks_on, seen_on, still_open, still_reached, told_on, unseen}
 use Rattle.hay_logical.proofs.Lists.{at_below, went_start}
 use Rattle.hay_logical.proofs.Methods.{one_after}
 use Rattle.hay_logical.proofs.sights.see_undamaged.Goals as goal
@@ -15,6 +15,7 @@ loop-at-init g c = record {
   looks = looks_none g.D.Disk.Tells g.D.Disk.files g.D.Piece.Piece.Tells g.D.Disk.fault_count g.D.Disk.fuse_count c.args.replicas.now c.args.rows.now;
   drawn = λ tells. record { went = went_start _ c.args.replicas.now; places = λ j later. refl };
   seen = λ tells j r s h. absurd (omega (arith, h));
+  told = λ tells j r h. absurd (omega (arith, h));
 }
 
 pub see_at-requires : goal.see_at-requires
@@ -90,6 +91,7 @@ loop-at-preserved g c =
           draws_one g.D.Disk.drawn c.args.pair c.args.rows.now c.loop-at.at c.args.replicas.now c.loop-at.replicas c.see_at.new.replicas c.loop-at.rows c.see_at.new.rows c.see_at.result (c.loop-at.invariant.drawn tells) one c.see_at.ensures.row
           (c.see_at.ensures.drawn tells one.before one.after one.was (one_after c.loop-at.at c.loop-at.replicas c.see_at.new.replicas one));
       seen = λ tells. seen_on T files g.D.Piece.Piece.Tells faults g.D.Disk.fuse_count c.args.replicas.now c.loop-at.replicas c.args.rows.now c.loop-at.rows c.loop-at.invariant.looks c.see_at.new.replicas c.see_at.new.rows c.loop-at.at c.args.pair c.see_at.result one sights c.see_at.ensures.row c.see_at.ensures.counts tells only (c.loop-at.invariant.seen tells);
+      told = λ tells. told_on T files g.D.Piece.Piece.Tells faults g.D.Disk.fuse_count c.args.replicas.now c.loop-at.replicas c.args.rows.now c.loop-at.rows c.loop-at.invariant.looks c.see_at.new.replicas c.see_at.new.rows c.loop-at.at c.args.pair c.see_at.result one sights c.see_at.ensures.row c.see_at.ensures.counts tells only (c.see_at.ensures.told tells) (c.loop-at.invariant.told tells);
     }
 
 pub returns-clause-looks : goal.returns-clause-looks
@@ -115,3 +117,7 @@ returns-in-Some-clause-drawn g c = λ tells.
 pub returns-clause-drawn : goal.returns-clause-drawn
 returns-clause-drawn g c = λ tells.
     draws_each g.D.Disk.drawn c.args.pair c.args.rows.now c.loop-at.at c.args.replicas.now c.loop-at.replicas c.loop-at.rows (c.loop-at.invariant.drawn tells)
+
+pub returns-clause-told : goal.returns-clause-told
+returns-clause-told g c = λ tells j r e.
+    c.loop-at.invariant.told tells j r (let h = at_below c.args.replicas.now j r e in let over = c.loop-at-test.false in let less : j < c.loop-at.at = omega (arith, h, over) in less) e

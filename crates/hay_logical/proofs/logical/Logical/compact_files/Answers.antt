@@ -40,7 +40,7 @@ use Rattle.hay_logical.specs.declared.runs.Unswapped.{Unswapped}
 use Rattle.hay_logical.specs.declared.runs.Unswapped.TheVariants.{Refused}
 use Rattle.hay_physical.specs.declared.fault.ReplicaFault.TheVariants as fault
 use Rattle.hay_logical.specs.Needles.{HeadsLeadOn, IsDamagedCell, LacksCellAnew}
-use Rattle.hay_logical.proofs.SeenSwaps.{refused_longer, unfinished_damaged}
+use Rattle.hay_logical.proofs.SeenSwaps.{refused_longer, unfinished_damaged, unfinished_unsure}
 use Rattle.std.proofs.Common.{Err}
 use Rattle.hay_logical.proofs.logical.Logical.compact_files.Goals as goal
 use Rattle.hay_logical.proofs.logical.Logical.compact_files.Goals.{After-compact_at}
@@ -348,3 +348,15 @@ pub returns-in-Ok-clause-lead : goal.returns-in-Ok-clause-lead
 returns-in-Ok-clause-lead g c = λ tells r e.
     subst (λ v. HeadsLeadOn (sights_of v.rows) c.args.replica (begun (replica_seen r)) (volume_bytes g.D.Disk.files r)) c.self.view_is
     (c.in-Ok.ensures.lead tells r (subst (λ xs. At xs c.args.replica r) (sym c.as_mut_slice.ensures.value) (subst (λ v. At v.replicas c.args.replica r) (sym c.self.view_is) e)))
+
+pub returns-in-Some-clause-froze : goal.returns-in-Some-clause-froze
+returns-in-Some-clause-froze g c = λ tells thawed m e. absurd (some_none (sym c.in-Some.is ∙ ap (λ v. v.frozen) c.self.view_is ∙ thawed))
+
+pub returns-in-Ok-clause-froze : goal.returns-in-Ok-clause-froze
+returns-in-Ok-clause-froze g c = λ tells thawed m e. absurd (some_none (sym e ∙ not_some c.self.inside.frozen c.in_default.not-Some))
+
+pub returns-in-Err-clause-froze : goal.returns-in-Err-clause-froze
+returns-in-Err-clause-froze g c = λ tells thawed m e r there.
+    let by = unfinished_unsure c.self.inside.settings c.self.inside.number c.args.replica c.in-Err.unswapped m (ap (λ (u : Unfinished). u.frozen) (sym c.unfinished_by-unfinished.ensures) ∙ e) in
+    subst (λ v. HeadsLeadOn (sights_of v.rows) c.args.replica (begun (replica_seen r)) (volume_bytes g.D.Disk.files r)) c.self.view_is
+    (c.compact_at.ensures.unsure tells by.0 (c.in-Err.is ∙ ap (λ (u : Unswapped). Err u) by.1) r (subst (λ xs. At xs c.args.replica r) (sym c.as_mut_slice.ensures.value) (subst (λ v. At v.replicas c.args.replica r) (sym c.self.view_is) there)))

@@ -2,10 +2,10 @@ use Rattle.std.proofs.Common.{◌≡◌, ◌≤◌, ◌<◌, ℕ, None, length, 
 use Rattle.std.proofs.lemmas.List.{with_items_is}
 use Rattle.hay_map.specs.declared.place.Place.TheVariants as place
 use Rattle.hay_open.specs.declared.fault.OpenFault.TheVariants as open_fault
-use Rattle.hay_physical.specs.Copies.{Copy}
+use Rattle.hay_physical.specs.Copies.{Copy, volume_bytes}
 use Rattle.hay_logical.specs.Draws.{DrewAt, looked_pair}
 use Rattle.hay_logical.specs.Fits.{At}
-use Rattle.hay_logical.specs.Notes.{NotesTell}
+use Rattle.hay_logical.specs.Notes.{NotesTell, ToldUnsure}
 use Rattle.hay_logical.specs.Stands.{Holds, HoldsFor, IsFirst, Stands, StandsFor, Stopped, StoppedFor}
 use Rattle.hay_logical.specs.Steps.{IsRefusedAt, OpensAt}
 use Rattle.hay_logical.specs.Volumes.{CanReach, IsShaped, KeepsCounts, Volume}
@@ -20,7 +20,7 @@ use Rattle.std.specs.Prelude.{map}
 use Rattle.hay_logical.specs.Seen.{IsFresh, ReplicaSeen, replica_seen}
 use Rattle.hay_logical.specs.Sights.{LiesWithinAt, sights_of}
 use Rattle.std.specs.Vec.{with_items}
-use Rattle.hay_physical.proofs.Laws.{no_next}
+use Rattle.hay_physical.proofs.Laws.{no_next, stands_end, stands_generation}
 use Rattle.hay_logical.proofs.Seen.{map_at}
 use Rattle.hay_logical.proofs.logical.Logical.open.Goals as goal
 
@@ -383,3 +383,17 @@ returns-clause-within g c = λ j s e.
     let old = at_there olds j (let h = at_below news j y.0 y.1 in let less : j < length olds = omega (arith, h, count) in less) in
     let opened = c.in-Ok.ensures.opened j old.0 y.0 (subst (λ xs. At xs j old.0) (sym now) old.1) y.1 in
     subst (λ (r : ReplicaSeen). LiesWithinAt j r.end (sights_of c.open_all.new.rows)) (sym y.2) opened.within
+
+pub returns-clause-told_places : goal.returns-clause-told_places
+returns-clause-told_places g c = λ tells j r here.
+    let kept = with_items_is c.self.inside.replicas c.open_all.new.replicas (c.open_all.auto.replicas ∙ c.as_mut_slice.ensures.len) in
+    subst (λ (v : Volume g.row.D.Denot g.row.D-Piece.Denot). ToldUnsure v.unsure (sights_of c.open_all.new.rows) j (volume_bytes g.D.Disk.files r)) c.self.view_is
+    (c.in-Ok.ensures.told tells j r (subst (λ xs. At xs j r) kept here))
+
+pub returns-clause-finds : goal.returns-clause-finds
+returns-clause-finds g c = λ tells j r r' s there here opens.
+    let now = c.as_mut_slice.ensures.value in
+    let kept = with_items_is c.self.inside.replicas c.open_all.new.replicas (c.open_all.auto.replicas ∙ c.as_mut_slice.ensures.len) in
+    let e : At c.self.inside.replicas.items j r = subst (λ (v : Volume g.row.D.Denot g.row.D-Piece.Denot). At v.replicas j r) (sym c.self.view_is) there in
+    let stands = ((c.in-Ok.ensures.opened j r r' (subst (λ xs. At xs j r) (sym now) e) (subst (λ xs. At xs j r') kept here)).opened tells s opens).0 in
+    (stands_end g.D.Disk.files r' s stands, stands_generation g.D.Disk.files r' s stands)
