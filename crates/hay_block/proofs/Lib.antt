@@ -1,6 +1,7 @@
 pub mod Lists
 pub mod Ending
 pub mod Noting
+pub mod Upwards
 pub mod Legal
 pub mod Chaining
 pub mod Knowing

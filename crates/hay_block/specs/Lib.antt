@@ -9,3 +9,4 @@ pub mod Making
 pub mod Frames
 pub mod Stores
 pub mod Parts
+pub mod Texts

@@ -1,6 +1,6 @@
 -- The volumes and the Directory of a store, where they stand for what is known, and what a block leaves of them.
-use Rattle.std.specs.Prelude.{◌≡◌, ℕ, ◌+◌, ◌<◌, ◌≤◌, Bool, List, [], ◌∷◌, ◌++◌, length, map, slice_get, Some}
-use Rattle.std.specs.List.{flat_map}
+use Rattle.std.specs.Prelude.{◌≡◌, ◌≢◌, ℕ, ◌+◌, ◌<◌, ◌≤◌, Bool, List, [], ◌∷◌, ◌++◌, length, map, slice_get, Some}
+use Rattle.std.specs.List.{AllByRecursion as Each, flat_map}
 use Rattle.hay_needle.specs.declared.settings.Settings.{Settings}
 use Rattle.hay_front.specs.declared.front.Tag.{Tag}
 use Rattle.hay_legal.specs.declared.known.DirKnown.{DirKnown}
@@ -10,7 +10,7 @@ use Rattle.hay_legal.specs.declared.turn.LaneItem.{LaneItem}
 use Rattle.hay_legal.specs.declared.turn.LogNote.{LogNote}
 use Rattle.hay_legal.specs.declared.turn.RowNote.{RowNote}
 use Rattle.hay_legal.specs.Blocks.{LegalBlock}
-use Rattle.hay_legal.specs.Known.{replicas_of, volume_at}
+use Rattle.hay_legal.specs.Known.{EachPair, replicas_of, volume_at}
 use Rattle.hay_block.specs.Behind.{log_note_from}
 
 -- the counts of all disks by slot: that of the Directory's, and those of the replicas' by volume
@@ -65,3 +65,9 @@ abbrev pub notes_from : ℕ → List ℕ → List (List ℕ) → List LogNote
 notes_from v [] lines = []
 notes_from v (front ∷ fronts) [] = []
 notes_from v (front ∷ fronts) (own ∷ lines) = log_note_from v front own ++ notes_from (v + 1) fronts lines
+
+-- Notes on volumes of a store that has so many: each is on a later volume than those before it, and has lines.
+pub record AreUpwards (volumes : ℕ) (logs : List LogNote) : Type 0 where
+  pub upwards : EachPair (λ a b. a.volume < b.volume) logs
+  pub within : Each (λ log. log.volume < volumes) logs
+  pub some : Each (λ log. log.lines ≢ []) logs

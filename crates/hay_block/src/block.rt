@@ -9,6 +9,7 @@ ghost use Rattle.hay_shared_volume.specs.Seats.{IsSeatOf, WasAt, sight_of};
 
 use crate::frame::{Frame, run_from};
 use crate::parts::{apart, joined, seat_rooms};
+use crate::text::ReplyText;
 use crate::worker::Job;
 use hay_base::NoMemory;
 use hay_disk::{Arm, Disk, Piece};
@@ -18,7 +19,6 @@ use hay_lanes::Gate;
 use hay_logical::Logical;
 use hay_needle::Settings;
 use hay_reader::LaneSeat;
-use hay_reply::Reply;
 use hay_shared_volume::SharedVolume;
 use hay_volume_lock::VolumeSeat;
 use std::alloc::Global;
@@ -140,7 +140,7 @@ pub(crate) fn run_locked<D, P, L, T, A, G, R>(
 ) -> (
     Locked<L, T, A, Logical<D>>,
     Vec<Vec<Tag>>,
-    Result<Vec<Vec<Reply>>, NoMemory>,
+    Result<Vec<Vec<ReplyText>>, NoMemory>,
 )
 where
     D: Disk<Piece = P> + Send + Sync,

@@ -10,6 +10,7 @@ ghost use Rattle.hay_logical.specs.Volumes.{Volume};
 
 use crate::run::run_lines;
 use crate::seating::{give_seats, take_seats};
+use crate::text::ReplyText;
 use crate::worker::Job;
 use hay_base::NoMemory;
 use hay_disk::{Arm, Disk, Piece};
@@ -17,7 +18,6 @@ use hay_front::Tag;
 use hay_lane::{DirectoryCalls, Lane, Shared};
 use hay_lanes::Gate;
 use hay_logical::Logical;
-use hay_reply::Reply;
 use hay_shared_volume::{SharedVolume, VolumeRoom};
 use hay_volume_lock::VolumeSeat;
 use std::alloc::Global;
@@ -42,7 +42,7 @@ fn answer_lines<D, P, L, T, A, G, R>(
     gate: &G,
 ) -> (
     Frame<SharedVolume<D, P>, L, VolumeSeat<D, P>, T, A, Logical<D>>,
-    Result<Vec<Vec<Reply>>, NoMemory>,
+    Result<Vec<Vec<ReplyText>>, NoMemory>,
 )
 where
     D: Disk<Piece = P> + Send + Sync,
@@ -137,7 +137,7 @@ pub(crate) fn run_from<D, P, L, T, A, G, R>(
     gate: &G,
 ) -> (
     Frame<SharedVolume<D, P>, L, VolumeSeat<D, P>, T, A, Logical<D>>,
-    Result<Vec<Vec<Reply>>, NoMemory>,
+    Result<Vec<Vec<ReplyText>>, NoMemory>,
 )
 where
     D: Disk<Piece = P> + Send + Sync,

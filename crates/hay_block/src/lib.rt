@@ -4,10 +4,13 @@
 //! `run_block` takes the volumes and the Directory of a store with the arms of its lanes, and gives them back: it makes the locks, a
 //! `SharedVolume` of each volume and one of the Directory such as the trait `DirectoryLocks` says, answers the lines, and ends the locks.
 //! `give_seats` and `take_seats` bring the seats of a lock to their lanes and back, and `run_lines` answers all lines of all lanes, each by
-//! a `LaneWorker` and `hay_lane`. `specs/Making` says what is told where the Directory's lock is made and where it ends, as
-//! `hay_shared_volume` does of a volume's, `Frames` how the locks are made and end one behind the other, and
-//! `Stores` what the store stands for. `specs/Ends` says what is known where the locks are made and where they end, `Behind` what stands
-//! then and which notes tell of it, and `Lines` and `Seats` what the lanes answer and where they sit. By `specs/Law` and `Lanes` the
+//! a `LaneWorker` and `hay_lane`. A lane makes each reply into text as soon as it has it, and gives out a `ReplyText`: in clauses that is
+//! the reply, of which the text alone is kept. Where memory is wanting for the text it is the reply, and its text is made behind the block.
+//!
+//! `specs/Making` says what is told where the Directory's lock is made and where it ends, as `hay_shared_volume` does of a volume's,
+//! `Frames` how the locks are made and end one behind the other, and `Stores` what the store stands for. `specs/Ends` says what is known
+//! where the locks are made and where they end, `Behind` what stands then and which notes tell of it, `Texts` what is kept of a reply,
+//! and `Lines` and `Seats` what the lanes answer and where they sit. By `specs/Law` and `Lanes` the
 //! lines of such a block are legal, whatever the order in which the lanes came to the locks. `hay_meeting` asks for what follows, and
 //! has it from here:
 //!
@@ -32,10 +35,12 @@ mod parts;
 mod run;
 mod seating;
 mod store;
+mod text;
 mod worker;
 
 pub use locks::DirectoryLocks;
 pub use run::run_lines;
 pub use seating::{give_seats, take_seats};
 pub use store::{BlockAnswers, BlockNotes, StoreParts, run_block};
+pub use text::ReplyText;
 pub use worker::{Job, LaneWorker};

@@ -7,12 +7,12 @@ ghost use Rattle.hay_block.specs.Lines.{Answers, IsServed};
 ghost use Rattle.hay_block.specs.Workers.{at_locks, parts_of};
 ghost use Rattle.hay_shared_volume.specs.Seats.{IsSeatOf, WasAt, sight_of};
 
+use crate::text::ReplyText;
 use crate::worker::{Job, LaneWorker};
 use hay_base::NoMemory;
 use hay_disk::{Arm, Disk, Piece};
 use hay_lane::{DirectoryCalls, Lane, Shared};
 use hay_lanes::{Gate, run_lanes};
-use hay_reply::Reply;
 use hay_shared_volume::SharedVolume;
 use hay_volume_lock::VolumeSeat;
 use std::alloc::Global;
@@ -59,7 +59,7 @@ pub fn run_lines<D, P, L, T, A, G, R>(
     jobs: &[Vec<Job>],
     gate: &G,
 ) -> Result<
-    (Vec<Lane<VolumeSeat<D, P>, T, A>>, Vec<Vec<Reply>>),
+    (Vec<Lane<VolumeSeat<D, P>, T, A>>, Vec<Vec<ReplyText>>),
     (Vec<Lane<VolumeSeat<D, P>, T, A>>, NoMemory),
 >
 where

@@ -14,12 +14,13 @@ ghost use Rattle.hay_block.specs.Frames.{AreFit, HasRoom};
 ghost use Rattle.hay_block.specs.Lines.{AnswersBad, AreItems, IsServed};
 ghost use Rattle.hay_shared_volume.specs.Making.{AreSeated, IsVolumeOf, VolumeStands, count_of};
 ghost use Rattle.hay_block.specs.Making.{LeavesDirectory};
-ghost use Rattle.hay_block.specs.Stores.{AreVolumes, CountsRise, RanLegally, StoreStands, line_of_tag, notes_from};
+ghost use Rattle.hay_block.specs.Stores.{AreUpwards, AreVolumes, CountsRise, RanLegally, StoreStands, line_of_tag, notes_from};
 ghost use Rattle.hay_block.specs.Parts.{IsSameParts, NotesTell};
 
 use crate::block::{Locked, Rooms, run_locked};
 use crate::locks::DirectoryLocks;
 use crate::notes::{fronts_of, log_notes};
+use crate::text::ReplyText;
 use crate::worker::Job;
 use hay_base::NoMemory;
 use hay_disk::{Arm, Disk, Piece};
@@ -29,7 +30,6 @@ use hay_legal::turn::LogNote;
 use hay_logical::Logical;
 use hay_needle::Settings;
 use hay_reader::LaneSeat;
-use hay_reply::Reply;
 use hay_shared_volume::SharedVolume;
 use hay_volume_lock::VolumeSeat;
 use std::alloc::Global;
@@ -54,7 +54,7 @@ pub struct BlockNotes {
 /// The replies of each lane, in the order of its lines, and the notes behind them, which may want memory.
 #[derive(Drop)]
 pub struct BlockAnswers {
-    pub replies: Vec<Vec<Reply>>,
+    pub replies: Vec<Vec<ReplyText>>,
     pub notes: Result<BlockNotes, NoMemory>,
 }
 
@@ -198,6 +198,7 @@ where
     ensures replies { IfOk result.1 (λ answers. AllZip (λ js rs. length js.items ≡ length rs.items) jobs.now answers.replies.items) }
     ensures bad { IfOk result.1 (λ answers. AllZip (λ js rs. AllZip AnswersBad js.items rs.items) jobs.now answers.replies.items) }
     ensures fits { IfOk result.1 (λ answers. AllByRecursion (λ rs. AllByRecursion FitsReply rs.items) answers.replies.items) }
+    ensures upwards { IfOk result.1 (λ answers. IfOk answers.notes (λ notes. AreUpwards settings.volumes notes.logs.items)) }
     ensures arms_rise { AllZip (IsLaterArm A.is_sure A.fault_count) parts.arms.items result.0.arms.items }
     ensures rises { CountsRise settings (count_of D.fault_count) L.faults parts.volumes.items parts.directory result.0.volumes.items result.0.directory }
     // Where the disks tell, the lines are a legal block of what was known, in any order that keeps each lane's own, with these notes, and

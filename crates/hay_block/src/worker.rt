@@ -4,6 +4,7 @@ ghost use Rattle.hay_lane.specs.Lanes.{IsSeated};
 ghost use Rattle.hay_block.specs.Lines.{Answers, IsServed};
 ghost use Rattle.hay_shared_volume.specs.Seats.{IsSeatOf, WasAt, sight_of};
 
+use crate::text::ReplyText;
 use hay_core::CoreTag;
 use hay_disk::{Arm, Disk, Piece};
 use hay_lane::{DirectoryCalls, Lane, Shared};
@@ -39,7 +40,7 @@ where
 {
     type Job = Job;
 
-    type Out = Reply;
+    type Out = ReplyText;
 
     ghost may_answer = { λ w lane job. IsSeated IsSeatOf L.fits w.shared.now lane w.lane × IsServed job.item };
 
@@ -56,16 +57,19 @@ where
         lane: u32,
         job: &Job,
         gate: &G,
-    ) -> Reply {
+    ) -> ReplyText {
         let tag = CoreTag {
             lane,
             line: job.line,
         };
         match &job.item {
-            Item::Command(command) => self
-                .shared
-                .answer(rt, alloc, &mut self.lane, tag, command, gate),
-            Item::Bad => Reply::BadLine,
+            Item::Command(command) => {
+                let reply = self
+                    .shared
+                    .answer(rt, alloc, &mut self.lane, tag, command, gate);
+                ReplyText::new(alloc, reply)
+            }
+            Item::Bad => ReplyText::new(alloc, Reply::BadLine),
         }
     }
 }

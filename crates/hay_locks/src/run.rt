@@ -11,7 +11,7 @@ ghost use Rattle.hay_lane.specs.Lanes.{IsLaterArm};
 ghost use Rattle.hay_block.specs.Frames.{AreFit};
 ghost use Rattle.hay_block.specs.Lines.{AnswersBad, AreItems, IsServed};
 ghost use Rattle.hay_block.specs.Parts.{NotesTell};
-ghost use Rattle.hay_block.specs.Stores.{AreVolumes, CountsRise};
+ghost use Rattle.hay_block.specs.Stores.{AreUpwards, AreVolumes, CountsRise};
 ghost use Rattle.hay_locks.specs.Blocks.{AreSameParts, PartsStand, RanOnParts};
 ghost use Rattle.hay_locks.specs.Making.{IsDirectoryOf, rows_count_of};
 ghost use Rattle.hay_shared_volume.specs.Making.{IsVolumeOf, count_of};
@@ -62,6 +62,7 @@ where
     // Whatever the disks tell, each line is answered, by a reply that there is, no count of a disk or of an arm falls, and a sure arm stays so.
     ensures replies { IfOk result.1 (λ answers. AllZip (λ js rs. length js.items ≡ length rs.items) jobs.now answers.replies.items) }
     ensures fits { IfOk result.1 (λ answers. AllByRecursion (λ rs. AllByRecursion FitsReply rs.items) answers.replies.items) }
+    ensures upwards { IfOk result.1 (λ answers. IfOk answers.notes (λ notes. AreUpwards settings.volumes notes.logs.items)) }
     ensures bad { IfOk result.1 (λ answers. AllZip (λ js rs. AllZip AnswersBad js.items rs.items) jobs.now answers.replies.items) }
     ensures rises { CountsRise settings (count_of D.fault_count) (rows_count_of D.fault_count) parts.volumes.items parts.directory result.0.volumes.items result.0.directory }
     ensures arms_rise { AllZip (IsLaterArm A.is_sure A.fault_count) parts.arms.items result.0.arms.items }

@@ -10,11 +10,12 @@ use Rattle.hay_block.specs.declared.worker.Job.{Job}
 use Rattle.hay_block.specs.Frames.{IsSameStore, RanAll}
 use Rattle.hay_block.specs.Lines.{AnswersBad, IsServed}
 use Rattle.hay_shared_volume.specs.Making.{AreUnseen, IsVolumeOf, VolumeStands, count_of}
-use Rattle.hay_block.specs.Stores.{AreStill, AreVolumes, line_of_tag, notes_from}
+use Rattle.hay_block.specs.Stores.{AreStill, AreUpwards, AreVolumes, line_of_tag, notes_from}
 use Rattle.hay_block.proofs.Blocks.{block_told}
 use Rattle.hay_block.proofs.Lists.{each_mapped, each_unmapped, err_at, ok_at, ok_weaker, zip_long, zip_unmapped}
 use Rattle.hay_block.proofs.Whole.{all_bad, all_fit, all_later, all_replied, counts_rise, directory_same, made_rows, same_arms, seated_rows, still_counts}
 use Rattle.hay_block.proofs.Staying.{still_self}
+use Rattle.hay_block.proofs.Upwards.{notes_upwards}
 use Rattle.hay_shared_volume.specs.Seats.{IsSeatOf, WasAt, sight_of}
 use Rattle.hay_logical.specs.Volumes.{Volume}
 use Rattle.hay_block.proofs.store.run_block.Goals as goal
@@ -53,6 +54,8 @@ returns-in-Ok-answer g c =
     let small : AllByRecursion (λ (arm : g.row.A.Denot). g.A.Arm.fault_count arm ≤ 2 ^ 64 - 1) c.unlocked-parts.result.0.arms.items =
     subst (AllByRecursion (λ (arm : g.row.A.Denot). g.A.Arm.fault_count arm ≤ 2 ^ 64 - 1)) c.as_slice.ensures.value c.read_counts.ensures in
     let told : List (List ℕ) = map (λ (own : Vec Tag Global). map line_of_tag own.items) c.run_locked-locked.result.1.items in
+    let as_many : length c.in-Ok.ready.fronts.items ≡ length c.args.parts.volumes.items =
+    zip_long (λ (volume : (Volume g.row.D.Denot g.row.P.Denot)) (front : ℕ). (known : VolumeKnown) → (VolumeStands g.D.Disk.Tells g.D.Disk.files g.P.Piece.Tells) volume known → front ≡ length known.log) c.args.parts.volumes.items c.in-Ok.ready.fronts.items c.in-Ok.ensures.fronts in
     let logs = ok_weaker (λ (n : BlockNotes). n.logs.items ≡ notes_from 0 c.as_slice-in-Ok-answer.result.now (map (λ (own : Vec Tag Global). map line_of_tag own.items) c.as_slice-in-Ok-answer-2.result.now))
     (λ n. n.logs.items ≡ notes_from 0 c.in-Ok.ready.fronts.items told)
     (λ n is. is ∙ (ap (λ z. notes_from 0 z (map (λ (own : Vec Tag Global). map line_of_tag own.items) c.as_slice-in-Ok-answer-2.result.now)) c.as_slice-in-Ok-answer.ensures.value
@@ -67,6 +70,8 @@ returns-in-Ok-answer g c =
       replies = zip_unmapped (λ (js : Vec Job Global). js.items) (λ (rs : Vec Reply Global). rs.items) (λ js rs. length js ≡ length rs) c.args.jobs.now c.in-Ok-answer.replies.items (all_replied ran (sym given));
       bad = zip_unmapped (λ (js : Vec Job Global). js.items) (λ (rs : Vec Reply Global). rs.items) (AllZip AnswersBad) c.args.jobs.now c.in-Ok-answer.replies.items (all_bad ran (sym given));
       fits = each_unmapped (λ (rs : Vec Reply Global). rs.items) (AllByRecursion FitsReply) c.in-Ok-answer.replies.items (all_fit ran (sym given));
+      upwards = ok_weaker (λ (n : BlockNotes). n.logs.items ≡ notes_from 0 c.in-Ok.ready.fronts.items told) (λ n. AreUpwards c.args.settings.volumes n.logs.items)
+          (λ n is. subst (AreUpwards c.args.settings.volumes) (sym is) (notes_upwards c.args.settings.volumes c.in-Ok.ready.fronts.items told (as_many ∙ many))) c.notes_of-notes.result logs;
       arms_rise = all_later ran (sym given);
       rises = record { volumes = counts_rise ran many; rows = left.0.rises };
       legal = λ k others stood others_end items are distinct.
@@ -97,6 +102,7 @@ returns-in-Ok-new g c =
       replies = tt;
       bad = tt;
       fits = tt;
+      upwards = tt;
       arms_rise = same_arms g.A.Arm.is_sure g.A.Arm.fault_count same;
       rises = still_counts still directory;
       legal = tt;

@@ -1,10 +1,23 @@
-use Rattle.std.proofs.Common.{refl}
+use Rattle.std.proofs.Common.{refl, sym, ◌∙◌}
 use Rattle.hay_lane.proofs.Arms.{later_same}
 use Rattle.hay_block.proofs.Chaining.{bad_answered}
 use Rattle.hay_block.proofs.worker.LaneWorkerWork.answer.Goals as goal
 
+pub returns-in-Command-clause-answered : goal.returns-in-Command-clause-answered
+returns-in-Command-clause-answered g c = rw c.new.ensures (
+  refl,
+  record {
+    seated = c.answer-reply.ensures.seated;
+    same = c.answer-reply.ensures.same;
+    answered = λ start of. rw c.in-Command.is (c.answer-reply.ensures.answered start of);
+    fits_reply = c.answer-reply.ensures.fits;
+    bad = λ is. let clash = sym c.in-Command.is ∙ is in absurd cc;
+    arm = c.answer-reply.ensures.arm;
+  },
+)
+
 pub returns-in-Bad-clause-answered : goal.returns-in-Bad-clause-answered
-returns-in-Bad-clause-answered g c = (
+returns-in-Bad-clause-answered g c = rw c.new-in-Bad.ensures (
   refl,
   record {
     seated = c.requires.0;
