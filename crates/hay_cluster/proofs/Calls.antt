@@ -3,6 +3,7 @@ use Rattle.std.proofs.Common.{◌≡◌, ℕ, ◌<◌, map, sym, ap, subst, ◌�
 use Rattle.hay_logical.specs.Fits.{At}
 use Rattle.hay_needle.specs.declared.settings.Settings.{Settings}
 use Rattle.hay_legal.specs.Known.{machine_of}
+use Rattle.hay_legal.specs.Suiting.{IsOn}
 use Rattle.hay_logical.specs.Answers.{IsBeginFault, IsCompactFault, IsDeleteFault, IsFlushFault, IsPutFault, IsRunFault}
 use Rattle.hay_logical.specs.Volumes.{IsMachineOf, IsOpenVolume, Volume}
 use Rattle.hay_logical.specs.declared.fault.LogicalFault.{LogicalFault}
@@ -13,7 +14,6 @@ use Rattle.hay_cluster.specs.declared.maintenance.Maintenance.TheVariants.{Flush
 use Rattle.hay_cluster.specs.Causes.{IsPutCause, IsDeleteCause, IsReplicaCause}
 use Rattle.hay_cluster.specs.Maintenance.{IsReplicaFault}
 use Rattle.hay_cluster.specs.Store.{Open, IsShaped, IsUp, disks_of}
-use Rattle.hay_cluster.specs.Suiting.{IsOn}
 use Rattle.hay_cluster.proofs.Lists.{AllByRecursion-at}
 use Rattle.hay_cluster.proofs.Moves.{Called, called_failed, up_kept, volume_of, with_one}
 use Rattle.hay_cluster.proofs.Suiting.{on_machine}

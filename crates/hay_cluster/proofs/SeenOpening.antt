@@ -1,5 +1,5 @@
 -- What is seen of a store in memory: laws of openings and restarts.
-use Rattle.std.proofs.Common.{◌≡◌, ℕ, zero, suc, ◌+◌, List, [], ◌∷◌, ◌++◌, map, Option, refl, ap, sym, subst, ◌∙◌, arith}
+use Rattle.std.proofs.Common.{◌≡◌, ℕ, zero, suc, ◌+◌, ◌<◌, List, [], ◌∷◌, ◌++◌, map, Option, refl, ap, sym, subst, ◌∙◌, arith}
 use Rattle.std.proofs.lemmas.List.{length-map}
 use Rattle.std.specs.List.{AllByRecursion, AllZip}
 use Rattle.hay_needle.specs.declared.settings.Settings.{Settings}
@@ -12,15 +12,18 @@ use Rattle.hay_directory.specs.Notes.{notes_by}
 use Rattle.hay_directory.specs.Rows.{RowsWithin}
 use Rattle.hay_directory.specs.Seen.{directory_seen}
 use Rattle.hay_directory.specs.Seen as directory
+use Rattle.hay_physical.specs.Copies.{Copy, volume_bytes}
 use Rattle.hay_logical.specs.declared.unsure.Unsure.{Unsure}
 use Rattle.hay_logical.specs.Fits.{At}
-use Rattle.hay_logical.specs.Notes.{NotesTell}
+use Rattle.hay_logical.specs.Notes.{NotesTell, ToldUnsure}
 use Rattle.hay_logical.specs.Seen.{VolumeSeen, replica_seen, volume_seen}
 use Rattle.hay_logical.specs.Volumes.{Volume}
 use Rattle.hay_logical.specs.Sights.{Sights, sights_of}
 use Rattle.hay_cluster.specs.Opening.{Gathers, OpensParts, OpensVolume, StopsVolume}
 use Rattle.hay_cluster.specs.Seen.{OpensSeen, OpensVolumeSeen, TellsSeen, TellsVolumes, VolumeLies, places_of, store_seen}
-use Rattle.hay_cluster.specs.Store.{IsShaped, IsVolumeOf, Open}
+use Rattle.hay_cluster.specs.Needles.{FileAt, PendingTold}
+use Rattle.hay_cluster.specs.Store.{IsShaped, IsVolumeOf, Open, contents_in}
+use Rattle.hay_cluster.proofs.Needling.{file_on}
 use Rattle.hay_cluster.proofs.OpeningStore.{StoppedParts}
 use Rattle.hay_cluster.proofs.Showing.{all_append}
 use Rattle.hay_cluster.proofs.Sighting.{at_mapped, photos_at}
@@ -105,6 +108,34 @@ module _ {D P A : Type 0} (DiskTells : Type 0) (files : D → Files) (Tells : Ty
         (tells_each DiskTells files Tells faults fuses mid.settings (places_of new.volumes) 0 old.volumes mid.volumes new.volumes opens.of_volumes shape.volumes stopped.volumes opens.volumes
         (λ j z at. let e : 0 + j ≡ j = omega arith in ap (places_of new.volumes) e ∙ photos_at new new refl j z at)),
   )
+
+-- PLACES OF DELETIONS THAT WERE PENDING
+
+module _ {D P : Type 0} (DiskTells : Type 0) (files : D → Files) (Tells : Type 0) (faults fuses : D → ℕ) where
+  pending_at : DiskTells → (xs ys zs : List (Volume D P)) (notes : List Note) → AllZip (StopsVolume DiskTells files Tells faults fuses) xs ys → Gathers (OpensVolume DiskTells files Tells faults fuses) ys zs notes
+      → (v : ℕ) (x : Volume D P) → At xs v x → (z : Volume D P) × At zs v z × ((j : ℕ) (r : Copy D) → At z.replicas j r → ToldUnsure x.unsure (sights_of z.rows) j (volume_bytes files r))
+  pending_at tells [] ys zs notes stops opens v x at = absurd cc
+  pending_at tells (x' ∷ xs) [] zs notes stops opens v x at = absurd stops
+  pending_at tells (x' ∷ xs) (y ∷ ys) [] notes stops opens v x at = absurd opens
+  pending_at tells (x' ∷ xs) (y ∷ ys) (z ∷ zs) notes stops opens zero x at =
+      let same : x' ≡ x = cc in (
+        z,
+        refl,
+        λ j r there. subst (λ (u : Option Unsure). ToldUnsure u (sights_of z.rows) j (volume_bytes files r)) (stops.0.unsure ∙ ap (λ (w : Volume D P). w.unsure) same) (opens.first.told_places tells j r there),
+      )
+  pending_at tells (x' ∷ xs) (y ∷ ys) (z ∷ zs) notes stops opens (suc v) x at = pending_at tells xs ys zs opens.behind stops.1 opens.rest v x at
+
+module _ {D P A : Type 0} (DiskTells : Type 0) (files : D → Files) (Tells : Type 0) (faults fuses : D → ℕ) (arm_faults : A → ℕ) where
+  pub pending_told : DiskTells → (old mid new : Open D P A) (notes : List Note) → IsShaped new → new.settings ≡ old.settings → StoppedParts DiskTells files Tells faults fuses arm_faults old mid
+      → OpensParts DiskTells files Tells faults fuses mid.directory new.directory mid.volumes new.volumes notes → PendingTold old.settings (contents_in files new) (store_seen old) (store_seen new)
+  pending_told tells old mid new notes shape same stopped opens v j seen at within =
+      let there = at_mapped volume_seen old.volumes v seen at in
+      let found = pending_at DiskTells files Tells faults fuses tells old.volumes mid.volumes new.volumes opens.of_volumes stopped.volumes opens.volumes v there.0 there.1 in
+      let low : j < (new.settings).replicas = subst (λ (s : Settings). j < s.replicas) (sym same) within in
+      subst (λ (s : Settings). FileAt s (contents_in files new) (store_seen new) v j (λ r file. ToldUnsure seen.unsure ((store_seen new).places v) j file)) same
+      (file_on files new new refl shape v found.0 found.1 (λ r file. ToldUnsure seen.unsure ((store_seen new).places v) j file) j low
+      (λ r here. subst (λ (u : Option Unsure). ToldUnsure u ((store_seen new).places v) j (volume_bytes files r)) (sym (ap (λ (w : VolumeSeen). w.unsure) there.2))
+      (subst (λ (s : Sights). ToldUnsure (there.0).unsure s j (volume_bytes files r)) (sym (photos_at new new refl v found.0 found.1)) (found.2 j r here))))
 
 -- NOTES
 

@@ -33,6 +33,7 @@ use Rattle.hay_legal.specs.Known.{NoneFalls, arm_count, empty_volume, fault_coun
 use Rattle.hay_legal.specs.Known as known
 use Rattle.hay_legal.specs.Plain as legal
 use Rattle.hay_legal.specs.Plain.{IsShown, IsUnreadable, LegalCommand, LegalGet, LeavesElsewhere, LegalGetAt, LegalShow, order_from}
+use Rattle.hay_legal.specs.Suiting.{ShowsOf}
 use Rattle.hay_logical.specs.Answers as answers
 use Rattle.hay_logical.specs.Fits.{At, PlaceStands}
 use Rattle.hay_logical.specs.Stands as logical
@@ -66,7 +67,6 @@ use Rattle.hay_cluster.specs.Parts.{Comes}
 use Rattle.hay_cluster.specs.State.{Stands}
 use Rattle.hay_logical.specs.Sights.{Sight, sight}
 use Rattle.hay_cluster.specs.Store.{IsBuilt, IsShaped, Open, disks_of}
-use Rattle.hay_cluster.specs.Suiting.{ShowsOf}
 use Rattle.hay_cluster.proofs.Changing.{comes_still}
 use Rattle.hay_cluster.proofs.Lists.{length-set, slice_get-set}
 use Rattle.hay_cluster.proofs.Machines.{replica_found, same_machine}

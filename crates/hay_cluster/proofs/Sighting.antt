@@ -10,6 +10,7 @@ use Rattle.hay_reply.specs.declared.Refused.{Refused}
 use Rattle.hay_reply.specs.declared.Reply.{Reply}
 use Rattle.hay_reply.specs.declared.Reply.TheVariants as reply
 use Rattle.hay_legal.specs.Known.{replica_on, slot_of}
+use Rattle.hay_legal.specs.Suiting.{SuitsFuse}
 use Rattle.hay_disk.specs.Counts.{Rose}
 use Rattle.hay_directory.specs.declared.fault.DirFault.{DirFault}
 use Rattle.hay_directory.specs.declared.fault.DirFault.TheVariants as settling
@@ -36,7 +37,6 @@ use Rattle.hay_cluster.specs.Sights.{ChangesPhotos, DeleteSights, DoneSights, Ke
 use Rattle.hay_cluster.specs.Sights.{Told}
 use Rattle.hay_cluster.specs.Sights.Told.{Absent, Damaged, Deleted, Failed, Missing, Nothing, Shown, Stored, Swapped, Unreadable, Wanting}
 use Rattle.hay_cluster.specs.Store.{IsShaped, Open, disks_of}
-use Rattle.hay_cluster.specs.Suiting.{SuitsFuse}
 use Rattle.hay_cluster.proofs.Lists.{map-at, slice_get-set}
 use Rattle.hay_cluster.proofs.Moves.{Called, called_shape, count_at, with_directory, with_one}
 use Rattle.hay_cluster.proofs.Seeing.{seen_at}

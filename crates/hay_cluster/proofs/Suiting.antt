@@ -11,6 +11,7 @@ use Rattle.hay_reply.specs.declared.Reply.{Reply}
 use Rattle.hay_reply.specs.declared.Reply.TheVariants as reply
 use Rattle.hay_legal.specs.Known.{all_tries, machine_of, replica_on, replicas_of, try_at}
 use Rattle.hay_legal.specs.Plain.{wants_room}
+use Rattle.hay_legal.specs.Suiting.{AtReplica, IsOn, IsReadOnlyAt, IsRefusedBy, Refuses, Suits, SuitsBegin, SuitsCompact, SuitsDel, SuitsFlush, SuitsFuse, SuitsPut, SuitsRun}
 use Rattle.hay_directory.specs.declared.fault.DirFault.{DirFault}
 use Rattle.hay_directory.specs.declared.fault.DirFault.TheVariants as settling
 use Rattle.hay_logical.specs.Answers.{IsRoomFault}
@@ -24,7 +25,6 @@ use Rattle.hay_cluster.specs.Lacks.{LacksRoom, lack_of}
 use Rattle.hay_cluster.specs.Maintenance.{IsRefusedAs, command_of, done_as}
 use Rattle.hay_cluster.specs.Puts.{IsPutReply, IsRefusal, settle_reply}
 use Rattle.hay_cluster.specs.Store.{IsBuilt}
-use Rattle.hay_cluster.specs.Suiting.{AtReplica, IsOn, IsReadOnlyAt, IsRefusedBy, Refuses, Suits, SuitsBegin, SuitsCompact, SuitsDel, SuitsFlush, SuitsFuse, SuitsPut, SuitsRun}
 use Rattle.hay_cluster.proofs.Finds.{range-snoc, map_found}
 use Rattle.hay_cluster.proofs.Lists.{AllZip-append, map-append}
 use Rattle.hay_cluster.proofs.Machines.{replica_found}

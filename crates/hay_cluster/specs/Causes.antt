@@ -8,6 +8,7 @@ use Rattle.hay_script.specs.declared.Command.TheVariants as asks
 use Rattle.hay_reply.specs.declared.Reply.{Reply}
 use Rattle.hay_reply.specs.declared.Reply.TheVariants as reply
 use Rattle.hay_legal.specs.Known.{disk_count, machine_of, replica_on, slot_of}
+use Rattle.hay_legal.specs.Suiting.{IsOn}
 use Rattle.hay_open.specs.Stored.{IsSlotFile}
 use Rattle.hay_logical.specs.Seen.{SeesAt}
 use Rattle.hay_logical.specs.declared.fault.LogicalFault.{LogicalFault}
@@ -17,7 +18,6 @@ use Rattle.hay_cluster.specs.declared.fault.ClusterFault.TheVariants as fault
 use Rattle.hay_cluster.specs.declared.maintenance.Maintenance.{Maintenance}
 use Rattle.hay_cluster.specs.declared.maintenance.Maintenance.TheVariants.{Flush, Begin, Step, Finish, Compact}
 use Rattle.hay_cluster.specs.Seen.{StoreSeen, VolumeAt}
-use Rattle.hay_cluster.specs.Suiting.{IsOn}
 
 -- The counts of the disks' faults by slot, and those of the arms' by lane.
 pub record Counts : Type 0 where
@@ -67,7 +67,6 @@ IsCaused settings before after (reply.FusedDir n) = Unit {0}
 IsCaused settings before after reply.Nowhere = Unit {0}
 IsCaused settings before after (reply.Restarted d) = Unit {0}
 IsCaused settings before after reply.BadLine = Unit {0}
-IsCaused settings before after reply.Unbuilt = Unit {0}
 IsCaused settings before after reply.NoMem = Unit {0}
 
 -- the disk in a slot of the store may have this file

@@ -15,5 +15,4 @@ pub mod Seen
 pub mod Sights
 pub mod State
 pub mod Store
-pub mod Suiting
 pub mod Draws

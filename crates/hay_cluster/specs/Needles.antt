@@ -1,5 +1,5 @@
 -- What replies tell of the needles of volume files, where the disks tell what they hold.
-use Rattle.std.specs.Prelude.{◌≡◌, ◌⊎◌, ◌≤◌, ◌<◌, ℕ, List, Some}
+use Rattle.std.specs.Prelude.{◌≡◌, ◌⊎◌, ◌≤◌, ◌<◌, ℕ, List, None, Some}
 use Rattle.hay_needle.specs.declared.needle.Pair.{Pair}
 use Rattle.hay_needle.specs.declared.settings.Settings.{Settings}
 use Rattle.hay_script.specs.declared.Command.{Command}
@@ -13,13 +13,15 @@ use Rattle.hay_legal.specs.Stands.{Contents}
 use Rattle.hay_volume.specs.Needles.{LacksNeedleOf}
 use Rattle.hay_open.specs.Stored.{volume_file}
 use Rattle.hay_logical.specs.Needles.{HeadsLead, HeadsLeadOn, IsToldBy, LacksCell, LacksCellAnew, LacksCellLeft, LacksSeen}
-use Rattle.hay_logical.specs.Seen.{ReplicaSeen, SeesAt, begun}
+use Rattle.hay_logical.specs.Fits.{At}
+use Rattle.hay_logical.specs.Notes.{ToldUnsure}
+use Rattle.hay_logical.specs.Seen.{ReplicaSeen, SeesAt, VolumeSeen, begun}
 use Rattle.hay_logical.specs.Sights.{ErasesSights, FindsPhoto, Sight, Sights}
 use Rattle.hay_logical.specs.Sights.Sight.{Gone, Live, Never, Unseen}
 use Rattle.hay_cluster.specs.declared.maintenance.Maintenance.{Maintenance}
 use Rattle.hay_cluster.specs.declared.maintenance.Maintenance.TheVariants as work
 use Rattle.hay_cluster.specs.Maintenance.{done_as}
-use Rattle.hay_cluster.specs.Seen.{StoreSeen, VolumeAt, home_seen}
+use Rattle.hay_cluster.specs.Seen.{IsFrozenBy, StoreSeen, VolumeAt, home_seen}
 use Rattle.hay_cluster.specs.Sights.{KeepsPhotos, Told, told_by}
 use Rattle.hay_cluster.specs.Sights.Told.{Absent, Damaged, Deleted, Failed, Missing, Nothing, Shown, Stored, Swapped, Unreadable, Wanting}
 
@@ -122,12 +124,26 @@ LeadsPart sights j work.Compact r r' file = Unit {0}
 LeadsPart sights j work.Flush r r' file = Unit {0}
 LeadsPart sights j work.Begin r r' file = Unit {0}
 
--- So it is of the replica on this machine, by what the work is answered.
+-- What a swap that froze the volume found, since it failed where the new files may be the current ones: as one that was done did. No other
+-- work freezes a volume.
+abbrev pub LeadsSwap : Sights → ℕ → Maintenance → ReplicaSeen → List ℕ → Type 0
+LeadsSwap sights j work.Finish r file = HeadsLeadOn sights j r file
+LeadsSwap sights j work.Compact r file = HeadsLeadOn sights j (begun r) file
+LeadsSwap sights j (work.Step cells) r file = ⊥
+LeadsSwap sights j work.Flush r file = ⊥
+LeadsSwap sights j work.Begin r file = ⊥
+
+-- a volume that was not frozen is
+abbrev pub FreezesAt : ℕ → StoreSeen → StoreSeen → Type 0
+FreezesAt v old new = VolumeAt v (λ volume. volume.frozen ≡ None) old × (m : ℕ) × IsFrozenBy new v m
+
+-- So it is of the replica on this machine, by what the work is answered, and by whether it froze the volume.
 pub record WorkTold (settings : Settings) (contents : ℕ → Contents) (old new : StoreSeen) (asked : Maintenance) (v m : ℕ) (said : Reply) : Type 0 where
   pub done : (number : ℕ) → said ≡ done_as v m asked number → (j : ℕ) → replica_on settings v m ≡ Some j
       → FileAt settings contents old v j (λ r file. VolumeAt v (SeesAt j (λ r'. LeadsWork (old.places v) j asked number r r' file)) new)
   pub part : said ≡ reply.NoMem → (j : ℕ) → replica_on settings v m ≡ Some j
       → FileAt settings contents old v j (λ r file. VolumeAt v (SeesAt j (λ r'. LeadsPart (old.places v) j asked r r' file)) new)
+  pub froze : FreezesAt v old new → (j : ℕ) → replica_on settings v m ≡ Some j → FileAt settings contents old v j (LeadsSwap (old.places v) j asked)
 
 -- What reads of the disks give is that of before the command: so no damage is met without being told.
 abbrev pub MeetsNeedles : Settings → (ℕ → Contents) → StoreSeen → StoreSeen → Command → Reply → Type 0
@@ -146,3 +162,10 @@ MeetsNeedles settings contents old new (asks.Undrain m) said = Unit {0}
 MeetsNeedles settings contents old new (asks.Fuse v m calls) said = Unit {0}
 MeetsNeedles settings contents old new (asks.FuseDir calls) said = Unit {0}
 MeetsNeedles settings contents old new (asks.Restart pick) said = Unit {0}
+
+-- RESTARTS
+
+-- Behind a restart a place of a deletion that was pending, and that the opening left not looked at, has no needle of its size.
+abbrev pub PendingTold : Settings → (ℕ → Contents) → StoreSeen → StoreSeen → Type 0
+PendingTold settings contents before after = (v j : ℕ) (old : VolumeSeen) → At before.volumes v old → j < settings.replicas
+    → FileAt settings contents after v j (λ r file. ToldUnsure old.unsure (after.places v) j file)

@@ -19,12 +19,13 @@ use Rattle.hay_directory.specs.Seen.{directory_seen}
 use Rattle.hay_directory.specs.Seen as open_seen
 use Rattle.hay_directory.specs.State.{State}
 use Rattle.hay_directory.specs.State as directory
-use Rattle.hay_physical.specs.Copies.{Copy, contents_of}
+use Rattle.hay_open.specs.Stored.{OpensAs, Stored}
+use Rattle.hay_physical.specs.Copies.{Copy, contents_of, volume_bytes}
 use Rattle.hay_logical.specs.declared.fault.Unopened.{Unopened}
 use Rattle.hay_logical.specs.Answers.{IsReopened}
 use Rattle.hay_logical.specs.Fits.{At}
-use Rattle.hay_logical.specs.Notes.{NotesTell}
-use Rattle.hay_logical.specs.Seen.{OpenSeen, volume_seen}
+use Rattle.hay_logical.specs.Notes.{NotesTell, ToldUnsure}
+use Rattle.hay_logical.specs.Seen.{IsFoundAs, OpenSeen, replica_seen, volume_seen}
 use Rattle.hay_logical.specs.Sights.{LiesWithinEach, sights_of}
 use Rattle.hay_logical.specs.Stands.{IsFirst, IsIdleVolume, Stopped}
 use Rattle.hay_logical.specs.Stands as logical
@@ -82,6 +83,8 @@ pub record OpensVolume {D P : Type 0} (DiskTells : Type 0) (files : D → Files)
   pub reopened : DiskTells → (k : VolumeKnown) → Stopped files old k → IsReopened files Tells k notes new
   pub undamaged : DiskTells → EachStaysUndamaged files old new
   pub told : NotesTell old.settings old.number old.unsure (sights_of new.rows) (volume_seen new).replicas notes
+  pub told_places : DiskTells → (j : ℕ) (r : Copy D) → At new.replicas j r → ToldUnsure old.unsure (sights_of new.rows) j (volume_bytes files r)
+  pub finds : DiskTells → (j : ℕ) (r r' : Copy D) (s : Stored) → At old.replicas j r → At new.replicas j r' → OpensAs r.sup (contents_of files r.disk) s → IsFoundAs s (replica_seen r')
   pub fits : AllByRecursion FitsNote notes
   pub seen : OpenSeen (volume_seen new)
   pub lie : LiesWithinEach (sights_of new.rows) (volume_seen new).replicas
@@ -177,6 +180,7 @@ pub record OpensDirectory {D : Type 0} (DiskTells : Type 0) (files : D → Files
   pub told : notes ≡ notes_by (directory.unsure_of old.mode) (directory.home_of new)
   pub fits : AllByRecursion FitsNote notes
   pub seen : (rows : List HomeRow) × RowsWithin (new.settings).volumes rows × open_seen.OpenSeen (old.settings).machines rows (directory_seen new)
+  pub reads : DiskTells → directory.IsFresh old → OpensRows old.settings (λ n. (files old.disk n).now) seen.0
 
 -- why the Directory was not opened
 abbrev pub RefusesDirectory : {D : Type 0} → Type 0 → (D → Files) → (D → ℕ) → State D → State D → ClusterFault → Type 0

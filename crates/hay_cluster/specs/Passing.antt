@@ -15,12 +15,12 @@ use Rattle.hay_logical.specs.Sights.Sight.{Gone, Live, Never, Unseen}
 use Rattle.hay_legal.specs.Known.{CameUp, EachPair, machine_of, replica_on}
 use Rattle.hay_legal.specs.Plain.{ArmRises, order_from}
 use Rattle.hay_legal.specs.Stands.{Contents}
+use Rattle.hay_legal.specs.Suiting.{start_at}
 use Rattle.hay_cluster.specs.Causes.{Counts, RoseAt}
 use Rattle.hay_cluster.specs.Needles.{LacksFor}
 use Rattle.hay_cluster.specs.Seen.{StoreSeen}
 use Rattle.hay_cluster.specs.Sights.{SeesOn, Told, told_by}
 use Rattle.hay_cluster.specs.Sights.Told.{Absent, Damaged, Deleted, Failed, Missing, Nothing, Shown, Stored, Swapped, Unreadable, Wanting}
-use Rattle.hay_cluster.specs.Suiting.{start_at}
 
 -- the arm of this lane is sure
 abbrev pub IsSureArm : {A : Type 0} → (A → Bool) → List A → ℕ → Type 0

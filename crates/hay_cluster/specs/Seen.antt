@@ -14,18 +14,21 @@ use Rattle.hay_reply.specs.declared.Reply.{Reply}
 use Rattle.hay_reply.specs.declared.Reply.TheVariants as reply
 use Rattle.hay_core.specs.declared.entry.CoreTag.{CoreTag}
 use Rattle.hay_legal.specs.declared.known.HomeRow.{HomeRow}
-use Rattle.hay_legal.specs.Known.{all_tries, machine_of, replica_on, tries_by}
+use Rattle.hay_legal.specs.Known.{all_tries, machine_of, replica_on, slot_of, tries_by}
 use Rattle.hay_legal.specs.Plain.{as_closed}
+use Rattle.hay_legal.specs.Stands.{Contents}
+use Rattle.hay_legal.specs.Suiting.{Refuses}
+use Rattle.hay_open.specs.Stored.{OpensAs, Stored}
 use Rattle.hay_directory.specs.Notes.{notes_by}
-use Rattle.hay_directory.specs.Rows.{RowsWithin}
+use Rattle.hay_directory.specs.Rows.{OpensRows, RowsWithin}
 use Rattle.hay_directory.specs.Seen.{DirectorySeen, KeepsSeen, SettleRefusedSeen, SettleSeen, directory_seen}
 use Rattle.hay_directory.specs.Seen as directory
 use Rattle.hay_directory.specs.declared.fault.DirFault.TheVariants as settling
 use Rattle.hay_logical.specs.declared.fault.LogicalFault.{LogicalFault}
 use Rattle.hay_logical.specs.declared.unsure.Change.TheVariants.{Delete}
-use Rattle.hay_logical.specs.Fits.{At}
+use Rattle.hay_logical.specs.Fits.{At, super_of}
 use Rattle.hay_logical.specs.Notes.{NotesTell}
-use Rattle.hay_logical.specs.Seen.{BeginRefusedSeen, BeginSeen, BreaksPutSeen, CompactRefusedSeen, CompactSeen, FinishRefusedSeen, FinishSeen, FlushRefusedSeen, FlushSeen, FreezesSeen, FullSeen, HideSeen, OpenSeen, RoomSeen, StepRefusedSeen, StepSeen, PutSeen, ReplicaSeen, VolumeSeen, volume_seen}
+use Rattle.hay_logical.specs.Seen.{BeginRefusedSeen, BeginSeen, BreaksPutSeen, CompactRefusedSeen, CompactSeen, FinishRefusedSeen, FinishSeen, FlushRefusedSeen, FlushSeen, FreezesSeen, FullSeen, HideSeen, IsFoundAs, OpenSeen, RoomSeen, SeesAt, StepRefusedSeen, StepSeen, PutSeen, ReplicaSeen, VolumeSeen, volume_seen}
 use Rattle.hay_logical.specs.Sights.{LiesWithinEach, Sights, sights_of}
 use Rattle.hay_logical.specs.Sights.Sight.{Never}
 use Rattle.hay_logical.specs.Volumes.{Volume}
@@ -33,7 +36,6 @@ use Rattle.hay_cluster.specs.declared.maintenance.Maintenance.{Maintenance}
 use Rattle.hay_cluster.specs.declared.maintenance.Maintenance.TheVariants as work
 use Rattle.hay_cluster.specs.Maintenance.{IsRefusedAs, done_as}
 use Rattle.hay_cluster.specs.Store.{Open}
-use Rattle.hay_cluster.specs.Suiting.{Refuses}
 
 -- no photo was ever seen
 abbrev pub no_sights : Sights
@@ -195,7 +197,6 @@ AnswersPut settings tag pair size (reply.FusedDir calls) old new = ⊥
 AnswersPut settings tag pair size reply.Nowhere old new = ⊥
 AnswersPut settings tag pair size (reply.Restarted d) old new = ⊥
 AnswersPut settings tag pair size reply.BadLine old new = ⊥
-AnswersPut settings tag pair size reply.Unbuilt old new = ⊥
 
 -- DELETES
 
@@ -238,7 +239,6 @@ AnswersDelete settings tag pair (reply.FusedDir calls) old new = ⊥
 AnswersDelete settings tag pair reply.Nowhere old new = ⊥
 AnswersDelete settings tag pair (reply.Restarted d) old new = ⊥
 AnswersDelete settings tag pair reply.BadLine old new = ⊥
-AnswersDelete settings tag pair reply.Unbuilt old new = ⊥
 
 -- READS AND URLS, which change nothing
 
@@ -279,7 +279,6 @@ Shows seen pair (reply.Fused v m calls) = ⊥
 Shows seen pair (reply.FusedDir calls) = ⊥
 Shows seen pair (reply.Restarted d) = ⊥
 Shows seen pair reply.BadLine = ⊥
-Shows seen pair reply.Unbuilt = ⊥
 
 abbrev pub AnswersRead : Pair → Reply → StoreSeen → StoreSeen → Type 0
 AnswersRead pair said old new = Keeps old new × Shows old pair said
@@ -357,6 +356,15 @@ pub record OpensSeen (settings : Settings) (seen : StoreSeen) : Type 0 where
   pub rows : List HomeRow
   pub within : RowsWithin settings.volumes rows
   pub directory : directory.OpenSeen settings.machines rows seen.directory
+
+-- What is seen of a store that was opened on these contents: the homes are by the rows of the Directory's disk, and each replica whose disk
+-- was void or whole has its generation, and ends where its cells do, whatever the others have.
+pub record ReadsSeen (settings : Settings) (contents : ℕ → Contents) (seen : StoreSeen) : Type 0 where
+  pub rows : List HomeRow
+  pub reads : OpensRows settings (contents 0) rows
+  pub directory : directory.OpenSeen settings.machines rows seen.directory
+  pub finds : (v j : ℕ) (s : Stored) → v < settings.volumes → j < settings.replicas → OpensAs (super_of settings v j) (contents (slot_of settings v j)) s
+      → VolumeAt v (SeesAt j (IsFoundAs s)) seen
 
 -- RESTARTS
 

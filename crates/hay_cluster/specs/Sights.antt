@@ -88,7 +88,6 @@ told_by (reply.FusedDir calls) = Nothing
 told_by reply.Nowhere = Nothing
 told_by (reply.Restarted d) = Nothing
 told_by reply.BadLine = Nothing
-told_by reply.Unbuilt = Nothing
 
 -- A put that stored its photo has it on each replica, where its cells ended before. Another changes nothing that is seen.
 abbrev pub PutSights : Settings → Pair → Told → StoreSeen → StoreSeen → Type 0

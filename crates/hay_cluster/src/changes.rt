@@ -5,6 +5,7 @@ ghost use Rattle.hay_core.specs.declared.entry.CoreTag.{CoreTag};
 ghost use Rattle.hay_reply.specs.Fits.{FitsReply};
 ghost use Rattle.hay_legal.specs.declared.known.Known.{Known};
 ghost use Rattle.hay_legal.specs.Known.{NoneFalls};
+ghost use Rattle.hay_legal.specs.Suiting.{Suits};
 ghost use Rattle.hay_cluster.specs.Causes.{EndsRuns, IsCaused, RefusesDelete, SetsFuse, SetsFuseOn};
 ghost use Rattle.hay_cluster.specs.Changes.{IsDeleteReply, IsReadOnly};
 ghost use Rattle.hay_cluster.specs.Leaving.{AnySlot, KeepsIn, LeavesByDelete};
@@ -13,7 +14,6 @@ ghost use Rattle.hay_cluster.specs.Seen.{AnswersDelete, AnswersDrain, AnswersRea
 ghost use Rattle.hay_cluster.specs.Sights.{DeleteSights, KeepsPhotos, told_by};
 ghost use Rattle.hay_cluster.specs.State.{Answered, Stands};
 ghost use Rattle.hay_cluster.specs.Store.{IsUp, contents_in, disks_of};
-ghost use Rattle.hay_cluster.specs.Suiting.{Suits};
 
 use crate::closed::replica_on;
 use crate::cluster::Cluster;

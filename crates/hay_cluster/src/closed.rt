@@ -2,6 +2,7 @@
 ghost use Rattle.std.specs.Prelude.{◌≡◌, ◌<◌, None, Some, map, find, slice_index_or, false, IfNone, IfSome};
 ghost use Rattle.hay_legal.specs.declared.known.Known.{Known};
 ghost use Rattle.hay_legal.specs.Known as known;
+ghost use Rattle.hay_legal.specs.Suiting.{IsOn, Refuses};
 ghost use Rattle.hay_reply.specs.Fits.{FitsRefused};
 ghost use Rattle.hay_directory.specs.State as directory;
 ghost use Rattle.hay_cluster.specs.Lacks as lacks;
@@ -10,7 +11,6 @@ ghost use Rattle.hay_cluster.specs.Seen as seen;
 ghost use Rattle.hay_cluster.specs.Seen.{RefusesPhoto, TakesPhotoAt, home_seen, store_seen};
 ghost use Rattle.hay_cluster.specs.State.{Stands};
 ghost use Rattle.hay_cluster.specs.Store.{IsBuilt, IsUp};
-ghost use Rattle.hay_cluster.specs.Suiting.{IsOn, Refuses};
 
 use crate::cluster::Cluster;
 use hay_directory::machine_of;

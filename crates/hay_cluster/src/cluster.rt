@@ -2,6 +2,7 @@
 ghost use Rattle.std.specs.Prelude.{◌≡◌, ◌≢◌, ◌<◌, ℕ, length, map};
 ghost use Rattle.hay_legal.specs.declared.known.Known.{Known};
 ghost use Rattle.hay_legal.specs.Known.{NoneFalls};
+ghost use Rattle.hay_legal.specs.Suiting.{Suits};
 ghost use Rattle.hay_script.specs.Script.{IsWithin};
 ghost use Rattle.hay_reply.specs.Fits.{FitsReply};
 ghost use Rattle.hay_cluster.specs.Causes.{EndsRuns, IsCaused, LeavesFuses, StaySure};
@@ -13,7 +14,6 @@ ghost use Rattle.hay_cluster.specs.Seen.{Answers, store_seen};
 ghost use Rattle.hay_cluster.specs.Sights.{LeavesSights};
 ghost use Rattle.hay_cluster.specs.State.{Answered, Stands};
 ghost use Rattle.hay_cluster.specs.Store.{IsUp, contents_in, disks_of};
-ghost use Rattle.hay_cluster.specs.Suiting.{Suits};
 
 use crate::maintenance::Maintenance;
 use hay_core::CoreTag;

@@ -1,10 +1,11 @@
 //! Flushes and compactions: work on one replica of a volume, which changes no photo.
-ghost use Rattle.std.specs.Prelude.{◌≡◌, ◌<◌, ℕ, Some, Err, map, IfOk, IfErr, OnErr, OnOk};
+ghost use Rattle.std.specs.Prelude.{◌≡◌, ◌<◌, ℕ, None, Some, Err, map, IfOk, IfErr, OnErr, OnOk};
 ghost use Rattle.hay_core.specs.declared.entry.CoreTag.{CoreTag};
 ghost use Rattle.hay_reply.specs.Fits.{FitsReply};
 ghost use Rattle.hay_legal.specs.declared.known.Known.{Known};
 ghost use Rattle.hay_legal.specs.declared.known.VolumeKnown.{VolumeKnown};
 ghost use Rattle.hay_legal.specs.Known.{NoneFalls};
+ghost use Rattle.hay_legal.specs.Suiting.{Suits};
 ghost use Rattle.hay_physical.specs.Copies.{Copy, volume_bytes};
 ghost use Rattle.hay_logical.specs.Fits.{At};
 ghost use Rattle.hay_logical.specs.Needles.{IsDamagedCell};
@@ -15,13 +16,12 @@ ghost use Rattle.hay_logical.specs.Volumes.{IsOpenVolume, IsSame, KeepsCounts};
 ghost use Rattle.hay_cluster.specs.Causes.{IsCaused, RefusesWork};
 ghost use Rattle.hay_cluster.specs.Leaving.{LeavesByWork};
 ghost use Rattle.hay_cluster.specs.Maintenance.{IsDone, IsRefused, IsRefusedAs, IsReplicaFault, MayWantMemory, command_of, done_as};
-ghost use Rattle.hay_cluster.specs.Needles.{LacksWork, LeadsPart, LeadsWork, RunsIntoDamage, WorkTold};
+ghost use Rattle.hay_cluster.specs.Needles.{LacksWork, LeadsPart, LeadsSwap, LeadsWork, RunsIntoDamage, WorkTold};
 ghost use Rattle.hay_cluster.specs.Seen.{AnswersWork, WorkRefusedSeen, WorkSeen, store_seen};
 ghost use Rattle.hay_logical.specs.Sights.{KeepsSights, sights_of};
 ghost use Rattle.hay_cluster.specs.Sights.{DoneSights, WorkSights, told_by};
 ghost use Rattle.hay_cluster.specs.State.{Answered, Stands};
 ghost use Rattle.hay_cluster.specs.Store.{IsUp, contents_in, disks_of};
-ghost use Rattle.hay_cluster.specs.Suiting.{Suits};
 
 use crate::changes::read_only;
 use crate::closed::replica_on;
@@ -102,12 +102,15 @@ pub(crate) fn maintain<D: Disk>(
     ensures refused_seen { IfErr result (λ fault. WorkRefusedSeen volume.old.settings work volume.old.number replica fault (volume_seen volume.old) (volume_seen volume.new)) }
     ensures sights { OnOk result (DoneSights work replica (volume_seen volume.new) (sights_of volume.old.rows) (sights_of volume.new.rows)) }
     ensures refused_sights { OnErr result (KeepsSights (sights_of volume.old.rows) (sights_of volume.new.rows)) }
-    // Where the disk tells, heads lead to where damage is told, and no cell is there; and so far as work that was done came, or wanted memory.
+    // Where the disk tells, heads lead to where damage is told, and no cell is there; and so far as work that was done came, or wanted memory,
+    // or froze the volume.
     ensures damaged { D.Tells → (m place : ℕ) → result ≡ Err (LogicalFault.Damaged m place) → IsDamagedCell D.files volume.old.replicas replica (LacksWork (sights_of volume.old.rows) replica work place) }
     ensures lead { D.Tells → (r r' : Copy D) → At volume.old.replicas replica r → At volume.new.replicas replica r' →
         IfOk result (λ number. LeadsWork (sights_of volume.old.rows) replica work number (replica_seen r) (replica_seen r') (volume_bytes D.files r)) }
     ensures part { D.Tells → (r r' : Copy D) → At volume.old.replicas replica r → At volume.new.replicas replica r' →
         IfErr result (λ fault. MayWantMemory fault → LeadsPart (sights_of volume.old.rows) replica work (replica_seen r) (replica_seen r') (volume_bytes D.files r)) }
+    ensures froze { D.Tells → volume.old.frozen ≡ None → (m : ℕ) → volume.new.frozen ≡ Some m → (r : Copy D) → At volume.old.replicas replica r →
+        LeadsSwap (sights_of volume.old.rows) replica work (replica_seen r) (volume_bytes D.files r) }
     // A volume that is frozen refuses, and of the others a flush alone, where the replica's index takes no records.
     ensures frozen { (m : ℕ) → volume.old.frozen ≡ Some m → result ≡ Err (LogicalFault.ReadOnly m) }
     ensures untouched { IfErr result (λ fault. IsUntouchedBy fault → volume.new ≡ volume.old) }

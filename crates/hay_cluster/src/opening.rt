@@ -19,7 +19,8 @@ ghost use Rattle.hay_cluster.specs.Causes.{HasFaultCause, HasFile};
 ghost use Rattle.hay_cluster.specs.Draws.{DrawsVolume, EachDrewLittle, FlushedDrewLittle, StopsDrawing, drawn_in, looked_in, no_look, none_drawn};
 ghost use Rattle.hay_cluster.specs.Outside.{AreSoundBelow, CountsOn, FormatsVoid, IsDamagedDisk, IsKept, IsUndamaged, IsUndamagedBelow, IsVoid, KeepsContents, outside_of, read_of};
 ghost use Rattle.hay_cluster.specs.Opening.{FillsVolume, Gathers, IsResting, IsEmptyVolume, LeavesDirectory, LeavesVolume, OpensDirectory, OpensParts, OpensVolume, RefusesDirectory, RefusesParts, RefusesVolume, RefusesVolumes, StopsDirectory, StopsVolume};
-ghost use Rattle.hay_cluster.specs.Seen.{OpensSeen, TellsSeen, store_seen};
+ghost use Rattle.hay_cluster.specs.Needles.{PendingTold};
+ghost use Rattle.hay_cluster.specs.Seen.{OpensSeen, ReadsSeen, TellsSeen, store_seen};
 ghost use Rattle.hay_cluster.specs.State.{LeftAt, Stands};
 ghost use Rattle.hay_cluster.specs.Store.{IsBuilt, IsShaped, IsUp, IsVolumeOf, contents_in, disks_of};
 
@@ -67,6 +68,8 @@ impl<D: Disk, A: Arm<D::Piece>> Cluster<D, A> {
         ensures settings { IfOk result (λ store. store.settings ≡ settings) }
         ensures up { IfOk result IsUp }
         ensures opens { IfOk result (λ store. OpensSeen settings (store_seen store)) }
+        // So each disk is found that is void or whole, and the rows of the Directory's one.
+        ensures reads { D.Tells → IfOk result (λ store. ReadsSeen settings (λ slot. read_of (H.disks shelf.old slot)) (store_seen store)) }
         ensures counts { IfOk result (λ store. (slot : ℕ) → slot < disk_count settings →
             CountsOn (H.disks shelf.old slot) (slice_index (map D.fault_count (disks_of store)) slot) (slice_index (map D.fuse_count (disks_of store)) slot)) }
         ensures arm_counts { IfOk result (λ store. (lane : ℕ) → lane < 8 →
@@ -128,6 +131,8 @@ impl<D: Disk, A: Arm<D::Piece>> Cluster<D, A> {
         ensures tells { IfOk result (TellsSeen self.old.settings (store_seen self.old) (store_seen self.new)) }
         ensures fits { IfOk result (AllByRecursion FitsNote) }
         ensures opens { OnOk result (OpensSeen self.old.settings (store_seen self.new)) }
+        // A place of a deletion that was pending is not left not looked at where a needle of its size stands.
+        ensures told { D.Tells → OnOk result (PendingTold self.old.settings (contents_in D.files self.new) (store_seen self.old) (store_seen self.new)) }
         ensures up { OnOk result (IsUp self.new) }
         // Nothing that it read of a disk is damaged.
         ensures sound { D.Tells → OnOk result (IsUndamaged self.old.settings (contents_in D.files self.new)) }

@@ -13,7 +13,7 @@ ghost use Rattle.hay_directory.specs.State as directory;
 ghost use Rattle.hay_cluster.specs.Causes.{EndsByFaults, IsDeleteCause, IsPutCause, IsReplicaCause, RoseIn, SetsFuse};
 ghost use Rattle.hay_cluster.specs.Leaving.{AddsRow, AnySlot, DeleteKeeps, IsApart, IsBeside, IsReplicaSlot, KeepsIn, LeavesIn, PutKeeps, WorkKeeps};
 ghost use Rattle.hay_cluster.specs.Maintenance.{IsDone, IsRefused, MayWantMemory};
-ghost use Rattle.hay_cluster.specs.Needles.{AreToldAs, DeletesAsTold, FileAt, IsDamagedLookOn, LacksWork, LeadsPart, LeadsWork};
+ghost use Rattle.hay_cluster.specs.Needles.{AreToldAs, DeletesAsTold, FileAt, FreezesAt, IsDamagedLookOn, LacksWork, LeadsPart, LeadsSwap, LeadsWork};
 ghost use Rattle.hay_cluster.specs.Parts.{Comes, InVolume};
 ghost use Rattle.hay_cluster.specs.Puts.{TakesPhoto};
 ghost use Rattle.hay_cluster.specs.Seen.{Keeps, MovesDirectory, MovesVolume, WorkRefusedSeen, VolumeAt, WorkSeen, store_seen};
@@ -133,6 +133,8 @@ impl<D: Disk, A: Arm<D::Piece>> Cluster<D, A> {
             (λ r file. VolumeAt volume (SeesAt replica (λ r'. LeadsWork ((store_seen self.old).places volume) replica work number r r' file)) (store_seen self.new))) }
         ensures part { D.Tells → IfErr result (λ fault. MayWantMemory fault → FileAt self.old.settings (contents_in D.files self.old) (store_seen self.old) volume replica
             (λ r file. VolumeAt volume (SeesAt replica (λ r'. LeadsPart ((store_seen self.old).places volume) replica work r r' file)) (store_seen self.new))) }
+        ensures froze { D.Tells → FreezesAt volume (store_seen self.old) (store_seen self.new) →
+            FileAt self.old.settings (contents_in D.files self.old) (store_seen self.old) volume replica (LeadsSwap ((store_seen self.old).places volume) replica work) }
         ensures sights { OnOk result (VolumeAt volume (λ seen. ChangesPhotos volume (DoneSights work replica seen) (store_seen self.old) (store_seen self.new)) (store_seen self.new)) }
         ensures refused_sights { OnErr result (KeepsPhotos (store_seen self.old) (store_seen self.new)) }
         ensures settings { self.new.settings ≡ self.old.settings }

@@ -4,6 +4,7 @@ ghost use Rattle.std.specs.List.{AllByRecursion, AllZip, list_any};
 ghost use Rattle.hay_legal.specs.declared.known.Known.{Known};
 ghost use Rattle.hay_legal.specs.Known.{NoneFalls, all_tries, home_of, refusal_of, taker_of};
 ghost use Rattle.hay_legal.specs.Plain.{wants_room, as_closed};
+ghost use Rattle.hay_legal.specs.Suiting.{Refuses, Suits};
 ghost use Rattle.hay_script.specs.declared.Command.TheVariants as asks;
 ghost use Rattle.hay_reply.specs.Fits.{FitsRefused, FitsReply};
 ghost use Rattle.hay_directory.specs.State as directory;
@@ -15,7 +16,6 @@ ghost use Rattle.hay_cluster.specs.Seen.{AnswersPut, IsTaker, PutsAt, RefusesPho
 ghost use Rattle.hay_cluster.specs.Sights.{PutSights, told_by};
 ghost use Rattle.hay_cluster.specs.State.{Answered, Stands};
 ghost use Rattle.hay_cluster.specs.Store.{IsUp, contents_in, disks_of};
-ghost use Rattle.hay_cluster.specs.Suiting.{Refuses, Suits};
 
 use crate::cluster::Cluster;
 use hay_base::{Listed, NoMemory};

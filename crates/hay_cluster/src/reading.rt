@@ -11,6 +11,7 @@ ghost use Rattle.hay_reader.specs.Shown.{HasBytes, ShowsAt};
 ghost use Rattle.hay_legal.specs.Known.{NoneFalls, home_of, slot_of, volume_at};
 ghost use Rattle.hay_legal.specs.Known as known;
 ghost use Rattle.hay_legal.specs.Plain.{start_of};
+ghost use Rattle.hay_legal.specs.Suiting.{ShowsOf, Suits, start_at};
 ghost use Rattle.hay_cluster.specs.Causes.{IsCaused, StaySure};
 ghost use Rattle.hay_cluster.specs.Needles.{AreToldAs, FileAt, LooksTold};
 ghost use Rattle.hay_cluster.specs.Passing.{IsOfPlace, IsSureArm, TriesBefore};
@@ -23,7 +24,6 @@ ghost use Rattle.hay_logical.specs.Needles.{LacksSeen};
 ghost use Rattle.hay_logical.specs.Sights.{LooksAtPair, SeesPair};
 ghost use Rattle.hay_cluster.specs.State.{Answered, Stands};
 ghost use Rattle.hay_cluster.specs.Store.{IsBuilt, IsUp, contents_in, disks_of};
-ghost use Rattle.hay_cluster.specs.Suiting.{ShowsOf, Suits, start_at};
 
 use crate::closed::replica_on;
 use crate::cluster::Cluster;

@@ -24,7 +24,7 @@ use Rattle.hay_block.specs.declared.store.BlockNotes.{BlockNotes}
 use Rattle.hay_block.specs.declared.worker.Job.{Job}
 use Rattle.hay_block.specs.Lines.{AreItems}
 use Rattle.hay_block.specs.Parts.{NotesTell}
-use Rattle.hay_block.specs.Stores.{AreVolumes, RanLegally, line_of_tag}
+use Rattle.hay_block.specs.Stores.{AreUpwards, AreVolumes, RanLegally, line_of_tag}
 use Rattle.hay_locks.specs.Making.{DirectoryStands, rows_count_of}
 use Rattle.hay_shared_volume.specs.Making.{VolumeStands, count_of}
 use Rattle.hay_shared_volume.specs.Making as locks
@@ -62,20 +62,21 @@ text_of logs rows (Ok notes) are = ap (flat_map note_line) are ∙ notes_text lo
 text_of logs rows (Err error) are = tt
 
 -- whatever the disks tell, they are notes of a block
-pub notes_of_block : (home : Pair → Option ℕ) (jobs : List (Vec Job Global)) (entered : Result BlockNotes NoMemory) (told : Result (Vec Note Global) NoMemory)
+pub notes_of_block : (volumes : ℕ) (home : Pair → Option ℕ) (jobs : List (Vec Job Global)) (entered : Result BlockNotes NoMemory) (told : Result (Vec Note Global) NoMemory) → IfOk entered (λ e. AreUpwards volumes e.logs.items)
     → IfOk entered (λ e. IfOk told (λ notes. notes.items ≡ entered_notes home jobs e)) → OnErr entered (IsErr told) → IfOk told (λ notes. AllByRecursion FitsNote notes.items)
-    → IfOk told (λ notes. AreBlockNotes notes.items × AllByRecursion FitsNote notes.items)
-notes_of_block home jobs (Ok e) (Ok notes) are wanted fit = (
+    → IfOk told (λ notes. AreBlockNotes volumes notes.items × AllByRecursion FitsNote notes.items)
+notes_of_block volumes home jobs (Ok e) (Ok notes) upwards are wanted fit = (
   record {
     logs = e.logs.items;
     rows = record { from = e.rows; rows = rows_at home (all_jobs jobs) (map line_of_tag e.added.items) };
+    upwards = upwards;
     are = are;
   },
   fit,
 )
-notes_of_block home jobs (Ok e) (Err error) are wanted fit = tt
-notes_of_block home jobs (Err error) (Ok notes) are wanted fit = absurd cc
-notes_of_block home jobs (Err error) (Err other) are wanted fit = tt
+notes_of_block volumes home jobs (Ok e) (Err error) upwards are wanted fit = tt
+notes_of_block volumes home jobs (Err error) (Ok notes) upwards are wanted fit = absurd cc
+notes_of_block volumes home jobs (Err error) (Err other) upwards are wanted fit = tt
 
 module _ {D P A : Type 0} (DiskTells : Type 0) (files : D → Files) (Tells : Type 0) (faults fuses : D → ℕ) (arm_faults : A → ℕ) (settings : Settings)
     (jobs : List (Vec Job Global)) (replies : List (Vec Reply Global)) where

@@ -10,7 +10,7 @@ use Rattle.hay_legal.specs.declared.turn.LogNote.{LogNote}
 use Rattle.hay_legal.specs.declared.turn.RowNote.{RowNote}
 use Rattle.hay_block.specs.declared.store.BlockNotes.{BlockNotes}
 use Rattle.hay_block.specs.declared.worker.Job.{Job}
-use Rattle.hay_block.specs.Stores.{line_of_tag}
+use Rattle.hay_block.specs.Stores.{AreUpwards, line_of_tag}
 use Rattle.hay_cluster_block.specs.Rows.{all_jobs, pair_of, rows_at}
 
 -- the note on the new entries of a volume
@@ -26,10 +26,11 @@ notes_of_rows from (row ∷ rows) = Rows from (row ∷ rows) ∷ []
 abbrev pub block_notes : List LogNote → RowNote → List Note
 block_notes logs rows = map note_of_log logs ++ notes_of_rows rows.from rows.rows
 
--- these are such notes
-pub record AreBlockNotes (notes : List Note) : Type 0 where
+-- these are such notes of a store of so many volumes
+pub record AreBlockNotes (volumes : ℕ) (notes : List Note) : Type 0 where
   pub logs : List LogNote
   pub rows : RowNote
+  pub upwards : AreUpwards volumes logs
   pub are : notes ≡ block_notes logs rows
 
 -- those of what was entered by these lines, where pairs have these homes behind them

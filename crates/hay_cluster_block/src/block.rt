@@ -17,7 +17,7 @@ ghost use Rattle.hay_cluster_block.specs.Rows.{all_jobs};
 use crate::arms::{apart, read_counts, together};
 use crate::notes::notes_of;
 use hay_base::NoMemory;
-use hay_block::{BlockAnswers, Job, StoreParts};
+use hay_block::{BlockAnswers, Job, ReplyText, StoreParts};
 use hay_cluster::{Cluster, ClusterParts};
 use hay_directory::Directory;
 use hay_disk::{Arm, Disk, Piece};
@@ -26,7 +26,7 @@ use hay_locks::run_on_locks;
 use hay_logical::Logical;
 use hay_needle::Settings;
 use hay_reader::LaneSeat;
-use hay_reply::{Note, Reply};
+use hay_reply::Note;
 use std::alloc::Global;
 use std::sync::Wait;
 use std::thread::Threads;
@@ -34,7 +34,7 @@ use std::thread::Threads;
 /// The replies of each lane, in the order of its lines, and the notes behind them, which may want memory.
 #[derive(Drop)]
 pub struct BlockReplies {
-    pub replies: Vec<Vec<Reply>>,
+    pub replies: Vec<Vec<ReplyText>>,
     pub notes: Result<Vec<Note>, NoMemory>,
 }
 
@@ -120,7 +120,7 @@ where
     ensures replies { IfOk result.1 (λ answers. AllZip (λ js rs. length js.items ≡ length rs.items) jobs.now answers.replies.items) }
     ensures bad { IfOk result.1 (λ answers. AllZip (λ js rs. AllZip AnswersBad js.items rs.items) jobs.now answers.replies.items) }
     ensures fits { IfOk result.1 (λ answers. AllByRecursion (λ rs. AllByRecursion FitsReply rs.items) answers.replies.items) }
-    ensures notes { IfOk result.1 (λ answers. IfOk answers.notes (λ notes. AreBlockNotes notes.items × AllByRecursion FitsNote notes.items)) }
+    ensures notes { IfOk result.1 (λ answers. IfOk answers.notes (λ notes. AreBlockNotes cluster.settings.volumes notes.items × AllByRecursion FitsNote notes.items)) }
     ensures rows { IfOk result.1 (λ answers. IfOk answers.notes (λ notes. AllByRecursion (TellsRowsOf (home_of result.0.directory) (all_jobs jobs.now)) notes.items)) }
     ensures counts { NoneFalls (map D.fault_count (disks_of cluster)) (map D.fault_count (disks_of result.0)) }
     ensures arm_counts { NoneFalls (map A.fault_count cluster.arms) (map A.fault_count result.0.arms) }

@@ -18,7 +18,7 @@ use Rattle.hay_logical.specs.declared.fault.LogicalFault.{LogicalFault}
 use Rattle.hay_logical.specs.declared.fault.LogicalFault.TheVariants as refusal
 use Rattle.hay_cluster.specs.declared.maintenance.Maintenance.TheVariants.{Flush, Begin, Step, Finish, Compact}
 use Rattle.hay_cluster.specs.Maintenance.{MayWantMemory}
-use Rattle.hay_cluster.specs.Needles.{LacksWork, LeadsPart, LeadsWork}
+use Rattle.hay_cluster.specs.Needles.{LacksWork, LeadsPart, LeadsSwap, LeadsWork}
 use Rattle.hay_cluster.proofs.maintenance.maintain.Goals as goal
 
 some_none : {X : Type 0} {x : X} → Some x ≡ None → ⊥
@@ -273,3 +273,25 @@ returns-in-Step-clause-part g c = λ tells r r' was now.
     (if_err_made c.step.result _ (λ fault is. step_led (sights_of (c.args.volume.now).rows) c.args.replica c.in-Step.cells (replica_seen r) (replica_seen r') (volume_bytes g.D.Disk.files r) fault
     (λ memory. c.step.ensures.part tells r r' was now (is ∙ ap (λ (f : LogicalFault). Err f) memory))
     (λ m so. c.step.ensures.thawed (sym c.frozen.ensures.is ∙ c.in_default.is) m (is ∙ ap (λ (f : LogicalFault). Err f) so))))
+
+pub returns-in-Some-clause-froze : goal.returns-in-Some-clause-froze
+returns-in-Some-clause-froze g c = λ tells thawed m e. absurd (some_none (sym c.in-Some.is ∙ c.frozen.ensures.is ∙ thawed))
+
+pub returns-in-Flush-clause-froze : goal.returns-in-Flush-clause-froze
+returns-in-Flush-clause-froze g c = λ tells thawed m e. absurd (some_none (sym e ∙ ap (λ (w : Volume g.row.D.Denot g.row.D-Piece.Denot). w.frozen) c.flush.ensures.still ∙ thawed))
+
+pub returns-in-Begin-clause-froze : goal.returns-in-Begin-clause-froze
+returns-in-Begin-clause-froze g c = λ tells thawed m e. absurd (some_none (sym e ∙ ap (λ (w : Volume g.row.D.Denot g.row.D-Piece.Denot). w.frozen) c.begin.ensures.still ∙ thawed))
+
+pub returns-in-Step-clause-froze : goal.returns-in-Step-clause-froze
+returns-in-Step-clause-froze g c = λ tells thawed m e. absurd (some_none (sym e ∙ ap (λ (w : Volume g.row.D.Denot g.row.D-Piece.Denot). w.frozen) c.step.ensures.still ∙ thawed))
+
+pub returns-in-Finish-clause-froze : goal.returns-in-Finish-clause-froze
+returns-in-Finish-clause-froze g c = λ tells thawed m e r was.
+    subst (λ (work : Maintenance). LeadsSwap (sights_of (c.args.volume.now).rows) c.args.replica work (replica_seen r) (volume_bytes g.D.Disk.files r)) (sym c.in-Finish.is)
+    (c.finish.ensures.froze tells thawed m e r was)
+
+pub returns-in-Compact-clause-froze : goal.returns-in-Compact-clause-froze
+returns-in-Compact-clause-froze g c = λ tells thawed m e r was.
+    subst (λ (work : Maintenance). LeadsSwap (sights_of (c.args.volume.now).rows) c.args.replica work (replica_seen r) (volume_bytes g.D.Disk.files r)) (sym c.in-Compact.is)
+    (c.compact.ensures.froze tells thawed m e r was)

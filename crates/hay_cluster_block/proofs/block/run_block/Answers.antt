@@ -1,10 +1,14 @@
 use Rattle.std.proofs.Common.{◌≡◌, ◌≤◌, ◌++◌, ◌-◌, ◌^◌, ℕ, List, Vec, Global, map, length, drop, reverse, refl, sym, ap, subst, ◌∙◌, vec_capacity}
+use Rattle.std.specs.Prelude.{IfOk}
 use Rattle.std.specs.List.{AllByRecursion, AllZip}
+use Rattle.hay_needle.specs.declared.settings.Settings.{Settings}
 use Rattle.hay_reply.specs.declared.Reply.{Reply}
 use Rattle.hay_legal.specs.Known.{NoneFalls}
 use Rattle.hay_directory.specs.State.{home_of}
+use Rattle.hay_block.specs.declared.store.BlockNotes.{BlockNotes}
 use Rattle.hay_block.specs.declared.worker.Job.{Job}
 use Rattle.hay_block.specs.Lines.{AreItems}
+use Rattle.hay_block.specs.Stores.{AreUpwards}
 use Rattle.hay_cluster.specs.Causes.{StaySure}
 use Rattle.hay_cluster.specs.Store.{Open, disks_of}
 use Rattle.hay_cluster.proofs.Moves.{none_falls}
@@ -132,8 +136,10 @@ returns-in-Err-answer-clause-other_arms g c =
 
 pub returns-in-Ok-answer-clause-notes : goal.returns-in-Ok-answer-clause-notes
 returns-in-Ok-answer-clause-notes g c =
+    let p = c.into_parts-directory in
     let q = c.run_on_locks-parts in
-    notes_of_block (home_of q.result.0.directory) c.args.jobs.now c.in-Ok-answer.answers.notes c.told-replies.result.notes c.told-replies.ensures.notes c.told-replies.ensures.wanted c.told-replies.ensures.fits
+    let upwards = subst (λ (s : Settings). IfOk c.in-Ok-answer.answers.notes (λ (notes : BlockNotes). AreUpwards s.volumes notes.logs.items)) p.ensures.settings (rw c.in-Ok-answer.is at q.ensures.upwards) in
+    notes_of_block c.args.cluster.settings.volumes (home_of q.result.0.directory) c.args.jobs.now c.in-Ok-answer.answers.notes c.told-replies.result.notes upwards c.told-replies.ensures.notes c.told-replies.ensures.wanted c.told-replies.ensures.fits
 
 pub returns-in-Ok-answer-clause-rows : goal.returns-in-Ok-answer-clause-rows
 returns-in-Ok-answer-clause-rows g c =

@@ -1,6 +1,5 @@
 use Rattle.std.proofs.Common.{ℕ, List, length, sym, subst, true, false, ◌≡◌, ◌∙◌}
 use Rattle.hay_script.specs.declared.Command.{Command}
-use Rattle.hay_cluster.specs.Suiting.{Suits}
 use Rattle.hay_cluster.proofs.Answering.{same_falls}
 use Rattle.hay_cluster.proofs.Sure.{same_sure}
 use Rattle.hay_cluster.specs.Leaving.{LeavesContents}
@@ -15,6 +14,7 @@ use Rattle.hay_cluster.specs.Sights.{LeavesSights, PutSights, ReadSights, WorkSi
 use Rattle.hay_reply.specs.declared.Reply.{Reply}
 use Rattle.hay_reply.specs.declared.Reply.TheVariants.{Deleted, Drained, Fused, FusedDir, Undrained}
 use Rattle.hay_legal.specs.Known.{replica_on}
+use Rattle.hay_legal.specs.Suiting.{Suits}
 use Rattle.hay_cluster.proofs.cluster.Cluster.answer.Goals as goal
 
 pub returns-in-Drain-clause-causes : goal.returns-in-Drain-clause-causes

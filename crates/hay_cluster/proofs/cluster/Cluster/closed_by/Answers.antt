@@ -1,6 +1,7 @@
 use Rattle.std.proofs.Common.{◌≡◌, ◌<◌, List, Some, None, length, sym, ap, subst, ◌∙◌, arith, ℕ, Option, false, inl}
 use Rattle.std.specs.Prelude.{slice_index_or, IfSome, IfNone}
 use Rattle.hay_legal.specs.Known.{closed_by, drained_of, volume_at}
+use Rattle.hay_legal.specs.Suiting.{IsOn}
 use Rattle.hay_logical.specs.Fits.{At}
 use Rattle.hay_logical.specs.Volumes.{Volume}
 use Rattle.hay_logical.proofs.Lists.{at_read}
@@ -9,7 +10,6 @@ use Rattle.hay_cluster.specs.Store.{Open, IsBuilt}
 use Rattle.hay_cluster.proofs.Refusals.{drained-known}
 use Rattle.hay_cluster.proofs.Moves.{volume_stood}
 use Rattle.hay_needle.specs.declared.settings.Settings.{Settings}
-use Rattle.hay_cluster.specs.Suiting.{IsOn}
 use Rattle.hay_cluster.proofs.Calls.{machine_on}
 use Rattle.hay_cluster.proofs.Suiting.{drained_on}
 use Rattle.hay_cluster.specs.Seen as seen

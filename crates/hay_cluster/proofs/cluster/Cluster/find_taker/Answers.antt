@@ -3,10 +3,10 @@ use Rattle.hay_cluster.proofs.Puts.{first_taker, one_more}
 use Rattle.hay_cluster.specs.Store.{Open}
 use Rattle.hay_needle.specs.declared.settings.Settings.{Settings}
 use Rattle.hay_legal.specs.Known.{try_at, all_tries}
+use Rattle.hay_legal.specs.Suiting.{Refuses}
 use Rattle.std.specs.List.{AllByRecursion, AllZip, range_with_len}
 use Rattle.hay_reply.specs.declared.Refused.{Refused}
 use Rattle.hay_reply.specs.Fits.{FitsRefused}
-use Rattle.hay_cluster.specs.Suiting.{Refuses}
 use Rattle.hay_cluster.proofs.Fitting.{all_snoc}
 use Rattle.hay_cluster.proofs.Suiting.{one_more_refuses}
 use Rattle.hay_cluster.specs.Seen.{IsTaker, RefusesPhoto, store_seen}

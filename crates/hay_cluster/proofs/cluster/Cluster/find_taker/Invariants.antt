@@ -4,9 +4,9 @@ use Rattle.std.specs.List.{AllByRecursion, AllZip, range_with_len}
 use Rattle.hay_reply.specs.Fits.{FitsRefused}
 use Rattle.hay_legal.specs.declared.known.Known.{Known}
 use Rattle.hay_legal.specs.Known.{refusal_of, try_at}
+use Rattle.hay_legal.specs.Suiting.{Refuses}
 use Rattle.hay_cluster.specs.Seen.{RefusesPhoto, store_seen}
 use Rattle.hay_cluster.specs.State.{Stands}
-use Rattle.hay_cluster.specs.Suiting.{Refuses}
 use Rattle.hay_cluster.proofs.cluster.Cluster.find_taker.Given as goal
 
 abbrev pub invariant-loop-turn : goal.invariant-loop-turn

@@ -4,12 +4,12 @@ use Rattle.hay_needle.specs.declared.settings.Settings.{Settings}
 use Rattle.hay_reply.specs.declared.Reply.TheVariants as reply
 use Rattle.hay_legal.specs.Known.{home_of, replica_on}
 use Rattle.hay_legal.specs.Plain.{LegalGetAt}
+use Rattle.hay_legal.specs.Suiting.{ShowsOf, SuitsGet}
 use Rattle.hay_cluster.specs.Store.{Open, contents_in, disks_of}
 use Rattle.hay_cluster.proofs.Answering.{answered, stays}
 use Rattle.hay_cluster.proofs.Moves.{none_falls}
 use Rattle.hay_cluster.proofs.Showing.{get_command}
 use Rattle.hay_cluster.proofs.Sure.{same_sure}
-use Rattle.hay_cluster.specs.Suiting.{ShowsOf, SuitsGet}
 use Rattle.hay_cluster.specs.Passing.{IsSureArm, TriesBefore}
 use Rattle.hay_cluster.specs.Reads.{counts_of}
 use Rattle.hay_cluster.specs.Sights.{told_by}

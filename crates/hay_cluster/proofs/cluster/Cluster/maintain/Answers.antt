@@ -5,7 +5,7 @@ use Rattle.std.proofs.lemmas.Result.{IfErr-at_err, IfOk-at_ok}
 use Rattle.hay_logical.specs.declared.fault.LogicalFault.TheVariants as refusal
 use Rattle.hay_logical.specs.Seen.{SeesAt}
 use Rattle.hay_logical.specs.Sights.{Sights}
-use Rattle.hay_cluster.specs.Needles.{FileAt, LacksWork, LeadsPart, LeadsWork}
+use Rattle.hay_cluster.specs.Needles.{FileAt, LacksWork, LeadsPart, LeadsSwap, LeadsWork}
 use Rattle.hay_cluster.specs.Seen.{VolumeAt}
 use Rattle.hay_cluster.proofs.Needling.{done_number, done_undamaged, memory_undone, nowhere_done, refused_done, refused_memory, work_damage}
 use Rattle.hay_needle.specs.declared.settings.Settings.{Settings}
@@ -158,6 +158,11 @@ pub returns-in_default-clause-told : goal.returns-in_default-clause-told
 returns-in_default-clause-told g c = λ tells. record {
   done = λ number is. absurd (nowhere_done c.args.volume c.args.machine number c.args.work is);
   part = λ is. absurd cc;
+  froze = λ freezes j on.
+      let same = ap (λ (st : Open g.row.D.Denot g.row.D-Piece.Denot g.row.A.Denot). st.settings) c.self.view_is in
+      let none : replica_on (c.args.self.now).settings c.args.volume c.args.machine ≡ None =
+      ap (λ (s : Settings). replica_on s c.args.volume c.args.machine) (sym same) ∙ sym c.replica_on.ensures.is ∙ c.in_default.is in
+      let wrong : Some j ≡ None = sym on ∙ none in absurd cc;
 }
 
 pub returns-in-Ok-clause-told : goal.returns-in-Ok-clause-told
@@ -177,6 +182,8 @@ returns-in-Ok-clause-told g c = λ tells.
           subst (λ i. FileAt settings contents old c.args.volume i (λ r file. VolumeAt c.args.volume (SeesAt i (λ r'. LeadsWork sights i c.args.work number r r' file)) new)) (same_Some c.in-Some.replica j (sym there ∙ on))
           (subst (λ n. FileAt settings contents old c.args.volume c.in-Some.replica (λ r file. VolumeAt c.args.volume (SeesAt c.in-Some.replica (λ r'. LeadsWork sights c.in-Some.replica c.args.work n r r' file)) new)) (sym one) led);
       part = λ is. absurd (memory_undone c.args.volume c.args.machine c.in-Ok.number c.args.work (sym is ∙ c.done.ensures.is));
+      froze = λ freezes j on.
+          subst (λ i. FileAt settings contents old c.args.volume i (LeadsSwap sights i c.args.work)) (same_Some c.in-Some.replica j (sym there ∙ on)) (c.maintain_in.ensures.froze tells freezes);
     }
 
 pub returns-in-Err-clause-told : goal.returns-in-Err-clause-told
@@ -195,4 +202,6 @@ returns-in-Err-clause-told g c = λ tells.
           let led = IfErr-at_err (λ fault. MayWantMemory fault → FileAt settings contents old c.args.volume c.in-Some.replica (λ r file. VolumeAt c.args.volume (SeesAt c.in-Some.replica (λ r'. LeadsPart sights c.in-Some.replica c.args.work r r' file)) new)) c.in-Err.is (c.maintain_in.ensures.part tells) in
           subst (λ i. FileAt settings contents old c.args.volume i (λ r file. VolumeAt c.args.volume (SeesAt i (λ r'. LeadsPart sights i c.args.work r r' file)) new)) (same_Some c.in-Some.replica j (sym there ∙ on))
           (led (refused_memory c.args.volume c.args.machine c.refused.result c.in-Err.fault c.refused.ensures.is is));
+      froze = λ freezes j on.
+          subst (λ i. FileAt settings contents old c.args.volume i (LeadsSwap sights i c.args.work)) (same_Some c.in-Some.replica j (sym there ∙ on)) (c.maintain_in.ensures.froze tells freezes);
     }

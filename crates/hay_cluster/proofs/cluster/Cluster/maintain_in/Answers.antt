@@ -1,7 +1,7 @@
-use Rattle.std.proofs.Common.{◌≡◌, ◌<◌, ℕ, List, ap, length, refl, sym, subst, ◌∙◌, arith}
+use Rattle.std.proofs.Common.{◌≡◌, ◌<◌, ℕ, List, None, Some, ap, length, refl, sym, subst, ◌∙◌, arith}
 use Rattle.std.specs.Prelude.{Result, Ok, Err, slice_index_or, slice_set, IfErr, IfOk}
 use Rattle.std.proofs.lemmas.List.{with_items_is}
-use Rattle.std.proofs.lemmas.Option.{slice_get_within}
+use Rattle.std.proofs.lemmas.Option.{same_Some, slice_get_within}
 use Rattle.std.proofs.lemmas.Result.{IfErr-at_err, IfErr-weaker, IfOk-at_ok, on_ok_weaker, on_err_weaker}
 use borrow.Author.Rules.{scaled_Fits}
 use Rattle.hay_needle.specs.declared.settings.Settings.{Settings}
@@ -12,7 +12,7 @@ use Rattle.hay_cluster.specs.Store.{Open, disks_of, contents_in}
 use Rattle.hay_cluster.proofs.Calls.{called_open, called_up, replica_cause}
 use Rattle.hay_cluster.proofs.Lists.{length-set, map-at, slice_get-set}
 use Rattle.hay_cluster.proofs.Needling.{file_on}
-use Rattle.hay_cluster.specs.Needles.{LacksWork, LeadsPart, LeadsWork}
+use Rattle.hay_cluster.specs.Needles.{FreezesAt, LacksWork, LeadsPart, LeadsSwap, LeadsWork}
 use Rattle.hay_cluster.specs.Maintenance.{MayWantMemory}
 use Rattle.hay_logical.specs.Sights.{Sights, sights_of}
 use Rattle.hay_cluster.proofs.ClosingStore.{order_item}
@@ -21,9 +21,9 @@ use Rattle.hay_cluster.specs.Leaving.{IsApart, LeavesIn, WorkKeeps}
 use Rattle.hay_cluster.proofs.Leaving.{called_others, called_same, work_keeps}
 use Rattle.hay_logical.specs.declared.fault.LogicalFault.{LogicalFault}
 use Rattle.hay_physical.specs.Copies.{volume_bytes}
-use Rattle.hay_logical.specs.Seen.{SeesAt, replica_seen, volume_seen}
+use Rattle.hay_logical.specs.Seen.{SeesAt, VolumeSeen, replica_seen, volume_seen}
 use Rattle.hay_cluster.specs.Seen.{VolumeAt, WorkRefusedSeen, WorkSeen, store_seen}
-use Rattle.hay_cluster.proofs.Seeing.{volume_moves}
+use Rattle.hay_cluster.proofs.Seeing.{seen_at, volume_moves}
 use Rattle.std.proofs.lemmas.Result.{IfOk-weaker}
 use Rattle.hay_cluster.proofs.Sighting.{photos_at, volume_photos, volume_kept_photos}
 use Rattle.hay_cluster.specs.Sights.{DoneSights}
@@ -281,3 +281,27 @@ returns-clause-part g c = λ tells.
             (IfErr-at_err (λ f. MayWantMemory f → LeadsPart (sights_of volume.rows) c.args.replica c.args.work (replica_seen r) (replica_seen r'.0) (volume_bytes g.D.Disk.files r)) is (c.maintain.ensures.part tells r r'.0 was r'.1) wants),
       ),
     ))))
+
+pub returns-clause-froze : goal.returns-clause-froze
+returns-clause-froze g c = λ tells freezes.
+    let store : Open g.row.D.Denot g.row.D-Piece.Denot g.row.A.Denot = record { settings = c.self.inside.settings; directory = c.self.inside.directory; volumes = c.self.inside.volumes.items; arms = c.self.inside.seats.items } in
+    let within : c.args.volume < length c.self.inside.volumes.items = let same = ap (λ (st : Open g.row.D.Denot g.row.D-Piece.Denot g.row.A.Denot). (st.settings).volumes) c.self.view_is in omega (arith, c.requires.volume, c.self.invariant.many, same) in
+    let volume : Volume g.row.D.Denot g.row.D-Piece.Denot = slice_index_or c.as_mut_slice.result.now c.args.volume c.index-as_mut_slice-volume.result in
+    let at : At store.volumes c.args.volume volume = subst (λ (vs : List (Volume g.row.D.Denot g.row.D-Piece.Denot)). At vs c.args.volume volume) c.as_mut_slice.ensures.value
+    (at_read c.as_mut_slice.result.now c.args.volume c.index-as_mut_slice-volume.result (let long = ap length c.as_mut_slice.ensures.value in omega (arith, within, long))) in
+    let items = with_items_is c.self.inside.volumes (slice_set c.as_mut_slice.result.now c.args.volume c.maintain.new.volume) (length-set c.as_mut_slice.result.now c.args.volume c.maintain.new.volume ∙ c.as_mut_slice.ensures.len)
+    ∙ ap (λ (vs : List (Volume g.row.D.Denot g.row.D-Piece.Denot)). slice_set vs c.args.volume c.maintain.new.volume) c.as_mut_slice.ensures.value in
+    let after = c.maintain.new.volume in
+    let next : Open g.row.D.Denot g.row.D-Piece.Denot g.row.A.Denot = with_one store c.args.volume after in
+    let seen : (store_seen c.args.self.now).places c.args.volume ≡ sights_of volume.rows = photos_at c.args.self.now store c.self.view_is c.args.volume volume at in
+    let froze : FreezesAt c.args.volume (store_seen c.args.self.now) (store_seen next) =
+    subst (λ (vs : List (Volume g.row.D.Denot g.row.D-Piece.Denot)). FreezesAt c.args.volume (store_seen c.args.self.now) (store_seen (record store { volumes = vs }))) items freezes in
+    let was : At (store_seen c.args.self.now).volumes c.args.volume (volume_seen volume) = seen_at c.args.self.now store c.self.view_is c.args.volume volume at in
+    let now : At (store_seen next).volumes c.args.volume (volume_seen after) =
+    map-at volume_seen (slice_set store.volumes c.args.volume after) c.args.volume after (slice_get-set store.volumes c.args.volume volume after at) in
+    let before = froze.0 in
+    let behind = froze.2 in
+    let thawed : volume.frozen ≡ None = ap (λ (w : VolumeSeen). w.frozen) (same_Some (volume_seen volume) before.0 (sym was ∙ before.1)) ∙ before.2 in
+    let frozen : after.frozen ≡ Some froze.1 = ap (λ (w : VolumeSeen). w.frozen) (same_Some (volume_seen after) behind.0 (sym now ∙ behind.1)) ∙ behind.2 in
+    file_on g.D.Disk.files c.args.self.now store c.self.view_is c.self.invariant c.args.volume volume at (LeadsSwap ((store_seen c.args.self.now).places c.args.volume) c.args.replica c.args.work) c.args.replica c.requires.replica
+    (λ r there. subst (λ (sights : Sights). LeadsSwap sights c.args.replica c.args.work (replica_seen r) (volume_bytes g.D.Disk.files r)) (sym seen) (c.maintain.ensures.froze tells thawed froze.1 frozen r there))

@@ -9,7 +9,7 @@ use Rattle.hay_cluster.specs.Causes.{HasFile}
 use Rattle.hay_cluster.specs.declared.fault.ClusterFault.TheVariants.{Shelf, Failed, Damaged, NoMemory}
 use Rattle.hay_cluster.specs.Store.{disks_of}
 use Rattle.hay_cluster.proofs.ClosingStore.{disks_many}
-use Rattle.hay_cluster.proofs.OpeningDamage.{opened_sound, opening_damaged, opening_failed, TellsSlot, opening_first}
+use Rattle.hay_cluster.proofs.OpeningDamage.{opened_reads, opened_sound, opening_damaged, opening_failed, TellsSlot, opening_first}
 use Rattle.hay_cluster.proofs.OpeningDraws.{flushed_drew, opening_drew}
 use Rattle.hay_cluster.proofs.OpeningFound.{found_new}
 use Rattle.hay_cluster.proofs.OpeningLists.{passed_on}
@@ -357,3 +357,9 @@ returns-in_err-disks-clause-damaged_first g c =
     let p = err_from_is_err_and c.from_residual-in_err-disks.result c.from_residual-in_err-disks.ensures.1 in
     let cause : IsTakingFault (g.H.Shelf.fault_count c.args.shelf.now) (g.H.Shelf.fault_count c.take_parts.new.shelf) c.in_err-disks.field-0.0 = c.in_err-disks.ensures.cause in
     λ tells slot file at is. absurd (taking_damaged (g.H.Shelf.fault_count c.args.shelf.now) (g.H.Shelf.fault_count c.take_parts.new.shelf) c.in_err-disks.field-0.0 slot file at cause (sym p.2 ∙ one_fault c.from_residual-in_err-disks.result p.0 (Damaged slot file at) p.1 is))
+
+pub returns-in-Ok-clause-reads : goal.returns-in-Ok-clause-reads
+returns-in-Ok-clause-reads g c =
+    let taken = is_taken g.D.Disk.Tells g.D.Disk.files g.D.Piece.Piece.Tells g.D.Disk.fault_count g.D.Disk.fuse_count g.A.Arm.fault_count g.D.Disk.drawn g.A.Arm.is_sure (g.H.Shelf.disks c.args.shelf.now) (g.H.Shelf.arms c.args.shelf.now) c.assemble-cluster.result c.in_ok-disks.disks.items c.in_ok-disks.seats.items c.assemble-cluster.ensures.shape c.assemble-cluster.ensures.fresh c.assemble-cluster.ensures.closed c.assemble-cluster.ensures.unsure c.assemble-cluster.ensures.disks c.assemble-cluster.ensures.arms c.in_ok-disks.ensures.disks c.in_ok-disks.ensures.arms in
+    let moved : MovedParts g.D.Disk.Tells g.D.Disk.files g.D.Piece.Piece.Tells g.D.Disk.fault_count g.D.Disk.fuse_count g.A.Arm.fault_count c.assemble-cluster.result c.open_parts.new.self = record { settings = c.open_parts.ensures.settings; arms = c.open_parts.ensures.arms; directory = c.open_parts.ensures.directory; volumes = c.open_parts.ensures.volumes } in
+    λ tells. opened_reads g.D.Disk.Tells g.D.Disk.files g.D.Piece.Piece.Tells g.D.Disk.fault_count g.D.Disk.fuse_count g.A.Arm.fault_count tells g.D.Disk.drawn g.A.Arm.is_sure (g.H.Shelf.disks c.args.shelf.now) (g.H.Shelf.arms c.args.shelf.now) c.args.settings c.assemble-cluster.result c.open_parts.new.self c.in-Ok._notes c.assemble-cluster.ensures.settings taken moved c.in-Ok.ensures.opened

@@ -14,12 +14,12 @@ use Rattle.hay_cluster.specs.Store.{Open, contents_in, disks_of}
 use Rattle.hay_cluster.proofs.Answering.{answered, cause_earlier, not_settled, refusal_same, taker_takes}
 use Rattle.hay_cluster.proofs.Moves.{falls_trans}
 use Rattle.hay_cluster.proofs.Puts.{put_legal}
-use Rattle.hay_cluster.specs.Suiting.{SuitsPut}
 use Rattle.hay_cluster.proofs.Suiting.{settle_suits}
 use Rattle.std.proofs.lemmas.Result.{IfErr-at_err}
 use Rattle.hay_cluster.specs.Leaving.{AddsRow, IsBeside, IsReplicaSlot, LeavesIn, LeavesReplicas}
 use Rattle.hay_cluster.proofs.Leaving.{first_contents, leaves_contents, leaves_reads, replicas_after, same_first, unsettled_leaves}
 use Rattle.hay_legal.specs.Stands.{Contents}
+use Rattle.hay_legal.specs.Suiting.{SuitsPut}
 use Rattle.hay_cluster.specs.Seen.{PutsAt, store_seen, places_of}
 use Rattle.hay_cluster.proofs.Seeing.{put_seen, unsettled_seen}
 use Rattle.hay_cluster.proofs.Sighting.{put_from, same_photos, unsettled_sights}

@@ -3,6 +3,7 @@ use Rattle.std.specs.Prelude.{IfSome, slice_index_or}
 use Rattle.std.proofs.lemmas.Result.{IfErr-at_err, IfOk-at_ok}
 use Rattle.hay_needle.specs.declared.settings.Settings.{Settings}
 use Rattle.hay_legal.specs.Known.{closed, refusal_of, room_refusal_of, volume_at}
+use Rattle.hay_legal.specs.Suiting.{Refuses}
 use Rattle.hay_reply.specs.declared.Refused.{Refused}
 use Rattle.hay_logical.specs.Answers.{IsRoomFault, room_answer}
 use Rattle.hay_physical.specs.Copies.{Copy}
@@ -13,7 +14,6 @@ use Rattle.hay_logical.proofs.Lists.{at_read}
 use Rattle.hay_cluster.specs.Lacks.{lack_of}
 use Rattle.hay_cluster.specs.State.{Stands}
 use Rattle.hay_cluster.specs.Store.{IsBuilt, Open}
-use Rattle.hay_cluster.specs.Suiting.{Refuses}
 use Rattle.hay_cluster.proofs.Moves.{volume_of, volume_stood}
 use Rattle.hay_cluster.proofs.Calls.{called_open}
 use Rattle.hay_cluster.proofs.Refusals.{refused_for, taken_for}

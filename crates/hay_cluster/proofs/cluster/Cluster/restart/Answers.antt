@@ -7,7 +7,7 @@ use Rattle.hay_cluster.proofs.Formatted.{refused_formatted}
 use Rattle.hay_cluster.proofs.OpeningDamage.{TellsSlot, restart_damaged, restart_first, restart_sound}
 use Rattle.hay_cluster.proofs.OpeningDraws.{restart_drew}
 use Rattle.hay_cluster.proofs.OpeningStore.{MovedParts, StoppedParts, opens_up, restart_cause, restart_fuses, restart_later, restart_left, restart_opened, restart_whole, stops_closed, stops_idle}
-use Rattle.hay_cluster.proofs.SeenOpening.{opened_fit, opens_seen, tells_seen}
+use Rattle.hay_cluster.proofs.SeenOpening.{opened_fit, opens_seen, pending_told, tells_seen}
 use Rattle.hay_cluster.proofs.cluster.Cluster.restart.Goals as goal
 
 pub open_parts-requires-clause-closed : goal.open_parts-requires-clause-closed
@@ -126,3 +126,10 @@ returns-clause-damaged_first g c = λ tells slot file at is.
     (IfErr-weaker c.open_parts.result _ _
     (λ fault refused n f a told. restart_first g.D.Disk.Tells g.D.Disk.files g.D.Piece.Piece.Tells g.D.Disk.fault_count g.D.Disk.fuse_count g.A.Arm.fault_count tells c.args.self.now c.stop.new.self c.open_parts.new.self fault c.stop.ensures.shape stopped moved refused n (subst (λ x. TellsSlot x n) (sym told) refl)) c.open_parts.ensures.refused)
     slot file at refl
+
+pub returns-clause-told : goal.returns-clause-told
+returns-clause-told g c = λ tells.
+    let stopped : StoppedParts g.D.Disk.Tells g.D.Disk.files g.D.Piece.Piece.Tells g.D.Disk.fault_count g.D.Disk.fuse_count g.A.Arm.fault_count c.args.self.now c.stop.new.self = record { settings = c.stop.ensures.settings; arms = c.stop.ensures.arms; directory = c.stop.ensures.directory; volumes = c.stop.ensures.volumes } in
+    IfOk-weaker c.open_parts.result _ _
+    (λ notes opens. pending_told g.D.Disk.Tells g.D.Disk.files g.D.Piece.Piece.Tells g.D.Disk.fault_count g.D.Disk.fuse_count g.A.Arm.fault_count tells c.args.self.now c.stop.new.self c.open_parts.new.self notes
+    c.open_parts.ensures.shape (c.open_parts.ensures.settings ∙ c.stop.ensures.settings) stopped opens) c.open_parts.ensures.opened
