@@ -3,14 +3,15 @@ use Rattle.std.proofs.Common.{◌≡◌, ◌≢◌, ◌⊎◌, inr, ℕ, ◌<◌
 use Rattle.std.specs.Prelude.{Result, Ok, Err, IfOk, OnOk, OnErr, Vec}
 use Rattle.std.specs.Global.{Global}
 use Rattle.std.specs.List.{AllByRecursion as Each, AllZip}
-use Rattle.std.proofs.lemmas.Result.{on_ok_weaker, on_err_weaker}
+use Rattle.std.proofs.lemmas.Result.{IfOk-weaker, on_ok_weaker, on_err_weaker}
 use Rattle.hay_base.specs.declared.memory.NoMemory.{NoMemory}
 use Rattle.hay_disk.specs.Disk.{Files}
 use Rattle.hay_disk.specs.Streams.{Wrote, WrotePart}
+use Rattle.hay_needle.specs.declared.needle.Pair.{Pair}
 use Rattle.hay_needle.specs.declared.settings.Settings.{Settings}
 use Rattle.hay_reply.specs.declared.Note.{Note}
 use Rattle.hay_reply.specs.declared.Reply.{Reply}
-use Rattle.hay_reply.specs.Fits.{FitsReply}
+use Rattle.hay_reply.specs.Fits.{FitsNote, FitsReply}
 use Rattle.hay_legal.specs.declared.known.Known.{Known}
 use Rattle.hay_legal.specs.declared.turn.LaneItem.{LaneItem}
 use Rattle.hay_legal.specs.Items.{InBlock, line_asked}
@@ -18,20 +19,23 @@ use Rattle.hay_legal.specs.Items.Asked.{Block}
 use Rattle.hay_legal.specs.Known.{EachPair}
 use Rattle.hay_block.specs.declared.worker.Job.{Job}
 use Rattle.hay_block.specs.Lines.{AnswersBad, AreItems, IsServed}
+use Rattle.hay_cluster.specs.Seen.{home_seen}
 use Rattle.hay_cluster.specs.State.{Stands, Holds}
 use Rattle.hay_cluster.specs.Store.{Open}
 use Rattle.hay_cluster.proofs.Standing.{stands_holds}
 use Rattle.hay_cluster_block.specs.Blocks.{RanBlock}
-use Rattle.hay_cluster_block.specs.Notes.{block_notes}
+use Rattle.hay_cluster_block.specs.Notes.{AreBlockNotes, TellsRowsOf, block_notes}
+use Rattle.hay_cluster_block.specs.Rows.{all_jobs}
 use Rattle.hay_run.specs.declared.deal.Place.{Place}
 use Rattle.hay_run.specs.declared.stops.Stop.{Stop}
 use Rattle.hay_run.specs.declared.stops.Stop.TheVariants as stop
-use Rattle.hay_run.specs.Blocks.{AreAnswered, AreJobs, ArePlaces, IsBlockOf, IsBlockText, answered_text}
+use Rattle.hay_run.specs.Blocks.{AreAnswered, AreJobs, ArePlaces, IsBlockOf, IsBlockText, answered_text, job_of}
 use Rattle.hay_run.specs.Causing.{Caused, IsLaterTally, StopCaused, Tally, WantedBlock}
 use Rattle.hay_run.specs.Turns.{AnswersAll, AnswersPart, AnyTurn, IsGoingOn}
-use Rattle.hay_run.proofs.Blocked.{NotesOf, block_ran, block_told, err_here, ok_by, ok_here}
+use Rattle.hay_run.proofs.Blocked.{NotesOf, block_ran, block_told, err_here, notes_of_told, ok_by, ok_here}
 use Rattle.hay_run.proofs.Causing.{caused_one, part_stops}
 use Rattle.hay_run.proofs.Dealing.{answered_by, are_items, distinct_items, each_job, each_mapped, each_reply, jobs_long, zip_mapped}
+use Rattle.hay_run.proofs.RowsAsked.{rows_asked}
 use Rattle.hay_run.proofs.Turning.{block_goes_on}
 
 -- DEALT OUT
@@ -80,6 +84,13 @@ module _ (lanes : ℕ) (lines : List InBlock) (jobs : List (Vec Job Global)) (pl
   pub served_jobs : Each (λ (js : Vec Job Global). Each (λ job. IsServed job.item) js.items) jobs
   served_jobs = each_own (λ (own : List Job). Each (λ job. IsServed job.item) own) jobs (each_job IsServed lanes lines (own_jobs jobs) d.block.served d.jobs_are)
 
+  -- the notes, on rows of the block's lines
+  pub notes_told : (settings : Settings) (home : Pair → Option ℕ) (told : Result (Vec Note Global) NoMemory) → IfOk told (λ own. AreBlockNotes settings.volumes own.items × Each FitsNote own.items)
+      → IfOk told (λ own. Each (TellsRowsOf home (all_jobs jobs)) own.items) → NotesOf settings.volumes home (map job_of lines) told
+  notes_told settings home told are rows =
+      notes_of_told settings.volumes home (map job_of lines) told are
+      (IfOk-weaker told (λ own. Each (TellsRowsOf home (all_jobs jobs)) own.items) (λ own. Each (TellsRowsOf home (map job_of lines)) own.items) (λ own. rows_asked lanes lines jobs d.jobs_are home own.items) rows)
+
   -- the lines with their replies
   module _ (replies : List (Vec Reply Global)) (same : AllZip (λ (js : Vec Job Global) (rs : Vec Reply Global). length js.items ≡ length rs.items) jobs replies) where
     pub answered : (items : List LaneItem) × AreAnswered lines (own_replies replies) items
@@ -105,10 +116,11 @@ module _ (lanes : ℕ) (lines : List InBlock) (jobs : List (Vec Job Global)) (pl
 
     -- their text, whatever the disks tell
     pub text_told : (items : List LaneItem) (told : Result (Vec Note Global) NoMemory) → AreAnswered lines (own_replies replies) items → Each (λ (rs : Vec Reply Global). Each FitsReply rs.items) replies
-        → AllZip (λ (js : Vec Job Global) (rs : Vec Reply Global). AllZip AnswersBad js.items rs.items) jobs replies → (n : NotesOf told) → IsBlockText lines (answered_text items n.notes)
-    text_told items told are fits bad n =
+        → AllZip (λ (js : Vec Job Global) (rs : Vec Reply Global). AllZip AnswersBad js.items rs.items) jobs replies → (settings : Settings) (home : Pair → Option ℕ) (n : NotesOf settings.volumes home (map job_of lines) told)
+        → IsBlockText settings home lines (answered_text items n.notes)
+    text_told items told are fits bad settings home n =
         let answers = zip_mapped (λ (own : Vec Job Global). own.items) (λ (own : Vec Reply Global). own.items) (λ (js : List Job) (rs : List Reply). AllZip AnswersBad js rs) jobs replies bad in
-        block_told lanes lines (own_jobs jobs) (own_replies replies) items told d.jobs_are
+        block_told settings home lanes lines (own_jobs jobs) (own_replies replies) items told d.jobs_are
         (zip_many (λ (js : List Job) (rs : List Reply). AllZip AnswersBad js rs) (own_jobs jobs) (own_replies replies) answers) are
         (each_mapped (λ (own : Vec Reply Global). own.items) (λ (own : List Reply). Each FitsReply own) replies fits) answers n
 
@@ -138,7 +150,7 @@ module _ {D P A : Type 0} (files : D → Files) (DiskTells Tells : Type 0) (faul
       (err_here (WrotePart written (answered_text items (block_notes ran.logs ran.rows)) written') r e is (part (block_notes ran.logs ran.rows) ran.notes_are)))
 
 -- whatever they tell
-module _ (Tells : Type 0) (settings : Settings) (before after : Tally) (lines : List InBlock) (text : List ℕ) (written written' : Option (List ℕ)) (later : IsLaterTally before after) (is : IsBlockText lines text) where
+module _ (Tells : Type 0) (settings : Settings) (before after : Tally) (lines : List InBlock) (text : List ℕ) (written written' : Option (List ℕ)) (later : IsLaterTally before after) (is : IsBlockText settings (home_seen after.seen) lines text) where
   pub block_caused : {X : Type 0} (r : Result X Stop) → OnOk r (Wrote written text written') → OnOk r (Caused Tells Wrote settings before after (Block lines ∷ []) written written')
   block_caused r wrote = on_ok_weaker r (λ whole. caused_one Tells Wrote settings before after (Block lines) text written written' later is whole) wrote
 

@@ -4,6 +4,8 @@ use Rattle.std.specs.Prelude.{Bool, Result, Ok, Err, IfOk, OnOk, OnErr, Vec, fla
 use Rattle.std.specs.Global.{Global}
 use Rattle.std.specs.List.{AllByRecursion as Each, AllZip}
 use Rattle.hay_base.specs.declared.memory.NoMemory.{NoMemory}
+use Rattle.hay_needle.specs.declared.needle.Pair.{Pair}
+use Rattle.hay_needle.specs.declared.settings.Settings.{Settings}
 use Rattle.hay_disk.specs.Disk.{Files}
 use Rattle.hay_reply.specs.declared.Note.{Note}
 use Rattle.hay_reply.specs.declared.Reply.{Reply}
@@ -25,9 +27,9 @@ use Rattle.hay_block.specs.Lines.{AnswersBad}
 use Rattle.hay_cluster.specs.Causes.{Counts}
 use Rattle.hay_cluster.specs.Store.{Open, disks_of}
 use Rattle.hay_cluster_block.specs.Blocks.{RanBlock, StaysAs}
-use Rattle.hay_cluster_block.specs.Notes.{AreBlockNotes, block_notes}
+use Rattle.hay_cluster_block.specs.Notes.{AreBlockNotes, TellsRowsOf, block_notes}
 use Rattle.hay_cluster_block.proofs.Noting.{notes_text}
-use Rattle.hay_run.specs.Blocks.{AreAnswered, AreJobs, IsBlockText, answered_text}
+use Rattle.hay_run.specs.Blocks.{AreAnswered, AreJobs, IsBlockText, answered_text, job_of}
 use Rattle.hay_run.specs.Causing.{WantedBlock, tally_of}
 use Rattle.hay_run.specs.Turns.{AnswersTurns, Standing, Writing}
 use Rattle.hay_run.proofs.Dealing.{each_answer, each_reply}
@@ -62,31 +64,40 @@ block_ran files Tells faults fuses arm_faults Left Is is Writes k lines items to
 
 -- WHATEVER THE DISKS TELL
 
--- the notes, or none where they wanted memory
-pub record NotesOf (told : Result (Vec Note Global) NoMemory) : Type 0 where
+-- the notes of a store of so many volumes, on rows of these lines, or none where they wanted memory
+pub record NotesOf (volumes : ℕ) (home : Pair → Option ℕ) (jobs : List Job) (told : Result (Vec Note Global) NoMemory) : Type 0 where
   pub notes : List Note
   pub are : IfOk told (λ own. own.items ≡ notes)
-  pub kinds : AreBlockNotes notes
+  pub kinds : AreBlockNotes volumes notes
+  pub rows : Each (TellsRowsOf home jobs) notes
   pub fit : Each FitsNote notes
 
-pub notes_of_told : (told : Result (Vec Note Global) NoMemory) → IfOk told (λ own. AreBlockNotes own.items × Each FitsNote own.items) → NotesOf told
-notes_of_told (Ok own) is = record { notes = own.items; are = refl; kinds = is.0; fit = is.1 }
-notes_of_told (Err e) is = record { notes = []; are = tt; kinds = record { logs = []; rows = record { from = 0; rows = [] }; are = refl }; fit = tt }
+pub notes_of_told : (volumes : ℕ) (home : Pair → Option ℕ) (jobs : List Job) (told : Result (Vec Note Global) NoMemory) → IfOk told (λ own. AreBlockNotes volumes own.items × Each FitsNote own.items)
+    → IfOk told (λ own. Each (TellsRowsOf home jobs) own.items) → NotesOf volumes home jobs told
+notes_of_told volumes home jobs (Ok own) is rows = record { notes = own.items; are = refl; kinds = is.0; rows = rows; fit = is.1 }
+notes_of_told volumes home jobs (Err e) is rows = record {
+  notes = [];
+  are = tt;
+  kinds = record { logs = []; rows = record { from = 0; rows = [] }; upwards = record { upwards = tt; within = tt; some = tt }; are = refl };
+  rows = tt;
+  fit = tt;
+}
 
 each_both : (P Q : LaneItem → Type 0) (items : List LaneItem) → Each P items → Each Q items → Each (λ item. P item × Q item) items
 each_both P Q [] p q = tt
 each_both P Q (item ∷ items) p q = ((p.0, q.0), each_both P Q items p.1 q.1)
 
-pub block_told : (lanes : ℕ) (lines : List InBlock) (jobs : List (List Job)) (replies : List (List Reply)) (items : List LaneItem) (told : Result (Vec Note Global) NoMemory)
+pub block_told : (settings : Settings) (home : Pair → Option ℕ) (lanes : ℕ) (lines : List InBlock) (jobs : List (List Job)) (replies : List (List Reply)) (items : List LaneItem) (told : Result (Vec Note Global) NoMemory)
     → AreJobs lanes lines jobs → length jobs ≡ length replies → AreAnswered lines replies items → Each (λ own. Each FitsReply own) replies → AllZip (λ js rs. AllZip AnswersBad js rs) jobs replies
-    → (n : NotesOf told) → IsBlockText lines (answered_text items n.notes)
-block_told lanes lines jobs replies items told are long answered fits bad n = record {
+    → (n : NotesOf settings.volumes home (map job_of lines) told) → IsBlockText settings home lines (answered_text items n.notes)
+block_told settings home lanes lines jobs replies items told are long answered fits bad n = record {
   items = items;
   asked = answered.asked;
   fits = each_both (λ line. FitsReply line.reply) (λ line. line.item ≡ item.Bad → line.reply ≡ BadLine) items (each_reply FitsReply lines replies items fits answered)
       (each_answer (λ (asked : Item) (reply : Reply). asked ≡ item.Bad → reply ≡ BadLine) lanes lines jobs replies items bad are long answered);
   notes = n.notes;
   told = n.kinds;
+  rows = n.rows;
   fit = n.fit;
   is = refl;
 }
@@ -108,4 +119,10 @@ wanted_block DiskTells files Tells drawn faults fuses arm_faults sure lines stor
 
 pub same_block : {D P A : Type 0} (files : D → Files) (drawn : D → ℕ → ℕ) (faults fuses : D → ℕ) (arm_faults : A → ℕ) (sure : A → Bool) (lines : List InBlock) (store : Open D P A)
     → WantedBlock (tally_of files drawn faults fuses arm_faults sure store) (tally_of files drawn faults fuses arm_faults sure store) (Block lines ∷ [])
-same_block files drawn faults fuses arm_faults sure lines store = record { lines = lines; block = refl; counts = refl; fuses = refl; sure = refl }
+same_block files drawn faults fuses arm_faults sure lines store = record {
+  lines = lines;
+  block = refl;
+  counts = refl;
+  fuses = refl;
+  sure = refl;
+}

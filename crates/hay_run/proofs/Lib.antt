@@ -17,6 +17,7 @@ pub mod Ran
 pub mod Reading
 pub mod Refusing
 pub mod Refuted
+pub mod RefutedBlocks
 pub mod RefutedChecks
 pub mod Restarting
 pub mod Serving
@@ -26,3 +27,4 @@ pub mod Unread
 pub mod VoidDisks
 pub mod Drawing
 pub mod Writes
+pub mod RowsAsked

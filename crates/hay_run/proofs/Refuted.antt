@@ -1,5 +1,5 @@
 -- Causes of texts that no run has, each as a lemma.
-use Rattle.std.proofs.Common.{◌≡◌, ◌≢◌, ◌⊎◌, ℕ, zero, suc, ◌+◌, ◌*◌, ◌-◌, ◌%◌, ◌^◌, ◌<◌, ◌≤◌, List, [], ◌∷◌, ◌++◌, length, Some, None, refl, sym, ap, subst, ◌∙◌, inl, inr, arith}
+use Rattle.std.proofs.Common.{◌≡◌, ◌≢◌, ◌⊎◌, ℕ, zero, suc, ◌+◌, ◌*◌, ◌-◌, ◌%◌, ◌^◌, ◌<◌, ◌≤◌, List, [], ◌∷◌, ◌++◌, length, Option, Some, None, refl, sym, ap, subst, ◌∙◌, inl, inr, arith}
 use Rattle.std.proofs.Math.Nat.{mod-eq_of_lt, mod-lt}
 use Rattle.std.proofs.lemmas.Bool.{cases_eq}
 use Rattle.std.proofs.lemmas.List.{append_cancel_left, append_cancel_right}
@@ -16,6 +16,7 @@ use Rattle.hay_needle.specs.declared.needle.Version.TheVariants.{Two}
 use Rattle.hay_needle.specs.Needle.{BeginsWithNeedle, needle_of_cell}
 use Rattle.hay_needle.specs.Sizes.{max_photo, needle_total}
 use Rattle.hay_url.specs.declared.Url.{Url as UrlParts}
+use Rattle.hay_core.specs.declared.entry.CoreTag.{CoreTag}
 use Rattle.hay_script.specs.declared.Command.{Command}
 use Rattle.hay_script.specs.declared.Command.TheVariants as asks
 use Rattle.hay_reply.specs.declared.Cause.{Cause}
@@ -31,31 +32,37 @@ use Rattle.hay_reply.specs.Fits.{FitsReply}
 use Rattle.hay_reply.specs.Replies.{numbered_line, reply_text}
 use Rattle.hay_reply.specs.Reading.{reply_of, words_of}
 use Rattle.hay_reply.proofs.Back.{back_reply}
-use Rattle.hay_legal.specs.Known.{CameUp, disk_count, machine_of, replica_on, slot_of, tries_by}
+use Rattle.hay_legal.specs.Known.{CameUp, disk_count, home_in, machine_of, replica_on, slot_of, tries_by}
 use Rattle.hay_legal.specs.Plain.{as_closed, order_from}
 use Rattle.hay_legal.specs.Stands.{Contents, Outside}
+use Rattle.hay_legal.specs.Statuses.{read_contents}
+use Rattle.hay_legal.specs.Suiting.{Suits, start_at}
 use Rattle.hay_logical.specs.declared.fault.LogicalFault.{LogicalFault}
 use Rattle.hay_logical.specs.declared.fault.LogicalFault.TheVariants as refusal
+use Rattle.hay_logical.specs.declared.unsure.Change.TheVariants as change
 use Rattle.hay_logical.specs.declared.unsure.Unsure.{Unsure}
-use Rattle.hay_open.specs.Stored.{volume_file}
+use Rattle.hay_logical.specs.Notes.{IsToldPlace, ToldUnsure}
+use Rattle.hay_open.specs.Stored.{OpensAs, Stored as WasStored, volume_file}
 use Rattle.hay_open.proofs.Faults.{past_the_last}
 use Rattle.hay_volume.specs.Needles.{HasNeedleOf, LacksNeedleOf, LacksNeedleWithin}
 use Rattle.hay_volume.proofs.Readings.{cell_begins}
-use Rattle.hay_logical.specs.Fits.{At}
+use Rattle.hay_logical.specs.Fits.{At, super_of}
 use Rattle.hay_logical.specs.Needles.{HeadsLead, HeadsLeadOn, IsToldBy, LacksCell, LacksSeen}
 use Rattle.hay_logical.proofs.Damages.{BreaksBehind, broken_ends}
-use Rattle.hay_logical.specs.Seen.{BeginRefusedSeen, FlushRefusedSeen, IsFresh, MeetsDamage, PutSeen, ReplicaSeen, RoomSeen, SeesAt, SeesRoom, StepRefusedSeen, StepsTo, VolumeSeen, begun}
+use Rattle.hay_logical.specs.Seen.{BeginRefusedSeen, FlushRefusedSeen, IsFoundAs, IsFresh, MeetsDamage, PutSeen, ReplicaSeen, RoomSeen, SeesAt, SeesRoom, StepRefusedSeen, StepsTo, VolumeSeen, begun}
 use Rattle.hay_logical.specs.Sights.{AwaitsLook, AwaitsLookAt, IsLiveSight, LiesWithin, Looks, LooksAtPair, SeesAll, Sight, Sights, StoresSights, SwapsSights, gone_sight}
 use Rattle.hay_logical.specs.Sights.Sight.{Gone as WasGone, Live, Never, Unseen}
+use Rattle.hay_legal.specs.declared.known.HomeRow.{HomeRow}
+use Rattle.hay_directory.specs.Rows.{OpensRows}
+use Rattle.hay_directory.proofs.RowLaws.{opens_once}
 use Rattle.hay_cluster.specs.Causes.{Counts, EndsRuns, LeavesFuses}
 use Rattle.hay_cluster.specs.Leaving.{AnySlot, IsApartOn, KeepsIn, LeavesByPut, LeavesContents, MayAddRow, MayPut}
 use Rattle.hay_cluster.specs.Maintenance.{IsRefusedAs}
-use Rattle.hay_cluster.specs.Needles.{AreToldAs, DeletesAsTold, FileAt, IsDamagedLookOn, LacksFor, LacksPlace, MeetsNeedles, TellsDamage}
+use Rattle.hay_cluster.specs.Needles.{AreToldAs, DeletesAsTold, FileAt, FreezesAt, IsDamagedLookOn, LacksFor, LacksPlace, MeetsNeedles, TellsDamage}
 use Rattle.hay_cluster.specs.Passing.{CauseCameUp, PassesBefore, PassesOver, StandsFor, TriesTo}
 use Rattle.hay_cluster.specs.Seen.{Answers, AnswersPut, Closes, GetsHome, IsFrozenBy, IsThawed, MovesVolume, OpensSeen, OpensVolumeSeen, PlacesLie, RefusesPhoto, StoreSeen, TakesPhotoAt, VolumeAt, home_seen, is_drained}
 use Rattle.hay_cluster.specs.Sights.{ChangesPhotos, IsAbsent, LeavesSights, SeesOn}
 use Rattle.hay_cluster.specs.Store.{IsBuilt}
-use Rattle.hay_cluster.specs.Suiting.{Suits, start_at}
 use Rattle.hay_cluster.proofs.Machines.{replica_found, same_machine}
 use Rattle.hay_cluster.proofs.OpeningStore.{slot_below}
 use Rattle.hay_run.specs.Causing.{BeginsAt, HasSureArm, IsNoteCaused, IsReplyText, IsRestartText, Tally, plain_tag}
@@ -1459,3 +1466,103 @@ compacted_over_a_broken_body Tells settings before after v m n j number at volum
     let low = (broken_ends ((before.seen).places v) j lead.0 64 at lead.1 (before.contents (slot_of settings v j) (volume_file r.generation)) front breaks lead.3).1 in
     omega (arith, far, low, within))
     says
+
+module _ (Tells : Type 0) (settings : Settings) (before after : Tally) (v m f j number : ℕ) (volume : VolumeSeen) (r : ReplicaSeen) (tells : Tells)
+    (on : replica_on settings v m ≡ Some j) (there : At (before.seen).volumes v volume) (is : At volume.replicas j r) (froze : FreezesAt v before.seen after.seen) where
+  abbrev sights : Sights
+  sights = (before.seen).places v
+
+  abbrev file : List ℕ
+  file = before.contents (slot_of settings v j) (volume_file r.generation)
+
+  -- what is so of the replica's file
+  so : (Is : ReplicaSeen → List ℕ → Type 0) → FileAt settings before.contents before.seen v j Is → Is r file
+  so Is (volume', there', (o, is', has)) =
+      let one : Some volume' ≡ Some volume = sym there' ∙ there in
+      let same : volume' ≡ volume = cc in
+      let two : Some o ≡ Some r = sym (subst (λ (w : VolumeSeen). At w.replicas j o) same is') ∙ is in
+      let same_replica : o ≡ r = cc in
+      subst (λ (x : ReplicaSeen). Is x (before.contents (slot_of settings v j) (volume_file x.generation))) same_replica has
+
+  -- a compaction whose switch of files failed and froze the volume, though heads do not stand from its next cell on as far as the cells go
+  pub finish_froze_over_damage : (HeadsLeadOn sights j r file → ⊥) → Says Tells settings before after (asks.Finish v m) number (Failed v m f) → ⊥
+  finish_froze_over_damage none says =
+      none (so (HeadsLeadOn sights j) ((told_so Tells settings before after (asks.Finish v m) number (Failed v m f) tells says).froze froze j on))
+
+  -- nor from its first one on, where it was begun by the same command
+  pub compact_froze_over_damage : (HeadsLeadOn sights j (begun r) file → ⊥) → Says Tells settings before after (asks.Compact v m) number (Failed v m f) → ⊥
+  compact_froze_over_damage none says =
+      none (so (λ o. HeadsLeadOn sights j (begun o)) ((told_so Tells settings before after (asks.Compact v m) number (Failed v m f) tells says).froze froze j on))
+
+  -- over a cell that it was to copy, before the end of its cells, whose head alone is whole
+  pub finish_froze_over_a_broken_body : (at : ℕ) (front : List CellHead) → BreaksBehind sights j r.next at file front → at < r.end
+      → Says Tells settings before after (asks.Finish v m) number (Failed v m f) → ⊥
+  finish_froze_over_a_broken_body at front breaks within says =
+      finish_froze_over_damage
+      (λ lead.
+      let far : r.end ≤ lead.1 = lead.2 in
+      let low = (broken_ends sights j lead.0 r.next at lead.1 file front breaks lead.3).1 in
+      omega (arith, far, low, within))
+      says
+
+  pub compact_froze_over_a_broken_body : (at : ℕ) (front : List CellHead) → BreaksBehind sights j 64 at file front → at < r.end
+      → Says Tells settings before after (asks.Compact v m) number (Failed v m f) → ⊥
+  compact_froze_over_a_broken_body at front breaks within says =
+      compact_froze_over_damage
+      (λ lead.
+      let far : r.end ≤ lead.1 = lead.2 in
+      let low = (broken_ends sights j lead.0 64 at lead.1 file front breaks lead.3).1 in
+      omega (arith, far, low, within))
+      says
+
+-- RESTARTS OVER DAMAGED DISKS
+
+-- a delete that was told as lost on a replica since its place was not looked at, though a needle of its size stands there
+pub lost_over_a_needle : (Tells : Type 0) (settings : Settings) (before after : Tally) (pick number v j at size : ℕ) (deleted : Bool) (pair : Pair) (tag : CoreTag) (text : List ℕ) (old now : VolumeSeen) (r : ReplicaSeen) → Tells
+    → At (before.seen).volumes v old → old.unsure ≡ Some (record { tag = tag; change = change.Delete pair }) → j < settings.replicas
+    → At (after.seen).volumes v now → At now.replicas j r → (after.seen).places v pair j ≡ Unseen at size
+    → HasNeedleOf size deleted at (after.contents (slot_of settings v j) (volume_file r.generation)) → IsRestartText Tells settings before after (asks.Restart pick) number text → ⊥
+lost_over_a_needle Tells settings before after pick number v j at size deleted pair tag text old now r tells was pending within is there unseen has (p, rows, notes, asked, large, tells_all, fits, opens, many, arms, text_is, sound) =
+    met ((sound tells).1 v j old was within)
+  where
+    file : List ℕ
+    file = after.contents (slot_of settings v j) (volume_file r.generation)
+
+    lacks : (u : Option Unsure) → u ≡ Some (record { tag = tag; change = change.Delete pair }) → ToldUnsure u ((after.seen).places v) j file → LacksNeedleOf size at file
+    lacks u same told =
+        subst (λ (s : Sight). IsToldPlace s file) unseen (subst (λ (w : Option Unsure). ToldUnsure w ((after.seen).places v) j file) same told)
+
+    met : FileAt settings after.contents after.seen v j (λ o bytes. ToldUnsure old.unsure ((after.seen).places v) j bytes) → ⊥
+    met (now', is', (o, there', told)) =
+        let one : Some now' ≡ Some now = sym is' ∙ is in
+        let same : now' ≡ now = cc in
+        let two : Some o ≡ Some r = sym (subst (λ (w : VolumeSeen). At w.replicas j o) same there') ∙ there in
+        let same_replica : o ≡ r = cc in
+        lacks old.unsure pending (subst (λ (x : ReplicaSeen). ToldUnsure old.unsure ((after.seen).places v) j (after.contents (slot_of settings v j) (volume_file x.generation))) same_replica told)
+        (needle_of_cell has.cell) (cell_begins at file has.cell has.stands) has.size_is
+
+-- OPENINGS OVER DAMAGED DISKS
+
+-- a store whose first opening found another end of a replica than its whole disk has, whatever the others have
+pub found_another_end : (Tells : Type 0) (settings : Settings) (taken : Outside) (sure : ℕ → Bool) (tally : Tally) (v j : ℕ) (s : WasStored) (volume : VolumeSeen) (r : ReplicaSeen) → Tells
+    → v < settings.volumes → j < settings.replicas → OpensAs (super_of settings v j) (read_contents taken (slot_of settings v j)) s
+    → At (tally.seen).volumes v volume → At volume.replicas j r → (r.end ≡ s.end → ⊥) → BeginsAt Tells settings taken sure tally → ⊥
+found_another_end Tells settings taken sure tally v j s volume r tells low within opens there is other begins =
+    met ((begins.reads tells).finds v j s low within opens)
+  where
+    met : VolumeAt v (SeesAt j (IsFoundAs s)) tally.seen → ⊥
+    met (volume', there', (o, is', found)) =
+        let one : Some volume' ≡ Some volume = sym there' ∙ there in
+        let same : volume' ≡ volume = cc in
+        let two : Some o ≡ Some r = sym (subst (λ (w : VolumeSeen). At w.replicas j o) same is') ∙ is in
+        let same_replica : o ≡ r = cc in
+        other (ap (λ (x : ReplicaSeen). x.end) (sym same_replica) ∙ found.0)
+
+-- one whose Directory was whole, and that had no home then for a pair with a row
+pub homeless_with_a_row : (Tells : Type 0) (settings : Settings) (taken : Outside) (sure : ℕ → Bool) (tally : Tally) (rows : List HomeRow) (pair : Pair) (v : ℕ) → Tells
+    → settings.volumes ≤ 2 ^ 32 → OpensRows settings (read_contents taken 0) rows → home_in rows pair ≡ Some v → home_seen tally.seen pair ≡ None → BeginsAt Tells settings taken sure tally → ⊥
+homeless_with_a_row Tells settings taken sure tally rows pair v tells few opens has none begins =
+    let found = begins.reads tells in
+    let same : rows ≡ found.rows = opens_once settings (read_contents taken 0) rows found.rows few opens found.reads in
+    let home : home_seen tally.seen pair ≡ Some v = (found.directory).homes pair ∙ ap (λ (l : List HomeRow). home_in l pair) (sym same) ∙ has in
+    let wrong : None ≡ Some v = sym none ∙ home in cc

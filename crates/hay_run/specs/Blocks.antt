@@ -1,6 +1,8 @@
 -- Blocks of lines: what is asked of one, how its lines come to their lanes, and the text that answers it.
-use Rattle.std.specs.Prelude.{◌≡◌, ◌≢◌, ℕ, ◌<◌, ◌≤◌, ◌==◌, List, [], ◌∷◌, ◌++◌, length, map, flat_map, filter, take, slice_get, slice_index_or, slice_set, Some}
+use Rattle.std.specs.Prelude.{◌≡◌, ◌≢◌, ℕ, ◌<◌, ◌≤◌, ◌==◌, List, [], ◌∷◌, ◌++◌, length, map, flat_map, filter, take, slice_get, slice_index_or, slice_set, Option, Some}
 use Rattle.std.specs.List.{AllByRecursion as Each}
+use Rattle.hay_needle.specs.declared.needle.Pair.{Pair}
+use Rattle.hay_needle.specs.declared.settings.Settings.{Settings}
 use Rattle.hay_reply.specs.declared.Note.{Note}
 use Rattle.hay_reply.specs.declared.Reply.{Reply}
 use Rattle.hay_reply.specs.declared.Reply.TheVariants.{BadLine}
@@ -13,7 +15,7 @@ use Rattle.hay_legal.specs.Known.{EachPair}
 use Rattle.hay_legal.specs.Transcript.{answered_line}
 use Rattle.hay_block.specs.declared.worker.Job.{Job}
 use Rattle.hay_block.specs.Lines.{IsServed}
-use Rattle.hay_cluster_block.specs.Notes.{AreBlockNotes}
+use Rattle.hay_cluster_block.specs.Notes.{AreBlockNotes, TellsRowsOf}
 use Rattle.hay_run.specs.declared.deal.Place.{Place}
 
 -- The lines of a block of so many lanes: each may stand in its lane, and no two have one number.
@@ -74,12 +76,14 @@ answered_text items notes = flat_map answered_line items ++ flat_map note_line n
 abbrev pub FitsLine : LaneItem → Type 0
 FitsLine answered = FitsReply answered.reply × (answered.item ≡ item.Bad → answered.reply ≡ BadLine)
 
--- These lines were answered so, whatever the disks tell: each has its reply, and notes on new entries and on new rows stand behind them.
-pub record IsBlockText (lines : List InBlock) (text : List ℕ) : Type 0 where
+-- These lines were answered so, whatever the disks tell, where pairs have these homes behind them: each has its reply, and notes on new entries
+-- and on new rows stand behind them, where each row is of a line that put a pair of this home.
+pub record IsBlockText (settings : Settings) (home : Pair → Option ℕ) (lines : List InBlock) (text : List ℕ) : Type 0 where
   pub items : List LaneItem
   pub asked : map line_asked items ≡ lines
   pub fits : Each FitsLine items
   pub notes : List Note
-  pub told : AreBlockNotes notes
+  pub told : AreBlockNotes settings.volumes notes
+  pub rows : Each (TellsRowsOf home (map job_of lines)) notes
   pub fit : Each FitsNote notes
   pub is : text ≡ answered_text items notes

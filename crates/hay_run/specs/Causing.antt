@@ -21,16 +21,16 @@ use Rattle.hay_legal.specs.Known.{NoneFalls, disk_count}
 use Rattle.hay_legal.specs.Stands.{Contents, Outside}
 use Rattle.hay_legal.specs.Statuses.{Ending, IsFront, read_contents}
 use Rattle.hay_legal.specs.Statuses.Ending.{ReadAll, OutputFault, InputFault, NoMemory, NotOpened, TooLong}
+use Rattle.hay_legal.specs.Suiting.{Suits}
 use Rattle.hay_cluster.specs.Causes.{Counts, EndsRuns, HasFile, IsCaused, LeavesFuses, RoseIn}
 use Rattle.hay_cluster.specs.Draws.{drawn_in}
 use Rattle.hay_cluster.specs.Leaving.{LeavesContents}
-use Rattle.hay_cluster.specs.Needles.{MeetsNeedles, TellsDamage}
+use Rattle.hay_cluster.specs.Needles.{MeetsNeedles, PendingTold, TellsDamage}
 use Rattle.hay_cluster.specs.Outside.{AreSoundBelow, FormatsVoid, IsDamagedDisk, IsKept, IsUndamaged, KeepsContents}
 use Rattle.hay_cluster.specs.Passing.{PassesBefore}
-use Rattle.hay_cluster.specs.Seen.{Answers, OpensSeen, StoreSeen, TellsSeen, store_seen}
+use Rattle.hay_cluster.specs.Seen.{Answers, OpensSeen, ReadsSeen, StoreSeen, TellsSeen, home_seen, store_seen}
 use Rattle.hay_cluster.specs.Sights.{LeavesSights}
 use Rattle.hay_cluster.specs.Store.{Open, contents_in, disks_of}
-use Rattle.hay_cluster.specs.Suiting.{Suits}
 use Rattle.hay_run.specs.declared.stops.Stop.{Stop}
 use Rattle.hay_run.specs.declared.stops.Stop.TheVariants as stop
 use Rattle.hay_run.specs.Blocks.{IsBlockText}
@@ -74,12 +74,13 @@ IsLaterTally before after =
 -- THE TEXT OF ITEMS
 
 -- the text of a restart: its reply, with how many rows are seen then, and the notes behind it, which tell of all that was pending whether it was kept, with
--- numbers of their types; nothing is pending or closed then, and nothing that an opening reads of the disks is damaged
+-- numbers of their types; nothing is pending or closed then, nothing that an opening reads of the disks is damaged, and no place of a deletion that was
+-- pending was left not looked at where a needle of its size stands
 abbrev pub IsRestartText : Type 0 → Settings → Tally → Tally → Command → ℕ → List ℕ → Type 0
 IsRestartText Tells settings before after command number text =
     (pick : ℕ) × (rows : ℕ) × (notes : List Note) × (command ≡ asks.Restart pick) × FitsReply (Restarted rows) × TellsSeen settings before.seen after.seen notes × AllByRecursion FitsNote notes
     × OpensSeen settings after.seen × (rows ≡ (after.seen).directory.rows) × (after.counts.arms ≡ before.counts.arms)
-    × (text ≡ numbered_line number (Restarted rows) ++ flat_map note_line notes) × (Tells → IsUndamaged settings after.contents)
+    × (text ≡ numbered_line number (Restarted rows) ++ flat_map note_line notes) × (Tells → IsUndamaged settings after.contents × PendingTold settings after.contents before.seen after.seen)
 
 -- the line of a command outside blocks
 abbrev pub plain_tag : ℕ → CoreTag
@@ -109,7 +110,7 @@ abbrev pub IsTextOf : Type 0 → Settings → Tally → Tally → Asked → List
 IsTextOf Tells settings before after (Alone number (item.Command command)) text =
     LeavesFuses settings command before.fuses after.fuses × (IsRestartText Tells settings before after command number text ⊎ IsReplyText Tells settings before after command number text)
 IsTextOf Tells settings before after (Alone number item.Bad) text = (after ≡ before) × (text ≡ numbered_line number BadLine)
-IsTextOf Tells settings before after (Block lines) text = IsBlockText lines text
+IsTextOf Tells settings before after (Block lines) text = IsBlockText settings (home_seen after.seen) lines text
 
 -- one text after another answers the items
 abbrev pub AnswerTexts : Type 0 → Settings → Tally → Tally → List Asked → List ℕ → Type 0
@@ -251,7 +252,8 @@ StandsBehind Tells NotOpened settings before after last part =
     NotReopened before after last × ((note : Note) × FitsNote note × IsNoteCaused Tells settings before after note × (part ≡ note_line note))
 
 -- A store that was opened on these disks and arms has this tally, of just these, and an arm that was sure is sure in it. Nothing is pending
--- or closed. A disk that was not void has what it had, and one that was is formatted, with nothing stored in it.
+-- or closed. A disk that was not void has what it had, and one that was is formatted, with nothing stored in it; the rows are those of the
+-- Directory's disk, and of each replica whose disk was void or whole its generation is seen, and where its cells end.
 pub record BeginsAt (Tells : Type 0) (settings : Settings) (taken : Outside) (sure : ℕ → Bool) (tally : Tally) : Type 0 where
   pub disks : length tally.counts.disks ≡ disk_count settings
   pub fused : length tally.fuses ≡ disk_count settings
@@ -261,6 +263,7 @@ pub record BeginsAt (Tells : Type 0) (settings : Settings) (taken : Outside) (su
   pub arms : (lane : ℕ) → lane < 8 → slice_index tally.counts.arms lane ≡ taken.arms lane
   pub stay_sure : (lane : ℕ) → lane < 8 → sure lane ≡ true → HasSureArm tally lane
   pub seen : OpensSeen settings tally.seen
+  pub reads : Tells → ReadsSeen settings (read_contents taken) tally.seen
   pub contents : Tells → KeepsContents settings (read_contents taken) tally.contents
   pub formatted : Tells → FormatsVoid settings (read_contents taken) tally.contents
 

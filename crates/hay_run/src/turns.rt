@@ -33,7 +33,7 @@ use crate::writing::{write_refusal, write_reply, write_restarted};
 use hay_cluster::{Cluster, ClusterFault};
 use hay_core::CoreTag;
 use hay_disk::{Arm, Disk, Sink, Source};
-use hay_lanes::Gate;
+use hay_lanes::{Gate, Point};
 use hay_lines::{SCRIPT, ScriptLines};
 use hay_reply::Reply;
 use hay_script::{Command, Line};
@@ -41,13 +41,14 @@ use std::alloc::Global;
 use std::sync::Wait;
 use std::thread::Threads;
 
-/// Answers a plain command, and writes the reply.
-fn plain<D: Disk, A: Arm<D::Piece>, K: Sink>(
+/// Answers a plain command, and writes the reply. The gate is passed by lane 0 before the command and behind its answer.
+fn plain<D: Disk, A: Arm<D::Piece>, K: Sink, G: Gate>(
     alloc: Global,
     cluster: &mut Cluster<D, A>,
     number: u64,
     command: &Command,
     sink: &mut K,
+    gate: &G,
 ) -> Result<(), Stop>
     requires within { IsWithin command.now }
     requires goes_on { (pick : ℕ) → command.now ≢ asks.Restart pick }
@@ -71,7 +72,9 @@ fn plain<D: Disk, A: Arm<D::Piece>, K: Sink>(
         lane: 0,
         line: number,
     };
+    gate.pass(0, number, Point::Start);
     let reply = cluster.answer(alloc, tag, command);
+    gate.pass(0, number, Point::Answered);
     write_reply(alloc, number, &reply, sink)
 }
 
@@ -95,13 +98,14 @@ fn refuse<K: Sink>(alloc: Global, number: u64, fault: ClusterFault, sink: &mut K
     write_refusal(alloc, fault, sink)
 }
 
-/// Restarts the store, and writes the reply and its notes.
-fn restart<D: Disk, A: Arm<D::Piece>, K: Sink>(
+/// Restarts the store, and writes the reply and its notes. The gate is passed as by a plain command.
+fn restart<D: Disk, A: Arm<D::Piece>, K: Sink, G: Gate>(
     alloc: Global,
     cluster: &mut Cluster<D, A>,
     number: u64,
     pick: u64,
     sink: &mut K,
+    gate: &G,
 ) -> Result<(), Stop>
     requires up { IsUp cluster.old }
     ensures answers { OnOk result (AnswersAll D.Tells (Stands D.files D.Piece.Tells D.fault_count D.fuse_count A.fault_count) (Alone number (item.Command (asks.Restart pick)) ∷ []) cluster.old (K.written sink.old) cluster.new (K.written sink.new)) }
@@ -121,19 +125,24 @@ fn restart<D: Disk, A: Arm<D::Piece>, K: Sink>(
     ensures appends { Appends (K.written sink.old) (K.written sink.new) }
     ensures settings { cluster.new.settings ≡ cluster.old.settings }
 {
+    gate.pass(0, number, Point::Start);
     match cluster.restart(alloc, pick) {
-        Ok(notes) => write_restarted(alloc, number, cluster.rows(), notes.as_slice(), sink),
+        Ok(notes) => {
+            gate.pass(0, number, Point::Answered);
+            write_restarted(alloc, number, cluster.rows(), notes.as_slice(), sink)
+        }
         Err(fault) => Err(refuse(alloc, number, fault, sink)),
     }
 }
 
 /// Answers what a line asks for by itself, and writes the reply.
-fn respond<D: Disk, A: Arm<D::Piece>, K: Sink>(
+fn respond<D: Disk, A: Arm<D::Piece>, K: Sink, G: Gate>(
     alloc: Global,
     cluster: &mut Cluster<D, A>,
     number: u64,
     said: Line,
     sink: &mut K,
+    gate: &G,
 ) -> Result<(), Stop>
     requires within { IsWithinLine said }
     requires up { IsUp cluster.old }
@@ -156,8 +165,8 @@ fn respond<D: Disk, A: Arm<D::Piece>, K: Sink>(
 {
     match said {
         Line::Skip | Line::Lanes(_) => Ok(()),
-        Line::Plain(Command::Restart { pick }) => restart(alloc, cluster, number, pick, sink),
-        Line::Plain(command) => plain(alloc, cluster, number, &command, sink),
+        Line::Plain(Command::Restart { pick }) => restart(alloc, cluster, number, pick, sink, gate),
+        Line::Plain(command) => plain(alloc, cluster, number, &command, sink, gate),
         Line::Bad | Line::End | Line::InLane { .. } => {
             write_reply(alloc, number, &Reply::BadLine, sink)
         }
@@ -248,7 +257,7 @@ where
     match read {
         TurnRead::Nothing => (cluster, Ok(())),
         TurnRead::Line(said) => {
-            let outcome = respond(alloc, &mut cluster, number, said, sink);
+            let outcome = respond(alloc, &mut cluster, number, said, sink, gate);
             (cluster, outcome)
         }
         TurnRead::Block(block) => answer_block(rt, alloc, cluster, block, sink, gate),

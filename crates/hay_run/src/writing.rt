@@ -15,6 +15,7 @@ ghost use Rattle.hay_run.specs.Turns.{Appends};
 use crate::deal::Place;
 use crate::stops::Stop;
 use hay_base::NoMemory;
+use hay_block::ReplyText;
 use hay_cluster::ClusterFault;
 use hay_cluster_block::BlockReplies;
 use hay_disk::{Failed, Sink};
@@ -124,11 +125,30 @@ fn write_note<K: Sink>(alloc: Global, note: &Note, sink: &mut K) -> Result<(), S
     write_text(sink, text.as_slice())
 }
 
+/// Writes the line of a reply that a lane made into text.
+fn write_line<K: Sink>(
+    alloc: Global,
+    number: u64,
+    reply: &ReplyText,
+    sink: &mut K,
+) -> Result<(), Stop>
+    ensures wrote { OnOk result (Wrote (K.written sink.old) (texts.numbered_line number reply.now) (K.written sink.new)) }
+    ensures part { OnErr result (WrotePart (K.written sink.old) (texts.numbered_line number reply.now) (K.written sink.new)) }
+    ensures stops { OnErr result ((result ≡ Err Stop.Output) ⊎ (result ≡ Err Stop.NoMemory)) }
+    ensures cause { IsErrOf result Stop.Output → Rose (K.fault_count sink.old) (K.fault_count sink.new) }
+    ensures count { K.fault_count sink.old ≤ K.fault_count sink.new }
+    ensures appends { Appends (K.written sink.old) (K.written sink.new) }
+{
+    let mut text = Vec::new(alloc);
+    reply.numbered_line(alloc, number, &mut text)?;
+    write_text(sink, text.as_slice())
+}
+
 /// Writes the replies to the lines of a block, which stand at these places, in the order of the lines.
 fn write_replies<K: Sink>(
     alloc: Global,
     places: &[Place],
-    replies: &[Vec<Reply>],
+    replies: &[Vec<ReplyText>],
     sink: &mut K,
 ) -> Result<(), Stop>
     requires { (lines : List InBlock) × (items : List LaneItem) × ArePlaces lines places.now × AreAnswered lines (map (λ own. own.items) replies.now) items }
@@ -143,7 +163,7 @@ fn write_replies<K: Sink>(
 {
     for place in places {
         let own = replies[place.lane as usize].as_slice();
-        write_reply(alloc, place.line, &own[place.nth], sink)?;
+        write_line(alloc, place.line, &own[place.nth], sink)?;
     }
     Ok(())
 }

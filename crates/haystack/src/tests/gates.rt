@@ -177,3 +177,44 @@ fn a_read_goes_on_beside_a_put(rt: HostRuntime) -> Result<(), Fail> {
         (held, lane_at(1, 4, Point::Answered)),
     )
 }
+
+/// Which of two places a run passes.
+fn passes(
+    rt: &(impl Abort + Threads + Wait + Sync),
+    alloc: Global,
+    case: &Case,
+    first: Place,
+    second: Place,
+) -> Result<(bool, bool), Fail> {
+    let nowhere = lane_at(8, 0, Point::Held);
+    let gate = Meeting::new((nowhere, first), (nowhere, second));
+    let outcome = outcome_at(rt, alloc, case.words, case.script, 4096, &gate)?;
+    assert_eq!(rt; outcome.written.as_slice(), case.transcript);
+    let [first, second] = &gate.holds;
+    let passed = |hold: &Hold| hold.passed.load(Ordering::SeqCst) > 0;
+    Ok((passed(first), passed(second)))
+}
+
+/// A command outside of blocks is lane 0's: it passes the gate before it and behind its answer. An empty line passes none.
+#[test]
+fn plain_commands_pass_the_gate(rt: HostRuntime) -> Result<(), Fail> {
+    let case = Case {
+        words: &["run"],
+        script: b"put 0 1 61\n\nrestart 0\n",
+        transcript: b"haystack 1 1 1 67108864\n1 stored 0 1 1 903df1a0ade0b876\n3 restarted 1\n",
+    };
+    let alloc = rt.alloc();
+    for line in [1, 3] {
+        let (started, answered) = (
+            lane_at(0, line, Point::Start),
+            lane_at(0, line, Point::Answered),
+        );
+        assert_eq!(rt; passes(&rt, alloc, &case, started, answered)?, (true, true));
+    }
+    let (started, answered) = (lane_at(0, 2, Point::Start), lane_at(0, 2, Point::Answered));
+    assert_eq!(rt;
+        passes(&rt, alloc, &case, started, answered)?,
+        (false, false)
+    );
+    Ok(())
+}

@@ -1,4 +1,5 @@
 use Rattle.std.proofs.Common.{◌≡◌, inl, inr, [], ◌∷◌, map, refl}
+use Rattle.hay_directory.specs.State.{home_of}
 use Rattle.hay_legal.specs.Items.Asked.{Block}
 use Rattle.hay_cluster.specs.Store.{disks_of}
 use Rattle.hay_cluster.specs.State.{Stands, Holds}
@@ -8,8 +9,8 @@ use Rattle.hay_run.specs.declared.stops.Stop.TheVariants as stop
 use Rattle.hay_run.specs.Blocks.{answered_text}
 use Rattle.hay_run.specs.Causing.{tally_of}
 use Rattle.hay_run.specs.Turns.{AnswersPart}
-use Rattle.hay_run.proofs.Answering.{Dealt, answered, block_caused, block_part, block_stops, block_whole, dealt, few_jobs, items_are, items_differ, items_fit, low_lines, served_jobs, some_jobs, text_told, wanted_stops}
-use Rattle.hay_run.proofs.Blocked.{err_here, notes_of_told, same_block, wanted_block}
+use Rattle.hay_run.proofs.Answering.{Dealt, answered, block_caused, block_part, block_stops, block_whole, dealt, few_jobs, items_are, items_differ, items_fit, low_lines, notes_told, served_jobs, some_jobs, text_told, wanted_stops}
+use Rattle.hay_run.proofs.Blocked.{err_here, same_block, wanted_block}
 use Rattle.hay_run.proofs.Counting.{NoneFalls-same, StaySure-lanes}
 use Rattle.hay_run.proofs.lanes.answer_block.Goals as goal
 
@@ -132,8 +133,9 @@ returns-in-Ok-outcome-clause-caused g c =
     let told = c.in-Ok-outcome.answers.notes in
     let same = rw c.in-Ok-outcome.is at c.run_block-cluster.ensures.replies in
     let a = answered c.args.block.lanes lines jobs places d replies same in
-    let n = notes_of_told told (rw c.in-Ok-outcome.is at c.run_block-cluster.ensures.notes) in
-    let text = text_told c.args.block.lanes lines jobs places d replies same a.0 told a.1 (rw c.in-Ok-outcome.is at c.run_block-cluster.ensures.fits) (rw c.in-Ok-outcome.is at c.run_block-cluster.ensures.bad) n in
+    let home = home_of c.run_block-cluster.result.0.directory in
+    let n = notes_told c.args.block.lanes lines jobs places d c.args.cluster.settings home told (rw c.in-Ok-outcome.is at c.run_block-cluster.ensures.notes) (rw c.in-Ok-outcome.is at c.run_block-cluster.ensures.rows) in
+    let text = text_told c.args.block.lanes lines jobs places d replies same a.0 told a.1 (rw c.in-Ok-outcome.is at c.run_block-cluster.ensures.fits) (rw c.in-Ok-outcome.is at c.run_block-cluster.ensures.bad) c.args.cluster.settings home n in
     block_caused D.Tells c.args.cluster.settings (tally_of D.files D.drawn D.fault_count D.fuse_count A.fault_count A.is_sure c.args.cluster) (tally_of D.files D.drawn D.fault_count D.fuse_count A.fault_count A.is_sure c.run_block-cluster.result.0) lines (answered_text a.0 n.notes)
     (K.written c.args.sink.now) (K.written c.write_answers-written.new.sink) (c.run_block-cluster.ensures.counts, c.run_block-cluster.ensures.arm_counts, StaySure-lanes A.is_sure A.fault_count c.args.cluster.arms c.run_block-cluster.result.0.arms c.run_block-cluster.ensures.sure_arms) text c.write_answers-written.result (c.write_answers-written.ensures.wrote lines a.0 n.notes d.places_are a.1 n.are)
 
@@ -152,8 +154,9 @@ returns-in-Ok-outcome-clause-stop_caused g c =
     let told = c.in-Ok-outcome.answers.notes in
     let same = rw c.in-Ok-outcome.is at c.run_block-cluster.ensures.replies in
     let a = answered c.args.block.lanes lines jobs places d replies same in
-    let n = notes_of_told told (rw c.in-Ok-outcome.is at c.run_block-cluster.ensures.notes) in
-    let text = text_told c.args.block.lanes lines jobs places d replies same a.0 told a.1 (rw c.in-Ok-outcome.is at c.run_block-cluster.ensures.fits) (rw c.in-Ok-outcome.is at c.run_block-cluster.ensures.bad) n in
+    let home = home_of c.run_block-cluster.result.0.directory in
+    let n = notes_told c.args.block.lanes lines jobs places d c.args.cluster.settings home told (rw c.in-Ok-outcome.is at c.run_block-cluster.ensures.notes) (rw c.in-Ok-outcome.is at c.run_block-cluster.ensures.rows) in
+    let text = text_told c.args.block.lanes lines jobs places d replies same a.0 told a.1 (rw c.in-Ok-outcome.is at c.run_block-cluster.ensures.fits) (rw c.in-Ok-outcome.is at c.run_block-cluster.ensures.bad) c.args.cluster.settings home n in
     λ why is. block_stops D.Tells c.args.cluster.settings (tally_of D.files D.drawn D.fault_count D.fuse_count A.fault_count A.is_sure c.args.cluster) (tally_of D.files D.drawn D.fault_count D.fuse_count A.fault_count A.is_sure c.run_block-cluster.result.0) lines (answered_text a.0 n.notes)
     (K.written c.args.sink.now) (K.written c.write_answers-written.new.sink) (c.run_block-cluster.ensures.counts, c.run_block-cluster.ensures.arm_counts, StaySure-lanes A.is_sure A.fault_count c.args.cluster.arms c.run_block-cluster.result.0.arms c.run_block-cluster.ensures.sure_arms) text c.write_answers-written.result why is c.write_answers-written.ensures.stops (c.write_answers-written.ensures.part lines a.0 n.notes d.places_are a.1 n.are)
 

@@ -114,7 +114,7 @@ returns-in-Ok-clause-caused g c =
     on_ok_weaker c.write_restarted.result (λ wrote.
     caused_restart g.D.Disk.Tells Wrote c.args.cluster.now.settings (tally_of D.files D.drawn D.fault_count D.fuse_count A.fault_count A.is_sure c.args.cluster.now) (tally_of D.files D.drawn D.fault_count D.fuse_count A.fault_count A.is_sure c.restart.new.self) c.args.number c.args.pick c.rows.result c.as_slice.result.now
     (g.K.Sink.written c.args.sink.now) (g.K.Sink.written c.write_restarted.new.sink) none c.in-Ok.ensures.fuses (ap (map A.fault_count) c.in-Ok.ensures.arms) large (subst (λ (l : List Note). TellsSeen c.args.cluster.now.settings (store_seen c.args.cluster.now) (store_seen c.restart.new.self) l) (sym c.as_slice.ensures) c.in-Ok.ensures.tells)
-    (subst (λ (l : List Note). AllByRecursion FitsNote l) (sym c.as_slice.ensures) c.in-Ok.ensures.fits) c.in-Ok.ensures.opens c.rows.ensures.count c.in-Ok.ensures.sound wrote)
+    (subst (λ (l : List Note). AllByRecursion FitsNote l) (sym c.as_slice.ensures) c.in-Ok.ensures.fits) c.in-Ok.ensures.opens c.rows.ensures.count (λ tells. (c.in-Ok.ensures.sound tells, c.in-Ok.ensures.told tells)) wrote)
     c.write_restarted.ensures.wrote
 
 pub returns-in-Ok-clause-stop_caused : goal.returns-in-Ok-clause-stop_caused
@@ -128,7 +128,7 @@ returns-in-Ok-clause-stop_caused g c = λ why is.
     (on_err_weaker c.write_restarted.result (λ wrote.
     caused_restart g.D.Disk.Tells WrotePart c.args.cluster.now.settings (tally_of D.files D.drawn D.fault_count D.fuse_count A.fault_count A.is_sure c.args.cluster.now) (tally_of D.files D.drawn D.fault_count D.fuse_count A.fault_count A.is_sure c.restart.new.self) c.args.number c.args.pick c.rows.result c.as_slice.result.now
     (g.K.Sink.written c.args.sink.now) (g.K.Sink.written c.write_restarted.new.sink) none c.in-Ok.ensures.fuses (ap (map A.fault_count) c.in-Ok.ensures.arms) large (subst (λ (l : List Note). TellsSeen c.args.cluster.now.settings (store_seen c.args.cluster.now) (store_seen c.restart.new.self) l) (sym c.as_slice.ensures) c.in-Ok.ensures.tells)
-    (subst (λ (l : List Note). AllByRecursion FitsNote l) (sym c.as_slice.ensures) c.in-Ok.ensures.fits) c.in-Ok.ensures.opens c.rows.ensures.count c.in-Ok.ensures.sound wrote)
+    (subst (λ (l : List Note). AllByRecursion FitsNote l) (sym c.as_slice.ensures) c.in-Ok.ensures.fits) c.in-Ok.ensures.opens c.rows.ensures.count (λ tells. (c.in-Ok.ensures.sound tells, c.in-Ok.ensures.told tells)) wrote)
     c.write_restarted.ensures.part)
 
 pub returns-in-Err-clause-stop_caused : goal.returns-in-Err-clause-stop_caused

@@ -72,15 +72,15 @@ loop-place-preserved g c =
       wrote = λ lines items are answered.
           let line = line_here lines places c.args.replies.now items i c.loop-place-test.true are answered in
           let text = line_text places c.args.replies.now items i place c.index-replies-place.result reply c.index-replies-place.is here line in
-          wrote_next answered_line items i line.item (written c.args.sink.now) (written c.loop-place.sink) (written c.write_reply.new.sink) line.here (c.loop-place.invariant.wrote lines items are answered)
-          (subst (λ (l : List ℕ). Wrote (written c.loop-place.sink) l (written c.write_reply.new.sink)) text c.in_ok-write_reply.ensures.wrote);
-      count = omega (arith, c.loop-place.invariant.count, c.in_ok-write_reply.ensures.count);
-      appends = appends_more (written c.args.sink.now) (written c.loop-place.sink) (written c.write_reply.new.sink) c.loop-place.invariant.appends c.in_ok-write_reply.ensures.appends;
+          wrote_next answered_line items i line.item (written c.args.sink.now) (written c.loop-place.sink) (written c.write_line.new.sink) line.here (c.loop-place.invariant.wrote lines items are answered)
+          (subst (λ (l : List ℕ). Wrote (written c.loop-place.sink) l (written c.write_line.new.sink)) text c.in_ok-write_line.ensures.wrote);
+      count = omega (arith, c.loop-place.invariant.count, c.in_ok-write_line.ensures.count);
+      appends = appends_more (written c.args.sink.now) (written c.loop-place.sink) (written c.write_line.new.sink) c.loop-place.invariant.appends c.in_ok-write_line.ensures.appends;
     }
 
-pub returns-in_err-write_reply-clause-part : goal.returns-in_err-write_reply-clause-part
+pub returns-in_err-write_line-clause-part : goal.returns-in_err-write_line-clause-part
 unfolding nowhere
-returns-in_err-write_reply-clause-part g c = λ lines items are answered.
+returns-in_err-write_line-clause-part g c = λ lines items are answered.
     let written = g.K.Sink.written in
     let places : List Place = c.args.places.now in
     let i : ℕ = c.loop-place.place-index in
@@ -91,13 +91,13 @@ returns-in_err-write_reply-clause-part g c = λ lines items are answered.
     let line = line_here lines places c.args.replies.now items i c.loop-place-test.true are answered in
     let text = line_text places c.args.replies.now items i place c.index-replies-place.result reply c.index-replies-place.is here line in
     on_failure c.from_residual.result
-    (part_next answered_line items i line.item (written c.args.sink.now) (written c.loop-place.sink) (written c.write_reply.new.sink) line.here (c.loop-place.invariant.wrote lines items are answered)
-    (subst (λ (l : List ℕ). WrotePart (written c.loop-place.sink) l (written c.write_reply.new.sink)) text c.in_err-write_reply.ensures.part))
+    (part_next answered_line items i line.item (written c.args.sink.now) (written c.loop-place.sink) (written c.write_line.new.sink) line.here (c.loop-place.invariant.wrote lines items are answered)
+    (subst (λ (l : List ℕ). WrotePart (written c.loop-place.sink) l (written c.write_line.new.sink)) text c.in_err-write_line.ensures.part))
 
-pub returns-in_err-write_reply-clause-appends : goal.returns-in_err-write_reply-clause-appends
-returns-in_err-write_reply-clause-appends g c =
+pub returns-in_err-write_line-clause-appends : goal.returns-in_err-write_line-clause-appends
+returns-in_err-write_line-clause-appends g c =
     let written = g.K.Sink.written in
-    appends_more (written c.args.sink.now) (written c.loop-place.sink) (written c.write_reply.new.sink) c.loop-place.invariant.appends c.in_err-write_reply.ensures.appends
+    appends_more (written c.args.sink.now) (written c.loop-place.sink) (written c.write_line.new.sink) c.loop-place.invariant.appends c.in_err-write_line.ensures.appends
 
 pub returns-clause-wrote : goal.returns-clause-wrote
 returns-clause-wrote g c = λ lines items are answered.

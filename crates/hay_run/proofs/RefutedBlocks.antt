@@ -1,0 +1,104 @@
+-- Texts of blocks that no run has, each as a lemma.
+use Rattle.std.proofs.Common.{◌≡◌, ◌≢◌, ℕ, zero, suc, ◌<◌, ◌≤◌, List, [], ◌∷◌, Contains, Option, Some, length, map, refl, sym, ap, subst, ◌∙◌, arith}
+use Rattle.std.specs.Prelude.{slice_get}
+use Rattle.std.proofs.lemmas.List.{length-map}
+use Rattle.hay_needle.specs.declared.needle.Pair.{Pair}
+use Rattle.hay_needle.specs.declared.settings.Settings.{Settings}
+use Rattle.hay_reply.specs.declared.LineVolume.{LineVolume}
+use Rattle.hay_reply.specs.declared.Note.{Note}
+use Rattle.hay_reply.specs.declared.Note.TheVariants.{Kept, Log, Rows}
+use Rattle.hay_reply.specs.declared.Reply.TheVariants.{BadLine}
+use Rattle.hay_legal.specs.declared.turn.Item.TheVariants as item
+use Rattle.hay_legal.specs.declared.turn.LaneItem.{LaneItem}
+use Rattle.hay_legal.specs.declared.turn.LogNote.{LogNote}
+use Rattle.hay_legal.specs.declared.turn.RowNote.{RowNote}
+use Rattle.hay_legal.specs.Items.{InBlock, line_asked}
+use Rattle.hay_legal.specs.Known.{EachPair}
+use Rattle.hay_history.proofs.Lists.{each_in}
+use Rattle.hay_block.specs.declared.worker.Job.{Job}
+use Rattle.hay_cluster_block.specs.Notes.{AreBlockNotes, IsRowOf, TellsRowsOf, block_notes, notes_of_rows}
+use Rattle.hay_cluster_block.specs.Rows.{pair_of}
+use Rattle.hay_run.specs.Blocks.{FitsLine, IsBlockText, job_of}
+use Rattle.hay_run.proofs.Dealing.{each_at}
+
+-- LINES
+
+-- a line that is no command, and was answered as one
+pub bad_line_answered : (settings : Settings) (home : Pair → Option ℕ) (lines : List InBlock) (text : List ℕ) (block : IsBlockText settings home lines text) (answered : LaneItem)
+    → Contains block.items answered → answered.item ≡ item.Bad → answered.reply ≢ BadLine → ⊥
+bad_line_answered settings home lines text block answered among bad other = other ((each_in FitsLine block.items answered block.fits among).1 bad)
+
+-- a line without a reply
+pub line_without_a_reply : (settings : Settings) (home : Pair → Option ℕ) (lines : List InBlock) (text : List ℕ) (block : IsBlockText settings home lines text) → length block.items < length lines → ⊥
+line_without_a_reply settings home lines text block fewer =
+    let many : length lines ≡ length block.items = ap length (sym block.asked) ∙ length-map block.items line_asked in
+    omega (arith, fewer, many)
+
+-- NOTES
+
+-- a note of another kind
+pub kept_behind_a_block : (settings : Settings) (home : Pair → Option ℕ) (lines : List InBlock) (text : List ℕ) (block : IsBlockText settings home lines text) (v m line : ℕ)
+    → Contains block.notes (Kept v m line) → ⊥
+kept_behind_a_block settings home lines text block v m line among = each_in (TellsRowsOf home (map job_of lines)) block.notes (Kept v m line) block.rows among
+
+-- a row of a line that put no pair of this home
+pub row_of_another_pair : (settings : Settings) (home : Pair → Option ℕ) (lines : List InBlock) (text : List ℕ) (block : IsBlockText settings home lines text) (from : ℕ) (rows : List LineVolume) (row : LineVolume)
+    → Contains block.notes (Rows from rows) → Contains rows row
+    → ((job : Job) (pair : Pair) → Contains (map job_of lines) job → job.line ≡ row.line → pair_of job.item ≡ Some pair → home pair ≢ Some row.volume) → ⊥
+row_of_another_pair settings home lines text block from rows row among told none =
+    let is = each_in (IsRowOf home (map job_of lines)) rows row (each_in (TellsRowsOf home (map job_of lines)) block.notes (Rows from rows) block.rows among) told in
+    none is.job is.pair is.among is.line is.put is.home_is
+
+-- a note on a volume is of one of the volumes with changes
+in_logs : (logs : List LogNote) (rows : RowNote) (i v from : ℕ) (lines : List ℕ) → slice_get (block_notes logs rows) i ≡ Some (Log v from lines)
+    → (log : LogNote) × (slice_get logs i ≡ Some log) × (log.volume ≡ v) × (log.lines ≡ lines)
+in_logs [] rows i v from lines at = absurd (among_rows rows.rows i at)
+  where
+    among_rows : (told : List LineVolume) (i : ℕ) → slice_get (notes_of_rows rows.from told) i ≡ Some (Log v from lines) → ⊥
+    among_rows [] i at = cc
+    among_rows (row ∷ told) zero at = cc
+    among_rows (row ∷ told) (suc i) at = cc
+in_logs (log ∷ logs) rows zero v from lines at =
+    let volume_is : log.volume ≡ v = cc in
+    let lines_are : log.lines ≡ lines = cc in
+    (log, refl, volume_is, lines_are)
+in_logs (log ∷ logs) rows (suc i) v from lines at = in_logs logs rows i v from lines at
+
+pairs_at : {X : Type 0} (R : X → X → Type 0) (xs : List X) (i j : ℕ) (a b : X) → EachPair R xs → i < j → slice_get xs i ≡ Some a → slice_get xs j ≡ Some b → R a b
+pairs_at R [] i j a b pairs below at_a at_b = absurd cc
+pairs_at R (x ∷ xs) i zero a b pairs below at_a at_b = absurd (omega (arith, below))
+pairs_at R (x ∷ xs) zero (suc j) a b pairs below at_a at_b =
+    let is : x ≡ a = cc in
+    subst (λ z. R z b) is (each_at (R x) xs j b pairs.0 at_b)
+pairs_at R (x ∷ xs) (suc i) (suc j) a b pairs below at_a at_b = pairs_at R xs i j a b pairs.1 (omega (arith, below)) at_a at_b
+
+module _ (settings : Settings) (home : Pair → Option ℕ) (lines : List InBlock) (text : List ℕ) (block : IsBlockText settings home lines text) where
+  found : (i v from : ℕ) (own : List ℕ) → slice_get block.notes i ≡ Some (Log v from own)
+      → (log : LogNote) × (slice_get (block.told).logs i ≡ Some log) × (log.volume ≡ v) × (log.lines ≡ own)
+  found i v from own at = in_logs (block.told).logs (block.told).rows i v from own (ap (λ notes. slice_get notes i) (sym (block.told).are) ∙ at)
+
+  -- a note on a volume behind one on the same or a later volume
+  pub log_downwards : (i j v w from from' : ℕ) (own own' : List ℕ) → i < j → slice_get block.notes i ≡ Some (Log v from own) → slice_get block.notes j ≡ Some (Log w from' own') → w ≤ v → ⊥
+  log_downwards i j v w from from' own own' below first second down =
+      let a = found i v from own first in
+      let b = found j w from' own' second in
+      let up : (a.0).volume < (b.0).volume =
+      pairs_at (λ (x y : LogNote). x.volume < y.volume) (block.told).logs i j a.0 b.0 ((block.told).upwards).upwards below a.1 b.1 in
+      let volume_is : (a.0).volume ≡ v = a.2 in
+      let later_is : (b.0).volume ≡ w = b.2 in
+      omega (arith, up, volume_is, later_is, down)
+
+  -- a note on a volume that the store has not
+  pub log_of_no_volume : (i v from : ℕ) (own : List ℕ) → slice_get block.notes i ≡ Some (Log v from own) → settings.volumes ≤ v → ⊥
+  log_of_no_volume i v from own at high =
+      let a = found i v from own at in
+      let low : (a.0).volume < settings.volumes =
+      each_at (λ (log : LogNote). log.volume < settings.volumes) (block.told).logs i a.0 ((block.told).upwards).within a.1 in
+      let volume_is : (a.0).volume ≡ v = a.2 in
+      omega (arith, low, volume_is, high)
+
+  -- a note on a volume where nothing was entered
+  pub log_of_nothing : (i v from : ℕ) → slice_get block.notes i ≡ Some (Log v from []) → ⊥
+  log_of_nothing i v from at =
+      let a = found i v from [] at in
+      each_at (λ (log : LogNote). log.lines ≢ []) (block.told).logs i a.0 ((block.told).upwards).some a.1 a.3
