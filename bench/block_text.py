@@ -315,7 +315,7 @@ SHAPES = (
     (rf"unreadable {N} {N} {N}((?: \S+)*)", "unreadable", ("volume", "front", "rows", "causes")),
     (rf"fused dir {N}", "fused dir", ("count",)),
     (rf"restarted {N}", "restarted", ("rows",)),
-    (r"(nowhere|bad line|nomem|unbuilt)", None, ()),
+    (r"(nowhere|bad line|nomem)", None, ()),
 )
 
 
