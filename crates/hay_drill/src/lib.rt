@@ -9,6 +9,3 @@ mod summary;
 
 pub use script::{drill_script, drill_settings};
 pub use summary::{Summary, summary_text};
-
-#[cfg(test)]
-mod tests;

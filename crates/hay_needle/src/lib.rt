@@ -34,6 +34,3 @@ pub use read::{HEAD_LEN, NEEDLE_MAGIC, NeedleFault, read_head, read_needle};
 pub use settings::{FileKind, Settings, Super};
 pub use superblock::{SUPER_LEN, SUPER_MAGIC, SuperFault, read_super, write_super};
 pub use total::{MAX_NEEDLE, MAX_PHOTO, total_of};
-
-#[cfg(test)]
-mod tests;

@@ -10,8 +10,6 @@ mod message;
 mod rule;
 mod serve;
 mod share;
-#[cfg(test)]
-mod tests;
 
 pub use desk::{Client, Desk, Ended, Worker};
 pub use laws::taken_begins_sent;

@@ -29,6 +29,3 @@ pub enum UrlFault {
     /// The longest beginning of the text with which a URL begins has this many bytes.
     Bad { at: usize },
 }
-
-#[cfg(test)]
-mod tests;

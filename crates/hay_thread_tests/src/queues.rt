@@ -1,7 +1,7 @@
 //! What no clause says: that the calls return, that a full queue waits, and that workers run beside each other.
 ghost use Rattle.std.specs.Prelude.{◌≡◌, IfOk};
 
-use super::*;
+use hay_queue::{Client, Desk, Ended, Job, Worker, serve_lanes, taken_begins_sent};
 use hay_base::NoMemory;
 use hay_lanes::{Gate, OpenGate, Work};
 use std::alloc::Global;

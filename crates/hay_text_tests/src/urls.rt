@@ -1,4 +1,4 @@
-use crate::{Url, UrlFault, cookie_of, read_url, url_text};
+use hay_url::{Url, UrlFault, cookie_of, read_url, url_text};
 use hay_needle::{Cookie, Pair};
 use std::test::Fail;
 

@@ -1,4 +1,4 @@
-use crate::{Summary, drill_script, summary_text};
+use hay_drill::{Summary, drill_script, summary_text};
 use std::alloc::Global;
 use std::test::Fail;
 
