@@ -1,5 +1,5 @@
-use hay_url::{Url, UrlFault, cookie_of, read_url, url_text};
 use hay_needle::{Cookie, Pair};
+use hay_url::{Url, UrlFault, cookie_of, read_url, url_text};
 use std::test::Fail;
 
 #[test]

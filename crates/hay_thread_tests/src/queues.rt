@@ -1,9 +1,9 @@
 //! What no clause says: that the calls return, that a full queue waits, and that workers run beside each other.
 ghost use Rattle.std.specs.Prelude.{◌≡◌, IfOk};
 
-use hay_queue::{Client, Desk, Ended, Job, Worker, serve_lanes, taken_begins_sent};
 use hay_base::NoMemory;
 use hay_lanes::{Gate, OpenGate, Work};
+use hay_queue::{Client, Desk, Ended, Job, Worker, serve_lanes, taken_begins_sent};
 use std::alloc::Global;
 use std::sync::Wait;
 use std::sync::atomic::{AtomicU64, Ordering};
