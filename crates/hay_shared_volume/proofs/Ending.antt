@@ -49,7 +49,7 @@ lines_entered (act ∷ acts) =
 
 module _ {D P : Type 0} {shared : SharedVolume D P} {settings : Settings} {number room : ℕ} {volume : Volume D P} {seats : List (Seated D P)} (made : IsMadeOf shared room volume settings number (length seats)) where
   -- these are all seats of the lock
-  pub all_seated : {other : Settings} → AreSeated IsSeatOf shared other (length seats) seats → opening.AreSeated shared.lock made.opened seats
+  pub all_seated : {other : Settings} {v : ℕ} → AreSeated (IsSeatOf v) shared other (length seats) seats → opening.AreSeated shared.lock made.opened seats
   all_seated sits = record {
     some = made.some;
     each = λ i s at. let fits = sits.each i s at in record { rests = fits.rests; number = fits.number; seats = fits.seats ∙ made.seats; start = fits.start ∙ made.is };

@@ -1,5 +1,6 @@
 pub mod Ending
 pub mod Made
+pub mod Naming
 pub mod Places
 pub mod Regular
 pub mod Seats

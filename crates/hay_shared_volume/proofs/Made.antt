@@ -34,8 +34,8 @@ module _ {D P : Type 0} (shared : SharedVolume D P) (volume : Volume D P) (lanes
     volume_is = new.own;
   }
 
-  pub are_seated : (settings : Settings) → volume.settings ≡ settings → lanes ≤ 8 → AreSeated IsSeatOf shared settings lanes seats
-  are_seated settings same few = record {
+  pub are_seated : (settings : Settings) (number : ℕ) → volume.settings ≡ settings → volume.number ≡ number → lanes ≤ 8 → AreSeated (IsSeatOf number) shared settings lanes seats
+  are_seated settings number same numbered few = record {
     many = new.count;
     each = λ lane seat at.
         let is = new.each lane seat at in
@@ -49,6 +49,7 @@ module _ {D P : Type 0} (shared : SharedVolume D P) (volume : Volume D P) (lanes
           opened = new.opened;
           is = first_start;
           settings_are = ap (λ (v : Volume D P). v.settings) new.own ∙ same;
+          volume_is = ap (λ (v : Volume D P). v.number) new.own ∙ numbered;
         };
   }
 

@@ -6,27 +6,28 @@ use Rattle.hay_core.specs.declared.entry.CoreTag.{CoreTag}
 use Rattle.hay_shared_volume.specs.Tellings.{Stays, StoreVolume}
 use Rattle.hay_volume_lock.specs.Answers as locks
 use Rattle.hay_volume_lock.specs.Answers.{IsAlways, IsTold}
+use Rattle.hay_volume_lock.specs.Refusing.{OfOpened}
 use Rattle.hay_volume_lock.specs.Seats.{HasReplica, IsSameSeat, MayAct, Seated}
 use Rattle.hay_volume_lock.specs.declared.guarded.Opened.{Opened}
 use Rattle.hay_shared_volume.specs.declared.volume.SharedVolume.{SharedVolume}
 use Rattle.hay_shared_volume.specs.Seats.{IsSeatOf, WasAt, at_lock}
 
-module _ {D P : Type 0} {shared : SharedVolume D P} {settings : Settings} where
-  pub may_act : {tag : CoreTag} {seat : Seated D P} → IsSeatOf shared settings tag.lane seat → MayAct shared.lock tag seat
+module _ {D P : Type 0} {v : ℕ} {shared : SharedVolume D P} {settings : Settings} where
+  pub may_act : {tag : CoreTag} {seat : Seated D P} → IsSeatOf v shared settings tag.lane seat → MayAct shared.lock tag seat
   may_act fits = record { rests = fits.rests; lane = fits.number }
 
   -- the volume of the seat has the settings
-  pub of_settings : {lane : ℕ} {seat : Seated D P} → IsSeatOf shared settings lane seat → (opened : Opened D P) → seat.start ≡ Some opened → (opened.volume).settings ≡ settings
+  pub of_settings : {lane : ℕ} {seat : Seated D P} → IsSeatOf v shared settings lane seat → (opened : Opened D P) → seat.start ≡ Some opened → (opened.volume).settings ≡ settings
   of_settings {lane} {seat} fits opened is =
       let one : Some fits.opened ≡ Some opened = sym fits.is ∙ (sym fits.start ∙ is) in
       let same : fits.opened ≡ opened = cc in
       subst (λ (o : Opened D P). (o.volume).settings ≡ settings) same fits.settings_are
 
-  pub has_replica : {lane : ℕ} {seat : Seated D P} → IsSeatOf shared settings lane seat → (j : ℕ) → j < settings.replicas → HasReplica seat j
+  pub has_replica : {lane : ℕ} {seat : Seated D P} → IsSeatOf v shared settings lane seat → (j : ℕ) → j < settings.replicas → HasReplica seat j
   has_replica fits j less opened is = subst (λ (s : Settings). j < s.replicas) (sym (of_settings fits opened is)) less
 
   -- a call leaves a seat at its lock
-  pub still_fits : {lane : ℕ} {old new : Seated D P} → IsSameSeat old new → IsSeatOf shared settings lane old → IsSeatOf shared settings lane new
+  pub still_fits : {lane : ℕ} {old new : Seated D P} → IsSameSeat old new → IsSeatOf v shared settings lane old → IsSeatOf v shared settings lane new
   still_fits same fits = record {
     rests = record { own = ap (λ (z : Seated D P). z.lock) same ∙ (fits.rests).own; rests = ap (λ (z : Seated D P). z.holds) same ∙ (fits.rests).rests };
     number = ap (λ (z : Seated D P). z.number) same ∙ fits.number;
@@ -36,10 +37,17 @@ module _ {D P : Type 0} {shared : SharedVolume D P} {settings : Settings} where
     opened = fits.opened;
     is = fits.is;
     settings_are = fits.settings_are;
+    volume_is = fits.volume_is;
   }
 
+  -- what is so of the volume that was opened is so of this one
+  pub of_volume : {lane : ℕ} {seat : Seated D P} → IsSeatOf v shared settings lane seat → (IsSo : Settings → ℕ → Type 0) → OfOpened seat.start IsSo → IsSo settings v
+  of_volume fits IsSo opened_so =
+      subst (λ (n : ℕ). IsSo settings n) fits.volume_is
+      (subst (λ (s : Settings). IsSo s ((fits.opened).volume).number) fits.settings_are (opened_so fits.opened (fits.start ∙ fits.is)))
+
 module _ {D P : Type 0} (Tells : Type 0) (files : D → Files) (PieceTells : Type 0) (faults fuses : D → ℕ) where
-  pub stays_there : (shared : SharedVolume D P) {old new : Seated D P} → IsSameSeat old new → Stays IsSeatOf (WasAt Tells files PieceTells faults fuses) shared old new
+  pub stays_there : {v : ℕ} (shared : SharedVolume D P) {old new : Seated D P} → IsSameSeat old new → Stays (IsSeatOf v) (WasAt Tells files PieceTells faults fuses) shared old new
   stays_there shared same = record {
     fits_still = λ settings lane fits. still_fits same fits;
     at_still = λ volume at. record {
@@ -62,6 +70,6 @@ module _ {D P : Type 0} (Tells : Type 0) (files : D → Files) (PieceTells : Typ
   always {IsSo} {seat} {volume} so at = so at.opened at.is at.known (at_lock volume) at.at
 
   -- the volume has so many replicas
-  pub replicas_at : {shared : SharedVolume D P} {settings : Settings} {lane : ℕ} {seat : Seated D P} {volume : StoreVolume}
-      → WasAt Tells files PieceTells faults fuses seat volume → IsSeatOf shared settings lane seat → volume.settings ≡ settings
+  pub replicas_at : {v : ℕ} {shared : SharedVolume D P} {settings : Settings} {lane : ℕ} {seat : Seated D P} {volume : StoreVolume}
+      → WasAt Tells files PieceTells faults fuses seat volume → IsSeatOf v shared settings lane seat → volume.settings ≡ settings
   replicas_at at fits = (at.at).settings ∙ of_settings fits at.opened at.is

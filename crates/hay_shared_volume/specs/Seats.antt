@@ -14,8 +14,9 @@ use Rattle.hay_volume_lock.specs.Seats.{Rests, Seated}
 use Rattle.hay_volume_lock.specs.declared.guarded.Opened.{Opened}
 use Rattle.hay_shared_volume.specs.declared.volume.SharedVolume.{SharedVolume}
 
--- The seat is of this lock and of this lane, for a store of these settings. It is a seat like the first one, but what it knows.
-pub record IsSeatOf {D P : Type 0} (shared : SharedVolume D P) (settings : Settings) (lane : ℕ) (seat : Seated D P) : Type 0 where
+-- The seat is of this lock, which was made round volume v of a store of these settings, and of this lane. It is a seat like the first
+-- one, but what it knows.
+pub record IsSeatOf {D P : Type 0} (v : ℕ) (shared : SharedVolume D P) (settings : Settings) (lane : ℕ) (seat : Seated D P) : Type 0 where
   pub rests : Rests shared.lock seat
   pub number : seat.number ≡ lane
   pub few : lane < 8
@@ -24,6 +25,7 @@ pub record IsSeatOf {D P : Type 0} (shared : SharedVolume D P) (settings : Setti
   pub opened : Opened D P
   pub is : (shared.first).value.start ≡ Some opened
   pub settings_are : (opened.volume).settings ≡ settings
+  pub volume_is : (opened.volume).number ≡ v
 
 -- what the seat's lane knows of the volume
 abbrev pub sight_of : {D P : Type 0} → Seated D P → LockSight VolumeAct Entry

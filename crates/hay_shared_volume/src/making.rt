@@ -73,7 +73,7 @@ impl<D: Disk<Piece = P>, P: Piece> SharedVolume<D, P> {
         requires few { lanes ≤ 8 }
         requires of { (number : ℕ) × IsVolumeOf volume settings number }
         ensures made { IfOk result (λ made. (number : ℕ) → IsVolumeOf volume settings number → IsMadeOf made.0 made.2 volume settings number lanes) }
-        ensures seated { IfOk result (λ made. AreSeated IsSeatOf made.0 settings lanes made.1.items) }
+        ensures seated { IfOk result (λ made. (number : ℕ) → IsVolumeOf volume settings number → AreSeated (IsSeatOf number) made.0 settings lanes made.1.items) }
         ensures unseen { IfOk result (λ made. AreUnseen sight_of made.1.items) }
         ensures told { IfOk result (λ made. (number : ℕ) → IsVolumeOf volume settings number → AreAt (WasAt D.Tells D.files P.Tells D.fault_count D.fuse_count) (VolumeStands D.Tells D.files P.Tells) (count_of D.fault_count) (count_of D.fuse_count) settings number volume made.1.items) }
         ensures regular { (number : ℕ) → IsVolumeOf volume settings number → (known : VolumeKnown) → VolumeStands D.Tells D.files P.Tells volume known → IsRegularVolume settings known }
@@ -103,9 +103,9 @@ impl<D: Disk<Piece = P>, P: Piece> SharedVolume<D, P> {
         room: VolumeRoom<D, P>,
     ) -> (Logical<D>, Vec<Tag>)
         requires made { (volume : Volume D P) × (settings : Settings) × (number : ℕ)
-            × IsMadeOf self room volume settings number (length seats.items) × AreSeated IsSeatOf self settings (length seats.items) seats.items }
+            × IsMadeOf self room volume settings number (length seats.items) × AreSeated (IsSeatOf number) self settings (length seats.items) seats.items }
         ensures left { (volume : Volume D P) (settings : Settings) (number : ℕ) → IsMadeOf self room volume settings number (length seats.items) →
-            AreSeated IsSeatOf self settings (length seats.items) seats.items →
+            AreSeated (IsSeatOf number) self settings (length seats.items) seats.items →
             LeavesVolume sight_of (VolumeStands D.Tells D.files P.Tells) (count_of D.fault_count) (count_of D.fuse_count) settings number volume seats.items result.0 result.1.items }
         ensures of { (volume : Volume D P) (settings : Settings) (number : ℕ) → IsMadeOf self room volume settings number (length seats.items) → IsVolumeOf result.0 settings number }
     {

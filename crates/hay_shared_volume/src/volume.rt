@@ -1,9 +1,11 @@
 //! A volume's lock that lanes share.
-ghost use Rattle.std.specs.Prelude.{◌≡◌, ◌⊎◌, ◌≤◌, ◌<◌, [], ℕ, IfOk, length};
+ghost use Rattle.std.specs.Prelude.{◌≡◌, ◌⊎◌, ◌≤◌, ◌<◌, [], ℕ, IfOk, IfSome, length};
 ghost use Rattle.hay_map.specs.Places.{place_in};
 ghost use Rattle.hay_needle.specs.declared.settings.Settings.{Settings};
+ghost use Rattle.hay_logical.specs.Volumes.{IsMachineOf};
 ghost use Rattle.hay_reader.specs.Tried.{CanShow};
 ghost use Rattle.hay_shared_volume.specs.Looks.{LookTells, SeeTells, WasSeen};
+ghost use Rattle.hay_shared_volume.specs.Naming.{NamesBegin, NamesCompaction, NamesDelete, NamesFinish, NamesFlush, NamesPut, NamesRoom, NamesStep};
 ghost use Rattle.hay_shared_volume.specs.Seats.{IsSeatOf, WasAt};
 ghost use Rattle.hay_shared_volume.specs.Tellings.{BeginTells, CompactionTells, DeleteTells, FinishTells, FlushTells, FrozenTells, FuseTells, PutTells, RoomTells, Stays, StepTells, StoreVolume};
 
@@ -34,9 +36,9 @@ pub struct SharedVolume<D: Disk<Piece = P>, P: Piece> {
 impl<D: Disk<Piece = P>, P: Piece> SharedVolume<D, P> {
     /// The places of a pair's photo that the seat is shown, without the lock.
     pub fn look<R: Wait>(&self, rt: &R, seat: &mut VolumeSeat<D, P>, pair: Pair) -> Looked<P>
-        requires fits { (settings : Settings) × (lane : ℕ) × IsSeatOf self.now settings lane seat.old }
-        ensures stays { Stays IsSeatOf (WasAt D.Tells D.files P.Tells D.fault_count D.fuse_count) self.now seat.old seat.new }
-        ensures long { (settings : Settings) (lane : ℕ) → IsSeatOf self.now settings lane seat.old → length result.row ≡ settings.replicas }
+        requires fits { (v : ℕ) × (settings : Settings) × (lane : ℕ) × IsSeatOf v self.now settings lane seat.old }
+        ensures stays { (v : ℕ) → Stays (IsSeatOf v) (WasAt D.Tells D.files P.Tells D.fault_count D.fuse_count) self.now seat.old seat.new }
+        ensures long { (v : ℕ) (settings : Settings) (lane : ℕ) → IsSeatOf v self.now settings lane seat.old → length result.row ≡ settings.replicas }
         ensures tells { (volume : StoreVolume) → WasAt D.Tells D.files P.Tells D.fault_count D.fuse_count seat.old volume → LookTells P.Tells volume pair result seat.old.sight seat.new.sight }
     {
         looked_of(seat.look(rt, pair))
@@ -53,10 +55,10 @@ impl<D: Disk<Piece = P>, P: Piece> SharedVolume<D, P> {
         replica: u32,
         out: &mut Vec<u8>,
     ) -> Result<Looked<P>, SightFault>
-        requires fits { (settings : Settings) × IsSeatOf self.now settings tag.lane seat.old × (replica < settings.replicas) }
+        requires fits { (v : ℕ) × (settings : Settings) × IsSeatOf v self.now settings tag.lane seat.old × (replica < settings.replicas) }
         requires empty { out.old.items ≡ [] }
-        ensures stays { Stays IsSeatOf (WasAt D.Tells D.files P.Tells D.fault_count D.fuse_count) self.now seat.old seat.new }
-        ensures long { (settings : Settings) (lane : ℕ) → IsSeatOf self.now settings lane seat.old → IfOk result (λ looked. length looked.row ≡ settings.replicas) }
+        ensures stays { (v : ℕ) → Stays (IsSeatOf v) (WasAt D.Tells D.files P.Tells D.fault_count D.fuse_count) self.now seat.old seat.new }
+        ensures long { (v : ℕ) (settings : Settings) (lane : ℕ) → IsSeatOf v self.now settings lane seat.old → IfOk result (λ looked. length looked.row ≡ settings.replicas) }
         ensures seen { IfOk result (λ looked. WasSeen (place_in looked.row replica)) }
         ensures needle { IfOk result (λ looked. (out.new.items ≡ []) ⊎ CanShow out.new.items (place_in looked.row replica)) }
         ensures tells { (volume : StoreVolume) → WasAt D.Tells D.files P.Tells D.fault_count D.fuse_count seat.old volume → SeeTells P.Tells volume pair tag replica out.new.items result seat.old.sight seat.new.sight }
@@ -69,8 +71,9 @@ impl<D: Disk<Piece = P>, P: Piece> SharedVolume<D, P> {
 
     /// The machine by which the volume is frozen.
     pub fn frozen<R: Wait>(&self, rt: &R, seat: &mut VolumeSeat<D, P>, tag: CoreTag) -> Option<u32>
-        requires fits { (settings : Settings) × IsSeatOf self.now settings tag.lane seat.old }
-        ensures stays { Stays IsSeatOf (WasAt D.Tells D.files P.Tells D.fault_count D.fuse_count) self.now seat.old seat.new }
+        requires fits { (v : ℕ) × (settings : Settings) × IsSeatOf v self.now settings tag.lane seat.old }
+        ensures stays { (v : ℕ) → Stays (IsSeatOf v) (WasAt D.Tells D.files P.Tells D.fault_count D.fuse_count) self.now seat.old seat.new }
+        ensures names { (v : ℕ) (settings : Settings) → IsSeatOf v self.now settings tag.lane seat.old → IfSome result (IsMachineOf settings v) }
         ensures tells { (volume : StoreVolume) → WasAt D.Tells D.files P.Tells D.fault_count D.fuse_count seat.old volume → FrozenTells volume tag result seat.old.sight seat.new.sight }
     {
         self.lock.frozen(rt, seat)
@@ -84,9 +87,10 @@ impl<D: Disk<Piece = P>, P: Piece> SharedVolume<D, P> {
         tag: CoreTag,
         size: u32,
     ) -> Room
-        requires fits { (settings : Settings) × IsSeatOf self.now settings tag.lane seat.old }
+        requires fits { (v : ℕ) × (settings : Settings) × IsSeatOf v self.now settings tag.lane seat.old }
         requires size { size ≤ MAX_PHOTO }
-        ensures stays { Stays IsSeatOf (WasAt D.Tells D.files P.Tells D.fault_count D.fuse_count) self.now seat.old seat.new }
+        ensures stays { (v : ℕ) → Stays (IsSeatOf v) (WasAt D.Tells D.files P.Tells D.fault_count D.fuse_count) self.now seat.old seat.new }
+        ensures names { (v : ℕ) (settings : Settings) → IsSeatOf v self.now settings tag.lane seat.old → NamesRoom settings v result }
         ensures tells { (volume : StoreVolume) → WasAt D.Tells D.files P.Tells D.fault_count D.fuse_count seat.old volume → RoomTells volume tag size result seat.old.sight seat.new.sight }
     {
         room_of(self.lock.room(rt, seat, size))
@@ -104,9 +108,10 @@ impl<D: Disk<Piece = P>, P: Piece> SharedVolume<D, P> {
         bytes: &[u8],
         gate: &G,
     ) -> Put
-        requires fits { (settings : Settings) × IsSeatOf self.now settings tag.lane seat.old }
+        requires fits { (v : ℕ) × (settings : Settings) × IsSeatOf v self.now settings tag.lane seat.old }
         requires size { length bytes.now ≤ MAX_PHOTO }
-        ensures stays { Stays IsSeatOf (WasAt D.Tells D.files P.Tells D.fault_count D.fuse_count) self.now seat.old seat.new }
+        ensures stays { (v : ℕ) → Stays (IsSeatOf v) (WasAt D.Tells D.files P.Tells D.fault_count D.fuse_count) self.now seat.old seat.new }
+        ensures names { (v : ℕ) (settings : Settings) → IsSeatOf v self.now settings tag.lane seat.old → NamesPut settings v result }
         ensures tells { (volume : StoreVolume) → WasAt D.Tells D.files P.Tells D.fault_count D.fuse_count seat.old volume → PutTells volume tag pair cookie bytes.now result seat.old.sight seat.new.sight }
     {
         put_of(
@@ -124,8 +129,9 @@ impl<D: Disk<Piece = P>, P: Piece> SharedVolume<D, P> {
         tag: CoreTag,
         pair: Pair,
     ) -> Delete
-        requires fits { (settings : Settings) × IsSeatOf self.now settings tag.lane seat.old }
-        ensures stays { Stays IsSeatOf (WasAt D.Tells D.files P.Tells D.fault_count D.fuse_count) self.now seat.old seat.new }
+        requires fits { (v : ℕ) × (settings : Settings) × IsSeatOf v self.now settings tag.lane seat.old }
+        ensures stays { (v : ℕ) → Stays (IsSeatOf v) (WasAt D.Tells D.files P.Tells D.fault_count D.fuse_count) self.now seat.old seat.new }
+        ensures names { (v : ℕ) (settings : Settings) → IsSeatOf v self.now settings tag.lane seat.old → NamesDelete settings v result }
         ensures tells { (volume : StoreVolume) → WasAt D.Tells D.files P.Tells D.fault_count D.fuse_count seat.old volume → DeleteTells volume tag pair result seat.old.sight seat.new.sight }
     {
         let mut needle = Vec::new(alloc);
@@ -140,8 +146,9 @@ impl<D: Disk<Piece = P>, P: Piece> SharedVolume<D, P> {
         tag: CoreTag,
         replica: u32,
     ) -> Flush
-        requires fits { (settings : Settings) × IsSeatOf self.now settings tag.lane seat.old × (replica < settings.replicas) }
-        ensures stays { Stays IsSeatOf (WasAt D.Tells D.files P.Tells D.fault_count D.fuse_count) self.now seat.old seat.new }
+        requires fits { (v : ℕ) × (settings : Settings) × IsSeatOf v self.now settings tag.lane seat.old × (replica < settings.replicas) }
+        ensures stays { (v : ℕ) → Stays (IsSeatOf v) (WasAt D.Tells D.files P.Tells D.fault_count D.fuse_count) self.now seat.old seat.new }
+        ensures names { (v : ℕ) (settings : Settings) → IsSeatOf v self.now settings tag.lane seat.old → NamesFlush settings v result }
         ensures tells { (volume : StoreVolume) → WasAt D.Tells D.files P.Tells D.fault_count D.fuse_count seat.old volume → FlushTells volume tag replica result seat.old.sight seat.new.sight }
     {
         flush_of(self.lock.flush(rt, seat, tag, replica))
@@ -156,8 +163,8 @@ impl<D: Disk<Piece = P>, P: Piece> SharedVolume<D, P> {
         replica: u32,
         calls: u32,
     )
-        requires fits { (settings : Settings) × IsSeatOf self.now settings tag.lane seat.old × (replica < settings.replicas) }
-        ensures stays { Stays IsSeatOf (WasAt D.Tells D.files P.Tells D.fault_count D.fuse_count) self.now seat.old seat.new }
+        requires fits { (v : ℕ) × (settings : Settings) × IsSeatOf v self.now settings tag.lane seat.old × (replica < settings.replicas) }
+        ensures stays { (v : ℕ) → Stays (IsSeatOf v) (WasAt D.Tells D.files P.Tells D.fault_count D.fuse_count) self.now seat.old seat.new }
         ensures tells { (volume : StoreVolume) → WasAt D.Tells D.files P.Tells D.fault_count D.fuse_count seat.old volume → FuseTells volume tag replica seat.old.sight seat.new.sight }
     {
         self.lock.fuse(rt, seat, tag, replica, calls);
@@ -172,8 +179,9 @@ impl<D: Disk<Piece = P>, P: Piece> SharedVolume<D, P> {
         tag: CoreTag,
         replica: u32,
     ) -> Begin
-        requires fits { (settings : Settings) × IsSeatOf self.now settings tag.lane seat.old × (replica < settings.replicas) }
-        ensures stays { Stays IsSeatOf (WasAt D.Tells D.files P.Tells D.fault_count D.fuse_count) self.now seat.old seat.new }
+        requires fits { (v : ℕ) × (settings : Settings) × IsSeatOf v self.now settings tag.lane seat.old × (replica < settings.replicas) }
+        ensures stays { (v : ℕ) → Stays (IsSeatOf v) (WasAt D.Tells D.files P.Tells D.fault_count D.fuse_count) self.now seat.old seat.new }
+        ensures names { (v : ℕ) (settings : Settings) → IsSeatOf v self.now settings tag.lane seat.old → NamesBegin settings v result }
         ensures tells { (volume : StoreVolume) → WasAt D.Tells D.files P.Tells D.fault_count D.fuse_count seat.old volume → BeginTells volume tag replica result seat.old.sight seat.new.sight }
     {
         begin_of(self.lock.begin(rt, alloc, seat, tag, replica))
@@ -188,8 +196,9 @@ impl<D: Disk<Piece = P>, P: Piece> SharedVolume<D, P> {
         replica: u32,
         cells: u32,
     ) -> Step
-        requires fits { (settings : Settings) × IsSeatOf self.now settings tag.lane seat.old × (replica < settings.replicas) }
-        ensures stays { Stays IsSeatOf (WasAt D.Tells D.files P.Tells D.fault_count D.fuse_count) self.now seat.old seat.new }
+        requires fits { (v : ℕ) × (settings : Settings) × IsSeatOf v self.now settings tag.lane seat.old × (replica < settings.replicas) }
+        ensures stays { (v : ℕ) → Stays (IsSeatOf v) (WasAt D.Tells D.files P.Tells D.fault_count D.fuse_count) self.now seat.old seat.new }
+        ensures names { (v : ℕ) (settings : Settings) → IsSeatOf v self.now settings tag.lane seat.old → NamesStep settings v result }
         ensures tells { (volume : StoreVolume) → WasAt D.Tells D.files P.Tells D.fault_count D.fuse_count seat.old volume → StepTells volume tag replica cells result seat.old.sight seat.new.sight }
     {
         step_of(self.lock.step(rt, seat, tag, replica, cells))
@@ -203,8 +212,9 @@ impl<D: Disk<Piece = P>, P: Piece> SharedVolume<D, P> {
         tag: CoreTag,
         replica: u32,
     ) -> Finish
-        requires fits { (settings : Settings) × IsSeatOf self.now settings tag.lane seat.old × (replica < settings.replicas) }
-        ensures stays { Stays IsSeatOf (WasAt D.Tells D.files P.Tells D.fault_count D.fuse_count) self.now seat.old seat.new }
+        requires fits { (v : ℕ) × (settings : Settings) × IsSeatOf v self.now settings tag.lane seat.old × (replica < settings.replicas) }
+        ensures stays { (v : ℕ) → Stays (IsSeatOf v) (WasAt D.Tells D.files P.Tells D.fault_count D.fuse_count) self.now seat.old seat.new }
+        ensures names { (v : ℕ) (settings : Settings) → IsSeatOf v self.now settings tag.lane seat.old → NamesFinish settings v result }
         ensures tells { (volume : StoreVolume) → WasAt D.Tells D.files P.Tells D.fault_count D.fuse_count seat.old volume → FinishTells volume tag replica result seat.old.sight seat.new.sight }
     {
         finish_of(self.lock.finish(rt, seat, tag, replica))
@@ -219,8 +229,9 @@ impl<D: Disk<Piece = P>, P: Piece> SharedVolume<D, P> {
         tag: CoreTag,
         replica: u32,
     ) -> Compaction
-        requires fits { (settings : Settings) × IsSeatOf self.now settings tag.lane seat.old × (replica < settings.replicas) }
-        ensures stays { Stays IsSeatOf (WasAt D.Tells D.files P.Tells D.fault_count D.fuse_count) self.now seat.old seat.new }
+        requires fits { (v : ℕ) × (settings : Settings) × IsSeatOf v self.now settings tag.lane seat.old × (replica < settings.replicas) }
+        ensures stays { (v : ℕ) → Stays (IsSeatOf v) (WasAt D.Tells D.files P.Tells D.fault_count D.fuse_count) self.now seat.old seat.new }
+        ensures names { (v : ℕ) (settings : Settings) → IsSeatOf v self.now settings tag.lane seat.old → NamesCompaction settings v result }
         ensures tells { (volume : StoreVolume) → WasAt D.Tells D.files P.Tells D.fault_count D.fuse_count seat.old volume → CompactionTells volume tag replica result seat.old.sight seat.new.sight }
     {
         compaction_of(self.lock.compact(rt, seat, tag, replica))

@@ -17,8 +17,8 @@ returns-in-Ok-clause-made g c number of =
     is_made_of _ c.args.volume c.args.lanes c.in-Ok.field-0.seats.items c.in-Ok.ensures.made.1 (first_seat g c) c.args.settings c.in-Ok.field-0.room number refl c.in-Ok.ensures.made.0 c.requires.some of
 
 pub returns-in-Ok-clause-seated : goal.returns-in-Ok-clause-seated
-returns-in-Ok-clause-seated g c =
-    are_seated _ c.args.volume c.args.lanes c.in-Ok.field-0.seats.items c.in-Ok.ensures.made.1 (first_seat g c) c.args.settings (c.requires.of.1).settings_are c.requires.few
+returns-in-Ok-clause-seated g c number of =
+    are_seated _ c.args.volume c.args.lanes c.in-Ok.field-0.seats.items c.in-Ok.ensures.made.1 (first_seat g c) c.args.settings number of.settings_are of.number_is c.requires.few
 
 pub returns-in-Ok-clause-unseen : goal.returns-in-Ok-clause-unseen
 returns-in-Ok-clause-unseen g c =
