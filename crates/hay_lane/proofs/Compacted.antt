@@ -76,5 +76,9 @@ module _ (settings : Settings) (start : Start) (drained : List Bool) (tag : Core
             | inr swap ↦ work.compact_froze settings start drained tag v j m there below run (call_as _ (calls.Swapped settings start v tag j tag swap.0 swap.1 swap.2 true) x swap.3)
           ])
 
+      -- it is not lost
+      pub never_lost : AtVolume v (CompactionTells here tag j compaction.Idle) k b → ⊥
+      never_lost x = x.is stands
+
       pub end_answered : (answer : Compaction) (r : Reply) → AtVolume v (CompactionTells here tag j answer) k b → IsCompactionReply v m answer r → CompactAnswered a b r
       end_answered answer r x is = ended_answered answer r (call_as (CompactionTells here tag j answer) (EndTells here tag j answer) x (x.is stands)) is

@@ -1,6 +1,6 @@
 -- The first number of a range that passes a test: the replica on a machine.
-use Rattle.std.proofs.Common.{◌≡◌, ℕ, zero, suc, ◌+◌, ◌<◌, ◌≤◌, inl, inr, Bool, true, false, List, [], ◌∷◌, map, Some, None, refl, sym, ap, ◌∙◌, arith}
-use Rattle.std.specs.Prelude.{◌==◌, find, nat_lt, option_map}
+use Rattle.std.proofs.Common.{◌≡◌, ℕ, zero, suc, ◌+◌, ◌<◌, ◌≤◌, inl, inr, Bool, true, false, List, [], ◌∷◌, map, Option, Some, None, refl, sym, ap, subst, ◌∙◌, arith}
+use Rattle.std.specs.Prelude.{◌==◌, IfSome, find, nat_lt, option_map}
 use Rattle.std.specs.List.{range_with_len}
 use Rattle.std.proofs.lemmas.Bool.{cases_Bool, cases_order, cond-false, cond-true, eq-eqb, le-ltb, lt-ltb}
 use Rattle.hay_needle.specs.declared.settings.Settings.{Settings}
@@ -40,6 +40,17 @@ map_hit test g n j within is others =
 pub map_none : {X : Type 0} (test : X → Bool) (g : ℕ → X) (n : ℕ) → ((i : ℕ) → i < n → test (g i) ≡ false) → find test (map g (range_with_len 0 n)) ≡ None
 map_none test g n others =
     find-map test g (range_with_len 0 n) ∙ ap (option_map g) (find-none (λ i. test (g i)) n 0 (λ i from below. others i (omega arith)))
+
+-- what is found is the value of one of the numbers
+pub map_found : {X : Type 0} (test : X → Bool) (g : ℕ → X) (top at n : ℕ) → at + n ≤ top → IfSome (find test (map g (range_with_len at n))) (λ x. (j : ℕ) × (j < top) × (x ≡ g j))
+map_found test g top at zero low = tt
+map_found {X} test g top at (suc n) low =
+    let P : X → Type 0 = λ x. (j : ℕ) × (j < top) × (x ≡ g j) in
+    let rest = find test (map g (range_with_len (at + 1) n)) in
+    elim (cases_Bool (test (g at))) [
+      | inl passes ↦ let below : at < top = omega (arith, low) in subst (λ (o : Option X). IfSome o P) (sym (cond-true (test (g at)) (Some (g at)) rest passes)) (at, below, refl)
+      | inr fails ↦ subst (λ (o : Option X). IfSome o P) (sym (cond-false (test (g at)) (Some (g at)) rest fails)) (map_found test g top (at + 1) n (omega (arith, low)))
+    ]
 
 -- one number more for which a test fails
 pub below_next : (test : ℕ → Bool) (j : ℕ) → ((i : ℕ) → i < j → test i ≡ false) → test j ≡ false → (i : ℕ) → i < j + 1 → test i ≡ false

@@ -1,6 +1,7 @@
 -- Items by their places.
-use Rattle.std.proofs.Common.{◌≡◌, ◌≢◌, ℕ, zero, suc, ◌<◌, List, [], ◌∷◌, length, Some, refl, ap, arith}
+use Rattle.std.proofs.Common.{◌≡◌, ◌≢◌, ℕ, zero, suc, ◌<◌, List, [], ◌∷◌, ◌++◌, length, Some, refl, ap, arith}
 use Rattle.std.specs.Prelude.{slice_get, slice_index_or, slice_set}
+use Rattle.std.specs.List.{AllZip}
 
 pub get_read : {X : Type 0} (xs : List X) (i : ℕ) (d : X) → i < length xs → slice_get xs i ≡ Some (slice_index_or xs i d)
 get_read [] i d below = absurd (omega (arith, below))
@@ -23,3 +24,9 @@ pub length_set : {X : Type 0} (xs : List X) (i : ℕ) (x : X) → length (slice_
 length_set [] i x = refl
 length_set (y ∷ xs) zero x = refl
 length_set (y ∷ xs) (suc i) x = let rest = length_set xs i x in omega (arith, rest)
+
+pub all_both : {A B : Type 0} (R : A → B → Type 0) (xs xs' : List A) (ys ys' : List B) → AllZip R xs ys → AllZip R xs' ys' → AllZip R (xs ++ xs') (ys ++ ys')
+all_both R [] xs' [] ys' all all' = all'
+all_both R [] xs' (y ∷ ys) ys' all all' = absurd all
+all_both R (x ∷ xs) xs' [] ys' all all' = absurd all
+all_both R (x ∷ xs) xs' (y ∷ ys) ys' all all' = (all.0, all_both R xs xs' ys ys' all.1 all')

@@ -21,7 +21,7 @@ use Rattle.hay_lane.specs.Lanes.{IsOf, IsSeated, known_by, sight}
 use Rattle.hay_shared_volume.specs.Tellings.{Stays, StoreVolume}
 use Rattle.hay_lane.proofs.Lists.{get_read, get_set, get_set_other, length_set}
 
-module _ {V D S T A : Type 0} (fits : V → Settings → ℕ → S → Type 0) (fits_rows : D → Settings → ℕ → T → Type 0) (shared : Shared V D) (number : ℕ) (lane : Lane S T A)
+module _ {V D S T A : Type 0} (fits : ℕ → V → Settings → ℕ → S → Type 0) (fits_rows : D → Settings → ℕ → T → Type 0) (shared : Shared V D) (number : ℕ) (lane : Lane S T A)
     (seated : IsSeated fits fits_rows shared number lane) where
   -- AT A VOLUME, by its lock and the seat
 
@@ -37,8 +37,8 @@ module _ {V D S T A : Type 0} (fits : V → Settings → ℕ → S → Type 0) (
     seat_at = subst (λ ss. slice_get ss v ≡ Some (slice_index_or seats v seat)) seats_are (get_read seats v seat long_enough)
 
     -- so the seat may be called
-    pub fits_here : (found : V) → found ≡ slice_index_or locks v lock → fits found shared.settings number (slice_index_or seats v seat)
-    fits_here found is = subst (λ x. fits x shared.settings number (slice_index_or seats v seat)) (sym is) (seated.each v (slice_index_or locks v lock) (slice_index_or seats v seat) lock_at seat_at)
+    pub fits_here : (found : V) → found ≡ slice_index_or locks v lock → fits v found shared.settings number (slice_index_or seats v seat)
+    fits_here found is = subst (λ x. fits v x shared.settings number (slice_index_or seats v seat)) (sym is) (seated.each v (slice_index_or locks v lock) (slice_index_or seats v seat) lock_at seat_at)
 
     -- and has become another
     module _ (found : V) (found_is : found ≡ slice_index_or locks v lock) (new : S) where
@@ -57,7 +57,7 @@ module _ {V D S T A : Type 0} (fits : V → Settings → ℕ → S → Type 0) (
       same_seat : (s : S) → slice_get (moved.volumes).items v ≡ Some s → new ≡ s
       same_seat s is = let both : Some new ≡ Some s = sym now_at ∙ is in cc
 
-      module _ (is_at : S → StoreVolume → Type 0) (stays : Stays fits is_at found (slice_index_or seats v seat) new) where
+      module _ (is_at : S → StoreVolume → Type 0) (stays : Stays (fits v) is_at found (slice_index_or seats v seat) new) where
         pub still_seated : IsSeated fits fits_rows shared number moved
         still_seated = record {
           machines = seated.machines;
@@ -73,7 +73,8 @@ module _ {V D S T A : Type 0} (fits : V → Settings → ℕ → S → Type 0) (
               let here : slice_get (shared.volumes).items v ≡ Some volume = subst (λ w. slice_get (shared.volumes).items w ≡ Some volume) same there in
               let lock_is : found ≡ volume = let both : Some (slice_index_or locks v lock) ≡ Some volume = sym lock_at ∙ here in cc in
               let seat_is : new ≡ s = same_seat s (subst (λ w. slice_get (moved.volumes).items w ≡ Some s) same has) in
-              subst (λ x. fits x shared.settings number s) lock_is (subst (fits found shared.settings number) seat_is (stays.fits_still shared.settings number (fits_here found found_is))))
+              subst (λ w. fits w volume shared.settings number s) (sym same)
+              (subst (λ x. fits v x shared.settings number s) lock_is (subst (fits v found shared.settings number) seat_is (stays.fits_still shared.settings number (fits_here found found_is)))))
               (λ differs. seated.each u volume s there (sym (still_at u differs) ∙ has));
           rows = seated.rows;
         }

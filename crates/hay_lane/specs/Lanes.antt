@@ -37,7 +37,7 @@ pub record IsLaterArm {A : Type 0} (is_sure : A → Bool) (faults : A → ℕ) (
 -- WHERE IT HAS ITS SEATS
 
 -- a lock and a seat of it for each volume, and the Directory's
-pub record IsSeated {V D S T A : Type 0} (fits : V → Settings → ℕ → S → Type 0) (fits_rows : D → Settings → ℕ → T → Type 0)
+pub record IsSeated {V D S T A : Type 0} (fits : ℕ → V → Settings → ℕ → S → Type 0) (fits_rows : D → Settings → ℕ → T → Type 0)
     (shared : Shared V D) (number : ℕ) (lane : Lane S T A) : Type 0 where
   pub machines : 0 < (shared.settings).machines
   pub some : 0 < (shared.settings).volumes
@@ -47,7 +47,7 @@ pub record IsSeated {V D S T A : Type 0} (fits : V → Settings → ℕ → S �
   pub drains : length (shared.drained).items ≡ (shared.settings).machines
   pub locks : length (shared.volumes).items ≡ (shared.settings).volumes
   pub seats : length (lane.volumes).items ≡ (shared.settings).volumes
-  pub each : (v : ℕ) (volume : V) (seat : S) → slice_get (shared.volumes).items v ≡ Some volume → slice_get (lane.volumes).items v ≡ Some seat → fits volume shared.settings number seat
+  pub each : (v : ℕ) (volume : V) (seat : S) → slice_get (shared.volumes).items v ≡ Some volume → slice_get (lane.volumes).items v ≡ Some seat → fits v volume shared.settings number seat
   pub rows : fits_rows shared.directory shared.settings number lane.directory
 
 -- these locks were made round a store that stood so

@@ -6,6 +6,7 @@ use Rattle.hay_needle.specs.declared.needle.Outcome.{Outcome}
 use Rattle.hay_needle.specs.declared.needle.Outcome.TheVariants as outcome
 use Rattle.hay_needle.specs.declared.needle.Photo.{Photo as PhotoOf}
 use Rattle.hay_needle.specs.declared.settings.Settings.{Settings}
+use Rattle.hay_needle.specs.declared.total.TheConstants.{MAX_PHOTO}
 use Rattle.hay_map.specs.Places.{place_in}
 use Rattle.hay_map.specs.declared.place.Place.{Place}
 use Rattle.hay_reply.specs.declared.Cause.{Cause}
@@ -60,6 +61,21 @@ StopsBehind first replicas n (read.Unreadable causes) = Unit {0}
 -- the outcome is another cookie's photo
 abbrev pub IsOther : Cookie → Outcome → Type 0
 IsOther cookie what = (photo : PhotoOf) × (photo.cookie ≢ cookie) × (what ≡ outcome.Photo photo)
+
+-- one of so many replicas showed it
+abbrev pub ShownWithin : ℕ → ReadReply → Type 0
+ShownWithin replicas (read.Photo j) = j < replicas
+ShownWithin replicas (read.Gone j) = j < replicas
+ShownWithin replicas (read.WrongCookie j) = j < replicas
+ShownWithin replicas (read.Unseen j causes) = Unit {0}
+ShownWithin replicas (read.Unreadable causes) = Unit {0}
+
+-- so with what was found, and a photo has at most as many bytes as the largest
+abbrev pub FoundWithin : ℕ → List ℕ → Found → Type 0
+FoundWithin replicas put (found.Photo j) = (j < replicas) × (length put ≤ MAX_PHOTO)
+FoundWithin replicas put (found.Gone j) = j < replicas
+FoundWithin replicas put (found.WrongCookie j) = j < replicas
+FoundWithin replicas put (found.Unreadable causes) = Unit {0}
 
 -- what was read is what was found
 abbrev pub IsFoundAs : ReadReply → Found → Type 0

@@ -2,6 +2,7 @@
 ghost use Rattle.std.specs.Prelude.{◌≡◌, ◌<◌, Some};
 ghost use Rattle.hay_script.specs.declared.Command.TheVariants as asks;
 ghost use Rattle.hay_legal.specs.Known as known;
+ghost use Rattle.hay_legal.specs.Suiting.{Suits};
 ghost use Rattle.hay_meeting.specs.Acts.{Start};
 ghost use Rattle.hay_holdings.specs.Lines.{IsAnswered};
 ghost use Rattle.hay_lane.specs.Lanes.{IsOf, IsSeated, sight};
@@ -15,7 +16,7 @@ use crate::replies::{begin_reply, compaction_reply};
 use hay_core::CoreTag;
 use hay_disk::{Arm, Disk, Piece};
 use hay_reply::Reply;
-use hay_shared_volume::{Begin, SharedVolume};
+use hay_shared_volume::{Begin, Compaction, SharedVolume};
 use hay_volume_lock::VolumeSeat;
 use std::alloc::Global;
 use std::sync::Wait;
@@ -38,6 +39,7 @@ impl<D: Disk<Piece = P>, P: Piece, L: DirectoryCalls> Shared<SharedVolume<D, P>,
         ensures answered { (start : Start) → IsOf (WasAt D.Tells D.files P.Tells D.fault_count D.fuse_count) L.is_at self.now.settings start lane.old →
             IsAnswered self.now.settings start self.now.drained.items tag (asks.Compact volume machine) result
             (sight sight_of L.sight A.fault_count lane.old) (sight sight_of L.sight A.fault_count lane.new) }
+        ensures suits { Suits self.now.settings tag.line (asks.Compact volume machine) result }
         ensures fits { FitsReply result }
     {
         let Some(replica) = replica_on(&self.settings, volume, machine) else {
@@ -46,7 +48,7 @@ impl<D: Disk<Piece = P>, P: Piece, L: DirectoryCalls> Shared<SharedVolume<D, P>,
         self.compact_replica(rt, alloc, lane, tag, volume, machine, replica)
     }
 
-    // The same of the replica on the machine.
+    // The same of the replica on the machine. One that was lost is begun anew, which never happens over disks that tell what they have.
     fn compact_replica<R: Wait, A: Arm<P>>(
         &self,
         rt: &R,
@@ -68,13 +70,20 @@ impl<D: Disk<Piece = P>, P: Piece, L: DirectoryCalls> Shared<SharedVolume<D, P>,
         ensures answered { (start : Start) → IsOf (WasAt D.Tells D.files P.Tells D.fault_count D.fuse_count) L.is_at self.now.settings start lane.old →
             IsAnswered self.now.settings start self.now.drained.items tag (asks.Compact volume machine) result
             (sight sight_of L.sight A.fault_count lane.old) (sight sight_of L.sight A.fault_count lane.new) }
+        ensures suits { Suits self.now.settings tag.line (asks.Compact volume machine) result }
         ensures fits { FitsReply result }
     {
-        let answer = self.begin_at(rt, alloc, lane, tag, volume, replica);
-        let Begin::Begun { generation: _ } = answer else {
-            return begin_reply(alloc, volume, machine, answer);
-        };
-        let ended = self.compact_at(rt, lane, tag, volume, replica);
-        compaction_reply(alloc, volume, machine, ended)
+        for _ in rt.forever() {
+            let answer = self.begin_at(rt, alloc, lane, tag, volume, replica);
+            let Begin::Begun { generation: _ } = answer else {
+                return begin_reply(alloc, volume, machine, answer);
+            };
+            let ended = self.compact_at(rt, lane, tag, volume, replica);
+            match ended {
+                Compaction::Idle => {}
+                _ => return compaction_reply(alloc, volume, machine, ended),
+            }
+        }
+        unreachable!()
     }
 }

@@ -1,8 +1,10 @@
 //! Puts.
 ghost use Rattle.std.specs.Prelude.{◌≡◌, ◌≤◌, ◌<◌, ℕ, false, None, length, map, IfOk, IfSome, List};
-ghost use Rattle.std.specs.List.{AllByRecursion, list_any};
+ghost use Rattle.std.specs.List.{AllByRecursion, AllZip, list_any};
 ghost use Rattle.hay_script.specs.declared.Command.TheVariants as asks;
+ghost use Rattle.hay_legal.specs.Known.{all_tries};
 ghost use Rattle.hay_legal.specs.Plain.{as_closed, wants_room};
+ghost use Rattle.hay_legal.specs.Suiting.{Refuses, Suits};
 ghost use Rattle.hay_meeting.specs.Acts.{Start};
 ghost use Rattle.hay_meeting.specs.Sights.{Sight};
 ghost use Rattle.hay_holdings.specs.Lines.{HasTaker, IsAnswered, Sees, Settled};
@@ -59,6 +61,7 @@ impl<D: Disk<Piece = P>, P: Piece, L: DirectoryCalls> Shared<SharedVolume<D, P>,
         ensures answered { (start : Start) → IsOf (WasAt D.Tells D.files P.Tells D.fault_count D.fuse_count) L.is_at self.now.settings start lane.old →
             IsAnswered self.now.settings start self.now.drained.items tag (asks.Put pair bytes.now) result
             (sight sight_of L.sight A.fault_count lane.old) (sight sight_of L.sight A.fault_count lane.new) }
+        ensures suits { Suits self.now.settings tag.line (asks.Put pair bytes.now) result }
         ensures fits { FitsReply result }
     {
         let (rows, home) = self.home_in_view(rt, lane, tag, pair);
@@ -86,6 +89,7 @@ impl<D: Disk<Piece = P>, P: Piece, L: DirectoryCalls> Shared<SharedVolume<D, P>,
         ensures answered { (start : Start) (d : ℕ) (a : Sight) → IsOf (WasAt D.Tells D.files P.Tells D.fault_count D.fuse_count) L.is_at self.now.settings start lane.old →
             Sees self.now.settings start self.now.drained.items tag pair d None a (sight sight_of L.sight A.fault_count lane.old) →
             IsAnswered self.now.settings start self.now.drained.items tag (asks.Put pair bytes.now) result a (sight sight_of L.sight A.fault_count lane.new) }
+        ensures suits { Suits self.now.settings tag.line (asks.Put pair bytes.now) result }
         ensures fits { FitsReply result }
     {
         match self.find_taker(rt, alloc, lane, tag, pair, bytes.len() as u32) {
@@ -111,6 +115,7 @@ impl<D: Disk<Piece = P>, P: Piece, L: DirectoryCalls> Shared<SharedVolume<D, P>,
         ensures same { (start : Start) → IsOf (WasAt D.Tells D.files P.Tells D.fault_count D.fuse_count) L.is_at self.now.settings start lane.old → IsOf (WasAt D.Tells D.files P.Tells D.fault_count D.fuse_count) L.is_at self.now.settings start lane.new }
         ensures arm { lane.new.arm ≡ lane.old.arm }
         ensures within { (volume : ℕ) → result ≡ Tries.Taker volume → volume < self.now.settings.volumes }
+        ensures refuse { (refused : List Refused) → result ≡ Tries.Nobody refused → AllZip (Refuses self.now.settings) (all_tries self.now.settings pair) refused }
         ensures fits { (refused : List Refused) → result ≡ Tries.Nobody refused → AllByRecursion FitsRefused refused }
         ensures tried { (start : Start) (d : ℕ) (a : Sight) → IsOf (WasAt D.Tells D.files P.Tells D.fault_count D.fuse_count) L.is_at self.now.settings start lane.old →
             Sees self.now.settings start self.now.drained.items tag pair d None a (sight sight_of L.sight A.fault_count lane.old) →
@@ -147,6 +152,7 @@ impl<D: Disk<Piece = P>, P: Piece, L: DirectoryCalls> Shared<SharedVolume<D, P>,
         ensures arm { lane.new.arm ≡ lane.old.arm }
         ensures tells { (start : Start) → IsOf (WasAt D.Tells D.files P.Tells D.fault_count D.fuse_count) L.is_at self.now.settings start lane.old →
             TryTells self.now.settings start self.now.drained.items tag volume size result (sight sight_of L.sight A.fault_count lane.old) (sight sight_of L.sight A.fault_count lane.new) }
+        ensures refuses { IfSome result (Refuses self.now.settings volume) }
         ensures fits { IfSome result FitsRefused }
     {
         let Some(machine) = drained_by(&self.settings, self.drained.as_slice(), volume) else {
@@ -177,6 +183,7 @@ impl<D: Disk<Piece = P>, P: Piece, L: DirectoryCalls> Shared<SharedVolume<D, P>,
         ensures answered { (start : Start) (a : Sight) → IsOf (WasAt D.Tells D.files P.Tells D.fault_count D.fuse_count) L.is_at self.now.settings start lane.old →
             HasTaker self.now.settings start self.now.drained.items tag pair (length bytes.now) volume a (sight sight_of L.sight A.fault_count lane.old) →
             IsAnswered self.now.settings start self.now.drained.items tag (asks.Put pair bytes.now) result a (sight sight_of L.sight A.fault_count lane.new) }
+        ensures suits { Suits self.now.settings tag.line (asks.Put pair bytes.now) result }
         ensures fits { FitsReply result }
     {
         match self.settle_home(rt, lane, tag, pair, volume) {
@@ -209,6 +216,7 @@ impl<D: Disk<Piece = P>, P: Piece, L: DirectoryCalls> Shared<SharedVolume<D, P>,
         ensures answered { (start : Start) (a : Sight) → IsOf (WasAt D.Tells D.files P.Tells D.fault_count D.fuse_count) L.is_at self.now.settings start lane.old →
             Settled self.now.settings start self.now.drained.items tag pair (length bytes.now) rows volume a (sight sight_of L.sight A.fault_count lane.old) →
             IsAnswered self.now.settings start self.now.drained.items tag (asks.Put pair bytes.now) result a (sight sight_of L.sight A.fault_count lane.new) }
+        ensures suits { Suits self.now.settings tag.line (asks.Put pair bytes.now) result }
         ensures fits { FitsReply result }
     {
         let Some(machine) = drained_by(&self.settings, self.drained.as_slice(), volume) else {

@@ -4,6 +4,7 @@ ghost use Rattle.std.specs.List.{AllByRecursion};
 ghost use Rattle.std.specs.Vec.{vec_capacity};
 ghost use Rattle.hay_script.specs.declared.Command.TheVariants as asks;
 ghost use Rattle.hay_legal.specs.Known as known;
+ghost use Rattle.hay_legal.specs.Suiting.{ShowsOf, Suits};
 ghost use Rattle.hay_meeting.specs.Acts.{Start};
 ghost use Rattle.hay_meeting.specs.Sights.{Sight};
 ghost use Rattle.hay_holdings.specs.Lines.{IsAnswered, Sees};
@@ -14,9 +15,10 @@ ghost use Rattle.hay_reader.specs.Shown.{HasBytes, ReadsRow};
 ghost use Rattle.hay_reader.specs.Tried.{CanShow, HasItsPhoto};
 ghost use Rattle.hay_reader.specs.declared.causes.PassedReplica.{PassedReplica};
 ghost use Rattle.hay_lane.specs.Lanes.{IsLaterArm, IsOf, IsSeated, sight};
-ghost use Rattle.hay_lane.specs.Reads.{FrozeBehind, HasFound, HasRead, IsFoundAs, IsFoundReply, IsNext, IsSightCause, ShowTells, StopsBehind, passed_at};
+ghost use Rattle.hay_lane.specs.Reads.{FoundWithin, FrozeBehind, HasFound, HasRead, IsFoundAs, IsFoundReply, IsNext, IsSightCause, ShowTells, ShownWithin, StopsBehind, passed_at};
 ghost use Rattle.hay_shared_volume.specs.Looks.{WasSeen};
 ghost use Rattle.hay_reply.specs.Fits.{FitsPassed, FitsReply};
+ghost use Rattle.hay_reply.specs.declared.Reply.TheVariants as reply;
 ghost use Rattle.hay_shared_volume.specs.Seats.{IsSeatOf, WasAt, sight_of};
 
 use crate::calls::DirectoryCalls;
@@ -66,6 +68,7 @@ impl<D: Disk<Piece = P>, P: Piece, L: DirectoryCalls> Shared<SharedVolume<D, P>,
         ensures answered { (start : Start) → IsOf (WasAt D.Tells D.files P.Tells D.fault_count D.fuse_count) L.is_at self.now.settings start lane.old →
             IsAnswered self.now.settings start self.now.drained.items tag (asks.Read pair cookie) result
             (sight sight_of L.sight A.fault_count lane.old) (sight sight_of L.sight A.fault_count lane.new) }
+        ensures suits { Suits self.now.settings tag.line (asks.Read pair cookie) result }
         ensures fits { FitsReply result }
     {
         let (rows, home) = self.home_in_view(rt, lane, tag, pair);
@@ -94,6 +97,7 @@ impl<D: Disk<Piece = P>, P: Piece, L: DirectoryCalls> Shared<SharedVolume<D, P>,
         ensures arm { IsLaterArm A.is_sure A.fault_count lane.old.arm lane.new.arm }
         ensures answered { (start : Start) → IsOf (WasAt D.Tells D.files P.Tells D.fault_count D.fuse_count) L.is_at self.now.settings start lane.old →
             IsAnswered self.now.settings start self.now.drained.items tag (asks.Get url.now) result (sight sight_of L.sight A.fault_count lane.old) (sight sight_of L.sight A.fault_count lane.new) }
+        ensures suits { Suits self.now.settings tag.line (asks.Get url.now) result }
         ensures fits { FitsReply result }
     {
         let Some(first) = replica_on(&self.settings, url.volume, url.machine) else {
@@ -134,6 +138,7 @@ impl<D: Disk<Piece = P>, P: Piece, L: DirectoryCalls> Shared<SharedVolume<D, P>,
         ensures tells { (start : Start) (a : Sight) → IsOf (WasAt D.Tells D.files P.Tells D.fault_count D.fuse_count) L.is_at self.now.settings start lane.old →
             Sees self.now.settings start self.now.drained.items tag pair rows (Some volume) a (sight sight_of L.sight A.fault_count lane.old) →
             ShowTells self.now.settings start self.now.drained.items tag pair cookie rows volume first result a (sight sight_of L.sight A.fault_count lane.new) }
+        ensures suits { ShowsOf self.now.settings volume result ⊎ (result ≡ reply.NoMem) }
         ensures fits { FitsReply result }
     {
         let Ok(mut photo) = Vec::with_capacity(alloc, MAX_PHOTO as usize) else {
@@ -172,6 +177,7 @@ impl<D: Disk<Piece = P>, P: Piece, L: DirectoryCalls> Shared<SharedVolume<D, P>,
         ensures seated { IsSeated IsSeatOf L.fits self.now tag.lane lane.new }
         ensures same { (start : Start) → IsOf (WasAt D.Tells D.files P.Tells D.fault_count D.fuse_count) L.is_at self.now.settings start lane.old → IsOf (WasAt D.Tells D.files P.Tells D.fault_count D.fuse_count) L.is_at self.now.settings start lane.new }
         ensures arm { IsLaterArm A.is_sure A.fault_count lane.old.arm lane.new.arm }
+        ensures within { IfOk result (λ answer. FoundWithin self.now.settings.replicas photo.new.items answer.1) }
         ensures found { (start : Start) (d : ℕ) (a : Sight) → IsOf (WasAt D.Tells D.files P.Tells D.fault_count D.fuse_count) L.is_at self.now.settings start lane.old →
             Sees self.now.settings start self.now.drained.items tag pair d (Some volume) a (sight sight_of L.sight A.fault_count lane.old) →
             IfOk result (λ answer. HasFound self.now.settings start self.now.drained.items tag pair d volume first cookie answer.0 photo.new.items answer.1
@@ -217,6 +223,7 @@ impl<D: Disk<Piece = P>, P: Piece, L: DirectoryCalls> Shared<SharedVolume<D, P>,
         ensures arm { IsLaterArm A.is_sure A.fault_count lane.old.arm lane.new.arm }
         ensures long { length result.0.row ≡ self.now.settings.replicas }
         ensures stops { StopsBehind first self.now.settings.replicas 0 result.1 }
+        ensures shown { ShownWithin self.now.settings.replicas result.1 }
         ensures bytes { HasBytes photo.new.items result.1 }
         ensures room { MAX_PHOTO ≤ vec_capacity photo.new }
         ensures tells { (start : Start) (d : ℕ) (a : Sight) → IsOf (WasAt D.Tells D.files P.Tells D.fault_count D.fuse_count) L.is_at self.now.settings start lane.old →
@@ -258,6 +265,7 @@ impl<D: Disk<Piece = P>, P: Piece, L: DirectoryCalls> Shared<SharedVolume<D, P>,
         ensures arm { IsLaterArm A.is_sure A.fault_count lane.old.arm lane.new.arm }
         ensures long { IfOk result (λ on. length on.0.row ≡ self.now.settings.replicas) }
         ensures stops { IfOk result (λ on. StopsBehind first self.now.settings.replicas (length causes + 1) on.1) }
+        ensures shown { IfOk result (λ on. ShownWithin self.now.settings.replicas on.1) }
         ensures bytes { IfOk result (λ on. HasBytes photo.new.items on.1) }
         ensures room { MAX_PHOTO ≤ vec_capacity photo.new }
         ensures tells { (start : Start) (d : ℕ) (a : Sight) → IsOf (WasAt D.Tells D.files P.Tells D.fault_count D.fuse_count) L.is_at self.now.settings start lane.old →
@@ -320,6 +328,7 @@ fn read_seen<P: Piece, A: Arm<P>>(
     ensures stays_sure { StaysSure (A.is_sure arm.old) (A.is_sure arm.new) (A.fault_count arm.old) (A.fault_count arm.new) }
     ensures later { A.fault_count arm.old ≤ A.fault_count arm.new }
     ensures most { (A.fault_count arm.new ≡ A.fault_count arm.old) ⊎ (A.fault_count arm.new < 2 ^ 64) }
+    ensures shown { ShownWithin (length row.now) result }
     ensures bytes { HasBytes photo.new.items result }
     ensures room { MAX_PHOTO ≤ vec_capacity photo.new }
 {

@@ -1,6 +1,7 @@
 //! Flushes, compactions step by step, fuses and drains.
 ghost use Rattle.std.specs.Prelude.{◌≡◌};
 ghost use Rattle.hay_script.specs.declared.Command.TheVariants as asks;
+ghost use Rattle.hay_legal.specs.Suiting.{Suits};
 ghost use Rattle.hay_meeting.specs.Acts.{Start};
 ghost use Rattle.hay_holdings.specs.Lines.{IsAnswered};
 ghost use Rattle.hay_lane.specs.Lanes.{IsOf, IsSeated, sight};
@@ -37,6 +38,7 @@ impl<D: Disk<Piece = P>, P: Piece, L: DirectoryCalls> Shared<SharedVolume<D, P>,
         ensures answered { (start : Start) → IsOf (WasAt D.Tells D.files P.Tells D.fault_count D.fuse_count) L.is_at self.now.settings start lane.old →
             IsAnswered self.now.settings start self.now.drained.items tag (asks.Flush volume machine) result
             (sight sight_of L.sight A.fault_count lane.old) (sight sight_of L.sight A.fault_count lane.new) }
+        ensures suits { Suits self.now.settings tag.line (asks.Flush volume machine) result }
         ensures fits { FitsReply result }
     {
         let Some(replica) = replica_on(&self.settings, volume, machine) else {
@@ -63,6 +65,7 @@ impl<D: Disk<Piece = P>, P: Piece, L: DirectoryCalls> Shared<SharedVolume<D, P>,
         ensures answered { (start : Start) → IsOf (WasAt D.Tells D.files P.Tells D.fault_count D.fuse_count) L.is_at self.now.settings start lane.old →
             IsAnswered self.now.settings start self.now.drained.items tag (asks.Begin volume machine) result
             (sight sight_of L.sight A.fault_count lane.old) (sight sight_of L.sight A.fault_count lane.new) }
+        ensures suits { Suits self.now.settings tag.line (asks.Begin volume machine) result }
         ensures fits { FitsReply result }
     {
         let Some(replica) = replica_on(&self.settings, volume, machine) else {
@@ -90,6 +93,7 @@ impl<D: Disk<Piece = P>, P: Piece, L: DirectoryCalls> Shared<SharedVolume<D, P>,
         ensures answered { (start : Start) → IsOf (WasAt D.Tells D.files P.Tells D.fault_count D.fuse_count) L.is_at self.now.settings start lane.old →
             IsAnswered self.now.settings start self.now.drained.items tag (asks.Step volume machine cells) result
             (sight sight_of L.sight A.fault_count lane.old) (sight sight_of L.sight A.fault_count lane.new) }
+        ensures suits { Suits self.now.settings tag.line (asks.Step volume machine cells) result }
         ensures fits { FitsReply result }
     {
         let Some(replica) = replica_on(&self.settings, volume, machine) else {
@@ -116,6 +120,7 @@ impl<D: Disk<Piece = P>, P: Piece, L: DirectoryCalls> Shared<SharedVolume<D, P>,
         ensures answered { (start : Start) → IsOf (WasAt D.Tells D.files P.Tells D.fault_count D.fuse_count) L.is_at self.now.settings start lane.old →
             IsAnswered self.now.settings start self.now.drained.items tag (asks.Finish volume machine) result
             (sight sight_of L.sight A.fault_count lane.old) (sight sight_of L.sight A.fault_count lane.new) }
+        ensures suits { Suits self.now.settings tag.line (asks.Finish volume machine) result }
         ensures fits { FitsReply result }
     {
         let Some(replica) = replica_on(&self.settings, volume, machine) else {
@@ -142,6 +147,7 @@ impl<D: Disk<Piece = P>, P: Piece, L: DirectoryCalls> Shared<SharedVolume<D, P>,
         ensures answered { (start : Start) → IsOf (WasAt D.Tells D.files P.Tells D.fault_count D.fuse_count) L.is_at self.now.settings start lane.old →
             IsAnswered self.now.settings start self.now.drained.items tag (asks.Fuse volume machine calls) result
             (sight sight_of L.sight A.fault_count lane.old) (sight sight_of L.sight A.fault_count lane.new) }
+        ensures suits { Suits self.now.settings tag.line (asks.Fuse volume machine calls) result }
         ensures fits { FitsReply result }
     {
         let Some(replica) = replica_on(&self.settings, volume, machine) else {
@@ -169,6 +175,7 @@ impl<D: Disk<Piece = P>, P: Piece, L: DirectoryCalls> Shared<SharedVolume<D, P>,
         ensures arm { lane.new.arm ≡ lane.old.arm }
         ensures answered { (start : Start) → IsOf (WasAt D.Tells D.files P.Tells D.fault_count D.fuse_count) L.is_at self.now.settings start lane.old →
             IsAnswered self.now.settings start self.now.drained.items tag (asks.FuseDir calls) result (sight sight_of L.sight A.fault_count lane.old) (sight sight_of L.sight A.fault_count lane.new) }
+        ensures suits { Suits self.now.settings tag.line (asks.FuseDir calls) result }
         ensures fits { FitsReply result }
     {
         self.fuse_directory(rt, lane, tag, calls);
@@ -189,6 +196,7 @@ impl<D: Disk<Piece = P>, P: Piece, L: DirectoryCalls> Shared<SharedVolume<D, P>,
         ensures arm { lane.new.arm ≡ lane.old.arm }
         ensures answered { (start : Start) → IsOf (WasAt D.Tells D.files P.Tells D.fault_count D.fuse_count) L.is_at self.now.settings start lane.old →
             IsAnswered self.now.settings start self.now.drained.items tag (asks.Drain machine) result (sight sight_of L.sight A.fault_count lane.old) (sight sight_of L.sight A.fault_count lane.new) }
+        ensures suits { Suits self.now.settings tag.line (asks.Drain machine) result }
         ensures fits { FitsReply result }
     {
         if machine >= self.settings.machines {
@@ -213,6 +221,7 @@ impl<D: Disk<Piece = P>, P: Piece, L: DirectoryCalls> Shared<SharedVolume<D, P>,
         ensures answered { (start : Start) → IsOf (WasAt D.Tells D.files P.Tells D.fault_count D.fuse_count) L.is_at self.now.settings start lane.old →
             IsAnswered self.now.settings start self.now.drained.items tag (asks.Undrain machine) result
             (sight sight_of L.sight A.fault_count lane.old) (sight sight_of L.sight A.fault_count lane.new) }
+        ensures suits { Suits self.now.settings tag.line (asks.Undrain machine) result }
         ensures fits { FitsReply result }
     {
         if machine >= self.settings.machines {

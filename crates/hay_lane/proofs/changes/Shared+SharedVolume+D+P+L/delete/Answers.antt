@@ -1,3 +1,4 @@
+use Rattle.std.proofs.Common.{inl, inr, refl}
 use Rattle.hay_holdings.proofs.DelAnswers.{del_unknown}
 use Rattle.hay_lane.specs.Lanes.{sight}
 use Rattle.hay_lane.proofs.Changed.{saw}
@@ -13,3 +14,6 @@ pub returns-clause-answered : goal.returns-clause-answered
 returns-clause-answered g c start of =
     c.delete_home.ensures.answered start (sight sight_of g.L.DirectoryCalls.sight g.A.Arm.fault_count c.args.lane.now) (c.home_in_view-rows.ensures.same start of)
     (saw c.args.self.now.settings start c.args.self.now.drained.items c.args.tag c.in-Some.is (c.home_in_view-rows.ensures.tells start of))
+
+pub returns-in_default-clause-suits : goal.returns-in_default-clause-suits
+returns-in_default-clause-suits g c = inr (inr (inl (c.home_in_view-rows.result.0, refl)))

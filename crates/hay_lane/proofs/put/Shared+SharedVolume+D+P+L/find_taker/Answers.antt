@@ -1,18 +1,21 @@
 use Rattle.std.proofs.Common.{◌≡◌, ◌+◌, [], ◌∷◌, refl, sym, subst, ◌∙◌, arith}
-use Rattle.std.specs.List.{AllByRecursion}
+use Rattle.std.specs.List.{AllByRecursion, AllZip}
 use Rattle.hay_reply.specs.Fits.{FitsRefused}
+use Rattle.hay_legal.specs.Suiting.{Refuses}
 use Rattle.hay_legal.proofs.Subject.Effects.{each_append}
 use Rattle.hay_holdings.specs.Lines.{Tried}
 use Rattle.hay_holdings.proofs.PutAnswers.{tries}
 use Rattle.hay_lane.specs.Lanes.{sight}
 use Rattle.hay_lane.specs.Puts.{TryTells}
 use Rattle.hay_lane.proofs.Putting.{first_tries, one_more, takes_next, tries_wanted}
+use Rattle.hay_lane.proofs.Suiting.{one_more_refuses}
 use Rattle.hay_shared_volume.specs.Seats.{sight_of}
 use Rattle.hay_lane.proofs.put.Shared+SharedVolume+D+P+L.find_taker.Goals as goal
 
 pub loop-turn-init : goal.loop-turn-init
 loop-turn-init g c = record {
   fits = subst (λ l. AllByRecursion FitsRefused l) (sym c.new-refused.ensures) tt;
+  refuse = subst (λ l. AllZip (Refuses c.args.self.now.settings) [] l) (sym c.new-refused.ensures) tt;
   seated = c.requires.seated;
   same = λ start of. of;
   arm = refl;
@@ -45,6 +48,8 @@ returns-in-Err-clause-tried g c start d a of sees =
 pub loop-turn-preserved : goal.loop-turn-preserved
 loop-turn-preserved g c = record {
   fits = subst (λ l. AllByRecursion FitsRefused l) (sym c.in-Ok.ensures.ok) (each_append FitsRefused c.loop-turn.refused (c.in-Some.refusal ∷ []) c.loop-turn.invariant.fits (c.in-Some.ensures.fits, tt));
+  refuse = subst (λ l. AllZip (Refuses c.args.self.now.settings) (first_tries c.args.self.now.settings c.args.pair (c.loop-turn.turn + 1)) l) (sym c.in-Ok.ensures.ok)
+      (one_more_refuses (Refuses c.args.self.now.settings) c.args.self.now.settings c.args.pair c.loop-turn.turn c.tries-volume.result c.loop-turn.refused c.in-Some.refusal (c.tries-volume.ensures.is c.args.pair refl) c.in-Some.ensures.refuses c.loop-turn.invariant.refuse);
   seated = c.refusal.ensures.seated;
   same = λ start of. c.refusal.ensures.same start (c.loop-turn.invariant.same start of);
   arm = c.refusal.ensures.arm ∙ c.loop-turn.invariant.arm;
@@ -66,3 +71,10 @@ returns-clause-tried g c start d a of sees =
     let all : c.loop-turn.turn ≡ c.args.self.now.settings.volumes = omega (arith, c.loop-turn-test.false, c.loop-turn.auto.turn-end) in
     subst (λ n. Tried c.args.self.now.settings start c.args.self.now.drained.items c.args.tag c.args.pair c.args.size (first_tries c.args.self.now.settings c.args.pair n) c.loop-turn.refused a (sight sight_of g.L.DirectoryCalls.sight g.A.Arm.fault_count c.loop-turn.lane)) all
     (c.loop-turn.invariant.tried start d a of sees)
+
+pub returns-clause-refuse : goal.returns-clause-refuse
+returns-clause-refuse g c refused is =
+    let all : c.loop-turn.turn ≡ c.args.self.now.settings.volumes = omega (arith, c.loop-turn-test.false, c.loop-turn.auto.turn-end) in
+    let same : c.loop-turn.refused ≡ refused = cc in
+    subst (λ l. AllZip (Refuses c.args.self.now.settings) (first_tries c.args.self.now.settings c.args.pair c.args.self.now.settings.volumes) l) same
+    (subst (λ n. AllZip (Refuses c.args.self.now.settings) (first_tries c.args.self.now.settings c.args.pair n) c.loop-turn.refused) all c.loop-turn.invariant.refuse)

@@ -1,6 +1,7 @@
 use Rattle.std.proofs.Common.{◌≡◌, ℕ, None}
-use Rattle.std.specs.List.{AllByRecursion}
+use Rattle.std.specs.List.{AllByRecursion, AllZip}
 use Rattle.hay_reply.specs.Fits.{FitsRefused}
+use Rattle.hay_legal.specs.Suiting.{Refuses}
 use Rattle.hay_meeting.specs.Acts.{Start}
 use Rattle.hay_meeting.specs.Sights.{Sight}
 use Rattle.hay_holdings.specs.Lines.{Sees, Tried}
@@ -12,6 +13,7 @@ use Rattle.hay_shared_volume.specs.Seats.{IsSeatOf, WasAt, sight_of}
 abbrev pub invariant-loop-turn : goal.invariant-loop-turn
 invariant-loop-turn g l = record {
   fits : AllByRecursion FitsRefused l.refused;
+  refuse : AllZip (Refuses l.fn.self.settings) (first_tries l.fn.self.settings l.pair l.turn) l.refused;
   seated : IsSeated IsSeatOf g.L.DirectoryCalls.fits l.fn.self l.fn.tag.lane l.lane;
   same : (start : Start) → IsOf (WasAt g.D.Disk.Tells g.D.Disk.files g.P.Piece.Tells g.D.Disk.fault_count g.D.Disk.fuse_count) g.L.DirectoryCalls.is_at l.fn.self.settings start l.fn.lane → IsOf (WasAt g.D.Disk.Tells g.D.Disk.files g.P.Piece.Tells g.D.Disk.fault_count g.D.Disk.fuse_count) g.L.DirectoryCalls.is_at l.fn.self.settings start l.lane;
   arm : l.lane.arm ≡ l.fn.lane.arm;

@@ -1,4 +1,4 @@
-use Rattle.std.proofs.Common.{◌<◌, subst}
+use Rattle.std.proofs.Common.{◌<◌, subst, inl, refl}
 use Rattle.std.specs.Prelude.{IfSome}
 use Rattle.hay_holdings.proofs.ReadAnswers.{read_answered, shows_unknown}
 use Rattle.hay_lane.specs.Lanes.{sight}
@@ -7,6 +7,7 @@ use Rattle.hay_lane.proofs.Arms.{later_on, later_same}
 use Rattle.hay_lane.proofs.Changed.{saw}
 use Rattle.hay_lane.proofs.Showing.{read_shown}
 use Rattle.hay_shared_volume.specs.Seats.{sight_of}
+use Rattle.hay_lane.proofs.Suiting.{read_suits}
 use Rattle.hay_lane.proofs.reads.Shared+SharedVolume+D+P+L.read.Goals as goal
 
 pub returns-in_default-clause-answered : goal.returns-in_default-clause-answered
@@ -30,3 +31,9 @@ returns-in_default-clause-arm g c = later_same c.home_in_view-rows.ensures.arm
 
 pub returns-clause-arm : goal.returns-clause-arm
 returns-clause-arm g c = later_on (later_same c.home_in_view-rows.ensures.arm) c.show.ensures.arm
+
+pub returns-in_default-clause-suits : goal.returns-in_default-clause-suits
+returns-in_default-clause-suits g c = inl (c.home_in_view-rows.result.0, refl)
+
+pub returns-clause-suits : goal.returns-clause-suits
+returns-clause-suits g c = read_suits c.args.self.now.settings c.in-Some.volume c.requires.seated.fewer (subst (λ o. IfSome o (λ home. home < c.args.self.now.settings.volumes)) c.in-Some.is c.home_in_view-rows.ensures.below) c.show.result c.show.ensures.suits

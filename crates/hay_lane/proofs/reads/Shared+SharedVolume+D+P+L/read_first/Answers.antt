@@ -4,6 +4,7 @@ use Rattle.hay_lane.proofs.Arms.{later_on, later_same}
 use Rattle.hay_lane.proofs.Reading.{looked_first, row_tells, shown_by}
 use Rattle.hay_lane.proofs.Stepping.{fetched}
 use Rattle.hay_shared_volume.specs.Seats.{IsSeatOf, sight_of}
+use Rattle.hay_lane.proofs.Suiting.{shown_by_row}
 use Rattle.hay_lane.proofs.reads.Shared+SharedVolume+D+P+L.read_first.Goals as goal
 
 pub returns-clause-tells : goal.returns-clause-tells
@@ -24,3 +25,7 @@ returns-clause-tells g c start d a of sees =
 
 pub returns-clause-arm : goal.returns-clause-arm
 returns-clause-arm g c = later_on (later_same c.look_at-looked.ensures.arm) (record { rises = c.show-read.ensures.later; sure = c.show-read.ensures.stays_sure })
+
+pub returns-clause-shown : goal.returns-clause-shown
+returns-clause-shown g c =
+    shown_by_row g.P.Piece.Tells _ c.args.self.now.settings.replicas c.args.first c.look_at-looked.result.row c.args.cookie [] c.show-read.new.out.items c.show-read.result c.look_at-looked.ensures.long c.requires.seated.replicas c.show-read.ensures.reads

@@ -9,6 +9,8 @@ use Rattle.hay_lane.proofs.Maintained.{call_as}
 use Rattle.hay_lane.proofs.Reading.{looked_again, row_tells, same_bytes, shown_by, sight_passed}
 use Rattle.hay_lane.proofs.Stepping.{fetched}
 use Rattle.hay_shared_volume.specs.Seats.{IsSeatOf, sight_of}
+use Rattle.hay_lane.specs.Reads.{ShownWithin}
+use Rattle.hay_lane.proofs.Suiting.{shown_by_row}
 use Rattle.hay_lane.proofs.reads.Shared+SharedVolume+D+P+L.read_on.Goals as goal
 
 pub show_more-read-requires-clause-first : goal.show_more-read-requires-clause-first
@@ -62,3 +64,10 @@ returns-in_ok-cause-in-Err-clause-arm g c = later_on (later_same c.see_at.ensure
 
 pub returns-in_err-cause-in-Err-clause-arm : goal.returns-in_err-cause-in-Err-clause-arm
 returns-in_err-cause-in-Err-clause-arm g c = later_same c.see_at.ensures.arm
+
+pub returns-in-Ok-clause-shown : goal.returns-in-Ok-clause-shown
+returns-in-Ok-clause-shown g c = subst (λ n. ShownWithin n c.read_seen-read.result) c.in-Ok.ensures.long c.read_seen-read.ensures.shown
+
+pub returns-in_ok-cause-in-Err-clause-shown : goal.returns-in_ok-cause-in-Err-clause-shown
+returns-in_ok-cause-in-Err-clause-shown g c =
+    shown_by_row g.P.Piece.Tells _ c.args.self.now.settings.replicas c.args.first c.args.looked.row c.args.cookie c.push.new.self c.show_more-read.new.out.items c.show_more-read.result c.requires.long c.requires.seated.replicas c.show_more-read.ensures.reads

@@ -6,6 +6,7 @@ use Rattle.hay_lane.proofs.steps.Shared+SharedVolume+D+P+L.begin_at.Goals as goa
 pub begin-requires : goal.begin-requires
 begin-requires g c = record {
   fits = (
+    c.args.volume,
     c.args.self.now.settings,
     fits_here IsSeatOf g.L.DirectoryCalls.fits c.args.self.now c.args.tag.lane c.args.lane.now c.requires.seated
         c.args.volume c.requires.volume c.as_slice.ensures.value c.as_mut_slice.ensures.value c.index-as_slice-volume.result c.index-as_mut_slice-volume.result
@@ -18,13 +19,13 @@ pub returns-clause-seated : goal.returns-clause-seated
 returns-clause-seated g c =
     still_seated IsSeatOf g.L.DirectoryCalls.fits c.args.self.now c.args.tag.lane c.args.lane.now c.requires.seated
     c.args.volume c.requires.volume c.as_slice.ensures.value c.as_mut_slice.ensures.value c.index-as_slice-volume.result c.index-as_mut_slice-volume.result
-    c.index-as_slice-volume.result c.index-as_slice-volume.is c.begin.new.seat (WasAt g.D.Disk.Tells g.D.Disk.files g.P.Piece.Tells g.D.Disk.fault_count g.D.Disk.fuse_count) c.begin.ensures.stays
+    c.index-as_slice-volume.result c.index-as_slice-volume.is c.begin.new.seat (WasAt g.D.Disk.Tells g.D.Disk.files g.P.Piece.Tells g.D.Disk.fault_count g.D.Disk.fuse_count) (c.begin.ensures.stays c.args.volume)
 
 pub returns-clause-same : goal.returns-clause-same
 returns-clause-same g c =
     still_of IsSeatOf g.L.DirectoryCalls.fits c.args.self.now c.args.tag.lane c.args.lane.now c.requires.seated
     c.args.volume c.requires.volume c.as_slice.ensures.value c.as_mut_slice.ensures.value c.index-as_slice-volume.result c.index-as_mut_slice-volume.result
-    c.index-as_slice-volume.result c.index-as_slice-volume.is c.begin.new.seat (WasAt g.D.Disk.Tells g.D.Disk.files g.P.Piece.Tells g.D.Disk.fault_count g.D.Disk.fuse_count) c.begin.ensures.stays g.L.DirectoryCalls.is_at c.args.self.now.settings
+    c.index-as_slice-volume.result c.index-as_slice-volume.is c.begin.new.seat (WasAt g.D.Disk.Tells g.D.Disk.files g.P.Piece.Tells g.D.Disk.fault_count g.D.Disk.fuse_count) (c.begin.ensures.stays c.args.volume) g.L.DirectoryCalls.is_at c.args.self.now.settings
 
 pub returns-clause-tells : goal.returns-clause-tells
 returns-clause-tells g c start of =
@@ -35,3 +36,9 @@ returns-clause-tells g c start of =
     (c.begin.ensures.tells (record { settings = c.args.self.now.settings; start = start; number = c.args.volume })
     (of.each c.args.volume _ (seat_at IsSeatOf g.L.DirectoryCalls.fits c.args.self.now c.args.tag.lane c.args.lane.now c.requires.seated
     c.args.volume c.requires.volume c.as_slice.ensures.value c.as_mut_slice.ensures.value c.index-as_slice-volume.result c.index-as_mut_slice-volume.result)))
+
+pub returns-clause-names : goal.returns-clause-names
+returns-clause-names g c = c.begin.ensures.names c.args.volume c.args.self.now.settings
+    (fits_here IsSeatOf g.L.DirectoryCalls.fits c.args.self.now c.args.tag.lane c.args.lane.now c.requires.seated
+    c.args.volume c.requires.volume c.as_slice.ensures.value c.as_mut_slice.ensures.value c.index-as_slice-volume.result c.index-as_mut_slice-volume.result
+    c.index-as_slice-volume.result c.index-as_slice-volume.is)

@@ -6,6 +6,7 @@ use Rattle.hay_lane.proofs.steps.Shared+SharedVolume+D+P+L.see_at.Goals as goal
 pub see-requires : goal.see-requires
 see-requires g c = record {
   fits = (
+    c.args.volume,
     c.args.self.now.settings,
     fits_here IsSeatOf g.L.DirectoryCalls.fits c.args.self.now c.args.tag.lane c.args.lane.now c.requires.seated
         c.args.volume c.requires.volume c.as_slice.ensures.value c.as_mut_slice.ensures.value c.index-as_slice-volume.result c.index-as_mut_slice-volume.result
@@ -19,13 +20,13 @@ pub returns-clause-seated : goal.returns-clause-seated
 returns-clause-seated g c =
     still_seated IsSeatOf g.L.DirectoryCalls.fits c.args.self.now c.args.tag.lane c.args.lane.now c.requires.seated
     c.args.volume c.requires.volume c.as_slice.ensures.value c.as_mut_slice.ensures.value c.index-as_slice-volume.result c.index-as_mut_slice-volume.result
-    c.index-as_slice-volume.result c.index-as_slice-volume.is c.see.new.seat (WasAt g.D.Disk.Tells g.D.Disk.files g.P.Piece.Tells g.D.Disk.fault_count g.D.Disk.fuse_count) c.see.ensures.stays
+    c.index-as_slice-volume.result c.index-as_slice-volume.is c.see.new.seat (WasAt g.D.Disk.Tells g.D.Disk.files g.P.Piece.Tells g.D.Disk.fault_count g.D.Disk.fuse_count) (c.see.ensures.stays c.args.volume)
 
 pub returns-clause-same : goal.returns-clause-same
 returns-clause-same g c =
     still_of IsSeatOf g.L.DirectoryCalls.fits c.args.self.now c.args.tag.lane c.args.lane.now c.requires.seated
     c.args.volume c.requires.volume c.as_slice.ensures.value c.as_mut_slice.ensures.value c.index-as_slice-volume.result c.index-as_mut_slice-volume.result
-    c.index-as_slice-volume.result c.index-as_slice-volume.is c.see.new.seat (WasAt g.D.Disk.Tells g.D.Disk.files g.P.Piece.Tells g.D.Disk.fault_count g.D.Disk.fuse_count) c.see.ensures.stays g.L.DirectoryCalls.is_at c.args.self.now.settings
+    c.index-as_slice-volume.result c.index-as_slice-volume.is c.see.new.seat (WasAt g.D.Disk.Tells g.D.Disk.files g.P.Piece.Tells g.D.Disk.fault_count g.D.Disk.fuse_count) (c.see.ensures.stays c.args.volume) g.L.DirectoryCalls.is_at c.args.self.now.settings
 
 pub returns-clause-tells : goal.returns-clause-tells
 returns-clause-tells g c start of =
@@ -38,7 +39,7 @@ returns-clause-tells g c start of =
     c.args.volume c.requires.volume c.as_slice.ensures.value c.as_mut_slice.ensures.value c.index-as_slice-volume.result c.index-as_mut_slice-volume.result)))
 
 pub returns-clause-long : goal.returns-clause-long
-returns-clause-long g c = c.see.ensures.long c.args.self.now.settings c.args.tag.lane
+returns-clause-long g c = c.see.ensures.long c.args.volume c.args.self.now.settings c.args.tag.lane
     (fits_here IsSeatOf g.L.DirectoryCalls.fits c.args.self.now c.args.tag.lane c.args.lane.now c.requires.seated
     c.args.volume c.requires.volume c.as_slice.ensures.value c.as_mut_slice.ensures.value c.index-as_slice-volume.result c.index-as_mut_slice-volume.result
     c.index-as_slice-volume.result c.index-as_slice-volume.is)

@@ -4,6 +4,10 @@ use Rattle.hay_holdings.proofs.Unchanged.{finish_nowhere, idle_unchanged}
 use Rattle.hay_lane.specs.Lanes.{sight}
 use Rattle.hay_lane.proofs.Maintained.{finish_answered}
 use Rattle.hay_shared_volume.specs.Seats.{sight_of}
+use Rattle.hay_legal.specs.Known.{replica_on}
+use Rattle.hay_legal.specs.Suiting.{SuitsRun}
+use Rattle.hay_lane.proofs.Suiting.{finish_suits, nowhere}
+use Rattle.hay_reply.specs.declared.Reply.TheVariants as reply
 use Rattle.hay_lane.proofs.upkeep.Shared+SharedVolume+D+P+L.finish.Goals as goal
 
 pub returns-in_default-clause-answered : goal.returns-in_default-clause-answered
@@ -17,3 +21,9 @@ returns-clause-answered g c start of =
     (sight sight_of g.L.DirectoryCalls.sight g.A.Arm.fault_count c.args.lane.now) (sight sight_of g.L.DirectoryCalls.sight g.A.Arm.fault_count c.finish_at-answer.new.lane)
     c.args.volume c.args.machine c.in-Some.replica (sym c.in-Some.ensures.is) c.in-Some.ensures.within.1 c.in-Some.ensures.within.2
     c.finish_at-answer.result c.finish_reply.result (c.finish_at-answer.ensures.tells start of) c.finish_reply.ensures.is
+
+pub returns-in_default-clause-suits : goal.returns-in_default-clause-suits
+returns-in_default-clause-suits g c = nowhere (replica_on c.args.self.now.settings c.args.volume c.args.machine) (λ replica. SuitsRun c.args.self.now.settings (reply.Compacted c.args.volume c.args.machine) c.args.volume c.args.machine) c.in_default.ensures.is
+
+pub returns-clause-suits : goal.returns-clause-suits
+returns-clause-suits g c = finish_suits c.args.self.now.settings c.args.volume c.requires.seated.fewer c.in-Some.ensures.within.1 c.args.machine c.in-Some.replica c.in-Some.ensures.is c.args.tag.line c.finish_at-answer.result c.finish_reply.result c.finish_at-answer.ensures.names c.finish_reply.ensures.is
