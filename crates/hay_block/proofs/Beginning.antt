@@ -30,7 +30,7 @@ use Rattle.hay_block.proofs.Staying.{still_reversed}
 none_at : {X : Type 0} (xs : List X) (i : ℕ) {x : X} → xs ≡ [] → slice_get xs i ≡ Some x → ⊥
 none_at {X} xs i {x} none at = let within = slice_get_within xs i x at in let no = ap length none in omega (arith, within, no)
 
-module _ {V D S T A W : Type 0} (fits : V → Settings → ℕ → S → Type 0) (fits_rows : D → Settings → ℕ → T → Type 0) (is_of : W → Settings → ℕ → Type 0) where
+module _ {V D S T A W : Type 0} (fits : ℕ → V → Settings → ℕ → S → Type 0) (fits_rows : D → Settings → ℕ → T → Type 0) (is_of : W → Settings → ℕ → Type 0) where
   pub first_frame : (frame : Frame V D S T A W) (volumes : List W) → AreFit (frame.shared).settings → length ((frame.shared).drained).items ≡ ((frame.shared).settings).machines
       → ((frame.shared).volumes).items ≡ [] → ((frame.shared).settings).volumes ≤ vec_capacity (frame.shared).volumes
       → (frame.tags).items ≡ [] → ((frame.shared).settings).volumes ≤ vec_capacity frame.tags
@@ -93,7 +93,7 @@ module _ {V D S T A W : Type 0} (fits : V → Settings → ℕ → S → Type 0)
             subst (λ (z : Settings). is_of w z v) same.settings (subst (is_of w (new.shared).settings) number (is.waits j w there));
       }
 
-module _ {V D S T A W : Type 0} {fits : V → Settings → ℕ → S → Type 0} {fits_rows : D → Settings → ℕ → T → Type 0} {is_of : W → Settings → ℕ → Type 0} {is_at : S → StoreVolume → Type 0} {is_at_rows : T → Start → Type 0}
+module _ {V D S T A W : Type 0} {fits : ℕ → V → Settings → ℕ → S → Type 0} {fits_rows : D → Settings → ℕ → T → Type 0} {is_of : W → Settings → ℕ → Type 0} {is_at : S → StoreVolume → Type 0} {is_at_rows : T → Start → Type 0}
     {of : S → LockSight VolumeAct Entry} {of_rows : T → LockSight DirAct HomeRow} {arm_sure : A → Bool} {arm_faults : A → ℕ} {stands : W → VolumeKnown → Type 0} {faults fuses : W → ℕ → ℕ} where
   -- what was run from the frame in which no volume has a lock
   pub ran_all : (old new : Frame V D S T A W) (volumes : List W) (jobs : List (List Job)) (replies : List (List Reply)) → IsFrame fits fits_rows is_of old → IsFrame fits fits_rows is_of new
@@ -196,7 +196,7 @@ module _ {S T A : Type 0} (volumes : ℕ) (lanes : List (Lane S T A)) (rooms : L
 
 -- ALL VOLUMES, as a caller names them
 
-module _ {V D S T A W : Type 0} (fits : V → Settings → ℕ → S → Type 0) (fits_rows : D → Settings → ℕ → T → Type 0) (is_of : W → Settings → ℕ → Type 0) (is_at : S → StoreVolume → Type 0) (is_at_rows : T → Start → Type 0)
+module _ {V D S T A W : Type 0} (fits : ℕ → V → Settings → ℕ → S → Type 0) (fits_rows : D → Settings → ℕ → T → Type 0) (is_of : W → Settings → ℕ → Type 0) (is_at : S → StoreVolume → Type 0) (is_at_rows : T → Start → Type 0)
     (of : S → LockSight VolumeAct Entry) (of_rows : T → LockSight DirAct HomeRow) (arm_sure : A → Bool) (arm_faults : A → ℕ) (stands : W → VolumeKnown → Type 0) (faults fuses : W → ℕ → ℕ) where
   abbrev RanWith : (shared : Shared V D) (volumes : List W) (seats : List T) (arms : List A) (behind : List W) (tags : List (Vec Tag Global)) (seats_behind : List T) (arms_behind : List A)
       (jobs : List (List Job)) (replies : List (List Reply)) → Type 0

@@ -47,7 +47,7 @@ use Rattle.hay_block.proofs.Working.{lanes_are_legal}
 use Rattle.hay_block.proofs.Slots.{each_slot, index_back, slots_are}
 use Rattle.hay_block.proofs.Telling.{notes_are}
 
-module _ {V D S T A W F : Type 0} {fits : V → Settings → ℕ → S → Type 0} {fits_rows : D → Settings → ℕ → T → Type 0} {is_at : S → StoreVolume → Type 0} {is_at_rows : T → Start → Type 0}
+module _ {V D S T A W F : Type 0} {fits : ℕ → V → Settings → ℕ → S → Type 0} {fits_rows : D → Settings → ℕ → T → Type 0} {is_at : S → StoreVolume → Type 0} {is_at_rows : T → Start → Type 0}
     {of : S → LockSight VolumeAct Entry} {of_rows : T → LockSight DirAct HomeRow} {arm_sure : A → Bool} {arm_faults : A → ℕ} {stands : W → VolumeKnown → Type 0} {faults fuses : W → ℕ → ℕ}
     {stands_rows : F → DirKnown → List Bool → Type 0} {row_faults row_fuses : F → ℕ}
     {settings : Settings} {lock : D} {drained : Vec Bool Global} {volumes : List W} {seats : List T} {arms_first : List A} {behind : List W} {tags : List (Vec Tag Global)}

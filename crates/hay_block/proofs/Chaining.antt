@@ -92,7 +92,7 @@ module _ {W L J O : Type 0} (f : W → L) (answers : L → ℕ → J → L → O
         (f r.0, r.1, mapped f after lane r.0 r.2, r.3, subst (λ z. AnswersAll answers lane z js (f r.0) r.1) w.2 (image_answers lane w.0 js r.0 r.1 r.4));
   }
 
-module _ {V D S T A : Type 0} (fits : V → Settings → ℕ → S → Type 0) (fits_rows : D → Settings → ℕ → T → Type 0) (is_at : S → StoreVolume → Type 0) (is_at_rows : T → Start → Type 0)
+module _ {V D S T A : Type 0} (fits : ℕ → V → Settings → ℕ → S → Type 0) (fits_rows : D → Settings → ℕ → T → Type 0) (is_at : S → StoreVolume → Type 0) (is_at_rows : T → Start → Type 0)
     (of : S → LockSight VolumeAct Entry) (of_rows : T → LockSight DirAct HomeRow) (arm_sure : A → Bool) (arm_faults : A → ℕ) (shared : Shared V D) (start : Start) where
   abbrev sight_at : Lane S T A → Sight
   sight_at l = sight of of_rows arm_faults l

@@ -101,7 +101,7 @@ nothing_made lock of seats history ended new = none_made lock.seat (length (map 
 
 -- FRAMES
 
-module _ {V D S T A W : Type 0} {fits : V → Settings → ℕ → S → Type 0} {fits_rows : D → Settings → ℕ → T → Type 0} {is_of : W → Settings → ℕ → Type 0} where
+module _ {V D S T A W : Type 0} {fits : ℕ → V → Settings → ℕ → S → Type 0} {fits_rows : D → Settings → ℕ → T → Type 0} {is_of : W → Settings → ℕ → Type 0} where
   -- where all volumes have locks, lanes have their seats at all
   pub sits_at_all : (frame : Frame V D S T A W) → IsFrame fits fits_rows is_of frame → (frame.waiting).items ≡ []
       → (lane : ℕ) (l : Lane S T A) → slice_get (frame.lanes).items lane ≡ Some l → IsSeated fits fits_rows frame.shared lane l
@@ -155,7 +155,7 @@ module _ {V D S T A W : Type 0} {fits : V → Settings → ℕ → S → Type 0}
     tag_room = is.tag_room;
   }
 
-module _ {V D S T A W : Type 0} (fits : V → Settings → ℕ → S → Type 0) (fits_rows : D → Settings → ℕ → T → Type 0) (is_at : S → StoreVolume → Type 0) (is_at_rows : T → Start → Type 0)
+module _ {V D S T A W : Type 0} (fits : ℕ → V → Settings → ℕ → S → Type 0) (fits_rows : D → Settings → ℕ → T → Type 0) (is_at : S → StoreVolume → Type 0) (is_at_rows : T → Start → Type 0)
     (of : S → LockSight VolumeAct Entry) (of_rows : T → LockSight DirAct HomeRow) (arm_sure : A → Bool) (arm_faults : A → ℕ) (stands : W → VolumeKnown → Type 0) (faults fuses : W → ℕ → ℕ) where
   abbrev gives : Shared V D → Lane S T A → ℕ → Job → Lane S T A → Reply → Type 0
   gives shared before lane job behind reply = Answers fits fits_rows is_at is_at_rows of of_rows arm_sure arm_faults shared lane job before behind reply
@@ -203,7 +203,7 @@ module _ {V D S T A W : Type 0} (fits : V → Settings → ℕ → S → Type 0)
 
 -- ROOM FOR SEATS
 
-module _ {V D S T A W : Type 0} {fits : V → Settings → ℕ → S → Type 0} {fits_rows : D → Settings → ℕ → T → Type 0} {is_of : W → Settings → ℕ → Type 0}
+module _ {V D S T A W : Type 0} {fits : ℕ → V → Settings → ℕ → S → Type 0} {fits_rows : D → Settings → ℕ → T → Type 0} {is_of : W → Settings → ℕ → Type 0}
     (frame : Frame V D S T A W) (is : IsFrame fits fits_rows is_of frame) where
   -- where a volume waits, each lane may take a seat more
   pub may_give : 0 < length (frame.waiting).items → HaveRoom ((frame.shared).settings).volumes (frame.lanes).items → Each (λ l. vec_len l.volumes < vec_capacity l.volumes) (frame.lanes).items
@@ -264,7 +264,7 @@ module _ {V D S T A W : Type 0} (old : Frame V D S T A W) (locks : Vec V Global)
   abbrev i : ℕ
   i = length ((old.shared).volumes).items
 
-  module _ {fits : V → Settings → ℕ → S → Type 0} {fits_rows : D → Settings → ℕ → T → Type 0} {is_of : W → Settings → ℕ → Type 0}
+  module _ {fits : ℕ → V → Settings → ℕ → S → Type 0} {fits_rows : D → Settings → ℕ → T → Type 0} {is_of : W → Settings → ℕ → Type 0}
       (is : IsFrame fits fits_rows is_of old) (volume : W) (waiting_are : (old.waiting).items ≡ waiting.items ++ volume ∷ []) where
     pub one_less : length (old.waiting).items ≡ length waiting.items + 1
     one_less = let n = ap length waiting_are in let m = length-append waiting.items (volume ∷ []) in omega (arith, n, m)
@@ -279,7 +279,7 @@ module _ {V D S T A W : Type 0} (old : Frame V D S T A W) (locks : Vec V Global)
 
     module _ (wait_room : vec_capacity waiting ≡ vec_capacity old.waiting) (lock : V) (locks_are : locks.items ≡ ((old.shared).volumes).items ++ lock ∷ [])
         (lock_room : vec_capacity locks ≡ vec_capacity (old.shared).volumes) (seats : List S) (more : HaveMore (old.lanes).items seats lanes.items)
-        (seated : AreSeated fits lock (old.shared).settings (length (old.lanes).items) seats) where
+        (seated : AreSeated (fits i) lock (old.shared).settings (length (old.lanes).items) seats) where
       pub many_locks : length locks.items ≡ i + 1
       many_locks = let n = ap length locks_are in let m = length-append ((old.shared).volumes).items (lock ∷ []) in omega (arith, n, m)
 
@@ -302,7 +302,8 @@ module _ {V D S T A W : Type 0} (old : Frame V D S T A W) (locks : Vec V Global)
                 (sym (ap (λ z. slice_get z i) locks_are) ∙ subst (λ n. slice_get locks.items n ≡ Some other) same at_lock) in
                 let seat_is : seat.0 ≡ s = same_item (((l.0).volumes).items ++ seat.0 ∷ []) i (subst (λ n. slice_get (((l.0).volumes).items ++ seat.0 ∷ []) n ≡ Some seat.0) long (added_at ((l.0).volumes).items seat.0))
                 (sym (ap (λ z. slice_get z i) one.seats) ∙ subst (λ n. slice_get (m.volumes).items n ≡ Some s) same at_seat) in
-                subst (λ z. fits z (old.shared).settings lane s) lock_is (subst (fits lock (old.shared).settings lane) seat_is (seated.each lane seat.0 seat.1)))
+                subst (λ n. fits n other (old.shared).settings lane s) (sym same)
+                (subst (λ z. fits i z (old.shared).settings lane s) lock_is (subst (fits i lock (old.shared).settings lane) seat_is (seated.each lane seat.0 seat.1))))
                 (λ differs.
                 let less : v < i = omega (arith, below, differs) in
                 sits.each v other s (sym (before_added ((old.shared).volumes).items lock v less) ∙ (sym (ap (λ z. slice_get z v) locks_are) ∙ at_lock))
@@ -325,7 +326,7 @@ module _ {V D S T A W : Type 0} (old : Frame V D S T A W) (locks : Vec V Global)
 
 -- ONE LOCK LESS
 
-module _ {V D S T A W : Type 0} {fits : V → Settings → ℕ → S → Type 0} {fits_rows : D → Settings → ℕ → T → Type 0} {is_of : W → Settings → ℕ → Type 0}
+module _ {V D S T A W : Type 0} {fits : ℕ → V → Settings → ℕ → S → Type 0} {fits_rows : D → Settings → ℕ → T → Type 0} {is_of : W → Settings → ℕ → Type 0}
     (old : Frame V D S T A W) (is : IsFrame fits fits_rows is_of old) (locks : Vec V Global) (lock : V) (locks_are : ((old.shared).volumes).items ≡ locks.items ++ lock ∷ [])
     (lanes : Vec (Lane S T A) Global) (seats : List S) (more : HaveMore lanes.items seats (old.lanes).items) (as_many : length seats ≡ length (old.lanes).items) where
   one_lock_less : length ((old.shared).volumes).items ≡ length locks.items + 1
@@ -345,7 +346,7 @@ module _ {V D S T A W : Type 0} {fits : V → Settings → ℕ → S → Type 0}
   shorter l m seat one long =
       let n = ap length one.seats in let k = length-append (l.volumes).items (seat ∷ []) in let less = one_lock_less in omega (arith, n, k, long, less)
 
-  pub taken_fit : AreSeated fits lock (old.shared).settings (length seats) seats
+  pub taken_fit : AreSeated (fits (length locks.items)) lock (old.shared).settings (length seats) seats
   taken_fit = record {
     many = refl;
     each = λ lane seat at.

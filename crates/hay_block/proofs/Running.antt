@@ -53,7 +53,7 @@ module _ {D P L T A : Type 0} (shared : Shared (SharedVolume D P) L) where
         let l = unmapped (at_locks shared) lanes i (parts_of w) there in
         (ap (λ p. p.0) (sym l.2), l.1 ∙ ap (λ p. Some p.1) l.2)
 
-  module _ (fits : SharedVolume D P → Settings → ℕ → Seated D P → Type 0) (fits_rows : L → Settings → ℕ → T → Type 0) where
+  module _ (fits : ℕ → SharedVolume D P → Settings → ℕ → Seated D P → Type 0) (fits_rows : L → Settings → ℕ → T → Type 0) where
     pub may_answer : (workers : List (LaneWorker D P L T A)) (lanes : List (Lane (Seated D P) T A)) (jobs : List (Vec Job Global)) → map parts_of workers ≡ map (at_locks shared) lanes
         → ((lane : ℕ) (l : Lane (Seated D P) T A) → slice_get lanes lane ≡ Some l → IsSeated fits fits_rows shared lane l) → Each (λ js. Each (λ job. IsServed job.item) js.items) jobs
         → (lane : ℕ) (w : LaneWorker D P L T A) (js : List Job) → slice_get workers lane ≡ Some w → slice_get (map (λ v. v.items) jobs) lane ≡ Some js

@@ -37,7 +37,7 @@ back_here {V} {D} {S} {T} {A} {W} {stands} {faults} {fuses} frame lanes waiting 
       waiting = subst (AreStill stands faults fuses (frame.shared).settings (frame.waiting).items) (sym same_waiting) (still_self (frame.waiting).items);
     }
 
-module _ {V D S T A W : Type 0} {fits : V → Settings → ℕ → S → Type 0} {fits_rows : D → Settings → ℕ → T → Type 0} {is_of : W → Settings → ℕ → Type 0} {is_at : S → StoreVolume → Type 0} {is_at_rows : T → Start → Type 0}
+module _ {V D S T A W : Type 0} {fits : ℕ → V → Settings → ℕ → S → Type 0} {fits_rows : D → Settings → ℕ → T → Type 0} {is_of : W → Settings → ℕ → Type 0} {is_at : S → StoreVolume → Type 0} {is_at_rows : T → Start → Type 0}
     {of : S → LockSight VolumeAct Entry} {of_rows : T → LockSight DirAct HomeRow} {arm_sure : A → Bool} {arm_faults : A → ℕ} {stands : W → VolumeKnown → Type 0} {faults fuses : W → ℕ → ℕ}
     (old : Frame V D S T A W) (locks : Vec V Global) (lanes : Vec (Lane S T A) Global) (waiting : Vec W Global) (lock : V) {mid new : Frame V D S T A W} {volume : W} {seats : List S}
     (is_old : IsFrame fits fits_rows is_of old) (is_mid : IsFrame fits fits_rows is_of mid) (is_new : IsFrame fits fits_rows is_of new)
@@ -225,7 +225,7 @@ module _ {V D S T A W : Type 0} {fits : V → Settings → ℕ → S → Type 0}
     }
 
 -- what a frame ran, or where it is, from the one with a lock more
-pub run_step : {V D S T A W X E : Type 0} {fits : V → Settings → ℕ → S → Type 0} {fits_rows : D → Settings → ℕ → T → Type 0} {is_of : W → Settings → ℕ → Type 0} {is_at : S → StoreVolume → Type 0} {is_at_rows : T → Start → Type 0}
+pub run_step : {V D S T A W X E : Type 0} {fits : ℕ → V → Settings → ℕ → S → Type 0} {fits_rows : D → Settings → ℕ → T → Type 0} {is_of : W → Settings → ℕ → Type 0} {is_at : S → StoreVolume → Type 0} {is_at_rows : T → Start → Type 0}
     {of : S → LockSight VolumeAct Entry} {of_rows : T → LockSight DirAct HomeRow} {arm_sure : A → Bool} {arm_faults : A → ℕ} {stands : W → VolumeKnown → Type 0} {faults fuses : W → ℕ → ℕ}
     (old : Frame V D S T A W) (locks : Vec V Global) (lanes : Vec (Lane S T A) Global) (waiting : Vec W Global) (lock : V) {mid new : Frame V D S T A W} {volume : W} {seats : List S}
     → IsFrame fits fits_rows is_of old → IsFrame fits fits_rows is_of mid → IsFrame fits fits_rows is_of new

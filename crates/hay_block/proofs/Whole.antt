@@ -24,7 +24,7 @@ use Rattle.hay_shared_volume.specs.Tellings.{StoreVolume}
 use Rattle.hay_lane.proofs.Arms.{later_on, later_same}
 use Rattle.hay_block.specs.declared.worker.Job.{Job}
 use Rattle.hay_block.specs.Frames.{RanAll, shared_by}
-use Rattle.hay_block.specs.Lines.{Answers, AnswersBad}
+use Rattle.hay_block.specs.Lines.{Answers, AnswersBad, AnswersSuited}
 use Rattle.hay_shared_volume.specs.Making.{AreSeated, AreUnseen}
 use Rattle.hay_block.specs.Making.{LeavesDirectory}
 use Rattle.hay_block.specs.Stores.{AreStill, CountsRise}
@@ -102,7 +102,7 @@ module _ {W J O : Type 0} (gives : W → ℕ → J → W → O → Type 0) where
 
 -- COUNTS, whatever the disks tell
 
-module _ {V D S T A W : Type 0} {fits : V → Settings → ℕ → S → Type 0} {fits_rows : D → Settings → ℕ → T → Type 0} {is_at : S → StoreVolume → Type 0} {is_at_rows : T → Start → Type 0}
+module _ {V D S T A W : Type 0} {fits : ℕ → V → Settings → ℕ → S → Type 0} {fits_rows : D → Settings → ℕ → T → Type 0} {is_at : S → StoreVolume → Type 0} {is_at_rows : T → Start → Type 0}
     {of : S → LockSight VolumeAct Entry} {of_rows : T → LockSight DirAct HomeRow} {arm_sure : A → Bool} {arm_faults : A → ℕ} {stands : W → VolumeKnown → Type 0} {faults fuses : W → ℕ → ℕ}
     {settings : Settings} {lock : D} {drained : Vec Bool Global} {volumes : List W} {seats : List T} {arms : List A} {behind : List W} {tags : List (Vec Tag Global)} {seats_behind : List T} {arms_behind : List A}
     {jobs : List (List Job)} {replies : List (List Reply)}
@@ -131,6 +131,9 @@ module _ {V D S T A W : Type 0} {fits : V → Settings → ℕ → S → Type 0}
   -- each line has its reply, which there is
   pub all_replied : length jobs ≡ length arms → AllZip (λ js rs. length js ≡ length rs) jobs replies
   all_replied given = replies_long Gives (given_lanes given) all.answers
+
+  pub all_suit : length jobs ≡ length arms → AllZip (AllZip (AnswersSuited settings)) jobs replies
+  all_suit given = replies_so Gives (AnswersSuited settings) (λ before lane job after reply gives. gives.suits) (given_lanes given) all.answers
 
   pub all_bad : length jobs ≡ length arms → AllZip (AllZip AnswersBad) jobs replies
   all_bad given = replies_so Gives AnswersBad (λ before lane job after reply gives. gives.bad) (given_lanes given) all.answers

@@ -33,7 +33,7 @@ use Rattle.hay_block.proofs.Legal.{blocks_are_legal}
 use Rattle.hay_block.proofs.Lists.{each_by, each_mapped}
 use Rattle.hay_block.proofs.Knowing.{known, known_at, new_lane, rows_known, unknown_past}
 
-module _ {V D S T A : Type 0} {fits : V → Settings → ℕ → S → Type 0} {fits_rows : D → Settings → ℕ → T → Type 0} {is_at : S → StoreVolume → Type 0} {is_at_rows : T → Start → Type 0}
+module _ {V D S T A : Type 0} {fits : ℕ → V → Settings → ℕ → S → Type 0} {fits_rows : D → Settings → ℕ → T → Type 0} {is_at : S → StoreVolume → Type 0} {is_at_rows : T → Start → Type 0}
     {of : S → LockSight VolumeAct Entry} {of_rows : T → LockSight DirAct HomeRow} {arm_sure : A → Bool} {arm_faults : A → ℕ}
     {shared : Shared V D} {start : Start} {k : Known} {lanes after : List (Lane S T A)} {jobs : List (List Job)} {replies : List (List Reply)} {h : Happened} {faults fuses arms : List ℕ}
     (ran : LanesRan fits fits_rows is_at is_at_rows of of_rows arm_sure arm_faults shared start k lanes after jobs replies h faults fuses arms) where

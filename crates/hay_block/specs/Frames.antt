@@ -55,12 +55,12 @@ pub record AreSameLocks {V D : Type 0} (old new : Shared V D) : Type 0 where
   pub drained : new.drained ≡ old.drained
 
 -- a lane has its seats at the volumes that have locks, and at the Directory
-pub record SitsFirst {V D S T A : Type 0} (fits : V → Settings → ℕ → S → Type 0) (fits_rows : D → Settings → ℕ → T → Type 0) (shared : Shared V D) (number : ℕ) (lane : Lane S T A) : Type 0 where
+pub record SitsFirst {V D S T A : Type 0} (fits : ℕ → V → Settings → ℕ → S → Type 0) (fits_rows : D → Settings → ℕ → T → Type 0) (shared : Shared V D) (number : ℕ) (lane : Lane S T A) : Type 0 where
   pub long : length (lane.volumes).items ≡ length (shared.volumes).items
-  pub each : (v : ℕ) (lock : V) (seat : S) → slice_get (shared.volumes).items v ≡ Some lock → slice_get (lane.volumes).items v ≡ Some seat → fits lock shared.settings number seat
+  pub each : (v : ℕ) (lock : V) (seat : S) → slice_get (shared.volumes).items v ≡ Some lock → slice_get (lane.volumes).items v ≡ Some seat → fits v lock shared.settings number seat
   pub rows : fits_rows shared.directory shared.settings number lane.directory
 
-module _ {V D S T A W : Type 0} (fits : V → Settings → ℕ → S → Type 0) (fits_rows : D → Settings → ℕ → T → Type 0) (is_of : W → Settings → ℕ → Type 0) where
+module _ {V D S T A W : Type 0} (fits : ℕ → V → Settings → ℕ → S → Type 0) (fits_rows : D → Settings → ℕ → T → Type 0) (is_of : W → Settings → ℕ → Type 0) where
   -- The first volumes have locks, at which the lanes sit, and the others wait for one, the next of them last.
   pub record IsFrame (frame : Frame V D S T A W) : Type 0 where
     pub fit : AreFit (frame.shared).settings
@@ -98,7 +98,7 @@ pub record IsBack {V D S T A W : Type 0} (stands : W → VolumeKnown → Type 0)
 
 -- WHERE THE LINES WERE ANSWERED
 
-module _ {V D S T A W : Type 0} (fits : V → Settings → ℕ → S → Type 0) (fits_rows : D → Settings → ℕ → T → Type 0) (is_at : S → StoreVolume → Type 0) (is_at_rows : T → Start → Type 0)
+module _ {V D S T A W : Type 0} (fits : ℕ → V → Settings → ℕ → S → Type 0) (fits_rows : D → Settings → ℕ → T → Type 0) (is_at : S → StoreVolume → Type 0) (is_at_rows : T → Start → Type 0)
     (of : S → LockSight VolumeAct Entry) (of_rows : T → LockSight DirAct HomeRow) (arm_sure : A → Bool) (arm_faults : A → ℕ) (stands : W → VolumeKnown → Type 0) (faults fuses : W → ℕ → ℕ) where
   -- Volume v, which waits at place i, got a lock and new seats, at which the lanes answered, and is back behind it.
   pub record VolumeTook (settings : Settings) (lanes after : List (Lane S T A)) (v i : ℕ) (old new : List W) (told : List (Vec Tag Global)) : Type 0 where

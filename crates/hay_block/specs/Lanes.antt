@@ -23,7 +23,7 @@ use Rattle.hay_block.specs.Ends.{IsSettled, OpensAt, RowsEnded, VolumeEnded}
 use Rattle.hay_block.specs.Lines.{Answers, AreItems, IsServed, SitsAt}
 use Rattle.hay_block.specs.Seats.{AreSeatsAt, HasNewSeats}
 
-module _ {V D S T A : Type 0} (fits : V → Settings → ℕ → S → Type 0) (fits_rows : D → Settings → ℕ → T → Type 0) (is_at : S → StoreVolume → Type 0) (is_at_rows : T → Start → Type 0)
+module _ {V D S T A : Type 0} (fits : ℕ → V → Settings → ℕ → S → Type 0) (fits_rows : D → Settings → ℕ → T → Type 0) (is_at : S → StoreVolume → Type 0) (is_at_rows : T → Start → Type 0)
     (of : S → LockSight VolumeAct Entry) (of_rows : T → LockSight DirAct HomeRow) (arm_sure : A → Bool) (arm_faults : A → ℕ) where
   -- the lock of volume v ended with the seats of these lanes, and these are its acts
   pub record EndsAt (settings : Settings) (start : Start) (lanes : List (Lane S T A)) (v : ℕ) (history : List VolumeAct) : Type 0 where
@@ -53,7 +53,7 @@ module _ {V D S T A : Type 0} (fits : V → Settings → ℕ → S → Type 0) (
 -- Then their lines are a legal block, in any order that keeps each lane's own.
 abbrev pub LanesAreLegal : Type 1
 LanesAreLegal =
-    (V D S T A : Type 0) (fits : V → Settings → ℕ → S → Type 0) (fits_rows : D → Settings → ℕ → T → Type 0) (is_at : S → StoreVolume → Type 0) (is_at_rows : T → Start → Type 0)
+    (V D S T A : Type 0) (fits : ℕ → V → Settings → ℕ → S → Type 0) (fits_rows : D → Settings → ℕ → T → Type 0) (is_at : S → StoreVolume → Type 0) (is_at_rows : T → Start → Type 0)
     (of : S → LockSight VolumeAct Entry) (of_rows : T → LockSight DirAct HomeRow) (arm_sure : A → Bool) (arm_faults : A → ℕ)
     (shared : Shared V D) (start : Start) (k : Known) (lanes after : List (Lane S T A)) (jobs : List (List Job)) (replies : List (List Reply))
     (h : Happened) (faults fuses arms : List ℕ)

@@ -11,6 +11,7 @@ use Rattle.hay_legal.specs.declared.known.HomeRow.{HomeRow}
 use Rattle.hay_legal.specs.declared.turn.Item.{Item}
 use Rattle.hay_legal.specs.declared.turn.Item.TheVariants as asks
 use Rattle.hay_legal.specs.declared.turn.LaneItem.{LaneItem}
+use Rattle.hay_legal.specs.Suiting.{SuitsItem}
 use Rattle.hay_history.specs.Commands.{MayStandInLane}
 use Rattle.hay_meeting.specs.declared.act.DirAct.{DirAct}
 use Rattle.hay_meeting.specs.declared.act.VolumeAct.{VolumeAct}
@@ -28,6 +29,10 @@ abbrev pub IsServed : Item → Type 0
 IsServed (asks.Command command) = IsWithin command × MayStandInLane (asks.Command command)
 IsServed asks.Bad = Unit {0}
 
+-- a command is answered as suits it
+abbrev pub AnswersSuited : Settings → Job → Reply → Type 0
+AnswersSuited settings job reply = SuitsItem settings job.line job.item reply
+
 -- a line that is no command is answered so
 abbrev pub AnswersBad : Job → Reply → Type 0
 AnswersBad job reply = job.item ≡ asks.Bad → reply ≡ BadLine
@@ -36,7 +41,7 @@ AnswersBad job reply = job.item ≡ asks.Bad → reply ≡ BadLine
 abbrev pub answered_line : ℕ → Job → Reply → LaneItem
 answered_line lane job reply = record { line = job.line; lane = lane; item = job.item; reply = reply }
 
-module _ {V D S T A : Type 0} (fits : V → Settings → ℕ → S → Type 0) (fits_rows : D → Settings → ℕ → T → Type 0) (is_at : S → StoreVolume → Type 0) (is_at_rows : T → Start → Type 0)
+module _ {V D S T A : Type 0} (fits : ℕ → V → Settings → ℕ → S → Type 0) (fits_rows : D → Settings → ℕ → T → Type 0) (is_at : S → StoreVolume → Type 0) (is_at_rows : T → Start → Type 0)
     (of : S → LockSight VolumeAct Entry) (of_rows : T → LockSight DirAct HomeRow) (arm_sure : A → Bool) (arm_faults : A → ℕ) (shared : Shared V D) where
   -- The lane of this number sits at these locks, which were made round this store.
   pub record SitsAt (start : Start) (number : ℕ) (lane : Lane S T A) : Type 0 where
@@ -51,6 +56,7 @@ module _ {V D S T A : Type 0} (fits : V → Settings → ℕ → S → Type 0) (
         → AnsweredHere shared.settings start (shared.drained).items (answered_line number job reply) (sight of of_rows arm_faults old) (sight of of_rows arm_faults new)
     pub fits_reply : FitsReply reply
     -- whatever the disks tell
+    pub suits : AnswersSuited shared.settings job reply
     pub bad : AnswersBad job reply
     pub arm : IsLaterArm arm_sure arm_faults old.arm new.arm
 

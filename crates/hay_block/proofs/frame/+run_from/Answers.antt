@@ -28,6 +28,14 @@ pub new-requires-clause-of : goal.new-requires-clause-of
 new-requires-clause-of g t c =
     (length c.args.frame.shared.volumes.items, is_next c.args.frame c.args.frame.shared.volumes c.args.frame.lanes c.pop.new.self c.requires.frame c.in-Some.volume c.in-Some.ensures.items)
 
+pub give_seats-requires-clause-as_many : goal.give_seats-requires-clause-as_many
+give_seats-requires-clause-as_many g t c =
+    let next : IsVolumeOf c.in-Some.volume c.args.frame.shared.settings (length c.args.frame.shared.volumes.items) =
+    is_next c.args.frame c.args.frame.shared.volumes c.args.frame.lanes c.pop.new.self c.requires.frame c.in-Some.volume c.in-Some.ensures.items in
+    let seated = c.in-Ok-new.ensures.seated (length c.args.frame.shared.volumes.items) next in
+    let as_many : length c.in-Ok-new.seats.items ≡ length c.args.frame.lanes.items = omega (arith, seated.many, c.len-lanes.ensures, c.args.frame.lanes.ok.0) in
+    as_many ∙ ap length (sym c.as_mut_slice.ensures.value)
+
 pub give_seats-requires-clause-room : goal.give_seats-requires-clause-room
 give_seats-requires-clause-room g t c =
     let fewer : vec_len c.pop.new.self + length (c.in-Some.volume ∷ []) ≡ vec_len c.args.frame.waiting = c.in-Some.ensures.len in
@@ -37,21 +45,27 @@ give_seats-requires-clause-room g t c =
 pub run_from-frame-requires-clause-frame : goal.run_from-frame-requires-clause-frame
 run_from-frame-requires-clause-frame g t c κs within =
     let waited : c.args.frame.waiting.items ≡ c.pop.new.self.items ++ c.in-Some.volume ∷ [] = c.in-Some.ensures.items in
+    let next : IsVolumeOf c.in-Some.volume c.args.frame.shared.settings (length c.args.frame.shared.volumes.items) =
+    is_next c.args.frame c.args.frame.shared.volumes c.args.frame.lanes c.pop.new.self c.requires.frame c.in-Some.volume c.in-Some.ensures.items in
+    let seated = c.in-Ok-new.ensures.seated (length c.args.frame.shared.volumes.items) next in
     let seats : List (Seated g.row.D.Denot g.row.P.Denot) = c.in-Ok-new.seats.items in
     let lanes : Vec (Lane (Seated g.row.D.Denot g.row.P.Denot) g.row.T.Denot g.row.A.Denot) Global = with_items c.args.frame.lanes c.give_seats.new.lanes in
     let more : HaveMore c.args.frame.lanes.items seats lanes.items =
     more_in c.args.frame.lanes c.as_mut_slice.result.now c.give_seats.new.lanes seats c.as_mut_slice.ensures.value c.as_mut_slice.ensures.len c.give_seats.ensures.same c.give_seats.ensures.seats in
-    let as_many : length seats ≡ length c.args.frame.lanes.items = omega (arith, c.in-Ok-new.ensures.seated.many, c.len-lanes.ensures, c.args.frame.lanes.ok.0) in
+    let as_many : length seats ≡ length c.args.frame.lanes.items = omega (arith, seated.many, c.len-lanes.ensures, c.args.frame.lanes.ok.0) in
     next_is_frame c.args.frame c.push_reserved-in-Ok-new.new.self lanes c.pop.new.self c.requires.frame c.in-Some.volume waited c.in-Some.ensures.capacity c.in-Ok-new.lock
-    c.push_reserved-in-Ok-new.ensures.items c.push_reserved-in-Ok-new.ensures.capacity seats more (record { many = as_many; each = c.in-Ok-new.ensures.seated.each }) c.requires.untold
+    c.push_reserved-in-Ok-new.ensures.items c.push_reserved-in-Ok-new.ensures.capacity seats more (record { many = as_many; each = seated.each }) c.requires.untold
 
 pub run_from-frame-requires-clause-rooms : goal.run_from-frame-requires-clause-rooms
 run_from-frame-requires-clause-rooms g t c κs within =
+    let next : IsVolumeOf c.in-Some.volume c.args.frame.shared.settings (length c.args.frame.shared.volumes.items) =
+    is_next c.args.frame c.args.frame.shared.volumes c.args.frame.lanes c.pop.new.self c.requires.frame c.in-Some.volume c.in-Some.ensures.items in
+    let seated = c.in-Ok-new.ensures.seated (length c.args.frame.shared.volumes.items) next in
     let seats : List (Seated g.row.D.Denot g.row.P.Denot) = c.in-Ok-new.seats.items in
     let lanes : Vec (Lane (Seated g.row.D.Denot g.row.P.Denot) g.row.T.Denot g.row.A.Denot) Global = with_items c.args.frame.lanes c.give_seats.new.lanes in
     let more : HaveMore c.args.frame.lanes.items seats lanes.items =
     more_in c.args.frame.lanes c.as_mut_slice.result.now c.give_seats.new.lanes seats c.as_mut_slice.ensures.value c.as_mut_slice.ensures.len c.give_seats.ensures.same c.give_seats.ensures.seats in
-    let as_many : length seats ≡ length c.args.frame.lanes.items = omega (arith, c.in-Ok-new.ensures.seated.many, c.len-lanes.ensures, c.args.frame.lanes.ok.0) in
+    let as_many : length seats ≡ length c.args.frame.lanes.items = omega (arith, seated.many, c.len-lanes.ensures, c.args.frame.lanes.ok.0) in
     room_stays c.args.frame.shared.settings.volumes more as_many c.requires.rooms
 
 pub end_lock-requires-clause-made : goal.end_lock-requires-clause-made
@@ -69,11 +83,12 @@ returns-in-Ok-new g t c =
     let waited : c.args.frame.waiting.items ≡ c.pop.new.self.items ++ c.in-Some.volume ∷ [] = c.in-Some.ensures.items in
     let next : IsVolumeOf c.in-Some.volume c.args.frame.shared.settings (length c.args.frame.shared.volumes.items) =
     is_next c.args.frame c.args.frame.shared.volumes c.args.frame.lanes c.pop.new.self c.requires.frame c.in-Some.volume waited in
+    let seated = c.in-Ok-new.ensures.seated (length c.args.frame.shared.volumes.items) next in
     let seats : List (Seated g.row.D.Denot g.row.P.Denot) = c.in-Ok-new.seats.items in
     let lanes : Vec (Lane (Seated g.row.D.Denot g.row.P.Denot) g.row.T.Denot g.row.A.Denot) Global = with_items c.args.frame.lanes c.give_seats.new.lanes in
     let more : HaveMore c.args.frame.lanes.items seats lanes.items =
     more_in c.args.frame.lanes c.as_mut_slice.result.now c.give_seats.new.lanes seats c.as_mut_slice.ensures.value c.as_mut_slice.ensures.len c.give_seats.ensures.same c.give_seats.ensures.seats in
-    let as_many : length seats ≡ length c.args.frame.lanes.items = omega (arith, c.in-Ok-new.ensures.seated.many, c.len-lanes.ensures, c.args.frame.lanes.ok.0) in
+    let as_many : length seats ≡ length c.args.frame.lanes.items = omega (arith, seated.many, c.len-lanes.ensures, c.args.frame.lanes.ok.0) in
     let made = last_made IsMadeOf c.args.frame.shared c.run_from-frame.result.0.shared c.push_reserved-in-Ok-new.new.self c.in-Ok-new.lock c.in-Ok-new.room c.in-Some.volume
     (vec_len c.run_from-frame.result.0.lanes) c.push_reserved-in-Ok-new.ensures.items c.run_from-frame.ensures.shared (c.in-Ok-new.ensures.made (length c.args.frame.shared.volumes.items) next)
     (omega (arith, c.len-lanes.ensures, c.run_from-frame.ensures.lanes)) in

@@ -5,7 +5,8 @@ use Rattle.hay_lane.specs.declared.lane.Lane.{Lane}
 use Rattle.hay_block.specs.Seats.{HaveMore}
 use Rattle.hay_block.proofs.Framing.{ended_is_frame, fewer_in, may_take, taken_fit}
 use Rattle.hay_block.proofs.Lists.{last_at, same_item}
-use Rattle.hay_shared_volume.specs.Making.{IsMadeOf, IsVolumeOf}
+use Rattle.hay_shared_volume.specs.Making.{AreSeated, IsMadeOf, IsVolumeOf}
+use Rattle.hay_shared_volume.specs.Seats.{IsSeatOf}
 use Rattle.hay_volume_lock.specs.Seats.{Seated}
 use Rattle.hay_block.proofs.frame.end_lock.Goals as goal
 
@@ -26,6 +27,8 @@ close-volume-requires g c =
     let lock_is : c.requires.made.1 ≡ c.in-Some.lock = same_item c.args.frame.shared.volumes.items last c.requires.made.2
     (last_at c.pop.new.self.items c.args.frame.shared.volumes.items c.in-Some.lock (vec_len c.args.frame.shared.volumes) popped (let n = c.args.frame.shared.volumes.ok.0 in omega (arith, n))) in
     let many : vec_len c.args.frame.lanes ≡ length seats = omega (arith, as_many, c.args.frame.lanes.ok.0) in
+    let fewer : vec_len c.pop.new.self + length (c.in-Some.lock ∷ []) ≡ vec_len c.args.frame.shared.volumes = c.in-Some.ensures.len in
+    let number : last ≡ length c.pop.new.self.items = let n = c.pop.new.self.ok.0 in omega (arith, fewer, n) in
     record {
       made = (
         c.requires.made.0,
@@ -33,7 +36,7 @@ close-volume-requires g c =
         last,
         subst (IsMadeOf c.in-Some.lock c.args.room c.requires.made.0 c.args.frame.shared.settings last) many
             (subst (λ z. IsMadeOf z c.args.room c.requires.made.0 c.args.frame.shared.settings last (vec_len c.args.frame.lanes)) lock_is c.requires.made.3),
-        taken_fit c.args.frame c.requires.frame c.pop.new.self c.in-Some.lock popped lanes seats more as_many,
+        subst (λ n. AreSeated (IsSeatOf n) c.in-Some.lock c.args.frame.shared.settings (length seats) seats) (sym number) (taken_fit c.args.frame c.requires.frame c.pop.new.self c.in-Some.lock popped lanes seats more as_many),
       );
     }
 
@@ -78,6 +81,6 @@ returns g c =
             left = c.close-volume.ensures.left before c.args.frame.shared.settings last
                 (subst (IsMadeOf c.in-Some.lock c.args.room before c.args.frame.shared.settings last) many
                 (subst (λ z. IsMadeOf z c.args.room before c.args.frame.shared.settings last (vec_len c.args.frame.lanes)) same made))
-                (taken_fit c.args.frame c.requires.frame c.pop.new.self c.in-Some.lock popped lanes seats more as_many);
+                (subst (λ n. AreSeated (IsSeatOf n) c.in-Some.lock c.args.frame.shared.settings (length seats) seats) (sym number) (taken_fit c.args.frame c.requires.frame c.pop.new.self c.in-Some.lock popped lanes seats more as_many));
           };
     }

@@ -8,12 +8,12 @@ use Rattle.hay_legal.specs.declared.known.VolumeKnown.{VolumeKnown}
 use Rattle.hay_block.specs.declared.store.BlockNotes.{BlockNotes}
 use Rattle.hay_block.specs.declared.worker.Job.{Job}
 use Rattle.hay_block.specs.Frames.{IsSameStore, RanAll}
-use Rattle.hay_block.specs.Lines.{AnswersBad, IsServed}
+use Rattle.hay_block.specs.Lines.{AnswersBad, AnswersSuited, IsServed}
 use Rattle.hay_shared_volume.specs.Making.{AreUnseen, IsVolumeOf, VolumeStands, count_of}
 use Rattle.hay_block.specs.Stores.{AreStill, AreUpwards, AreVolumes, line_of_tag, notes_from}
 use Rattle.hay_block.proofs.Blocks.{block_told}
 use Rattle.hay_block.proofs.Lists.{each_mapped, each_unmapped, err_at, ok_at, ok_weaker, zip_long, zip_unmapped}
-use Rattle.hay_block.proofs.Whole.{all_bad, all_fit, all_later, all_replied, counts_rise, directory_same, made_rows, same_arms, seated_rows, still_counts}
+use Rattle.hay_block.proofs.Whole.{all_bad, all_fit, all_later, all_replied, all_suit, counts_rise, directory_same, made_rows, same_arms, seated_rows, still_counts}
 use Rattle.hay_block.proofs.Staying.{still_self}
 use Rattle.hay_block.proofs.Upwards.{notes_upwards}
 use Rattle.hay_shared_volume.specs.Seats.{IsSeatOf, WasAt, sight_of}
@@ -68,6 +68,7 @@ returns-in-Ok-answer g c =
       arms = ap (λ (z : Vec g.row.A.Denot Global). length z.items) c.unlocked-parts.ensures.arms ∙ c.run_locked-locked.ensures.arms;
       refused = tt;
       replies = zip_unmapped (λ (js : Vec Job Global). js.items) (λ (rs : Vec Reply Global). rs.items) (λ js rs. length js ≡ length rs) c.args.jobs.now c.in-Ok-answer.replies.items (all_replied ran (sym given));
+      suits = zip_unmapped (λ (js : Vec Job Global). js.items) (λ (rs : Vec Reply Global). rs.items) (AllZip (AnswersSuited c.args.settings)) c.args.jobs.now c.in-Ok-answer.replies.items (all_suit ran (sym given));
       bad = zip_unmapped (λ (js : Vec Job Global). js.items) (λ (rs : Vec Reply Global). rs.items) (AllZip AnswersBad) c.args.jobs.now c.in-Ok-answer.replies.items (all_bad ran (sym given));
       fits = each_unmapped (λ (rs : Vec Reply Global). rs.items) (AllByRecursion FitsReply) c.in-Ok-answer.replies.items (all_fit ran (sym given));
       upwards = ok_weaker (λ (n : BlockNotes). n.logs.items ≡ notes_from 0 c.in-Ok.ready.fronts.items told) (λ n. AreUpwards c.args.settings.volumes n.logs.items)
@@ -100,6 +101,7 @@ returns-in-Ok-new g c =
       arms = ap (λ (z : Vec g.row.A.Denot Global). length z.items) c.unlocked-parts.ensures.arms ∙ c.run_locked-locked.ensures.arms;
       refused = record { volumes = still; directory = directory; arms = same };
       replies = tt;
+      suits = tt;
       bad = tt;
       fits = tt;
       upwards = tt;

@@ -7,7 +7,7 @@ use Rattle.hay_legal.specs.Known.{NoneFalls}
 use Rattle.hay_directory.specs.State.{home_of}
 use Rattle.hay_block.specs.declared.store.BlockNotes.{BlockNotes}
 use Rattle.hay_block.specs.declared.worker.Job.{Job}
-use Rattle.hay_block.specs.Lines.{AreItems}
+use Rattle.hay_block.specs.Lines.{AnswersSuited, AreItems}
 use Rattle.hay_block.specs.Stores.{AreUpwards}
 use Rattle.hay_cluster.specs.Causes.{StaySure}
 use Rattle.hay_cluster.specs.Store.{Open, disks_of}
@@ -133,6 +133,14 @@ returns-in-Err-answer-clause-other_arms g c =
     let q = c.run_on_locks-parts in
     ap (drop n) c.restored-in-Err-answer.ensures.arms
     ∙ (others_back n p.result.arms.items c.in-Ok.others.items q.result.0.arms.items c.in-Ok.ensures.others q.ensures.arms ∙ ap (drop n) p.ensures.arms)
+
+pub returns-in-Ok-answer-clause-suits : goal.returns-in-Ok-answer-clause-suits
+returns-in-Ok-answer-clause-suits g c =
+    let p = c.into_parts-directory in
+    let q = c.run_on_locks-parts in
+    subst (λ (s : Settings). AllZip (λ (js : Vec Job Global) (rs : Vec Reply Global). AllZip (AnswersSuited s) js.items rs.items) c.args.jobs.now c.told-replies.result.replies.items) p.ensures.settings
+    (subst (λ (z : Vec (Vec Reply Global) Global). AllZip (λ (js : Vec Job Global) (rs : Vec Reply Global). AllZip (AnswersSuited p.result.settings) js.items rs.items) c.args.jobs.now z.items) (sym c.told-replies.ensures.replies)
+    (rw c.in-Ok-answer.is at q.ensures.suits))
 
 pub returns-in-Ok-answer-clause-notes : goal.returns-in-Ok-answer-clause-notes
 returns-in-Ok-answer-clause-notes g c =

@@ -11,6 +11,7 @@ returns-in-Command-clause-answered g c = rw c.new.ensures (
     same = c.answer-reply.ensures.same;
     answered = λ start of. rw c.in-Command.is (c.answer-reply.ensures.answered start of);
     fits_reply = c.answer-reply.ensures.fits;
+    suits = rw c.in-Command.is c.answer-reply.ensures.suits;
     bad = λ is. let clash = sym c.in-Command.is ∙ is in absurd cc;
     arm = c.answer-reply.ensures.arm;
   },
@@ -24,6 +25,7 @@ returns-in-Bad-clause-answered g c = rw c.new-in-Bad.ensures (
     same = λ start of. of;
     answered = λ start of. bad_answered _ start _ _ _ _ _ c.in-Bad.is;
     fits_reply = tt;
+    suits = rw c.in-Bad.is tt;
     bad = λ is. refl;
     arm = later_same refl;
   },
