@@ -18,7 +18,7 @@ use Rattle.hay_legal.specs.Items.{InBlock, line_asked}
 use Rattle.hay_legal.specs.Items.Asked.{Block}
 use Rattle.hay_legal.specs.Known.{EachPair}
 use Rattle.hay_block.specs.declared.worker.Job.{Job}
-use Rattle.hay_block.specs.Lines.{AnswersBad, AreItems, IsServed}
+use Rattle.hay_block.specs.Lines.{AnswersBad, AnswersSuited, AreItems, IsServed}
 use Rattle.hay_cluster.specs.Seen.{home_seen}
 use Rattle.hay_cluster.specs.State.{Stands, Holds}
 use Rattle.hay_cluster.specs.Store.{Open}
@@ -116,13 +116,15 @@ module _ (lanes : ℕ) (lines : List InBlock) (jobs : List (Vec Job Global)) (pl
 
     -- their text, whatever the disks tell
     pub text_told : (items : List LaneItem) (told : Result (Vec Note Global) NoMemory) → AreAnswered lines (own_replies replies) items → Each (λ (rs : Vec Reply Global). Each FitsReply rs.items) replies
-        → AllZip (λ (js : Vec Job Global) (rs : Vec Reply Global). AllZip AnswersBad js.items rs.items) jobs replies → (settings : Settings) (home : Pair → Option ℕ) (n : NotesOf settings.volumes home (map job_of lines) told)
+        → AllZip (λ (js : Vec Job Global) (rs : Vec Reply Global). AllZip AnswersBad js.items rs.items) jobs replies → (settings : Settings) (home : Pair → Option ℕ)
+        → AllZip (λ (js : Vec Job Global) (rs : Vec Reply Global). AllZip (AnswersSuited settings) js.items rs.items) jobs replies → (n : NotesOf settings.volumes home (map job_of lines) told)
         → IsBlockText settings home lines (answered_text items n.notes)
-    text_told items told are fits bad settings home n =
+    text_told items told are fits bad settings home suits n =
         let answers = zip_mapped (λ (own : Vec Job Global). own.items) (λ (own : Vec Reply Global). own.items) (λ (js : List Job) (rs : List Reply). AllZip AnswersBad js rs) jobs replies bad in
         block_told settings home lanes lines (own_jobs jobs) (own_replies replies) items told d.jobs_are
         (zip_many (λ (js : List Job) (rs : List Reply). AllZip AnswersBad js rs) (own_jobs jobs) (own_replies replies) answers) are
-        (each_mapped (λ (own : Vec Reply Global). own.items) (λ (own : List Reply). Each FitsReply own) replies fits) answers n
+        (each_mapped (λ (own : Vec Reply Global). own.items) (λ (own : List Reply). Each FitsReply own) replies fits)
+        (zip_mapped (λ (own : Vec Job Global). own.items) (λ (own : Vec Reply Global). own.items) (λ (js : List Job) (rs : List Reply). AllZip (AnswersSuited settings) js rs) jobs replies suits) answers n
 
 -- ANSWERED AND WRITTEN
 

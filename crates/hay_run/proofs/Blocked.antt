@@ -12,7 +12,6 @@ use Rattle.hay_reply.specs.declared.Reply.{Reply}
 use Rattle.hay_reply.specs.declared.Reply.TheVariants.{BadLine}
 use Rattle.hay_reply.specs.Fits.{FitsNote, FitsReply}
 use Rattle.hay_legal.specs.declared.known.Known.{Known}
-use Rattle.hay_legal.specs.declared.turn.Item.{Item}
 use Rattle.hay_legal.specs.declared.turn.Item.TheVariants as item
 use Rattle.hay_legal.specs.declared.turn.LaneItem.{LaneItem}
 use Rattle.hay_legal.specs.declared.turn.LogNote.{LogNote}
@@ -21,9 +20,10 @@ use Rattle.hay_legal.specs.declared.turn.Turn.{Turn}
 use Rattle.hay_legal.specs.declared.turn.Turn.TheVariants.{Lanes}
 use Rattle.hay_legal.specs.Items.{InBlock, line_asked}
 use Rattle.hay_legal.specs.Items.Asked.{Block}
+use Rattle.hay_legal.specs.Suiting.{SuitsItem}
 use Rattle.hay_legal.specs.Transcript.{answered_line, log_line, row_line, turn_text}
 use Rattle.hay_block.specs.declared.worker.Job.{Job}
-use Rattle.hay_block.specs.Lines.{AnswersBad}
+use Rattle.hay_block.specs.Lines.{AnswersBad, AnswersSuited}
 use Rattle.hay_cluster.specs.Causes.{Counts}
 use Rattle.hay_cluster.specs.Store.{Open, disks_of}
 use Rattle.hay_cluster_block.specs.Blocks.{RanBlock, StaysAs}
@@ -83,18 +83,20 @@ notes_of_told volumes home jobs (Err e) is rows = record {
   fit = tt;
 }
 
-each_both : (P Q : LaneItem → Type 0) (items : List LaneItem) → Each P items → Each Q items → Each (λ item. P item × Q item) items
-each_both P Q [] p q = tt
-each_both P Q (item ∷ items) p q = ((p.0, q.0), each_both P Q items p.1 q.1)
+each_of_three : (P Q R : LaneItem → Type 0) (items : List LaneItem) → Each P items → Each Q items → Each R items → Each (λ item. P item × Q item × R item) items
+each_of_three P Q R [] p q r = tt
+each_of_three P Q R (item ∷ items) p q r = ((p.0, q.0, r.0), each_of_three P Q R items p.1 q.1 r.1)
 
 pub block_told : (settings : Settings) (home : Pair → Option ℕ) (lanes : ℕ) (lines : List InBlock) (jobs : List (List Job)) (replies : List (List Reply)) (items : List LaneItem) (told : Result (Vec Note Global) NoMemory)
-    → AreJobs lanes lines jobs → length jobs ≡ length replies → AreAnswered lines replies items → Each (λ own. Each FitsReply own) replies → AllZip (λ js rs. AllZip AnswersBad js rs) jobs replies
-    → (n : NotesOf settings.volumes home (map job_of lines) told) → IsBlockText settings home lines (answered_text items n.notes)
-block_told settings home lanes lines jobs replies items told are long answered fits bad n = record {
+    → AreJobs lanes lines jobs → length jobs ≡ length replies → AreAnswered lines replies items → Each (λ own. Each FitsReply own) replies → AllZip (λ js rs. AllZip (AnswersSuited settings) js rs) jobs replies
+    → AllZip (λ js rs. AllZip AnswersBad js rs) jobs replies → (n : NotesOf settings.volumes home (map job_of lines) told) → IsBlockText settings home lines (answered_text items n.notes)
+block_told settings home lanes lines jobs replies items told are long answered fits suits bad n = record {
   items = items;
   asked = answered.asked;
-  fits = each_both (λ line. FitsReply line.reply) (λ line. line.item ≡ item.Bad → line.reply ≡ BadLine) items (each_reply FitsReply lines replies items fits answered)
-      (each_answer (λ (asked : Item) (reply : Reply). asked ≡ item.Bad → reply ≡ BadLine) lanes lines jobs replies items bad are long answered);
+  fits = each_of_three (λ line. FitsReply line.reply) (λ line. SuitsItem settings line.line line.item line.reply) (λ line. line.item ≡ item.Bad → line.reply ≡ BadLine) items
+      (each_reply FitsReply lines replies items fits answered)
+      (each_answer (AnswersSuited settings) lanes lines jobs replies items suits are long answered)
+      (each_answer AnswersBad lanes lines jobs replies items bad are long answered);
   notes = n.notes;
   told = n.kinds;
   rows = n.rows;

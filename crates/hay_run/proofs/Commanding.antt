@@ -8,7 +8,7 @@ use Rattle.hay_cli.specs.declared.Mode.TheVariants.{Run, Check, Load, Audit, Dri
 use Rattle.hay_cli.specs.Commands.{IsStore, Says, Text, audit_names, number_in, number_or, run_names, value_of}
 use Rattle.hay_cli.proofs.Spelled.{mode_read}
 use Rattle.hay_cluster.specs.Store.{IsBuilt}
-use Rattle.hay_run.specs.Words.{HasBuilt, SaysAudit, SaysCheck, SaysLoad, SaysRun}
+use Rattle.hay_run.specs.Words.{HasBuilt, SaysAudit, SaysCheck, SaysDrill, SaysLoad, SaysRun}
 
 -- a number that is read is within its bounds
 number_within : (low high n : ℕ) (text : Text) → number_in low high text ≡ Some n → (low ≤ n) × (n ≤ high)
@@ -44,7 +44,7 @@ mode_built (word ∷ words) (Run settings) says = built run_names words settings
 mode_built (word ∷ words) (Check settings) says = built run_names words settings says.1
 mode_built (word ∷ words) (Load settings) says = built run_names words settings says.1
 mode_built (word ∷ words) (Audit settings) says = built audit_names words settings says.1
-mode_built (word ∷ words) (Drill count first) says = tt
+mode_built (word ∷ words) (Drill count first) says = (number_within 1 1000 count says.1.count_word says.1.count_is).1
 
 -- the words of a run name one store
 pub same_run : (words : List Text) (settings other : Settings) → SaysRun words settings → SaysRun words other → settings ≡ other
@@ -87,6 +87,29 @@ check_no_load words settings other check load = let same : Check settings ≡ Lo
 
 pub drill_no_load : (words : List Text) (count first : ℕ) (other : Settings) → Says words (Drill count first) → SaysLoad words other → ⊥
 drill_no_load words count first other drill load = let same : Drill count first ≡ Load other = load_alone words (Drill count first) other drill load in cc
+
+-- the words of a drill say its numbers, and nothing else
+pub drill_alone : (words : List Text) (mode : Mode) (count first : ℕ) → Says words mode → SaysDrill words count first → mode ≡ Drill count first
+drill_alone words mode count first says drill =
+    let a = mode_read words mode says in
+    let b = mode_read words (Drill count first) drill in
+    let same : Some mode ≡ Some (Drill count first) = sym a ∙ b in cc
+
+pub same_drill : (words : List Text) (count first other start : ℕ) → SaysDrill words count first → SaysDrill words other start → (count ≡ other) × (first ≡ start)
+same_drill words count first other start says drill =
+    let same : Drill count first ≡ Drill other start = drill_alone words (Drill count first) other start says drill in (cc, cc)
+
+pub run_no_drill : (words : List Text) (settings : Settings) (count first : ℕ) → SaysRun words settings → SaysDrill words count first → ⊥
+run_no_drill words settings count first run drill = let same : Run settings ≡ Drill count first = drill_alone words (Run settings) count first run drill in cc
+
+pub check_no_drill : (words : List Text) (settings : Settings) (count first : ℕ) → SaysCheck words settings → SaysDrill words count first → ⊥
+check_no_drill words settings count first check drill = let same : Check settings ≡ Drill count first = drill_alone words (Check settings) count first check drill in cc
+
+pub load_no_drill : (words : List Text) (settings : Settings) (count first : ℕ) → SaysLoad words settings → SaysDrill words count first → ⊥
+load_no_drill words settings count first load drill = let same : Load settings ≡ Drill count first = drill_alone words (Load settings) count first load drill in cc
+
+pub audit_no_drill : (words : List Text) (settings : Settings) (count first : ℕ) → SaysAudit words settings → SaysDrill words count first → ⊥
+audit_no_drill words settings count first audit drill = let same : Audit settings ≡ Drill count first = drill_alone words (Audit settings) count first audit drill in cc
 
 -- the words of an audit name one store, and say nothing else
 pub audit_alone : (words : List Text) (mode : Mode) (settings : Settings) → Says words mode → SaysAudit words settings → mode ≡ Audit settings

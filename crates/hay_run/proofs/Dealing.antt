@@ -455,10 +455,10 @@ zip_at R (a ∷ xs) (b ∷ ys) zero x y all at_x at_y =
 zip_at R (a ∷ xs) (b ∷ ys) (suc n) x y all at_x at_y = zip_at R xs ys n x y all.1 at_x at_y
 
 -- what holds of each job and its reply holds of each line
-pub each_answer : (R : Item → Reply → Type 0) (lanes : ℕ) (lines : List InBlock) (jobs : List (List Job)) (replies : List (List Reply)) (items : List LaneItem)
-    → AllZip (λ js rs. AllZip (λ job reply. R job.item reply) js rs) jobs replies → AreJobs lanes lines jobs → length jobs ≡ length replies → AreAnswered lines replies items → Each (λ item. R item.item item.reply) items
+pub each_answer : (R : Job → Reply → Type 0) (lanes : ℕ) (lines : List InBlock) (jobs : List (List Job)) (replies : List (List Reply)) (items : List LaneItem)
+    → AllZip (λ js rs. AllZip R js rs) jobs replies → AreJobs lanes lines jobs → length jobs ≡ length replies → AreAnswered lines replies items → Each (λ item. R (job_of (line_asked item)) item.reply) items
 each_answer R lanes lines jobs replies items all are long answered =
-    each_by (λ (item : LaneItem). R item.item item.reply) items (λ i item at.
+    each_by (λ (item : LaneItem). R (job_of (line_asked item)) item.reply) items (λ i item at.
     let below : item.lane < length replies = each_at (λ (x : LaneItem). x.lane < length replies) items i item answered.low at in
     let within : item.lane < length jobs = omega (arith, below, long) in
     let here = get_here replies item.lane [] below in
@@ -468,8 +468,8 @@ each_answer R lanes lines jobs replies items all are long answered =
     let job_is : slice_get (slice_index_or jobs item.lane []) nth ≡ Some (job_of (line_asked item)) =
     ap (λ (l : List Job). slice_get l nth) (are.each item.lane (slice_index_or jobs item.lane []) there)
     ∙ mapped_here job_of (lane_lines item.lane lines) nth (line_asked item) (filter_at (λ (l : InBlock). l.lane == item.lane) lines i (line_asked item) line_is (eq-eqb item.lane item.lane refl)) in
-    zip_at (λ (job : Job) (reply : Reply). R job.item reply) (slice_index_or jobs item.lane []) (slice_index_or replies item.lane []) nth (job_of (line_asked item)) item.reply
-    (zip_at (λ (js : List Job) (rs : List Reply). AllZip (λ job reply. R job.item reply) js rs) jobs replies item.lane (slice_index_or jobs item.lane []) (slice_index_or replies item.lane []) all there here)
+    zip_at R (slice_index_or jobs item.lane []) (slice_index_or replies item.lane []) nth (job_of (line_asked item)) item.reply
+    (zip_at (λ (js : List Job) (rs : List Reply). AllZip R js rs) jobs replies item.lane (slice_index_or jobs item.lane []) (slice_index_or replies item.lane []) all there here)
     job_is (reply_at lines replies items i item (slice_index_or replies item.lane []) answered at here))
 
 -- WHERE A LINE STANDS

@@ -3,6 +3,7 @@ pub mod Asking
 pub mod Auditing
 pub mod Blocked
 pub mod Blocking
+pub mod Bounding
 pub mod Caused
 pub mod Causing
 pub mod Checking
@@ -10,6 +11,8 @@ pub mod Commanding
 pub mod Counting
 pub mod Dealing
 pub mod Giving
+pub mod Holding
+pub mod LastLines
 pub mod Loading
 pub mod Lying
 pub mod NeverUnlawful
@@ -19,12 +22,16 @@ pub mod Refusing
 pub mod Refuted
 pub mod RefutedBlocks
 pub mod RefutedChecks
+pub mod RefutedLines
 pub mod Restarting
 pub mod Serving
 pub mod Stopping
+pub mod Summed
 pub mod Turning
 pub mod Unread
 pub mod VoidDisks
 pub mod Drawing
+pub mod Drilled
+pub mod Drilling
 pub mod Writes
 pub mod RowsAsked

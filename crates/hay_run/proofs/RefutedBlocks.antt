@@ -26,7 +26,7 @@ use Rattle.hay_run.proofs.Dealing.{each_at}
 -- a line that is no command, and was answered as one
 pub bad_line_answered : (settings : Settings) (home : Pair → Option ℕ) (lines : List InBlock) (text : List ℕ) (block : IsBlockText settings home lines text) (answered : LaneItem)
     → Contains block.items answered → answered.item ≡ item.Bad → answered.reply ≢ BadLine → ⊥
-bad_line_answered settings home lines text block answered among bad other = other ((each_in FitsLine block.items answered block.fits among).1 bad)
+bad_line_answered settings home lines text block answered among bad other = other ((each_in (FitsLine settings) block.items answered block.fits among).2 bad)
 
 -- a line without a reply
 pub line_without_a_reply : (settings : Settings) (home : Pair → Option ℕ) (lines : List InBlock) (text : List ℕ) (block : IsBlockText settings home lines text) → length block.items < length lines → ⊥

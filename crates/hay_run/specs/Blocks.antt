@@ -12,6 +12,7 @@ use Rattle.hay_legal.specs.declared.turn.Item.TheVariants as item
 use Rattle.hay_legal.specs.declared.turn.LaneItem.{LaneItem}
 use Rattle.hay_legal.specs.Items.{InBlock, OpenBlock, line_asked}
 use Rattle.hay_legal.specs.Known.{EachPair}
+use Rattle.hay_legal.specs.Suiting.{SuitsItem}
 use Rattle.hay_legal.specs.Transcript.{answered_line}
 use Rattle.hay_block.specs.declared.worker.Job.{Job}
 use Rattle.hay_block.specs.Lines.{IsServed}
@@ -72,16 +73,16 @@ pub record AreAnswered (lines : List InBlock) (replies : List (List Reply)) (ite
 abbrev pub answered_text : List LaneItem → List Note → List ℕ
 answered_text items notes = flat_map answered_line items ++ flat_map note_line notes
 
--- a reply with numbers of their types, and to a bad line that it is one
-abbrev pub FitsLine : LaneItem → Type 0
-FitsLine answered = FitsReply answered.reply × (answered.item ≡ item.Bad → answered.reply ≡ BadLine)
+-- a reply with numbers of their types, which suits its command, and to a bad line that it is one
+abbrev pub FitsLine : Settings → LaneItem → Type 0
+FitsLine settings answered = FitsReply answered.reply × SuitsItem settings answered.line answered.item answered.reply × (answered.item ≡ item.Bad → answered.reply ≡ BadLine)
 
 -- These lines were answered so, whatever the disks tell, where pairs have these homes behind them: each has its reply, and notes on new entries
 -- and on new rows stand behind them, where each row is of a line that put a pair of this home.
 pub record IsBlockText (settings : Settings) (home : Pair → Option ℕ) (lines : List InBlock) (text : List ℕ) : Type 0 where
   pub items : List LaneItem
   pub asked : map line_asked items ≡ lines
-  pub fits : Each FitsLine items
+  pub fits : Each (FitsLine settings) items
   pub notes : List Note
   pub told : AreBlockNotes settings.volumes notes
   pub rows : Each (TellsRowsOf home (map job_of lines)) notes

@@ -10,4 +10,7 @@ pub mod Stops
 pub mod Turns
 pub mod Words
 pub mod Draws
+pub mod Drills
+pub mod Held
+pub mod Told
 pub mod Loads

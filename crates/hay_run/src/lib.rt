@@ -16,6 +16,8 @@ mod audit;
 mod block;
 mod check;
 mod deal;
+mod drill;
+mod held;
 mod lanes;
 mod load;
 mod program;

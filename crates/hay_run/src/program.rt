@@ -1,5 +1,5 @@
 //! A run, from its words to its status.
-ghost use Rattle.std.specs.Prelude.{◌≡◌, ◌⊎◌, ℕ, ◌+◌, ◌<◌, ◌≤◌, List, ◌++◌, length, map, false, Some, Err, OnOk, IsErrOf, string_bytes};
+ghost use Rattle.std.specs.Prelude.{◌≡◌, ◌⊎◌, ℕ, ◌+◌, ◌<◌, ◌≤◌, List, ◌++◌, length, map, false, Some, Err, OnOk, OnErr, IsErrOf, string_bytes};
 ghost use Rattle.hay_disk.specs.Counts.{Rose, IsCounted};
 ghost use Rattle.hay_mount.specs.Mounts.{AreIn, AreArmsIn, SameFrom};
 ghost use Rattle.hay_reply.specs.Replies as texts;
@@ -20,10 +20,14 @@ ghost use Rattle.hay_run.specs.Turns.{Appends};
 ghost use Rattle.hay_run.specs.Audits.{AuditsTo};
 ghost use Rattle.hay_run.specs.Checking.{ChecksTo, IsUnchanged};
 ghost use Rattle.hay_run.specs.Loads.{IsLoad};
-ghost use Rattle.hay_run.specs.Words.{IsAudit, IsAuditStatus, IsCommand, SaysAudit, SaysCheck, SaysLoad, SaysRun};
+ghost use Rattle.hay_run.specs.Words.{IsAudit, IsAuditStatus, IsCommand, IsDrill, SaysAudit, SaysCheck, SaysDrill, SaysLoad, SaysRun};
+ghost use Rattle.hay_drill.specs.Script.{settings as day_settings};
+ghost use Rattle.hay_run.specs.Drills.{DrillsTo, RefusedRun};
 
 use crate::audit::audit_transcript;
 use crate::check::check_store;
+use crate::drill::{tell_stop, write_summary};
+use crate::held::{HeldScript, HeldTranscript};
 use crate::load::load_puts;
 use crate::serve::serve;
 use crate::stops::Stop;
@@ -33,6 +37,7 @@ use hay_base::NoMemory;
 use hay_cli::Mode;
 use hay_cluster::Cluster;
 use hay_disk::{Disk, Shelf, Sink, Source};
+use hay_drill::{drill_script, drill_settings};
 use hay_lanes::Gate;
 use hay_lines::SCRIPT;
 use hay_needle::Settings;
@@ -193,14 +198,139 @@ where
     answer_script(rt, alloc, settings, source, sink, shelf, gate)
 }
 
+/// Runs the script of a day's use, and writes the summary of what the store answered. Where the store was not opened, at first or at
+/// its restart, the line that tells why is written.
+fn run_drill<H, K, G, R>(
+    rt: &R,
+    alloc: Global,
+    count: u32,
+    first: u64,
+    sink: &mut K,
+    shelf: &mut H,
+    gate: &G,
+) -> Result<(), Stop>
+where
+    H: Shelf,
+    H::Disk: Send + Sync,
+    <H::Disk as Disk>::Piece: Send + Sync,
+    H::Arm: Send,
+    K: Sink,
+    G: Gate + Sync,
+    R: Threads + Wait + Sync,
+    requires few { count ≤ 1000 }
+    requires disks_in { AreIn (disk_count day_settings) (H.disks shelf.old) }
+    requires arms_in { AreArmsIn 8 (H.arms shelf.old) }
+    ensures drilled { H.Disk.Tells → (k : Known) →
+        IsTaken day_settings (outside_of (H.fault_count shelf.old) (H.disks shelf.old) (H.arms shelf.old)) k → (held : List ℕ) →
+        K.written sink.old ≡ Some held →
+        DrillsTo count first k (ending_in result) (outside_of (H.fault_count shelf.old) (H.disks shelf.old) (H.arms shelf.old))
+        (outside_of (H.fault_count shelf.new) (H.disks shelf.new) (H.arms shelf.new)) held (K.written sink.new) }
+    ensures refused { IsErrOf result Stop.Store → RefusedRun H.Disk.Tells count first (outside_of (H.fault_count shelf.old) (H.disks shelf.old) (H.arms shelf.old))
+        (outside_of (H.fault_count shelf.new) (H.disks shelf.new) (H.arms shelf.new)) (λ lane. (H.arms shelf.old lane).is_sure) (H.disks shelf.old) (H.disks shelf.new) (K.written sink.old) (K.written sink.new) }
+    ensures sound { H.Disk.Tells → OnOk result (IsUndamaged day_settings (λ slot. read_of (H.disks shelf.old slot))) }
+    ensures formatted { H.Disk.Tells → OnOk result ((k : Known) →
+        IsTaken day_settings (outside_of (H.fault_count shelf.old) (H.disks shelf.old) (H.arms shelf.old)) k → (slot : ℕ) → slot < disk_count day_settings →
+        IsVoid (read_of (H.disks shelf.new slot)) → ⊥) }
+    ensures stops { OnErr result ((result ≡ Err Stop.Output) ⊎ (result ≡ Err Stop.NoMemory) ⊎ (result ≡ Err Stop.Store)) }
+    ensures sink { IsErrOf result Stop.Output → Rose (K.fault_count sink.old) (K.fault_count sink.new) }
+    ensures sink_count { K.fault_count sink.old ≤ K.fault_count sink.new }
+    ensures appends { Appends (K.written sink.old) (K.written sink.new) }
+    ensures disks_back { AreIn (disk_count day_settings) (H.disks shelf.new) }
+    ensures arms_back { AreArmsIn 8 (H.arms shelf.new) }
+    ensures faults { (slot : ℕ) → slot < disk_count day_settings →
+        (H.disks shelf.old slot).fault_count ≤ (H.disks shelf.new slot).fault_count }
+    ensures arm_faults { (lane : ℕ) → lane < 8 →
+        (H.arms shelf.old lane).fault_count ≤ (H.arms shelf.new lane).fault_count }
+    ensures other_slots { SameFrom (disk_count day_settings) (H.disks shelf.old) (H.disks shelf.new) }
+    ensures other_lanes { SameFrom 8 (H.arms shelf.old) (H.arms shelf.new) }
+    ensures sure_arms { (lane : ℕ) → lane < 8 → IsSureStill (H.arms shelf.old lane) (H.arms shelf.new lane) }
+    ensures shelf { H.fault_count shelf.old ≤ H.fault_count shelf.new }
+{
+    let mut script = Vec::new(alloc);
+    drill_script(alloc, count, first, &mut script)?;
+    let mut source = HeldScript::new(script);
+    let mut transcript = HeldTranscript::new(alloc);
+    let settings = drill_settings();
+    match run_script(
+        rt,
+        alloc,
+        settings,
+        &mut source,
+        &mut transcript,
+        shelf,
+        gate,
+    ) {
+        Ok(()) => write_summary(alloc, count, first, transcript.bytes(), sink),
+        Err(stop) => Err(tell_stop(stop, transcript.bytes(), sink)),
+    }
+}
+
+/// The status of a run that came to this.
+fn status_in(outcome: Result<(), Stop>) -> u8
+    ensures { result ≡ status_of (ending_in outcome) }
+{
+    match outcome {
+        Ok(()) => 0,
+        Err(stop) => stop.status(),
+    }
+}
+
+/// The status of a drill, whose disks and arms are given back.
+fn drill_store<H, K, G, R>(
+    rt: &R,
+    alloc: Global,
+    count: u32,
+    first: u64,
+    sink: &mut K,
+    shelf: &mut H,
+    gate: &G,
+) -> u8
+where
+    H: Shelf,
+    H::Disk: Send + Sync,
+    <H::Disk as Disk>::Piece: Send + Sync,
+    H::Arm: Send,
+    K: Sink,
+    G: Gate + Sync,
+    R: Threads + Wait + Sync,
+    requires few { count ≤ 1000 }
+    requires disks_in { (slot : ℕ) → (H.disks shelf.old slot).is_out ≡ false }
+    requires arms_in { (lane : ℕ) → (H.arms shelf.old lane).is_out ≡ false }
+    ensures drilled { H.Disk.Tells → (k : Known) →
+        IsTaken day_settings (outside_of (H.fault_count shelf.old) (H.disks shelf.old) (H.arms shelf.old)) k → (held : List ℕ) →
+        K.written sink.old ≡ Some held → (ending : Ending) → result ≡ status_of ending →
+        DrillsTo count first k ending (outside_of (H.fault_count shelf.old) (H.disks shelf.old) (H.arms shelf.old))
+        (outside_of (H.fault_count shelf.new) (H.disks shelf.new) (H.arms shelf.new)) held (K.written sink.new) }
+    ensures refused { result ≡ 6 → RefusedRun H.Disk.Tells count first (outside_of (H.fault_count shelf.old) (H.disks shelf.old) (H.arms shelf.old))
+        (outside_of (H.fault_count shelf.new) (H.disks shelf.new) (H.arms shelf.new)) (λ lane. (H.arms shelf.old lane).is_sure) (H.disks shelf.old) (H.disks shelf.new) (K.written sink.old) (K.written sink.new) }
+    ensures sound { H.Disk.Tells → result ≡ 0 → IsUndamaged day_settings (λ slot. read_of (H.disks shelf.old slot)) }
+    ensures formatted { H.Disk.Tells → result ≡ 0 → (k : Known) →
+        IsTaken day_settings (outside_of (H.fault_count shelf.old) (H.disks shelf.old) (H.arms shelf.old)) k → (slot : ℕ) → slot < disk_count day_settings →
+        IsVoid (read_of (H.disks shelf.new slot)) → ⊥ }
+    ensures status { (result ≡ 0) ⊎ (result ≡ 3) ⊎ (result ≡ 5) ⊎ (result ≡ 6) }
+    ensures sink { IsCounted (K.fault_count sink.old) (K.fault_count sink.new) (result ≡ 3) }
+    ensures appends { Appends (K.written sink.old) (K.written sink.new) }
+    ensures disks_back { (slot : ℕ) → (H.disks shelf.new slot).is_out ≡ false }
+    ensures arms_back { (lane : ℕ) → (H.arms shelf.new lane).is_out ≡ false }
+    ensures faults { (slot : ℕ) → (H.disks shelf.old slot).fault_count ≤ (H.disks shelf.new slot).fault_count }
+    ensures arm_faults { (lane : ℕ) → (H.arms shelf.old lane).fault_count ≤ (H.arms shelf.new lane).fault_count }
+    ensures other_slots { SameFrom (disk_count day_settings) (H.disks shelf.old) (H.disks shelf.new) }
+    ensures other_lanes { SameFrom 8 (H.arms shelf.old) (H.arms shelf.new) }
+    ensures sure_arms { (lane : ℕ) → IsSureStill (H.arms shelf.old lane) (H.arms shelf.new lane) }
+    ensures shelf { H.fault_count shelf.old ≤ H.fault_count shelf.new }
+{
+    status_in(run_drill(rt, alloc, count, first, sink, shelf, gate))
+}
+
 /// Runs a script on the disks of a shelf, from slot 0 upwards, or checks these disks, or loads the puts of a script in batches, or
-/// judges a transcript of a script, and answers with the status. The words are `run`, `check`, `load` or `audit` and the options. The
-/// transcript of the script, a line for each disk, or the line of the judgement goes to the sink, and the disks and arms are given
-/// back whatever the status is. A check reads nothing of the source, and changes no byte of a disk. An audit takes no disk.
+/// judges a transcript of a script, or runs the script of a day's use, and answers with the status. The words are `run`, `check`, `load`
+/// or `audit` and the options, or `drill` and two numbers. The transcript of the script, a line for each disk, the line of the
+/// judgement, or the summary of the day goes to the sink, and the disks and arms are given back whatever the status is. A check and a
+/// drill read nothing of the source, and a check changes no byte of a disk. An audit takes no disk.
 ///
 /// | status | comes |
 /// |---|---|
-/// | 0 | the script was read to its end, and all of it was answered; or all disks were checked, and none is damaged; or the transcript is lawful |
+/// | 0 | the script was read to its end, and all of it was answered; or a drill's summary was written; or all disks were checked, and none is damaged; or the transcript is lawful |
 /// | 2 | the words are no command, and nothing was touched |
 /// | 3 | the sink failed |
 /// | 4 | the source failed |
@@ -261,6 +391,25 @@ where
     ensures audited { (settings : Settings) → SaysAudit (map string_bytes words.now) settings →
         AuditsTo settings result (S.left source.old) (S.left source.new) (K.written sink.old) (K.written sink.new) × (shelf.new ≡ shelf.old) }
 
+    // A drill: what was written, and what the disks given back hold, at each status but 2.
+    ensures drilled { H.Disk.Tells → (count first : ℕ) (k : Known) → SaysDrill (map string_bytes words.now) count first →
+        IsTaken day_settings (outside_of (H.fault_count shelf.old) (H.disks shelf.old) (H.arms shelf.old)) k → (held : List ℕ) →
+        K.written sink.old ≡ Some held → (ending : Ending) → result ≡ status_of ending →
+        DrillsTo count first k ending (outside_of (H.fault_count shelf.old) (H.disks shelf.old) (H.arms shelf.old))
+        (outside_of (H.fault_count shelf.new) (H.disks shelf.new) (H.arms shelf.new)) held (K.written sink.new) }
+    // Whatever the disks tell, why its store was not opened.
+    ensures drill_refused { result ≡ 6 → (count first : ℕ) → SaysDrill (map string_bytes words.now) count first →
+        RefusedRun H.Disk.Tells count first (outside_of (H.fault_count shelf.old) (H.disks shelf.old) (H.arms shelf.old))
+        (outside_of (H.fault_count shelf.new) (H.disks shelf.new) (H.arms shelf.new)) (λ lane. (H.arms shelf.old lane).is_sure) (H.disks shelf.old) (H.disks shelf.new) (K.written sink.old) (K.written sink.new) }
+    // Behind a drill that was answered to its end, nothing of what was read of the disks was damaged, and each disk is given back formatted.
+    ensures drill_sound { H.Disk.Tells → result ≡ 0 → IsDrill (map string_bytes words.now) → IsUndamaged day_settings (λ slot. read_of (H.disks shelf.old slot)) }
+    ensures drill_formatted { H.Disk.Tells → result ≡ 0 → IsDrill (map string_bytes words.now) → (k : Known) →
+        IsTaken day_settings (outside_of (H.fault_count shelf.old) (H.disks shelf.old) (H.arms shelf.old)) k → (slot : ℕ) → slot < disk_count day_settings →
+        IsVoid (read_of (H.disks shelf.new slot)) → ⊥ }
+    ensures drill_status { IsDrill (map string_bytes words.now) → (result ≡ 0) ⊎ (result ≡ 3) ⊎ (result ≡ 5) ⊎ (result ≡ 6) }
+    ensures drill_unused { IsDrill (map string_bytes words.now) →
+        (source.new ≡ source.old) × SameFrom (disk_count day_settings) (H.disks shelf.old) (H.disks shelf.new) }
+
     // When each status comes.
     ensures status { (result ≡ 2) ⊎ ((ending : Ending) × (result ≡ status_of ending)) ⊎ ((result ≡ 8) × ((settings : Settings) × SaysCheck (map string_bytes words.now) settings))
         ⊎ (IsAuditStatus result × IsAudit (map string_bytes words.now)) }
@@ -314,7 +463,10 @@ where
         Ok(Some(Mode::Check(settings))) => return check_store(alloc, settings, sink, shelf),
         Ok(Some(Mode::Load(settings))) => return load_puts(alloc, settings, source, sink, shelf),
         Ok(Some(Mode::Audit(settings))) => return audit_transcript(alloc, &settings, source, sink),
-        Ok(Some(Mode::Drill { .. }) | None) => return 2,
+        Ok(Some(Mode::Drill { count, first })) => {
+            return drill_store(rt, alloc, count, first, sink, shelf, gate);
+        }
+        Ok(None) => return 2,
         Err(NoMemory) => return Stop::NoMemory.status(),
     };
     match run_script(rt, alloc, settings, source, sink, shelf, gate) {

@@ -1,6 +1,7 @@
 //! The program `haystack`: runs the script on standard input over disks in memory, or over files in the folder that
-//! `--folder` names, and writes the transcript to standard output; or checks these disks, and writes what each is; or judges a
-//! transcript, without a disk.
+//! `--folder` names, and writes the transcript to standard output; or stores the puts of a script in batches; or checks these disks,
+//! and writes what each is; or judges a transcript, without a disk; or runs the script of a day's use over disks in memory, and writes
+//! what its replies sum up to.
 //! Everything that matters stands in `hay_run`.
 #![tactic(auto)]
 

@@ -10,6 +10,7 @@ mod check;
 mod compactions;
 mod damage;
 mod devices;
+mod drills;
 mod faults;
 mod gates;
 mod lanes;
@@ -205,7 +206,7 @@ fn statuses_have_their_causes(rt: HostRuntime) -> Result<(), Fail> {
         &["run", "run"],
         &["run", "--volumes", "0"],
         &["run", "--capacity", "4095"],
-        &["drill", "1", "0"],
+        &["drill", "0", "0"],
         &["run", "--machines", "2", "--replicas", "3"],
     ] {
         let mut shelf = MemShelf::new(alloc);

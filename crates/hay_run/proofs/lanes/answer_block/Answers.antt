@@ -135,7 +135,7 @@ returns-in-Ok-outcome-clause-caused g c =
     let a = answered c.args.block.lanes lines jobs places d replies same in
     let home = home_of c.run_block-cluster.result.0.directory in
     let n = notes_told c.args.block.lanes lines jobs places d c.args.cluster.settings home told (rw c.in-Ok-outcome.is at c.run_block-cluster.ensures.notes) (rw c.in-Ok-outcome.is at c.run_block-cluster.ensures.rows) in
-    let text = text_told c.args.block.lanes lines jobs places d replies same a.0 told a.1 (rw c.in-Ok-outcome.is at c.run_block-cluster.ensures.fits) (rw c.in-Ok-outcome.is at c.run_block-cluster.ensures.bad) c.args.cluster.settings home n in
+    let text = text_told c.args.block.lanes lines jobs places d replies same a.0 told a.1 (rw c.in-Ok-outcome.is at c.run_block-cluster.ensures.fits) (rw c.in-Ok-outcome.is at c.run_block-cluster.ensures.bad) c.args.cluster.settings home (rw c.in-Ok-outcome.is at c.run_block-cluster.ensures.suits) n in
     block_caused D.Tells c.args.cluster.settings (tally_of D.files D.drawn D.fault_count D.fuse_count A.fault_count A.is_sure c.args.cluster) (tally_of D.files D.drawn D.fault_count D.fuse_count A.fault_count A.is_sure c.run_block-cluster.result.0) lines (answered_text a.0 n.notes)
     (K.written c.args.sink.now) (K.written c.write_answers-written.new.sink) (c.run_block-cluster.ensures.counts, c.run_block-cluster.ensures.arm_counts, StaySure-lanes A.is_sure A.fault_count c.args.cluster.arms c.run_block-cluster.result.0.arms c.run_block-cluster.ensures.sure_arms) text c.write_answers-written.result (c.write_answers-written.ensures.wrote lines a.0 n.notes d.places_are a.1 n.are)
 
@@ -156,7 +156,7 @@ returns-in-Ok-outcome-clause-stop_caused g c =
     let a = answered c.args.block.lanes lines jobs places d replies same in
     let home = home_of c.run_block-cluster.result.0.directory in
     let n = notes_told c.args.block.lanes lines jobs places d c.args.cluster.settings home told (rw c.in-Ok-outcome.is at c.run_block-cluster.ensures.notes) (rw c.in-Ok-outcome.is at c.run_block-cluster.ensures.rows) in
-    let text = text_told c.args.block.lanes lines jobs places d replies same a.0 told a.1 (rw c.in-Ok-outcome.is at c.run_block-cluster.ensures.fits) (rw c.in-Ok-outcome.is at c.run_block-cluster.ensures.bad) c.args.cluster.settings home n in
+    let text = text_told c.args.block.lanes lines jobs places d replies same a.0 told a.1 (rw c.in-Ok-outcome.is at c.run_block-cluster.ensures.fits) (rw c.in-Ok-outcome.is at c.run_block-cluster.ensures.bad) c.args.cluster.settings home (rw c.in-Ok-outcome.is at c.run_block-cluster.ensures.suits) n in
     λ why is. block_stops D.Tells c.args.cluster.settings (tally_of D.files D.drawn D.fault_count D.fuse_count A.fault_count A.is_sure c.args.cluster) (tally_of D.files D.drawn D.fault_count D.fuse_count A.fault_count A.is_sure c.run_block-cluster.result.0) lines (answered_text a.0 n.notes)
     (K.written c.args.sink.now) (K.written c.write_answers-written.new.sink) (c.run_block-cluster.ensures.counts, c.run_block-cluster.ensures.arm_counts, StaySure-lanes A.is_sure A.fault_count c.args.cluster.arms c.run_block-cluster.result.0.arms c.run_block-cluster.ensures.sure_arms) text c.write_answers-written.result why is c.write_answers-written.ensures.stops (c.write_answers-written.ensures.part lines a.0 n.notes d.places_are a.1 n.are)
 

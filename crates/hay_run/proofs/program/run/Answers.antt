@@ -1,5 +1,5 @@
 use Rattle.std.specs.Prelude.{Bool, Option, Err}
-use Rattle.std.proofs.Common.{◌≡◌, ◌<◌, List, ℕ, refl, map, string_bytes, sym, ap, subst, ◌∙◌, inl, inr}
+use Rattle.std.proofs.Common.{◌≡◌, ◌<◌, List, ℕ, refl, arith, map, string_bytes, sym, ap, subst, ◌∙◌, inl, inr}
 use Rattle.hay_needle.specs.declared.settings.Settings.{Settings}
 use Rattle.hay_disk.specs.Shelf.{HeldDisk, HeldArm}
 use Rattle.hay_mount.specs.Mounts.{SameFrom}
@@ -12,18 +12,20 @@ use Rattle.hay_run.specs.Stops.{ending_of}
 use Rattle.hay_run.specs.Audits.{AuditsTo}
 use Rattle.hay_run.specs.Checking.{ChecksTo}
 use Rattle.hay_run.specs.Loads.{IsLoad}
-use Rattle.hay_run.specs.Words.{SaysAudit, SaysCheck, SaysLoad, SaysRun}
+use Rattle.hay_run.specs.Words.{SaysAudit, SaysCheck, SaysDrill, SaysLoad, SaysRun}
 use Rattle.hay_legal.specs.Statuses.{Ending}
 use Rattle.hay_run.specs.Causing.{CausedRun}
 use Rattle.hay_run.specs.Draws.{drawn_of}
+use Rattle.hay_run.specs.Drills.{DrillsTo, RefusedRun}
 use Rattle.hay_run.proofs.Auditing.{audit_never_two, audit_nothing, audit_statuses}
 use Rattle.hay_run.proofs.Caused.{nothing_caused}
 use Rattle.hay_legal.specs.Stands.{Outside}
 use Rattle.hay_run.proofs.Checking.{check_nothing, check_statuses}
-use Rattle.hay_run.proofs.Commanding.{audit_no_load, check_no_audit, check_no_load, load_no_audit, run_no_audit, run_no_load, same_audit, same_check, same_load, same_run}
+use Rattle.hay_run.proofs.Commanding.{audit_no_drill, audit_no_load, check_no_drill, load_no_drill, run_no_drill, same_drill, check_no_audit, check_no_load, load_no_audit, run_no_audit, run_no_load, same_audit, same_check, same_load, same_run}
 use Rattle.hay_run.proofs.Loading.{load_nothing, never_two}
 use Rattle.hay_run.proofs.Giving.{disks_in, arms_in, none_fell}
 use Rattle.hay_run.proofs.Refusing.{by_status, opened_by, ran_nothing, ran_by, store_by}
+use Rattle.hay_run.proofs.Summed.{drill_ending, drill_never, unsaid_nothing}
 use Rattle.hay_run.proofs.program.run.Goals as goal
 
 -- memory was wanting for the words
@@ -271,14 +273,14 @@ returns-in-Ok-Some-Load-clause-usage g c = λ two says. never_two c.load_puts.re
 pub returns-in-Ok-Some-Load-clause-command : goal.returns-in-Ok-Some-Load-clause-command
 returns-in-Ok-Some-Load-clause-command g c = λ none.
     let load : SaysLoad (map string_bytes c.args.words.now) c.in-Ok-Some-Load.settings = rw (c.in-Ok-Some-Load.field-0-is, c.in-Ok-Some-Load.field-0-0-is) at c.in-Ok-Some-Load.ensures.says in
-    absurd (none (c.in-Ok-Some-Load.settings, inr (inr (inl load))))
+    absurd (none (inl (c.in-Ok-Some-Load.settings, inr (inr (inl load)))))
 
 pub returns-in-Ok-Some-Load-clause-untouched : goal.returns-in-Ok-Some-Load-clause-untouched
 returns-in-Ok-Some-Load-clause-untouched g c = λ either.
     let load : SaysLoad (map string_bytes c.args.words.now) c.in-Ok-Some-Load.settings = rw (c.in-Ok-Some-Load.field-0-is, c.in-Ok-Some-Load.field-0-0-is) at c.in-Ok-Some-Load.ensures.says in
     elim either [
       | inl two ↦ absurd (never_two c.load_puts.result c.load_puts.ensures.status.0 c.load_puts.ensures.status.1 two)
-      | inr none ↦ absurd (none (c.in-Ok-Some-Load.settings, inr (inr (inl load))))
+      | inr none ↦ absurd (none (inl (c.in-Ok-Some-Load.settings, inr (inr (inl load)))))
     ]
 
 pub returns-in-Ok-clause-loaded : goal.returns-in-Ok-clause-loaded
@@ -324,7 +326,7 @@ returns-in-Ok-Some-Audit-clause-usage g c = λ two says.
 pub returns-in-Ok-Some-Audit-clause-command : goal.returns-in-Ok-Some-Audit-clause-command
 returns-in-Ok-Some-Audit-clause-command g c = λ none.
     let audit : SaysAudit (map string_bytes c.args.words.now) c.in-Ok-Some-Audit.settings = rw (c.in-Ok-Some-Audit.field-0-is, c.in-Ok-Some-Audit.field-0-0-is) at c.in-Ok-Some-Audit.ensures.says in
-    absurd (none (c.in-Ok-Some-Audit.settings, inr (inr (inr audit))))
+    absurd (none (inl (c.in-Ok-Some-Audit.settings, inr (inr (inr audit)))))
 
 pub returns-in-Ok-Some-Audit-clause-untouched : goal.returns-in-Ok-Some-Audit-clause-untouched
 returns-in-Ok-Some-Audit-clause-untouched g c = λ either.
@@ -332,7 +334,7 @@ returns-in-Ok-Some-Audit-clause-untouched g c = λ either.
     elim either [
       | inl two ↦ absurd (audit_never_two c.in-Ok-Some-Audit.settings c.audit_transcript.result (g.S.Source.left c.args.source.now) (g.S.Source.left c.audit_transcript.new.source)
           (g.K.Sink.written c.args.sink.now) (g.K.Sink.written c.audit_transcript.new.sink) c.audit_transcript.ensures.audited two)
-      | inr none ↦ absurd (none (c.in-Ok-Some-Audit.settings, inr (inr (inr audit))))
+      | inr none ↦ absurd (none (inl (c.in-Ok-Some-Audit.settings, inr (inr (inr audit)))))
     ]
 
 pub returns-in-Ok-Some-Audit-clause-long : goal.returns-in-Ok-Some-Audit-clause-long
@@ -373,3 +375,303 @@ returns-in-Ok-Some-Load-clause-audited g c = λ settings says.
 pub returns-in-Err-clause-audited : goal.returns-in-Err-clause-audited
 returns-in-Err-clause-audited g c = λ settings says.
     (audit_nothing settings c.status.result (g.S.Source.left c.args.source.now) (g.K.Sink.written c.args.sink.now) c.status.ensures, refl)
+
+-- a drill
+
+pub returns-in-Ok-Some-Drill-clause-drilled : goal.returns-in-Ok-Some-Drill-clause-drilled
+returns-in-Ok-Some-Drill-clause-drilled g c = λ tells count first k says taken held told ending is.
+    let drill : SaysDrill (map string_bytes c.args.words.now) c.in-Ok-Some-Drill.count c.in-Ok-Some-Drill.first = rw (c.in-Ok-Some-Drill.field-0-is, c.in-Ok-Some-Drill.field-0-0-is) at c.in-Ok-Some-Drill.ensures.says in
+    let same = same_drill (map string_bytes c.args.words.now) c.in-Ok-Some-Drill.count c.in-Ok-Some-Drill.first count first drill says in
+    let outside : Outside = outside_of (g.H.Shelf.fault_count c.args.shelf.now) (g.H.Shelf.disks c.args.shelf.now) (g.H.Shelf.arms c.args.shelf.now) in
+    let given : Outside = outside_of (g.H.Shelf.fault_count c.drill_store.new.shelf) (g.H.Shelf.disks c.drill_store.new.shelf) (g.H.Shelf.arms c.drill_store.new.shelf) in
+    let P : ℕ → ℕ → Type 0 = λ n m. DrillsTo n m k ending outside given held (g.K.Sink.written c.drill_store.new.sink) in
+    subst (λ (n : ℕ). P n first) same.0 (subst (λ (m : ℕ). P c.in-Ok-Some-Drill.count m) same.1 (c.drill_store.ensures.drilled tells k taken held told ending is))
+
+pub returns-in-Ok-Some-Drill-clause-status : goal.returns-in-Ok-Some-Drill-clause-status
+returns-in-Ok-Some-Drill-clause-status g c =
+    let ended = drill_ending c.drill_store.result c.drill_store.ensures.status in inr (inl ended)
+
+pub returns-in-Ok-Some-Drill-clause-usage : goal.returns-in-Ok-Some-Drill-clause-usage
+returns-in-Ok-Some-Drill-clause-usage g c = λ two says.
+    drill_never c.drill_store.result c.drill_store.ensures.status (inl two)
+
+pub returns-in-Ok-Some-Drill-clause-command : goal.returns-in-Ok-Some-Drill-clause-command
+returns-in-Ok-Some-Drill-clause-command g c = λ none.
+    let drill : SaysDrill (map string_bytes c.args.words.now) c.in-Ok-Some-Drill.count c.in-Ok-Some-Drill.first = rw (c.in-Ok-Some-Drill.field-0-is, c.in-Ok-Some-Drill.field-0-0-is) at c.in-Ok-Some-Drill.ensures.says in
+    absurd (none (inr (c.in-Ok-Some-Drill.count, c.in-Ok-Some-Drill.first, drill)))
+
+pub returns-in-Ok-Some-Drill-clause-untouched : goal.returns-in-Ok-Some-Drill-clause-untouched
+returns-in-Ok-Some-Drill-clause-untouched g c = λ either.
+    let drill : SaysDrill (map string_bytes c.args.words.now) c.in-Ok-Some-Drill.count c.in-Ok-Some-Drill.first = rw (c.in-Ok-Some-Drill.field-0-is, c.in-Ok-Some-Drill.field-0-0-is) at c.in-Ok-Some-Drill.ensures.says in
+    elim either [
+      | inl two ↦ absurd (drill_never c.drill_store.result c.drill_store.ensures.status (inl two))
+      | inr none ↦ absurd (none (inr (c.in-Ok-Some-Drill.count, c.in-Ok-Some-Drill.first, drill)))
+    ]
+
+pub returns-in-Ok-Some-Drill-clause-source : goal.returns-in-Ok-Some-Drill-clause-source
+returns-in-Ok-Some-Drill-clause-source g c =
+    record { later = omega arith; cause = λ four. absurd (drill_never c.drill_store.result c.drill_store.ensures.status (inr (inl four))) }
+
+pub returns-in-Ok-Some-Drill-clause-long : goal.returns-in-Ok-Some-Drill-clause-long
+returns-in-Ok-Some-Drill-clause-long g c = λ seven.
+    absurd (drill_never c.drill_store.result c.drill_store.ensures.status (inr (inr seven)))
+
+pub returns-in-Ok-Some-Drill-clause-drill_unused : goal.returns-in-Ok-Some-Drill-clause-drill_unused
+returns-in-Ok-Some-Drill-clause-drill_unused g c = λ says.
+    (refl, c.drill_store.ensures.other_slots)
+
+pub returns-in-Ok-Some-Drill-clause-ran : goal.returns-in-Ok-Some-Drill-clause-ran
+returns-in-Ok-Some-Drill-clause-ran g c = λ tells settings k says taken script held told told_sink ending is.
+    let drill : SaysDrill (map string_bytes c.args.words.now) c.in-Ok-Some-Drill.count c.in-Ok-Some-Drill.first = rw (c.in-Ok-Some-Drill.field-0-is, c.in-Ok-Some-Drill.field-0-0-is) at c.in-Ok-Some-Drill.ensures.says in
+    absurd (run_no_drill (map string_bytes c.args.words.now) settings c.in-Ok-Some-Drill.count c.in-Ok-Some-Drill.first says drill)
+
+pub returns-in-Ok-Some-Drill-clause-caused : goal.returns-in-Ok-Some-Drill-clause-caused
+returns-in-Ok-Some-Drill-clause-caused g c = λ settings says script held told told_sink ending is.
+    let drill : SaysDrill (map string_bytes c.args.words.now) c.in-Ok-Some-Drill.count c.in-Ok-Some-Drill.first = rw (c.in-Ok-Some-Drill.field-0-is, c.in-Ok-Some-Drill.field-0-0-is) at c.in-Ok-Some-Drill.ensures.says in
+    absurd (run_no_drill (map string_bytes c.args.words.now) settings c.in-Ok-Some-Drill.count c.in-Ok-Some-Drill.first says drill)
+
+pub returns-in-Ok-Some-Drill-clause-checked : goal.returns-in-Ok-Some-Drill-clause-checked
+returns-in-Ok-Some-Drill-clause-checked g c = λ settings says.
+    let drill : SaysDrill (map string_bytes c.args.words.now) c.in-Ok-Some-Drill.count c.in-Ok-Some-Drill.first = rw (c.in-Ok-Some-Drill.field-0-is, c.in-Ok-Some-Drill.field-0-0-is) at c.in-Ok-Some-Drill.ensures.says in
+    absurd (check_no_drill (map string_bytes c.args.words.now) settings c.in-Ok-Some-Drill.count c.in-Ok-Some-Drill.first says drill)
+
+pub returns-in-Ok-Some-Drill-clause-unchanged : goal.returns-in-Ok-Some-Drill-clause-unchanged
+returns-in-Ok-Some-Drill-clause-unchanged g c = λ settings says slot.
+    let drill : SaysDrill (map string_bytes c.args.words.now) c.in-Ok-Some-Drill.count c.in-Ok-Some-Drill.first = rw (c.in-Ok-Some-Drill.field-0-is, c.in-Ok-Some-Drill.field-0-0-is) at c.in-Ok-Some-Drill.ensures.says in
+    absurd (check_no_drill (map string_bytes c.args.words.now) settings c.in-Ok-Some-Drill.count c.in-Ok-Some-Drill.first says drill)
+
+pub returns-in-Ok-Some-Drill-clause-unused : goal.returns-in-Ok-Some-Drill-clause-unused
+returns-in-Ok-Some-Drill-clause-unused g c = λ settings says.
+    let drill : SaysDrill (map string_bytes c.args.words.now) c.in-Ok-Some-Drill.count c.in-Ok-Some-Drill.first = rw (c.in-Ok-Some-Drill.field-0-is, c.in-Ok-Some-Drill.field-0-0-is) at c.in-Ok-Some-Drill.ensures.says in
+    absurd (check_no_drill (map string_bytes c.args.words.now) settings c.in-Ok-Some-Drill.count c.in-Ok-Some-Drill.first says drill)
+
+pub returns-in-Ok-Some-Drill-clause-loaded : goal.returns-in-Ok-Some-Drill-clause-loaded
+returns-in-Ok-Some-Drill-clause-loaded g c = λ settings says.
+    let drill : SaysDrill (map string_bytes c.args.words.now) c.in-Ok-Some-Drill.count c.in-Ok-Some-Drill.first = rw (c.in-Ok-Some-Drill.field-0-is, c.in-Ok-Some-Drill.field-0-0-is) at c.in-Ok-Some-Drill.ensures.says in
+    absurd (load_no_drill (map string_bytes c.args.words.now) settings c.in-Ok-Some-Drill.count c.in-Ok-Some-Drill.first says drill)
+
+pub returns-in-Ok-Some-Drill-clause-audited : goal.returns-in-Ok-Some-Drill-clause-audited
+returns-in-Ok-Some-Drill-clause-audited g c = λ settings says.
+    let drill : SaysDrill (map string_bytes c.args.words.now) c.in-Ok-Some-Drill.count c.in-Ok-Some-Drill.first = rw (c.in-Ok-Some-Drill.field-0-is, c.in-Ok-Some-Drill.field-0-0-is) at c.in-Ok-Some-Drill.ensures.says in
+    absurd (audit_no_drill (map string_bytes c.args.words.now) settings c.in-Ok-Some-Drill.count c.in-Ok-Some-Drill.first says drill)
+
+pub returns-in-Ok-Some-Drill-clause-ended : goal.returns-in-Ok-Some-Drill-clause-ended
+returns-in-Ok-Some-Drill-clause-ended g c = λ zero settings says.
+    let drill : SaysDrill (map string_bytes c.args.words.now) c.in-Ok-Some-Drill.count c.in-Ok-Some-Drill.first = rw (c.in-Ok-Some-Drill.field-0-is, c.in-Ok-Some-Drill.field-0-0-is) at c.in-Ok-Some-Drill.ensures.says in
+    absurd (run_no_drill (map string_bytes c.args.words.now) settings c.in-Ok-Some-Drill.count c.in-Ok-Some-Drill.first says drill)
+
+pub returns-in-Ok-Some-Drill-clause-store : goal.returns-in-Ok-Some-Drill-clause-store
+returns-in-Ok-Some-Drill-clause-store g c = λ six settings says.
+    let drill : SaysDrill (map string_bytes c.args.words.now) c.in-Ok-Some-Drill.count c.in-Ok-Some-Drill.first = rw (c.in-Ok-Some-Drill.field-0-is, c.in-Ok-Some-Drill.field-0-0-is) at c.in-Ok-Some-Drill.ensures.says in
+    absurd (run_no_drill (map string_bytes c.args.words.now) settings c.in-Ok-Some-Drill.count c.in-Ok-Some-Drill.first says drill)
+
+pub returns-in-Ok-Some-Drill-clause-sound : goal.returns-in-Ok-Some-Drill-clause-sound
+returns-in-Ok-Some-Drill-clause-sound g c = λ tells status settings says.
+    let drill : SaysDrill (map string_bytes c.args.words.now) c.in-Ok-Some-Drill.count c.in-Ok-Some-Drill.first = rw (c.in-Ok-Some-Drill.field-0-is, c.in-Ok-Some-Drill.field-0-0-is) at c.in-Ok-Some-Drill.ensures.says in
+    absurd (run_no_drill (map string_bytes c.args.words.now) settings c.in-Ok-Some-Drill.count c.in-Ok-Some-Drill.first says drill)
+
+pub returns-in-Ok-Some-Drill-clause-formatted : goal.returns-in-Ok-Some-Drill-clause-formatted
+returns-in-Ok-Some-Drill-clause-formatted g c = λ tells status settings k says taken slot within.
+    let drill : SaysDrill (map string_bytes c.args.words.now) c.in-Ok-Some-Drill.count c.in-Ok-Some-Drill.first = rw (c.in-Ok-Some-Drill.field-0-is, c.in-Ok-Some-Drill.field-0-0-is) at c.in-Ok-Some-Drill.ensures.says in
+    absurd (run_no_drill (map string_bytes c.args.words.now) settings c.in-Ok-Some-Drill.count c.in-Ok-Some-Drill.first says drill)
+
+pub returns-in-Ok-Some-Drill-clause-contents : goal.returns-in-Ok-Some-Drill-clause-contents
+returns-in-Ok-Some-Drill-clause-contents g c = λ tells settings says nothing.
+    let drill : SaysDrill (map string_bytes c.args.words.now) c.in-Ok-Some-Drill.count c.in-Ok-Some-Drill.first = rw (c.in-Ok-Some-Drill.field-0-is, c.in-Ok-Some-Drill.field-0-0-is) at c.in-Ok-Some-Drill.ensures.says in
+    absurd (run_no_drill (map string_bytes c.args.words.now) settings c.in-Ok-Some-Drill.count c.in-Ok-Some-Drill.first says drill)
+
+pub returns-in-Ok-Some-Drill-clause-drew : goal.returns-in-Ok-Some-Drill-clause-drew
+returns-in-Ok-Some-Drill-clause-drew g c = λ tells zero settings says nothing.
+    let drill : SaysDrill (map string_bytes c.args.words.now) c.in-Ok-Some-Drill.count c.in-Ok-Some-Drill.first = rw (c.in-Ok-Some-Drill.field-0-is, c.in-Ok-Some-Drill.field-0-0-is) at c.in-Ok-Some-Drill.ensures.says in
+    absurd (run_no_drill (map string_bytes c.args.words.now) settings c.in-Ok-Some-Drill.count c.in-Ok-Some-Drill.first says drill)
+
+pub returns-in-Ok-Some-Drill-clause-flushed : goal.returns-in-Ok-Some-Drill-clause-flushed
+returns-in-Ok-Some-Drill-clause-flushed g c = λ tells zero settings k says taken nothing.
+    let drill : SaysDrill (map string_bytes c.args.words.now) c.in-Ok-Some-Drill.count c.in-Ok-Some-Drill.first = rw (c.in-Ok-Some-Drill.field-0-is, c.in-Ok-Some-Drill.field-0-0-is) at c.in-Ok-Some-Drill.ensures.says in
+    absurd (run_no_drill (map string_bytes c.args.words.now) settings c.in-Ok-Some-Drill.count c.in-Ok-Some-Drill.first says drill)
+
+pub returns-in-Ok-Some-Drill-clause-short : goal.returns-in-Ok-Some-Drill-clause-short
+returns-in-Ok-Some-Drill-clause-short g c = λ zero settings says script told.
+    let drill : SaysDrill (map string_bytes c.args.words.now) c.in-Ok-Some-Drill.count c.in-Ok-Some-Drill.first = rw (c.in-Ok-Some-Drill.field-0-is, c.in-Ok-Some-Drill.field-0-0-is) at c.in-Ok-Some-Drill.ensures.says in
+    absurd (run_no_drill (map string_bytes c.args.words.now) settings c.in-Ok-Some-Drill.count c.in-Ok-Some-Drill.first says drill)
+
+pub returns-in-Ok-Some-Drill-clause-other_slots : goal.returns-in-Ok-Some-Drill-clause-other_slots
+returns-in-Ok-Some-Drill-clause-other_slots g c = λ settings says.
+    let drill : SaysDrill (map string_bytes c.args.words.now) c.in-Ok-Some-Drill.count c.in-Ok-Some-Drill.first = rw (c.in-Ok-Some-Drill.field-0-is, c.in-Ok-Some-Drill.field-0-0-is) at c.in-Ok-Some-Drill.ensures.says in
+    absurd (run_no_drill (map string_bytes c.args.words.now) settings c.in-Ok-Some-Drill.count c.in-Ok-Some-Drill.first says drill)
+
+pub returns-in-Ok-clause-drilled : goal.returns-in-Ok-clause-drilled
+returns-in-Ok-clause-drilled g c = λ tells count first k says taken held told ending is.
+    let run : SaysRun (map string_bytes c.args.words.now) c.in-Ok-Some-Run.settings = rw (c.in-Ok-Some-Run.field-0-is, c.in-Ok-Some-Run.field-0-0-is) at c.in-Ok-Some-Run.ensures.says in
+    absurd (run_no_drill (map string_bytes c.args.words.now) c.in-Ok-Some-Run.settings count first run says)
+
+pub returns-in-Ok-clause-drill_unused : goal.returns-in-Ok-clause-drill_unused
+returns-in-Ok-clause-drill_unused g c = λ says.
+    let run : SaysRun (map string_bytes c.args.words.now) c.in-Ok-Some-Run.settings = rw (c.in-Ok-Some-Run.field-0-is, c.in-Ok-Some-Run.field-0-0-is) at c.in-Ok-Some-Run.ensures.says in
+    absurd (run_no_drill (map string_bytes c.args.words.now) c.in-Ok-Some-Run.settings says.0 says.1 run says.2)
+
+pub returns-in-Err-run_script-clause-drilled : goal.returns-in-Err-run_script-clause-drilled
+returns-in-Err-run_script-clause-drilled g c = λ tells count first k says taken held told ending is.
+    let run : SaysRun (map string_bytes c.args.words.now) c.in-Ok-Some-Run.settings = rw (c.in-Ok-Some-Run.field-0-is, c.in-Ok-Some-Run.field-0-0-is) at c.in-Ok-Some-Run.ensures.says in
+    absurd (run_no_drill (map string_bytes c.args.words.now) c.in-Ok-Some-Run.settings count first run says)
+
+pub returns-in-Err-run_script-clause-drill_unused : goal.returns-in-Err-run_script-clause-drill_unused
+returns-in-Err-run_script-clause-drill_unused g c = λ says.
+    let run : SaysRun (map string_bytes c.args.words.now) c.in-Ok-Some-Run.settings = rw (c.in-Ok-Some-Run.field-0-is, c.in-Ok-Some-Run.field-0-0-is) at c.in-Ok-Some-Run.ensures.says in
+    absurd (run_no_drill (map string_bytes c.args.words.now) c.in-Ok-Some-Run.settings says.0 says.1 run says.2)
+
+pub returns-in-Ok-Some-Check-clause-drilled : goal.returns-in-Ok-Some-Check-clause-drilled
+returns-in-Ok-Some-Check-clause-drilled g c = λ tells count first k says taken held told ending is.
+    let check : SaysCheck (map string_bytes c.args.words.now) c.in-Ok-Some-Check.settings = rw (c.in-Ok-Some-Check.field-0-is, c.in-Ok-Some-Check.field-0-0-is) at c.in-Ok-Some-Check.ensures.says in
+    absurd (check_no_drill (map string_bytes c.args.words.now) c.in-Ok-Some-Check.settings count first check says)
+
+pub returns-in-Ok-Some-Check-clause-drill_unused : goal.returns-in-Ok-Some-Check-clause-drill_unused
+returns-in-Ok-Some-Check-clause-drill_unused g c = λ says.
+    let check : SaysCheck (map string_bytes c.args.words.now) c.in-Ok-Some-Check.settings = rw (c.in-Ok-Some-Check.field-0-is, c.in-Ok-Some-Check.field-0-0-is) at c.in-Ok-Some-Check.ensures.says in
+    absurd (check_no_drill (map string_bytes c.args.words.now) c.in-Ok-Some-Check.settings says.0 says.1 check says.2)
+
+pub returns-in-Ok-Some-Load-clause-drilled : goal.returns-in-Ok-Some-Load-clause-drilled
+returns-in-Ok-Some-Load-clause-drilled g c = λ tells count first k says taken held told ending is.
+    let load : SaysLoad (map string_bytes c.args.words.now) c.in-Ok-Some-Load.settings = rw (c.in-Ok-Some-Load.field-0-is, c.in-Ok-Some-Load.field-0-0-is) at c.in-Ok-Some-Load.ensures.says in
+    absurd (load_no_drill (map string_bytes c.args.words.now) c.in-Ok-Some-Load.settings count first load says)
+
+pub returns-in-Ok-Some-Load-clause-drill_unused : goal.returns-in-Ok-Some-Load-clause-drill_unused
+returns-in-Ok-Some-Load-clause-drill_unused g c = λ says.
+    let load : SaysLoad (map string_bytes c.args.words.now) c.in-Ok-Some-Load.settings = rw (c.in-Ok-Some-Load.field-0-is, c.in-Ok-Some-Load.field-0-0-is) at c.in-Ok-Some-Load.ensures.says in
+    absurd (load_no_drill (map string_bytes c.args.words.now) c.in-Ok-Some-Load.settings says.0 says.1 load says.2)
+
+pub returns-in-Ok-Some-Audit-clause-drilled : goal.returns-in-Ok-Some-Audit-clause-drilled
+returns-in-Ok-Some-Audit-clause-drilled g c = λ tells count first k says taken held told ending is.
+    let audit : SaysAudit (map string_bytes c.args.words.now) c.in-Ok-Some-Audit.settings = rw (c.in-Ok-Some-Audit.field-0-is, c.in-Ok-Some-Audit.field-0-0-is) at c.in-Ok-Some-Audit.ensures.says in
+    absurd (audit_no_drill (map string_bytes c.args.words.now) c.in-Ok-Some-Audit.settings count first audit says)
+
+pub returns-in-Ok-Some-Audit-clause-drill_unused : goal.returns-in-Ok-Some-Audit-clause-drill_unused
+returns-in-Ok-Some-Audit-clause-drill_unused g c = λ says.
+    let audit : SaysAudit (map string_bytes c.args.words.now) c.in-Ok-Some-Audit.settings = rw (c.in-Ok-Some-Audit.field-0-is, c.in-Ok-Some-Audit.field-0-0-is) at c.in-Ok-Some-Audit.ensures.says in
+    absurd (audit_no_drill (map string_bytes c.args.words.now) c.in-Ok-Some-Audit.settings says.0 says.1 audit says.2)
+
+pub returns-in-Err-clause-drilled : goal.returns-in-Err-clause-drilled
+returns-in-Err-clause-drilled g c = λ tells count first k says taken held told ending is.
+    let outside : Outside = outside_of (g.H.Shelf.fault_count c.args.shelf.now) (g.H.Shelf.disks c.args.shelf.now) (g.H.Shelf.arms c.args.shelf.now) in
+    by_status (λ (e : Ending). DrillsTo count first k e outside outside held (g.K.Sink.written c.args.sink.now)) NoMemory ending (sym c.status.ensures ∙ is)
+    (unsaid_nothing count first k outside held (g.K.Sink.written c.args.sink.now) taken told)
+
+pub returns-in-Ok-clause-drill_refused : goal.returns-in-Ok-clause-drill_refused
+returns-in-Ok-clause-drill_refused g c = λ six count first says.
+    let run : SaysRun (map string_bytes c.args.words.now) c.in-Ok-Some-Run.settings = rw (c.in-Ok-Some-Run.field-0-is, c.in-Ok-Some-Run.field-0-0-is) at c.in-Ok-Some-Run.ensures.says in
+    absurd (run_no_drill (map string_bytes c.args.words.now) c.in-Ok-Some-Run.settings count first run says)
+
+pub returns-in-Ok-clause-drill_sound : goal.returns-in-Ok-clause-drill_sound
+returns-in-Ok-clause-drill_sound g c = λ tells zero says.
+    let run : SaysRun (map string_bytes c.args.words.now) c.in-Ok-Some-Run.settings = rw (c.in-Ok-Some-Run.field-0-is, c.in-Ok-Some-Run.field-0-0-is) at c.in-Ok-Some-Run.ensures.says in
+    absurd (run_no_drill (map string_bytes c.args.words.now) c.in-Ok-Some-Run.settings says.0 says.1 run says.2)
+
+pub returns-in-Ok-clause-drill_formatted : goal.returns-in-Ok-clause-drill_formatted
+returns-in-Ok-clause-drill_formatted g c = λ tells zero says k taken slot within void.
+    let run : SaysRun (map string_bytes c.args.words.now) c.in-Ok-Some-Run.settings = rw (c.in-Ok-Some-Run.field-0-is, c.in-Ok-Some-Run.field-0-0-is) at c.in-Ok-Some-Run.ensures.says in
+    absurd (run_no_drill (map string_bytes c.args.words.now) c.in-Ok-Some-Run.settings says.0 says.1 run says.2)
+
+pub returns-in-Ok-clause-drill_status : goal.returns-in-Ok-clause-drill_status
+returns-in-Ok-clause-drill_status g c = λ says.
+    let run : SaysRun (map string_bytes c.args.words.now) c.in-Ok-Some-Run.settings = rw (c.in-Ok-Some-Run.field-0-is, c.in-Ok-Some-Run.field-0-0-is) at c.in-Ok-Some-Run.ensures.says in
+    absurd (run_no_drill (map string_bytes c.args.words.now) c.in-Ok-Some-Run.settings says.0 says.1 run says.2)
+
+pub returns-in-Err-run_script-clause-drill_refused : goal.returns-in-Err-run_script-clause-drill_refused
+returns-in-Err-run_script-clause-drill_refused g c = λ six count first says.
+    let run : SaysRun (map string_bytes c.args.words.now) c.in-Ok-Some-Run.settings = rw (c.in-Ok-Some-Run.field-0-is, c.in-Ok-Some-Run.field-0-0-is) at c.in-Ok-Some-Run.ensures.says in
+    absurd (run_no_drill (map string_bytes c.args.words.now) c.in-Ok-Some-Run.settings count first run says)
+
+pub returns-in-Err-run_script-clause-drill_sound : goal.returns-in-Err-run_script-clause-drill_sound
+returns-in-Err-run_script-clause-drill_sound g c = λ tells zero says.
+    let run : SaysRun (map string_bytes c.args.words.now) c.in-Ok-Some-Run.settings = rw (c.in-Ok-Some-Run.field-0-is, c.in-Ok-Some-Run.field-0-0-is) at c.in-Ok-Some-Run.ensures.says in
+    absurd (run_no_drill (map string_bytes c.args.words.now) c.in-Ok-Some-Run.settings says.0 says.1 run says.2)
+
+pub returns-in-Err-run_script-clause-drill_formatted : goal.returns-in-Err-run_script-clause-drill_formatted
+returns-in-Err-run_script-clause-drill_formatted g c = λ tells zero says k taken slot within void.
+    let run : SaysRun (map string_bytes c.args.words.now) c.in-Ok-Some-Run.settings = rw (c.in-Ok-Some-Run.field-0-is, c.in-Ok-Some-Run.field-0-0-is) at c.in-Ok-Some-Run.ensures.says in
+    absurd (run_no_drill (map string_bytes c.args.words.now) c.in-Ok-Some-Run.settings says.0 says.1 run says.2)
+
+pub returns-in-Err-run_script-clause-drill_status : goal.returns-in-Err-run_script-clause-drill_status
+returns-in-Err-run_script-clause-drill_status g c = λ says.
+    let run : SaysRun (map string_bytes c.args.words.now) c.in-Ok-Some-Run.settings = rw (c.in-Ok-Some-Run.field-0-is, c.in-Ok-Some-Run.field-0-0-is) at c.in-Ok-Some-Run.ensures.says in
+    absurd (run_no_drill (map string_bytes c.args.words.now) c.in-Ok-Some-Run.settings says.0 says.1 run says.2)
+
+pub returns-in-Ok-Some-Check-clause-drill_refused : goal.returns-in-Ok-Some-Check-clause-drill_refused
+returns-in-Ok-Some-Check-clause-drill_refused g c = λ six count first says.
+    let check : SaysCheck (map string_bytes c.args.words.now) c.in-Ok-Some-Check.settings = rw (c.in-Ok-Some-Check.field-0-is, c.in-Ok-Some-Check.field-0-0-is) at c.in-Ok-Some-Check.ensures.says in
+    absurd (check_no_drill (map string_bytes c.args.words.now) c.in-Ok-Some-Check.settings count first check says)
+
+pub returns-in-Ok-Some-Check-clause-drill_sound : goal.returns-in-Ok-Some-Check-clause-drill_sound
+returns-in-Ok-Some-Check-clause-drill_sound g c = λ tells zero says.
+    let check : SaysCheck (map string_bytes c.args.words.now) c.in-Ok-Some-Check.settings = rw (c.in-Ok-Some-Check.field-0-is, c.in-Ok-Some-Check.field-0-0-is) at c.in-Ok-Some-Check.ensures.says in
+    absurd (check_no_drill (map string_bytes c.args.words.now) c.in-Ok-Some-Check.settings says.0 says.1 check says.2)
+
+pub returns-in-Ok-Some-Check-clause-drill_formatted : goal.returns-in-Ok-Some-Check-clause-drill_formatted
+returns-in-Ok-Some-Check-clause-drill_formatted g c = λ tells zero says k taken slot within void.
+    let check : SaysCheck (map string_bytes c.args.words.now) c.in-Ok-Some-Check.settings = rw (c.in-Ok-Some-Check.field-0-is, c.in-Ok-Some-Check.field-0-0-is) at c.in-Ok-Some-Check.ensures.says in
+    absurd (check_no_drill (map string_bytes c.args.words.now) c.in-Ok-Some-Check.settings says.0 says.1 check says.2)
+
+pub returns-in-Ok-Some-Check-clause-drill_status : goal.returns-in-Ok-Some-Check-clause-drill_status
+returns-in-Ok-Some-Check-clause-drill_status g c = λ says.
+    let check : SaysCheck (map string_bytes c.args.words.now) c.in-Ok-Some-Check.settings = rw (c.in-Ok-Some-Check.field-0-is, c.in-Ok-Some-Check.field-0-0-is) at c.in-Ok-Some-Check.ensures.says in
+    absurd (check_no_drill (map string_bytes c.args.words.now) c.in-Ok-Some-Check.settings says.0 says.1 check says.2)
+
+pub returns-in-Ok-Some-Load-clause-drill_refused : goal.returns-in-Ok-Some-Load-clause-drill_refused
+returns-in-Ok-Some-Load-clause-drill_refused g c = λ six count first says.
+    let load : SaysLoad (map string_bytes c.args.words.now) c.in-Ok-Some-Load.settings = rw (c.in-Ok-Some-Load.field-0-is, c.in-Ok-Some-Load.field-0-0-is) at c.in-Ok-Some-Load.ensures.says in
+    absurd (load_no_drill (map string_bytes c.args.words.now) c.in-Ok-Some-Load.settings count first load says)
+
+pub returns-in-Ok-Some-Load-clause-drill_sound : goal.returns-in-Ok-Some-Load-clause-drill_sound
+returns-in-Ok-Some-Load-clause-drill_sound g c = λ tells zero says.
+    let load : SaysLoad (map string_bytes c.args.words.now) c.in-Ok-Some-Load.settings = rw (c.in-Ok-Some-Load.field-0-is, c.in-Ok-Some-Load.field-0-0-is) at c.in-Ok-Some-Load.ensures.says in
+    absurd (load_no_drill (map string_bytes c.args.words.now) c.in-Ok-Some-Load.settings says.0 says.1 load says.2)
+
+pub returns-in-Ok-Some-Load-clause-drill_formatted : goal.returns-in-Ok-Some-Load-clause-drill_formatted
+returns-in-Ok-Some-Load-clause-drill_formatted g c = λ tells zero says k taken slot within void.
+    let load : SaysLoad (map string_bytes c.args.words.now) c.in-Ok-Some-Load.settings = rw (c.in-Ok-Some-Load.field-0-is, c.in-Ok-Some-Load.field-0-0-is) at c.in-Ok-Some-Load.ensures.says in
+    absurd (load_no_drill (map string_bytes c.args.words.now) c.in-Ok-Some-Load.settings says.0 says.1 load says.2)
+
+pub returns-in-Ok-Some-Load-clause-drill_status : goal.returns-in-Ok-Some-Load-clause-drill_status
+returns-in-Ok-Some-Load-clause-drill_status g c = λ says.
+    let load : SaysLoad (map string_bytes c.args.words.now) c.in-Ok-Some-Load.settings = rw (c.in-Ok-Some-Load.field-0-is, c.in-Ok-Some-Load.field-0-0-is) at c.in-Ok-Some-Load.ensures.says in
+    absurd (load_no_drill (map string_bytes c.args.words.now) c.in-Ok-Some-Load.settings says.0 says.1 load says.2)
+
+pub returns-in-Ok-Some-Audit-clause-drill_refused : goal.returns-in-Ok-Some-Audit-clause-drill_refused
+returns-in-Ok-Some-Audit-clause-drill_refused g c = λ six count first says.
+    let audit : SaysAudit (map string_bytes c.args.words.now) c.in-Ok-Some-Audit.settings = rw (c.in-Ok-Some-Audit.field-0-is, c.in-Ok-Some-Audit.field-0-0-is) at c.in-Ok-Some-Audit.ensures.says in
+    absurd (audit_no_drill (map string_bytes c.args.words.now) c.in-Ok-Some-Audit.settings count first audit says)
+
+pub returns-in-Ok-Some-Audit-clause-drill_sound : goal.returns-in-Ok-Some-Audit-clause-drill_sound
+returns-in-Ok-Some-Audit-clause-drill_sound g c = λ tells zero says.
+    let audit : SaysAudit (map string_bytes c.args.words.now) c.in-Ok-Some-Audit.settings = rw (c.in-Ok-Some-Audit.field-0-is, c.in-Ok-Some-Audit.field-0-0-is) at c.in-Ok-Some-Audit.ensures.says in
+    absurd (audit_no_drill (map string_bytes c.args.words.now) c.in-Ok-Some-Audit.settings says.0 says.1 audit says.2)
+
+pub returns-in-Ok-Some-Audit-clause-drill_formatted : goal.returns-in-Ok-Some-Audit-clause-drill_formatted
+returns-in-Ok-Some-Audit-clause-drill_formatted g c = λ tells zero says k taken slot within void.
+    let audit : SaysAudit (map string_bytes c.args.words.now) c.in-Ok-Some-Audit.settings = rw (c.in-Ok-Some-Audit.field-0-is, c.in-Ok-Some-Audit.field-0-0-is) at c.in-Ok-Some-Audit.ensures.says in
+    absurd (audit_no_drill (map string_bytes c.args.words.now) c.in-Ok-Some-Audit.settings says.0 says.1 audit says.2)
+
+pub returns-in-Ok-Some-Audit-clause-drill_status : goal.returns-in-Ok-Some-Audit-clause-drill_status
+returns-in-Ok-Some-Audit-clause-drill_status g c = λ says.
+    let audit : SaysAudit (map string_bytes c.args.words.now) c.in-Ok-Some-Audit.settings = rw (c.in-Ok-Some-Audit.field-0-is, c.in-Ok-Some-Audit.field-0-0-is) at c.in-Ok-Some-Audit.ensures.says in
+    absurd (audit_no_drill (map string_bytes c.args.words.now) c.in-Ok-Some-Audit.settings says.0 says.1 audit says.2)
+
+pub returns-in-Ok-Some-Drill-clause-drill_refused : goal.returns-in-Ok-Some-Drill-clause-drill_refused
+returns-in-Ok-Some-Drill-clause-drill_refused g c = λ six count first says.
+    let drill : SaysDrill (map string_bytes c.args.words.now) c.in-Ok-Some-Drill.count c.in-Ok-Some-Drill.first = rw (c.in-Ok-Some-Drill.field-0-is, c.in-Ok-Some-Drill.field-0-0-is) at c.in-Ok-Some-Drill.ensures.says in
+    let same = same_drill (map string_bytes c.args.words.now) c.in-Ok-Some-Drill.count c.in-Ok-Some-Drill.first count first drill says in
+    let outside : Outside = outside_of (g.H.Shelf.fault_count c.args.shelf.now) (g.H.Shelf.disks c.args.shelf.now) (g.H.Shelf.arms c.args.shelf.now) in
+    let given : Outside = outside_of (g.H.Shelf.fault_count c.drill_store.new.shelf) (g.H.Shelf.disks c.drill_store.new.shelf) (g.H.Shelf.arms c.drill_store.new.shelf) in
+    let sure : ℕ → Bool = (λ lane. (g.H.Shelf.arms c.args.shelf.now lane).is_sure) in
+    let P : ℕ → ℕ → Type 0 = λ n m. RefusedRun g.H.Disk.Disk.Tells n m outside given sure (g.H.Shelf.disks c.args.shelf.now) (g.H.Shelf.disks c.drill_store.new.shelf)
+    (g.K.Sink.written c.args.sink.now) (g.K.Sink.written c.drill_store.new.sink) in
+    subst (λ (n : ℕ). P n first) same.0 (subst (λ (m : ℕ). P c.in-Ok-Some-Drill.count m) same.1 (c.drill_store.ensures.refused six))
+
+pub returns-in-Ok-Some-Drill-clause-drill_sound : goal.returns-in-Ok-Some-Drill-clause-drill_sound
+returns-in-Ok-Some-Drill-clause-drill_sound g c = λ tells zero says. c.drill_store.ensures.sound tells zero
+
+pub returns-in-Ok-Some-Drill-clause-drill_formatted : goal.returns-in-Ok-Some-Drill-clause-drill_formatted
+returns-in-Ok-Some-Drill-clause-drill_formatted g c = λ tells zero says. c.drill_store.ensures.formatted tells zero
+
+pub returns-in-Ok-Some-Drill-clause-drill_status : goal.returns-in-Ok-Some-Drill-clause-drill_status
+returns-in-Ok-Some-Drill-clause-drill_status g c = λ says. c.drill_store.ensures.status
