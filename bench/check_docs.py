@@ -1,7 +1,7 @@
 #!/usr/bin/env python3
 """Checks the documents against the tree, and exits with 1 where one of them names what is not there.
 
-    bench/check_docs.py [--program PATH]
+    bench/check_docs.py
 
 Looked at are README.md, CHANGELOG.md and all of docs/:
 
@@ -11,24 +11,20 @@ Looked at are README.md, CHANGELOG.md and all of docs/:
 - modes, options, statuses with their messages, commands and replies are those of the program;
 - names that a table gives of a crate or of a file are defined there;
 - each limit that a page tells is the one of its definition, and the pages on the program have no other number of four digits or more;
-- the magics, and how many tests and edits there are, are those of the tree;
+- the magics, and how many tests and edits there are, are those of the tree, and each edit can be applied to its crate;
 - the version stands in CHANGELOG.md, and the other pages name the same;
+- README.md has at most 900 words;
 - each figure is drawn from its numbers, which the tables of docs/benchmarks.md have too.
 
-With --program the examples are tried too: those of examples/, the scripts of docs/script.md beside their transcripts, the commands of
-docs/check.md and docs/audit.md with what they print, and how many descriptors a run needs.
+bench/walk.py runs what the documents show.
 """
 
-import argparse
-import functools
-import os
 import re
-import resource
-import subprocess
 import sys
-import tempfile
 from pathlib import Path
 
+import drill
+import edits
 import plot
 
 ROOT = Path(__file__).resolve().parent.parent
@@ -169,7 +165,7 @@ def check_words(path, text):
             fault(path, f"no option: --{option}")
     modes = words_in("crates/hay_cli/src/lib.rt", r'"(\w+)" =>')
     for mode in set(re.findall(r"`haystack ([a-z]+)|^\.B haystack ([a-z]+)", text, re.MULTILINE)):
-        if not set(mode) & (modes - {"drill"}):
+        if not set(mode) & modes:
             fault(path, f"no mode: {mode}")
 
 
@@ -231,12 +227,16 @@ def limits():
         "photo_one": number_in("crates/hay_needle/specs/Sizes.antt", r"max_photo One = (\d+)"),
         "line": number_in("crates/hay_script/src/words.rt", r"MAX_LINE: usize = ([\d_]+)"),
         "script": number_in("crates/hay_run/specs/Runs.antt", r"length read ≡ (\d+)"),
+        "batch": number_in("crates/hay_batch/specs/Batches.antt", r"length photos ≤ (\d+)"),
+        "batch_bytes": number_in("crates/hay_batch/src/photo.rt", r"MAX_TOTAL: u64 = ([\d_]+)"),
+        "transcript": number_in("crates/hay_frame/src/frame.rt", r"TRANSCRIPT: usize = ([\d_]+)"),
         "commands": number_in("crates/hay_legal/specs/Items.antt", r"nat_lt block\.commands (\d+)"),
         "generation": number_in("crates/hay_head/specs/Head.antt", r"pub most : generation ≤ (\d+)"),
         "lanes": number_in(script, r'codes "lanes"\) then lanes_by \(from_one (\d+) ') - 1,
         "digits": number_in(script, r"nat_le \(length text\) (\d+) && list_all is_ascii_digit"),
         "cookie": number_in(script, r"nat_le \(length text\) (\d+) && list_all is_hex_digit"),
         "secret": number_in("crates/hay_cli/specs/Commands.antt", r"secret_in text = if length text == (\d+)"),
+        "photos": number_in("crates/hay_cli/src/drill.rt", r"read_number\(count\?, 1, ([\d_]+)\)"),
         # a superblock, the head of a needle, and an end mark
         "opening": superblock + head + 8,
     }
@@ -276,8 +276,10 @@ LIMITS = {
         "A photo has 0 to {photo:,} bytes, a line of the script at most {line:,}, and a script at most {script:,}.",
         "A block has 1 to {lanes} lanes, and at most {commands:,} commands.",
         "A replica is compacted at most {generation:,} times.",
+        "COUNT photos (1 to {photos:,})",
         "a byte came behind {script:,} bytes of script, or, in an audit, of the transcript",
     ),
+    "docs/drill.md": ("COUNT is 1 to {photos:,} photos",),
     "docs/audit.md": ("N is a decimal number of at most {script:,}, and the transcript has at most so many bytes",),
     "docs/rules.md": (
         "a photo has at most {photo:,} bytes, in version 1 at most {photo_one:,} |",
@@ -288,10 +290,13 @@ LIMITS = {
         "a script has at most {script:,} bytes",
         "a block has at most {commands:,} commands",
         "a block has 1 to {lanes} lanes",
+        "a batch of a load has at most {batch} photos, and {batch_bytes:,} bytes of needles",
+        "a transcript that is judged has at most {transcript:,} bytes",
         "a number has 1 to {digits} digits, a cookie 1 to {cookie} hexadecimal ones",
         "the last generation is {generation:,} |",
         "an opening reads at most {opening} bytes more",
     ),
+    "docs/load.md": ("are no more than {batch}, and their needles have no more than {batch_bytes:,} bytes together",),
     "docs/glossary.md": ("any bytes, 0 to {photo:,} of them", "Each compaction makes the next one, up to {generation:,} |"),
     "docs/file-formats.md": (
         "0 to {photo_one:,} in version 1, 0 to {photo:,} in version 2",
@@ -357,17 +362,25 @@ def check_counts():
     machines = sum(int(count) for count in re.findall(r"run_scripts\(&rt, rt\.alloc\(\), (\d)\)", text_of(faults_rt)))
     lanes = re.search(r"\[\((\d)u32, ([\d_]+)u64\), \((\d), ([\d_]+)\)\]", text_of("crates/hay_thread_tests/src/tests.rt")).groups()
     words = {"2": "two", "8": "eight"}
-    edits = len(list((ROOT / "crates").glob("*/must-fail/*.edit")))
+    tried, kept = (len(list((ROOT / "crates").glob(f"*/{folder}/*.edit"))) for folder in edits.FOLDERS)
     page = ROOT / "docs/testing.md"
     text = page.read_text(encoding="utf-8")
     for due in (
         f"{machines * fuses * picks:,}\n  scripts",
         f"lets 0 to {fuses - 1} calls",
         f"{words[lanes[0]]} lanes of {int(lanes[1]):,} lines and {words[lanes[2]]} of {int(lanes[3]):,}",
-        f"{edits} edits",
+        f"{tried + kept} edits",
+        f"{tried} of them",
     ):
         if due not in text:
             fault(page, f"it does not say: {due!r}")
+
+
+def check_edits():
+    for edit in (edit for crate in CRATES for edit in edits.edits_of(crate)):
+        why = edits.fault_of(edit)
+        if why is not None:
+            fault(edit, why)
 
 
 def check_magics():
@@ -380,10 +393,10 @@ def check_magics():
 
 
 def check_example():
-    """The first example stands in the README as its files have it."""
-    readme = ROOT / "README.md"
-    if text_of("examples/first/transcript") not in readme.read_text(encoding="utf-8"):
-        fault(readme, "the first transcript is not that of examples/first")
+    """The drill that is shown is what the rule says."""
+    path = ROOT / "docs/drill.md"
+    if drill.summary_text(200, 0) not in path.read_text(encoding="utf-8"):
+        fault(path, "the summary is not that of 200 photos")
 
 
 # VERSION AND FIGURES
@@ -402,6 +415,14 @@ def check_version():
             fault(path, f"version {version}, and the list of changes has {found[1]}")
 
 
+def check_length():
+    """The first page is short."""
+    readme = ROOT / "README.md"
+    words = len(readme.read_text(encoding="utf-8").split())
+    if words > 900:
+        fault(readme, f"{words} words, and 900 are the most")
+
+
 def check_figures():
     """Each row of a figure's numbers stands in a table of the page, whose first row may name the size of the photos."""
     page = ROOT / "docs/benchmarks.md"
@@ -412,9 +433,9 @@ def check_figures():
         if f"](figures/{figure.name}.svg)" not in page.read_text(encoding="utf-8"):
             fault(page, f"it does not show {figure.name}.svg")
         for row in plot.numbers_of(figure):
-            size = f"{int(row['bytes_each']):,}"
-            numbers = {f"{int(row['photos']):,}"} | {shown(row[panel.column]) for panel in figure.panels}
-            if not any(numbers <= cells and (size in cells or f"puts of {size} bytes" in " ".join(head)) for head, *rest in tables for cells in rest):
+            numbers = {shown(row[name]) for name in ("photos", "lanes", "volumes", *(panel.column for panel in figure.panels)) if name in row}
+            size = shown(row["bytes_each"]) if "bytes_each" in row else None
+            if not any(numbers <= cells and (size is None or size in cells or f"puts of {size} bytes" in " ".join(head)) for head, *rest in tables for cells in rest):
                 fault(page, f"no row of a table has the numbers of {figure.name}.csv: {', '.join(row.values())}")
 
 
@@ -424,93 +445,15 @@ def shown(number):
     return f"{int(whole):,}" + (f".{part}" if part else "")
 
 
-# WORKED EXAMPLES
-
-
-def transcript_of(program, words, script):
-    return subprocess.run([program, *words], input=script, capture_output=True, text=True, check=False).stdout
-
-
-def blocks_of(path):
-    """Each block of code, with the text before it."""
-    parts = path.read_text(encoding="utf-8").split("```")
-    return list(zip(parts[::2], parts[1::2]))
-
-
-def check_files(program):
-    for script in (ROOT / "examples").glob("*/script"):
-        if transcript_of(program, ["run"], script.read_text(encoding="utf-8")) != script.with_name("transcript").read_text(encoding="utf-8"):
-            fault(script, "its transcript is another one")
-
-
-def check_scripts(program):
-    """A script stands on the left, and its transcript on the right. The words are those that the text before it names."""
-    path = ROOT / "docs/script.md"
-    for before, block in blocks_of(path):
-        rows = [(line[:30].strip(), line[31:].strip()) for line in block.strip("\n").splitlines()]
-        if not rows[0][1].startswith("haystack "):
-            continue
-        named = re.findall(r"`(run( --\w+ \d+)+)`", before.rstrip().splitlines()[-1])
-        words = named[-1][0].split() if named else ["run"]
-        script = "".join(f"{left}\n" for left, _ in rows if left)
-        if transcript_of(program, words, script).splitlines() != [right for _, right in rows if right]:
-            fault(path, f"another transcript of: {script.splitlines()[:3]}")
-
-
-def check_commands(program):
-    """The commands behind a dollar sign print what stands below them."""
-    for path, folder in ((ROOT / "docs/check.md", None), (ROOT / "docs/audit.md", ROOT)):
-        check_commands_of(program, path, folder)
-
-
-def check_commands_of(program, path, folder):
-    """The commands of one page, which begin in this folder, or in an empty one."""
-    for _, block in blocks_of(path):
-        if not block.startswith("\n$ "):
-            continue
-        commands = [line[2:] for line in block.splitlines() if line.startswith("$ ")]
-        due = [line for line in block.strip("\n").splitlines() if not line.startswith("$ ")]
-        with tempfile.TemporaryDirectory() as scratch:
-            os.symlink(program, Path(scratch, "haystack"))
-            paths = {**os.environ, "PATH": f"{scratch}:{os.environ['PATH']}"}
-            done = subprocess.run(["sh"], input="\n".join(commands), cwd=folder or scratch, env=paths, stdout=subprocess.PIPE, stderr=subprocess.STDOUT, text=True, check=False)
-        if done.stdout.splitlines() != due:
-            fault(path, f"its commands print: {done.stdout}")
-
-
-def check_descriptors(program):
-    """What the pages tell is enough for a compaction on one replica, and one descriptor fewer is not."""
-    counts = {"two": 2, "six": 6}
-    said = r"needs (\w+), (\w+) more for each replica of each volume, and (\w+) more for each compaction that stands"
-    told = [re.search(said, text_of(f"docs/{name}")) for name in ("script.md", "haystack.1")]
-    if None in told or told[0].groups() != told[1].groups():
-        return fault(ROOT / "docs/haystack.1", "it does not say the descriptors as script.md does")
-    least = sum(counts[word] for word in told[0].groups())
-    for limit, enough in ((least, True), (least - 1, False)):
-        with tempfile.TemporaryDirectory() as scratch:
-            words = [program, "run", "--folder", f"{scratch}/store"]
-            bound = functools.partial(resource.setrlimit, resource.RLIMIT_NOFILE, (limit, limit))
-            done = subprocess.run(words, input="put 0 1 61\ncompact 0 0\n", preexec_fn=bound, capture_output=True, text=True, check=False)
-        if ("2 compacted 0:0 1" in done.stdout) != enough:
-            fault(ROOT / "docs/haystack.1", f"with {limit} descriptors a run prints: {done.stdout}")
-
-
 def main():
-    parser = argparse.ArgumentParser(description=__doc__.splitlines()[0])
-    parser.add_argument("--program")
-    options = parser.parse_args()
     for path in DOCUMENTS:
         text = path.read_text(encoding="utf-8")
         for check in (check_links, check_paths, check_crates, check_words):
             check(path, text)
     for check in (check_crate_table, check_rules, check_modes, check_statuses, check_script_words, check_options, check_limits):
         check()
-    for check in (check_counts, check_magics, check_version, check_figures, check_example):
+    for check in (check_counts, check_edits, check_magics, check_version, check_length, check_figures, check_example):
         check()
-    if options.program:
-        program = str(Path(options.program).resolve())
-        for check in (check_files, check_scripts, check_commands, check_descriptors):
-            check(program)
     for told in faults:
         print(told)
     print(f"{len(DOCUMENTS)} documents: {len(faults)} faults")

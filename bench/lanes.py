@@ -1,7 +1,7 @@
 #!/usr/bin/env python3
 """Measures lanes: how much faster several serve a block than one does, and what lines and blocks cost in instructions and memory.
 
-    bench/lanes.py [--program PATH] [--before PATH] [--repeat N] [--lines N] [--folder PATH] [--only TABLE]
+    bench/lanes.py [--program PATH] [--before PATH] [--repeat N] [--lines N] [--folder PATH] [--only TABLE] [--csv FOLDER]
 
 The tables are `reads`, `puts`, `apart`, `count`, `memory`, `store` and `session`; without --only all are made.
 
@@ -12,7 +12,8 @@ several are made in turn. Beside it stands what the first thread did, which answ
 behind it: how long it ran, and how long it was ready and another program had the processor; the rest of the clock it waited for other
 lanes. The last column is the most that the lanes could do if no thread had waited, by the seconds that the first one ran, where there is a
 processor for each lane and they change no common volume. `apart` has the same lines with a photo of no bytes, which tells what a line costs
-besides its photo.
+besides its photo. With --csv the numbers of `reads` and of `puts` to four volumes are also written to a file in FOLDER, from which
+bench/plot.py draws.
 
 `count` has the instructions of a plain put, a plain read and a plain delete, by valgrind's cachegrind, which do not depend on other work,
 those of the same lines in a block of one lane, and with --before PATH those of another build.
@@ -154,6 +155,10 @@ def speed_table(options, folder, name, size, make, word):
             parts = " | ".join(f"{part:.2f}" for part in (ran, ready, max(clock - ran - ready, 0)))
             speed = f"{len(lines) / clock:,.0f} | {found[1].clock / clock:.2f}"
             print(f"| {name} | {volumes} | {lanes} | {speed} | {asked or ''} | {parts} | {most} |", flush=True)
+            if name in WANTED and not (make is puts and volumes == 1):
+                run = argparse.Namespace(csv=options.csv, name=f"{name}, {volumes} volume{'s' * (volumes > 1)}")
+                per_second, times = f"{len(lines) / clock:.0f}", f"{found[1].clock / clock:.2f}"
+                bench.record(run, "lanes", lanes=lanes, volumes=volumes, lines_a_second=per_second, times_one_lane=times)
 
 
 def reads_table(options, folder):
@@ -279,6 +284,7 @@ def main():
     parser.add_argument("--lines", type=int, default=400, help="how many lines of large photos a block has")
     parser.add_argument("--folder", help="the folder in which the files of `session` are made")
     parser.add_argument("--only", choices=TABLES)
+    parser.add_argument("--csv", help="the folder of the file from which bench/plot.py draws")
     options = parser.parse_args()
     if not os.access(options.program, os.X_OK):
         sys.exit(f"{options.program} is not there: cd crates/haystack && rt run -- run < stdin")

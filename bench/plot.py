@@ -3,7 +3,7 @@
 
     bench/plot.py [--check]
 
-The numbers are written by bench/bench.py with --csv. A figure is a row of panels under one legend. Each panel has a line for each run
+The numbers are written by bench/bench.py and bench/lanes.py with --csv. A figure is a row of panels under one legend. Each panel has a line for each run
 of the file: across is a column that all panels share, on a scale of powers and with a tick at each of its numbers, and upwards a column
 of the panel's own, on a scale of powers of ten or on an even one that begins at 0. A run has the same colour and mark in every figure,
 and the colours are those of the reader's light or dark scheme.
@@ -106,6 +106,15 @@ FIGURES = (
         ("", "k", "M"),
         (Panel("seconds", "seconds of the processor"), Panel("peak_mib", "greatest memory, MiB")),
     ),
+    Figure(
+        "lanes",
+        "Lines of a block a second, by the number of lanes",
+        "lanes",
+        "lanes",
+        1000,
+        ("",),
+        (Panel("lines_a_second", "lines a second", even=True), Panel("times_one_lane", "times one lane", even=True)),
+    ),
 )
 
 
@@ -119,11 +128,16 @@ def numbers_of(figure):
 
 
 def styles():
-    """The number of each run's colour and mark."""
-    runs = list(dict.fromkeys(row["run"] for figure in FIGURES for row in numbers_of(figure)))
-    if len(runs) > len(MARKS):
-        sys.exit(f"{len(runs)} runs, and no more than {len(MARKS)} colours and marks")
-    return {run: number for number, run in enumerate(runs)}
+    """The number of each run's colour and mark: one that no run has yet, or else one that no run of the figure has."""
+    found = {}
+    for figure in FIGURES:
+        runs = list(dict.fromkeys(row["run"] for row in numbers_of(figure)))
+        if len(runs) > len(MARKS):
+            sys.exit(f"{figure.name}: {len(runs)} runs, and no more than {len(MARKS)} colours and marks")
+        taken = {found.get(run) for run in runs}
+        free = sorted(set(range(len(MARKS))) - taken, key=lambda number: (number in found.values(), number))
+        found.update(zip((run for run in runs if run not in found), free))
+    return found
 
 
 def even_ticks(greatest):
