@@ -136,7 +136,8 @@ grown_behind settings transcript items c d n t begins within count sound has =
     (turns_grown 0 settings run.0 run.1 t (subst (λ (xs : List Asked). Each IsWithinAsked xs) (sym (run.3).asked) within)
     (subst (λ (k : Known). IsGrown 0 k) (sym (begins.alone run.0 run.2)) (fresh_grown settings)) (run.3).legal)
 
-each_small : (settings : Settings) (transcript : List ℕ) (items : List Asked) (c : Kept Box) (n : ℕ) (cs : List Candidate) → Begins Has settings transcript c → Each IsWithinAsked items → n ≡ length items → n ≤ 2 ^ 30
+each_small : (settings : Settings) (transcript : List ℕ) (items : List Asked) (c : Kept Box) (n : ℕ) (cs : List Candidate) → Begins Has settings transcript c
+    → Each IsWithinAsked items → n ≡ length items → n ≤ 2 ^ 30
     → Each (IsSound settings items c) (all_standing transcript cs) → AreKept settings transcript cs → AreSmall cs
 each_small settings transcript items c n [] begins within count few sound kept = tt
 each_small settings transcript items c n (d ∷ cs) begins within count few sound kept = (

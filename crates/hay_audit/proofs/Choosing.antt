@@ -1,5 +1,6 @@
 -- What a restart may find, one choice behind another.
-use Rattle.std.proofs.Common.{◌≡◌, ℕ, zero, suc, min, ◌+◌, ◌<◌, ◌≤◌, Bool, List, [], ◌∷◌, ◌++◌, length, map, drop, Option, Some, None, refl, sym, ap, ◌∙◌, arith, append_assoc, flat_map, drop_of_length-le, get_or}
+use Rattle.std.proofs.Common.{◌≡◌, ℕ, zero, suc, min, ◌+◌, ◌<◌, ◌≤◌, Bool, List, [], ◌∷◌, ◌++◌, length, map, drop, Option, Some, None, refl, sym, ap, ◌∙◌, arith, append_assoc}
+use Rattle.std.proofs.Common.{flat_map, drop_of_length-le, get_or}
 use Rattle.std.proofs.Common.{append-nil as append_nil}
 use Rattle.std.proofs.lemmas.Bool.{cond-true, eq-eqb}
 use Rattle.hay_needle.specs.declared.settings.Settings.{Settings}
@@ -45,7 +46,8 @@ front_with front [] rests = refl
 front_with front (first ∷ firsts) rests =
     map_on (λ rest. front ++ rest) (map (λ rest. first ∷ rest) rests) (choices_with firsts rests)
     ∙ ap (λ (zs : List (List _)). zs ++ map (λ rest. front ++ rest) (choices_with firsts rests))
-    (map_twice (λ rest. first ∷ rest) (λ rest. front ++ rest) rests ∙ map_same (λ rest. front ++ (first ∷ rest)) (λ rest. (front ++ first ∷ []) ++ rest) rests (λ rest. sym (append_assoc front (first ∷ []) rest)))
+    (map_twice (λ rest. first ∷ rest) (λ rest. front ++ rest) rests ∙ map_same (λ rest. front ++ (first ∷ rest)) (λ rest. (front ++ first ∷ []) ++ rest) rests
+    (λ rest. sym (append_assoc front (first ∷ []) rest)))
     ∙ ap (λ (zs : List (List _)). map (λ rest. (front ++ first ∷ []) ++ rest) rests ++ zs) (front_with front firsts rests)
 
 pub chosen_more : {X : Type 0} (fronts : List (List X)) (firsts : List X) (rests : List (List X)) (made : List (List X)) → made ≡ flat_map (λ front. map (behind front) firsts) fronts
@@ -85,7 +87,8 @@ none_high (r ∷ replicas) [] = refl
 none_high (r ∷ replicas) (l ∷ lows) = refl
 
 -- behind the shortest list there is nothing
-pub parts_end : (replicas : List ReplicaKnown) (lows highs : List Slack) (n : ℕ) → min (min (length replicas) (length lows)) (length highs) ≤ n → parts_of (drop n replicas) (drop n lows) (drop n highs) ≡ []
+pub parts_end : (replicas : List ReplicaKnown) (lows highs : List Slack) (n : ℕ) → min (min (length replicas) (length lows)) (length highs) ≤ n
+    → parts_of (drop n replicas) (drop n lows) (drop n highs) ≡ []
 parts_end [] lows highs n h = ap (λ (rs : List ReplicaKnown). parts_of rs (drop n lows) (drop n highs)) (dropped_none n)
 parts_end (r ∷ replicas) [] highs n h = ap (λ (ls : List Slack). parts_of (drop n (r ∷ replicas)) ls (drop n highs)) (dropped_none n) ∙ parts_none (drop n (r ∷ replicas)) (drop n highs)
 parts_end (r ∷ replicas) (l ∷ lows) [] n h = ap (λ (hs : List Slack). parts_of (drop n (r ∷ replicas)) (drop n (l ∷ lows)) hs) (dropped_none n) ∙ none_high (drop n (r ∷ replicas)) (drop n (l ∷ lows))
@@ -95,14 +98,16 @@ parts_end (r ∷ replicas) (l ∷ lows) (x ∷ highs) (suc n) h = parts_end repl
 pub choices_on : (volume : VolumeKnown) (kept : List Bool) (j : ℕ) (old : ReplicaKnown) (low high : Slack) (replicas : List ReplicaKnown) (lows highs : List Slack) (made next : List (List Part))
     → j < length replicas → j < length lows → j < length highs → old ≡ get_or replicas j old → low ≡ get_or lows j low → high ≡ get_or highs j high
     → next ≡ flat_map (λ front. map (behind front) (reopened_parts volume (part_of old low high) (kept_entry volume.pending (is_kept kept j)))) made
-    → chosen next (reopened_choices volume kept (j + 1) (parts_of (drop (j + 1) replicas) (drop (j + 1) lows) (drop (j + 1) highs))) ≡ chosen made (reopened_choices volume kept j (parts_of (drop j replicas) (drop j lows) (drop j highs)))
+    → chosen next (reopened_choices volume kept (j + 1) (parts_of (drop (j + 1) replicas) (drop (j + 1) lows) (drop (j + 1) highs)))
+    ≡ chosen made (reopened_choices volume kept j (parts_of (drop j replicas) (drop j lows) (drop j highs)))
 choices_on volume kept j old low high replicas lows highs made next here low_here high_here is low_is high_is choose =
     choices_more volume kept j old low high (drop (j + 1) replicas) (drop (j + 1) lows) (drop (j + 1) highs) made next choose
     ∙ ap (λ (rs : List ReplicaKnown). chosen made (reopened_choices volume kept j (parts_of rs (low ∷ drop (j + 1) lows) (high ∷ drop (j + 1) highs)))) (sym (at_place replicas j old here is))
     ∙ ap (λ (ls : List Slack). chosen made (reopened_choices volume kept j (parts_of (drop j replicas) ls (high ∷ drop (j + 1) highs)))) (sym (at_place lows j low low_here low_is))
     ∙ ap (λ (hs : List Slack). chosen made (reopened_choices volume kept j (parts_of (drop j replicas) (drop j lows) hs))) (sym (at_place highs j high high_here high_is))
 
-pub choices_end : (volume : VolumeKnown) (kept : List Bool) (n : ℕ) (replicas : List ReplicaKnown) (lows highs : List Slack) (made : List (List Part)) → min (min (length replicas) (length lows)) (length highs) ≤ n
+pub choices_end : (volume : VolumeKnown) (kept : List Bool) (n : ℕ) (replicas : List ReplicaKnown) (lows highs : List Slack) (made : List (List Part))
+    → min (min (length replicas) (length lows)) (length highs) ≤ n
     → chosen made (reopened_choices volume kept n (parts_of (drop n replicas) (drop n lows) (drop n highs))) ≡ made
 choices_end volume kept n replicas lows highs made h =
     ap (λ (ps : List Part). chosen made (reopened_choices volume kept n ps)) (parts_end replicas lows highs n h) ∙ chosen_last made
@@ -126,7 +131,8 @@ stores_more fronts next choices None is = refl
 stores_more fronts next choices (Some read) is = ap (λ (zs : List (List (List Part))). Some (record { value = zs; rest = read.rest })) (chosen_more fronts choices read.value next is)
 
 -- what the first notes say of one volume
-pub store_step : (settings : Settings) (v : ℕ) (volume : VolumeKnown) (volumes : List VolumeKnown) (low high : List Slack) (lows highs : List (List Slack)) (notes rest : List Note) (kept : List Bool) (fronts next : List (List (List Part)))
+pub store_step : (settings : Settings) (v : ℕ) (volume : VolumeKnown) (volumes : List VolumeKnown) (low high : List Slack) (lows highs : List (List Slack)) (notes rest : List Note)
+    (kept : List Bool) (fronts next : List (List (List Part)))
     → volume_kept settings v volume notes volume.pending ≡ Some (record { value = kept; rest = rest })
     → next ≡ flat_map (λ front. map (behind front) (reopened_choices volume kept 0 (parts_of volume.replicas low high))) fronts
     → before_stores next (reopened_stores settings (v + 1) volumes lows highs rest) ≡ before_stores fronts (reopened_stores settings v (volume ∷ volumes) (low ∷ lows) (high ∷ highs) notes)
@@ -134,7 +140,8 @@ store_step settings v volume volumes low high lows highs notes rest kept fronts 
     stores_more fronts next (reopened_choices volume kept 0 (parts_of volume.replicas low high)) (reopened_stores settings (v + 1) volumes lows highs rest) made
     ∙ ap (λ (o : Option (Read (List Bool))). before_stores fronts (then_others volume (parts_of volume.replicas low high) o (reopened_stores settings (v + 1) volumes lows highs))) (sym told)
 
-pub store_stops : (settings : Settings) (v : ℕ) (volume : VolumeKnown) (volumes : List VolumeKnown) (low high : List Slack) (lows highs : List (List Slack)) (notes : List Note) (fronts : List (List (List Part)))
+pub store_stops : (settings : Settings) (v : ℕ) (volume : VolumeKnown) (volumes : List VolumeKnown) (low high : List Slack) (lows highs : List (List Slack)) (notes : List Note)
+    (fronts : List (List (List Part)))
     → volume_kept settings v volume notes volume.pending ≡ None → before_stores fronts (reopened_stores settings v (volume ∷ volumes) (low ∷ lows) (high ∷ highs) notes) ≡ None
 store_stops settings v volume volumes low high lows highs notes fronts told =
     ap (λ (o : Option (Read (List Bool))). before_stores fronts (then_others volume (parts_of volume.replicas low high) o (reopened_stores settings (v + 1) volumes lows highs))) told
@@ -146,7 +153,8 @@ abbrev behind_all : List (List (List Part)) → Settings → ℕ → List Volume
 behind_all fronts settings v volumes lows highs notes = before_stores fronts (reopened_stores settings v volumes lows highs notes)
 
 -- as many notes were used as tell of a volume, behind those of the volumes before
-pub stores_on : (settings : Settings) (v used more : ℕ) (fronts next : List (List (List Part))) (volumes : List VolumeKnown) (lows highs : List (List Slack)) (notes rest : List Note) (volume : VolumeKnown) (low high : List Slack) (kept : List Bool)
+pub stores_on : (settings : Settings) (v used more : ℕ) (fronts next : List (List (List Part))) (volumes : List VolumeKnown) (lows highs : List (List Slack))
+    (notes rest : List Note) (volume : VolumeKnown) (low high : List Slack) (kept : List Bool)
     (whole : Option (Read (List (List (List Part)))))
     → v < length volumes → v < length lows → v < length highs → volume ≡ get_or volumes v volume → low ≡ get_or lows v low → high ≡ get_or highs v high → rest ≡ drop used notes
     → volume_kept settings v volume rest volume.pending ≡ Some (record { value = kept; rest = drop more rest })
@@ -160,9 +168,11 @@ stores_on settings v used more fronts next volumes lows highs notes rest volume 
     ∙ ap (λ (hs : List (List Slack)). behind_all fronts settings v (volume ∷ drop (v + 1) volumes) (low ∷ drop (v + 1) lows) hs (drop used notes)) (at_place highs v high high_here high_is)
     ∙ ap (λ (ns : List Note). behind_all fronts settings v (volume ∷ drop (v + 1) volumes) (low ∷ drop (v + 1) lows) (high ∷ drop (v + 1) highs) ns) (sym on)
     ∙ sym (store_step settings v volume (drop (v + 1) volumes) low high (drop (v + 1) lows) (drop (v + 1) highs) rest (drop more rest) kept fronts next told made)
-    ∙ ap (λ (ns : List Note). behind_all next settings (v + 1) (drop (v + 1) volumes) (drop (v + 1) lows) (drop (v + 1) highs) ns) (ap (λ (ns : List Note). drop more ns) on ∙ sym (drop_twice used more notes))
+    ∙ ap (λ (ns : List Note). behind_all next settings (v + 1) (drop (v + 1) volumes) (drop (v + 1) lows) (drop (v + 1) highs) ns)
+    (ap (λ (ns : List Note). drop more ns) on ∙ sym (drop_twice used more notes))
 
-pub stores_stop : (settings : Settings) (v used : ℕ) (fronts : List (List (List Part))) (volumes : List VolumeKnown) (lows highs : List (List Slack)) (notes rest : List Note) (volume : VolumeKnown) (low high : List Slack)
+pub stores_stop : (settings : Settings) (v used : ℕ) (fronts : List (List (List Part))) (volumes : List VolumeKnown) (lows highs : List (List Slack)) (notes rest : List Note)
+    (volume : VolumeKnown) (low high : List Slack)
     (whole : Option (Read (List (List (List Part)))))
     → v < length volumes → v < length lows → v < length highs → volume ≡ get_or volumes v volume → low ≡ get_or lows v low → high ≡ get_or highs v high → rest ≡ drop used notes
     → volume_kept settings v volume rest volume.pending ≡ None
@@ -175,8 +185,10 @@ stores_stop settings v used fronts volumes lows highs notes rest volume low high
     ∙ ap (λ (ns : List Note). behind_all fronts settings v (volume ∷ drop (v + 1) volumes) (low ∷ drop (v + 1) lows) (high ∷ drop (v + 1) highs) ns) (sym on)
     ∙ store_stops settings v volume (drop (v + 1) volumes) low high (drop (v + 1) lows) (drop (v + 1) highs) rest fronts told
 
-pub stores_done : (settings : Settings) (v used : ℕ) (fronts : List (List (List Part))) (volumes : List VolumeKnown) (lows highs : List (List Slack)) (notes : List Note) (whole : Option (Read (List (List (List Part)))))
-    → length volumes ≤ v → whole ≡ before_stores fronts (reopened_stores settings v (drop v volumes) (drop v lows) (drop v highs) (drop used notes)) → whole ≡ Some (record { value = fronts; rest = drop used notes })
+pub stores_done : (settings : Settings) (v used : ℕ) (fronts : List (List (List Part))) (volumes : List VolumeKnown) (lows highs : List (List Slack)) (notes : List Note)
+    (whole : Option (Read (List (List (List Part)))))
+    → length volumes ≤ v → whole ≡ before_stores fronts (reopened_stores settings v (drop v volumes) (drop v lows) (drop v highs) (drop used notes))
+    → whole ≡ Some (record { value = fronts; rest = drop used notes })
 stores_done settings v used fronts volumes lows highs notes whole past so_far =
     so_far
     ∙ ap (λ (vs : List VolumeKnown). behind_all fronts settings v vs (drop v lows) (drop v highs) (drop used notes)) (drop_of_length-le volumes past)

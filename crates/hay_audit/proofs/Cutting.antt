@@ -36,7 +36,8 @@ not_cut box v j most h = elim h.side [
   | inl below ↦
       let least : min (slack_at box.high v j).end most ≡ (slack_at box.high v j).end = omega (arith, below) in
       let same : up_to box v j most ≡ box =
-      ap (λ (n : ℕ). record box { high = set_slack box.high v j (record (slack_at box.high v j) { end = n }) }) least ∙ ap (λ (xss : List (List Slack)). record box { high = xss }) (slack_same box.high v j) in
+      ap (λ (n : ℕ). record box { high = set_slack box.high v j (record (slack_at box.high v j) { end = n }) }) least
+      ∙ ap (λ (xss : List (List Slack)). record box { high = xss }) (slack_same box.high v j) in
       let here : slack_at (above box v j most).low v j ≡ record (slack_at box.low v j) { end = max (slack_at box.low v j).end (most + 1) } =
       slack_set box.low v j (record (slack_at box.low v j) { end = max (slack_at box.low v j).end (most + 1) }) h.low in
       ap (λ (xs : List Box). xs ++ where_end v j (above box v j most)) (ap (λ (d : Box). where_end v j d) same ∙ kept_there box v j h.some)
@@ -44,7 +45,8 @@ not_cut box v j most h = elim h.side [
   | inr over ↦
       let most_of : max (slack_at box.low v j).end (most + 1) ≡ (slack_at box.low v j).end = omega (arith, over) in
       let same : above box v j most ≡ box =
-      ap (λ (n : ℕ). record box { low = set_slack box.low v j (record (slack_at box.low v j) { end = n }) }) most_of ∙ ap (λ (xss : List (List Slack)). record box { low = xss }) (slack_same box.low v j) in
+      ap (λ (n : ℕ). record box { low = set_slack box.low v j (record (slack_at box.low v j) { end = n }) }) most_of
+      ∙ ap (λ (xss : List (List Slack)). record box { low = xss }) (slack_same box.low v j) in
       let here : slack_at (up_to box v j most).high v j ≡ record (slack_at box.high v j) { end = min (slack_at box.high v j).end most } =
       slack_set box.high v j (record (slack_at box.high v j) { end = min (slack_at box.high v j).end most }) h.high in
       ap (λ (xs : List Box). xs ++ where_end v j (above box v j most)) (dropped_there (up_to box v j most) v j (λ lie. omega (arith, over, lie, ap (λ (s : Slack). s.end) here)))
@@ -72,7 +74,8 @@ pub cuts_none : (settings : Settings) (size v n : ℕ) (states : List Box) → c
 cuts_none settings size v n states =
     ap (λ (m : ℕ). flat_map (volume_cuts settings size v (range_with_len n m)) states) (let e : n - n ≡ 0 = omega arith in e) ∙ flat_each states
 
-pub cuts_all : (settings : Settings) (size v n : ℕ) (state : Box) → n ≡ length (replicas_at state v) → cuts_from settings size v 0 n (state ∷ []) ≡ volume_cuts settings size v (range_with_len 0 n) state
+pub cuts_all : (settings : Settings) (size v n : ℕ) (state : Box) → n ≡ length (replicas_at state v)
+    → cuts_from settings size v 0 n (state ∷ []) ≡ volume_cuts settings size v (range_with_len 0 n) state
 cuts_all settings size v n state h =
     flat_one (volume_cuts settings size v (range_with_len 0 (n - 0))) state ∙ ap (λ (m : ℕ). volume_cuts settings size v (range_with_len 0 m) state) (let e : n - 0 ≡ n = omega arith in e)
 

@@ -1,5 +1,6 @@
 -- How far a store may have grown behind so many items.
-use Rattle.std.proofs.Common.{◌≡◌, ℕ, zero, suc, ◌+◌, ◌*◌, ◌<◌, ◌≤◌, Bool, true, false, List, [], ◌∷◌, ◌++◌, length, map, replicate, Option, Some, None, option_map, refl, sym, ap, subst, ◌∙◌, ◌⊎◌, inl, inr, arith}
+use Rattle.std.proofs.Common.{◌≡◌, ℕ, zero, suc, ◌+◌, ◌*◌, ◌<◌, ◌≤◌, Bool, true, false, List, [], ◌∷◌, ◌++◌, length, map, replicate, Option, Some, None, option_map, refl, sym, ap}
+use Rattle.std.proofs.Common.{subst, ◌∙◌, ◌⊎◌, inl, inr, arith}
 use Rattle.std.specs.Prelude.{slice_index_or, slice_set}
 use Rattle.std.specs.List.{AllByRecursion as Each}
 use Rattle.hay_needle.specs.declared.needle.Pair.{Pair}
@@ -29,8 +30,12 @@ use Rattle.hay_legal.specs.declared.turn.Turn.TheVariants.{Lanes, Plain, Restart
 use Rattle.hay_legal.specs.Items.{Asked, item_of_turn}
 use Rattle.hay_legal.specs.Known.{Leaves, empty_replica, empty_volume, fresh_unharmed, fresh_volume, now, replica_at, replica_on, slot_of, volume_at, with_home, with_replica}
 use Rattle.hay_legal.specs.Legal.{Legal, LegalTurn, known_after}
-use Rattle.hay_legal.specs.Plain.{IsAtRest, IsLoose, IsTight, LegalBegin, LegalCommand, LegalCompact, LegalDel, LegalDrain, LegalFinish, LegalFlush, LegalFuse, LegalFuseDir, LegalGetAt, LegalPlain, LegalPut, LegalShow, LegalStep, LegalUndrain, LegalUrl, MayFinish, OnReplica, SwapFailed, SwapNoMem, Swaps, as_it_is, change_replica, change_volume, ended_where, first_machine, frozen_by, frozen_with, grown, poised, poised_by, put_entry, put_frozen, replica_of, row_pending, run_grown, start_of, stepped, swapped, with_bare, with_del, with_drain, with_fuses, with_put, with_run, with_stuck, without_run}
-use Rattle.hay_legal.specs.Restarts.{BareIs, LegalRestart, ReopenedReplica, ReopenedReplicas, ReopenedVolume, ReopenedVolumes, StandsAsItWas, StandsSwapped, added_cells, added_end, is_kept, kept_entry, with_entries}
+use Rattle.hay_legal.specs.Plain.{IsAtRest, IsLoose, IsTight, LegalBegin, LegalCommand, LegalCompact, LegalDel, LegalDrain, LegalFinish, LegalFlush, LegalFuse, LegalFuseDir}
+use Rattle.hay_legal.specs.Plain.{LegalGetAt, LegalPlain, LegalPut, LegalShow, LegalStep, LegalUndrain, LegalUrl, MayFinish, OnReplica, SwapFailed, SwapNoMem, Swaps, as_it_is}
+use Rattle.hay_legal.specs.Plain.{change_replica, change_volume, ended_where, first_machine, frozen_by, frozen_with, grown, poised, poised_by, put_entry, put_frozen, replica_of}
+use Rattle.hay_legal.specs.Plain.{row_pending, run_grown, start_of, stepped, swapped, with_bare, with_del, with_drain, with_fuses, with_put, with_run, with_stuck, without_run}
+use Rattle.hay_legal.specs.Restarts.{BareIs, LegalRestart, ReopenedReplica, ReopenedReplicas, ReopenedVolume, ReopenedVolumes, StandsAsItWas, StandsSwapped, added_cells}
+use Rattle.hay_legal.specs.Restarts.{added_end, is_kept, kept_entry, with_entries}
 use Rattle.hay_audit.specs.Outside.{IsWithinAsked, IsWithinItem}
 use Rattle.hay_audit.proofs.Small.{each_index}
 use Rattle.hay_audit.proofs.Tallying.{IsAbove, log_length, log_size, log_size_more, none_above, now_above, one_above}
@@ -191,7 +196,8 @@ left_grown : (n : ℕ) (run : Option Run) → IsLeft n run → IsLeft (n + 1) (o
 left_grown n None h = tt
 left_grown n (Some run) h = omega (arith, h)
 
-puts : (n : ℕ) (volume : VolumeKnown) (tag : CoreTag) (pair : Pair) (c : Cookie) (bytes : List ℕ) → length bytes ≤ 16777216 → IsVolumeGrown n volume → IsVolumeGrown (n + 1) (with_put volume tag pair c bytes)
+puts : (n : ℕ) (volume : VolumeKnown) (tag : CoreTag) (pair : Pair) (c : Cookie) (bytes : List ℕ) → length bytes ≤ 16777216 → IsVolumeGrown n volume
+    → IsVolumeGrown (n + 1) (with_put volume tag pair c bytes)
 puts n volume tag pair c bytes small h =
     let logged : Logged = record { tag = tag; entry = entry.Put pair c bytes } in
     let total = photo_total (length bytes) small in
@@ -227,7 +233,8 @@ put_grown n settings k tag pair bytes reply.ReadOnlyDir t small g h = unchanged 
 put_grown n settings k tag pair bytes (reply.Failed v m f) t small g h =
     by_leaves (n + 1) k (put_frozen settings k tag pair bytes v m true) t
     (volume_changed n (n + 1) k v (frozen_with m tag (put_entry settings pair bytes) true) (omega arith)
-    (λ here. freezes_with (n + 1) m tag (put_entry settings pair bytes) true (volume_at k v) (photo_of settings pair bytes small) (volume_more n (n + 1) (volume_at k v) (omega arith) here)) g) h.leaves
+    (λ here. freezes_with (n + 1) m tag (put_entry settings pair bytes) true (volume_at k v) (photo_of settings pair bytes small)
+    (volume_more n (n + 1) (volume_at k v) (omega arith) here)) g) h.leaves
 put_grown n settings k tag pair bytes (reply.FailedDir f) t small g h =
     by_leaves (n + 1) k (row_pending k tag pair (h.needs).volume) t (grown_more n (n + 1) k (omega arith) g) h.leaves
 put_grown n settings k tag pair bytes reply.NoMem t small g h =
@@ -240,7 +247,8 @@ put_grown n settings k tag pair bytes reply.NoMem t small g h =
           | inr leaves ↦
               by_leaves (n + 1) k (put_frozen settings k tag pair bytes some.0 (first_machine settings some.0) false) t
               (volume_changed n (n + 1) k some.0 (frozen_with (first_machine settings some.0) tag (put_entry settings pair bytes) false) (omega arith)
-              (λ here. freezes_with (n + 1) (first_machine settings some.0) tag (put_entry settings pair bytes) false (volume_at k some.0) (photo_of settings pair bytes small) (volume_more n (n + 1) (volume_at k some.0) (omega arith) here)) g)
+              (λ here. freezes_with (n + 1) (first_machine settings some.0) tag (put_entry settings pair bytes) false (volume_at k some.0) (photo_of settings pair bytes small)
+              (volume_more n (n + 1) (volume_at k some.0) (omega arith) here)) g)
               leaves
         ]
       ]
@@ -334,7 +342,15 @@ url_grown n settings k tag pair _ t g h = absurd h
 
 flush_grown : (n : ℕ) (settings : Settings) (k : Known) (v m j : ℕ) (r : Reply) (t : Known) → IsGrown n k → LegalFlush settings k v m j r t → IsGrown (n + 1) t
 flush_grown n settings k v m j (reply.Flushed v' m' x) t g h =
-    replica_leaves n k v j (with_bare 0) t (λ r. record { end = r.end; cells = r.cells; bare = omega arith; generation = r.generation; left = r.left; photos_end = r.photos_end; photos = r.photos }) g h.4
+    replica_leaves n k v j (with_bare 0) t (λ r. record {
+      end = r.end;
+      cells = r.cells;
+      bare = omega arith;
+      generation = r.generation;
+      left = r.left;
+      photos_end = r.photos_end;
+      photos = r.photos;
+    }) g h.4
 flush_grown n settings k v m j (reply.ReadOnly by) t g h = unchanged n k t g h.1
 flush_grown n settings k v m j (reply.Failed v' m' f) t g h =
     replica_leaves n k v j with_stuck t (λ r. record { end = r.end; cells = r.cells; bare = r.bare; generation = r.generation; left = r.left; photos_end = r.photos_end; photos = r.photos }) g h.4
@@ -344,7 +360,15 @@ flush_grown n settings k v m j _ t g h = absurd h
 runs : (n : ℕ) (k : Known) (v j : ℕ) (run : Run) (t : Known) → (IsReplicaGrown (n + 1) (volume_at k v).log (replica_of k v j) → run.left ≤ n + 1) → IsGrown n k
     → Leaves k (change_replica k v j (with_run run)) t → IsGrown (n + 1) t
 runs n k v j run t few g leaves =
-    replica_leaves n k v j (with_run run) t (λ r. record { end = r.end; cells = r.cells; bare = r.bare; generation = r.generation; left = few r; photos_end = r.photos_end; photos = r.photos }) g leaves
+    replica_leaves n k v j (with_run run) t (λ r. record {
+      end = r.end;
+      cells = r.cells;
+      bare = r.bare;
+      generation = r.generation;
+      left = few r;
+      photos_end = r.photos_end;
+      photos = r.photos;
+    }) g leaves
 
 begin_grown : (n : ℕ) (settings : Settings) (k : Known) (v m j : ℕ) (r : Reply) (t : Known) → IsGrown n k → LegalBegin settings k v m j r t → IsGrown (n + 1) t
 begin_grown n settings k v m j (reply.Begun v' m' x) t g h = runs n k v j (record { goal = x; left = (replica_of k v j).cells }) t (λ r. r.cells) g h.4
@@ -387,7 +411,8 @@ tight_bounded n k v j end cells h g =
     let above = now_above (volume_at k v) (replica_of k v j) in
     (omega (arith, h.0, above.end, g.photos_end), omega (arith, h.1, above.photos, g.photos))
 
-swap_grown : (sizes : Known → ℕ → ℕ → ℕ → ℕ → Type 0) → AreBounded sizes → (besides : VolumeKnown → VolumeKnown) → ((n : ℕ) (volume : VolumeKnown) → IsVolumeGrown n volume → IsVolumeGrown n (besides volume))
+swap_grown : (sizes : Known → ℕ → ℕ → ℕ → ℕ → Type 0) → AreBounded sizes → (besides : VolumeKnown → VolumeKnown)
+    → ((n : ℕ) (volume : VolumeKnown) → IsVolumeGrown n volume → IsVolumeGrown n (besides volume))
     → (n : ℕ) (k : Known) (v j : ℕ) (t : Known) → IsGrown n k → Swaps sizes besides k v j t → IsGrown (n + 1) t
 swap_grown sizes bounded besides keeps n k v j t g h =
     let after : Known = change_replica k v j (swapped h.0 h.1) in
@@ -424,7 +449,8 @@ swap_failed_grown n k v j m t g h =
 swap_no_mem_grown : (settings : Settings) (ready : Known → ℕ → ℕ → Type 0) (sizes : Known → ℕ → ℕ → ℕ → ℕ → Type 0) → AreBounded sizes → (n : ℕ) (k : Known) (v j : ℕ) (t : Known) → IsGrown n k
     → SwapNoMem settings ready sizes k v j t → IsGrown (n + 1) t
 swap_no_mem_grown settings ready sizes bounded n k v j t g (inl leaves) = unchanged n k t g leaves
-swap_no_mem_grown settings ready sizes bounded n k v j t g (inr (thawed, is, inl leaves)) = replica_leaves n k v j without_run t (λ r. ends_run (n + 1) (volume_at k v).log (replica_of k v j) r) g leaves
+swap_no_mem_grown settings ready sizes bounded n k v j t g (inr (thawed, is, inl leaves)) =
+    replica_leaves n k v j without_run t (λ r. ends_run (n + 1) (volume_at k v).log (replica_of k v j) r) g leaves
 swap_no_mem_grown settings ready sizes bounded n k v j t g (inr (thawed, is, inr swaps)) =
     swap_grown sizes bounded (frozen_by (first_machine settings v)) (λ m volume. freezes m (first_machine settings v) volume) n k v j t g swaps
 
@@ -577,7 +603,8 @@ replicas_reopened n volume kept j (old ∷ olds) (new ∷ news) photo g h =
     (replica_reopened n volume old new (is_kept kept j) photo g.0 h.0, replicas_reopened n volume kept (j + 1) olds news photo g.1 h.1)
 replicas_reopened n volume kept j _ _ photo g h = absurd h
 
-volume_reopened : (n : ℕ) (settings : Settings) (v : ℕ) (old : VolumeKnown) (kept : List Bool) (new : VolumeKnown) → IsVolumeGrown n old → ReopenedVolume settings v old kept new → IsVolumeGrown (n + 1) new
+volume_reopened : (n : ℕ) (settings : Settings) (v : ℕ) (old : VolumeKnown) (kept : List Bool) (new : VolumeKnown) → IsVolumeGrown n old → ReopenedVolume settings v old kept new
+    → IsVolumeGrown (n + 1) new
 volume_reopened n settings v old kept new g h = record {
   log = subst (λ (log : List Logged). 64 + log_size log ≤ most_end (n + 1)) (sym h.log) (omega arith);
   pending = subst (λ (o : Option Pending). IsPhotoPending o) (sym h.pending) tt;
@@ -605,7 +632,8 @@ turn_grown n settings k (Lanes items logs rows after) small g h = absurd small
 turn_grown n settings k (Restart line pick r notes after) small g h = restart_grown n settings k r notes after g h
 
 -- behind turns of items that are no blocks, each with a photo at most
-pub turns_grown : (n : ℕ) (settings : Settings) (k : Known) (turns : List Turn) (t : Known) → Each IsWithinAsked (map item_of_turn turns) → IsGrown n k → Legal settings k turns t → IsGrown (n + length turns) t
+pub turns_grown : (n : ℕ) (settings : Settings) (k : Known) (turns : List Turn) (t : Known) → Each IsWithinAsked (map item_of_turn turns) → IsGrown n k → Legal settings k turns t
+    → IsGrown (n + length turns) t
 turns_grown n settings k [] t small g h = subst (λ (x : Known). IsGrown (n + 0) x) (sym h) (grown_more n (n + 0) k (omega arith) g)
 turns_grown n settings k (turn ∷ turns) t small g h =
     grown_more ((n + 1) + length turns) (n + suc (length turns)) t (omega arith)

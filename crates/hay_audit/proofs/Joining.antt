@@ -113,7 +113,8 @@ stands_for transcript rest t one other stands leaves =
     let below = has_below one.state other.state t stands.covers (leaves.1, leaves.2, leaves.3) in
     (ap (λ (n : ℕ). drop n transcript) stands.at ∙ leaves.0, below.0, below.1, below.2)
 
-any_standing : (transcript : List ℕ) (P : Candidate → Type 0) (Q : Kept Box → Type 0) (kept : List Candidate) → ((one : Candidate) → P one → Q (standing transcript one)) → AnyOf P kept → AnyOf Q (all_standing transcript kept)
+any_standing : (transcript : List ℕ) (P : Candidate → Type 0) (Q : Kept Box → Type 0) (kept : List Candidate) → ((one : Candidate) → P one → Q (standing transcript one))
+    → AnyOf P kept → AnyOf Q (all_standing transcript kept)
 any_standing transcript P Q [] step h = absurd h
 any_standing transcript P Q (one ∷ kept) step h = elim h [ inl here ↦ inl (step one here) | inr there ↦ inr (any_standing transcript P Q kept step there) ]
 
@@ -143,7 +144,8 @@ joined_advances settings transcript asked cs all kept joined h = record {
   sound =
       all_standing_each transcript (Comes settings asked cs) kept
       (among_each (λ one. Comes settings asked cs (standing transcript one)) all kept joined.among (each_standing transcript (Comes settings asked cs) all h.sound));
-  complete = each_by _ _ cs (λ c goes k faults arms fuses turn t rest has f a leads. any_joined transcript rest t all kept joined.covered (goes k faults arms fuses turn t rest has f a leads)) h.complete;
+  complete =
+      each_by _ _ cs (λ c goes k faults arms fuses turn t rest has f a leads. any_joined transcript rest t all kept joined.covered (goes k faults arms fuses turn t rest has f a leads)) h.complete;
 }
 
 pub joined_kept : (settings : Settings) (transcript : List ℕ) (all kept : List Candidate) → Joined all kept → AreKept settings transcript all → AreKept settings transcript kept
@@ -165,7 +167,8 @@ joined_more done kept c joined = record {
       (any_last (λ other. other ≡ c) done c refl);
   covered =
       each_last (λ other. AnyOf (λ one. StandsFor one other) (kept ++ c ∷ [])) done c
-      (each_by (λ other. AnyOf (λ one. StandsFor one other) kept) (λ other. AnyOf (λ one. StandsFor one other) (kept ++ c ∷ [])) done (λ other h. any_on (λ one. StandsFor one other) kept (c ∷ []) h) joined.covered)
+      (each_by (λ other. AnyOf (λ one. StandsFor one other) kept) (λ other. AnyOf (λ one. StandsFor one other) (kept ++ c ∷ [])) done
+      (λ other h. any_on (λ one. StandsFor one other) kept (c ∷ []) h) joined.covered)
       (any_last (λ one. StandsFor one c) kept c (same_stands c));
 }
 

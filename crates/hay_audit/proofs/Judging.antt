@@ -53,7 +53,8 @@ line_steps settings box line asked r told is = elim (wants_or r) [
 ]
 
 -- the boxes behind a line advance a candidate, behind the text of its reply
-pub line_advances : (settings : Settings) (line : ℕ) (asked : Item) (box : Box) (r : Reply) (text rest : List ℕ) (next : List Box) → IsNoRestart asked → FitsReply r → IsTold asked r → IsBoxOf settings box
+pub line_advances : (settings : Settings) (line : ℕ) (asked : Item) (box : Box) (r : Reply) (text rest : List ℕ) (next : List Box) → IsNoRestart asked → FitsReply r
+    → IsTold asked r → IsBoxOf settings box
     → next ≡ box_plain settings line asked r box → numbered_line line r ++ rest ≡ text
     → IsAdvance Has settings (Alone line asked) (candidate text box) (map (candidate rest) next)
 line_advances settings line asked box r text rest next plain fits told of is e =
@@ -61,10 +62,12 @@ line_advances settings line asked box r text rest next plain fits told of is e =
     (lines_advance Has settings box line asked r rest next plain fits
     (subst (λ (ds : List Box). IsBoxStep (plain_row settings line asked r) box ds) (sym is) (line_steps settings box line asked r told of).0))
 
-pub lines_keep : (settings : Settings) (line : ℕ) (asked : Item) (box : Box) (r : Reply) (next : List Box) → IsTold asked r → IsBoxOf settings box → next ≡ box_plain settings line asked r box → Each (IsBoxOf settings) next
+pub lines_keep : (settings : Settings) (line : ℕ) (asked : Item) (box : Box) (r : Reply) (next : List Box) → IsTold asked r → IsBoxOf settings box
+    → next ≡ box_plain settings line asked r box → Each (IsBoxOf settings) next
 lines_keep settings line asked box r next told of is = subst (λ (ds : List Box). Each (IsBoxOf settings) ds) (sym is) (line_steps settings box line asked r told of).1
 
-pub unread_ends : (settings : Settings) (line : ℕ) (asked : Item) (c : Candidate Box) → ((r : Reply) (rest : List ℕ) → FitsReply r → numbered_line line r ++ rest ≢ c.rest) → IsAdvance Has settings (Alone line asked) c []
+pub unread_ends : (settings : Settings) (line : ℕ) (asked : Item) (c : Candidate Box) → ((r : Reply) (rest : List ℕ) → FitsReply r → numbered_line line r ++ rest ≢ c.rest)
+    → IsAdvance Has settings (Alone line asked) c []
 unread_ends settings line asked c none = unread_lines_end Has settings c line asked none
 
 -- ALL CANDIDATES
@@ -89,7 +92,8 @@ one_more_advances settings asked cs c next more all one = record {
 
 -- THE ITEMS SO FAR
 
-pub begin : (settings : Settings) (script transcript : List ℕ) (c : Candidate Box) → Begins Has settings transcript c → IsBoxOf settings c.state → IsBehind settings script transcript c (c ∷ []) 1 0 script
+pub begin : (settings : Settings) (script transcript : List ℕ) (c : Candidate Box) → Begins Has settings transcript c → IsBoxOf settings c.state
+    → IsBehind settings script transcript c (c ∷ []) 1 0 script
 begin settings script transcript c begins of = record {
   items = [];
   parts = refl;
@@ -111,7 +115,8 @@ pub skipped : (settings : Settings) (script transcript : List ℕ) (c : Candidat
     → IsBehind settings script transcript c cs (number + 1) turns behind
 skipped settings script transcript c cs number turns left text behind h lines nothing = record {
   items = h.items;
-  parts = h.parts ∙ ap (λ (xs : List Asked). h.items ++ xs) (line_items number left text behind lines ∙ ap (λ (o : List Asked × Option _). o.0 ++ items_from (number + 1) o.1 (lines_of behind)) nothing);
+  parts =
+      h.parts ∙ ap (λ (xs : List Asked). h.items ++ xs) (line_items number left text behind lines ∙ ap (λ (o : List Asked × Option _). o.0 ++ items_from (number + 1) o.1 (lines_of behind)) nothing);
   count = h.count;
   shut = h.shut;
   within = h.within;
@@ -211,7 +216,8 @@ is_unlawful settings script transcript c cs number turns left text behind asked 
       subst (λ (xs : List Asked). Reached Has settings xs c cs) (sym (front_of script h.items (items_from number None (lines_of left)) turns h.parts h.count)) h.reached,
       h.some,
       [],
-      subst (λ (xs : List Asked). Reached Has settings xs c []) (sym (front_of script (h.items ++ Alone number asked ∷ []) (items_from (number + 1) None (lines_of behind)) (turns + 1) parts count)) more,
+      subst (λ (xs : List Asked). Reached Has settings xs c []) (sym (front_of script (h.items ++ Alone number asked ∷ []) (items_from (number + 1) None (lines_of behind))
+          (turns + 1) parts count)) more,
       (λ lie. lie),
     ))
 
@@ -234,8 +240,13 @@ is_open settings script transcript c cs number turns left asked rest h next open
     (record {
       judged = subst (λ (xs : List Asked). Each (λ x. IsOpenItem transcript x → ⊥) xs) (sym front) h.shut;
       next = inr (asked, ap (λ (n : ℕ). slice_get (items_of script) n) h.count ∙ ap (λ (xs : List Asked). slice_get xs (length h.items)) parts ∙ next_at h.items asked rest, opened);
-    })
-    (refl, subst (λ (xs : List Asked). turns < length xs) (sym parts) (omega (arith, h.count, long_more h.items rest asked)), cs, subst (λ (xs : List Asked). Reached Has settings xs c cs) (sym front) h.reached, h.some)
+    }) (
+      refl,
+      subst (λ (xs : List Asked). turns < length xs) (sym parts) (omega (arith, h.count, long_more h.items rest asked)),
+      cs,
+      subst (λ (xs : List Asked). Reached Has settings xs c cs) (sym front) h.reached,
+      h.some,
+    )
 
 pub other_header_is_unlawful : (settings : Settings) (script transcript : List ℕ) → HasOtherHeader settings transcript → JudgementOf settings script transcript (Unlawful 0)
 other_header_is_unlawful settings script transcript other =

@@ -45,7 +45,8 @@ kept_home : (rows more : List HomeRow) (pair : Pair) → is_none (home_in rows p
 kept_home [] more pair h = absurd (let lie : true ≡ false = h in cc)
 kept_home (first ∷ rows) more pair h = some_home (pair_eq first.pair pair) first.volume (home_in rows pair) (home_in (rows ++ more) pair) (λ g. kept_home rows more pair g) h
 
-beside_by : (rows : List HomeRow) (row : HomeRow) (other : Pair) → is_none (home_in rows row.pair) ≡ false → (b : Bool) → pair_eq row.pair other ≡ b → home_in (rows ++ row ∷ []) other ≡ home_in rows other
+beside_by : (rows : List HomeRow) (row : HomeRow) (other : Pair) → is_none (home_in rows row.pair) ≡ false → (b : Bool) → pair_eq row.pair other ≡ b
+    → home_in (rows ++ row ∷ []) other ≡ home_in rows other
 beside_by rows row other some true same =
     kept_home rows (row ∷ []) other (subst (λ (p : Pair). is_none (home_in rows p) ≡ false) (pair_same row.pair other same) some)
 beside_by rows row other some false apart = other_home rows row other apart
@@ -77,7 +78,8 @@ told_by : (log : List Logged) (logged : Logged) (o : Option ℕ) (before seen : 
 told_by log logged o before seen true inside is = ap (λ (e : Option Logged). told e before) (sym (get_behind log logged))
 told_by log logged o before seen false inside is = is ∙ ap (λ (e : Option Logged). told e before) (sym (kept_entry log logged o inside))
 
-inside_by : (log : List Logged) (logged : Logged) (o : Option ℕ) (b : Bool) (at : ℕ) → ((n : ℕ) → o ≡ Some n → n < length log) → cond b (Some (length log)) o ≡ Some at → at < length (log ++ logged ∷ [])
+inside_by : (log : List Logged) (logged : Logged) (o : Option ℕ) (b : Bool) (at : ℕ) → ((n : ℕ) → o ≡ Some n → n < length log) → cond b (Some (length log)) o ≡ Some at
+    → at < length (log ++ logged ∷ [])
 inside_by log logged o true at inside e =
     let long = length-append log (logged ∷ []) in
     let is : length log ≡ at = some_is (length log) at e in omega (arith, long, is)
@@ -142,7 +144,8 @@ same_last old new log copy are same is =
 
 -- ONE MORE
 
-pub homes_with : (old new : Entries) (rows more : List HomeRow) (row : HomeRow) → AreHomes old rows → home_in rows row.pair ≡ None → more ≡ rows ++ row ∷ [] → Sets row.pair row.volume old new → AreHomes new more
+pub homes_with : (old new : Entries) (rows more : List HomeRow) (row : HomeRow) → AreHomes old rows → home_in rows row.pair ≡ None → more ≡ rows ++ row ∷ []
+    → Sets row.pair row.volume old new → AreHomes new more
 homes_with old new rows more row are none is sets = subst (λ (rs : List HomeRow). AreHomes new rs) (sym is) (homes_more old new rows row are none sets)
 
 pub last_with : (old new : Entries) (log more : List Logged) (logged : Logged) (pair : Pair) (at : ℕ) → AreLast old log → pair ≡ (logged_row logged).pair → at ≡ length log → more ≡ log ++ logged ∷ []

@@ -31,7 +31,8 @@ line_more script line new i b h other is made =
     let byte = slice_index script i in
     let rest = drop (i + 1) script in
     ap (λ (xs : List ℕ). onto_line line (lines_of xs)) (here script i h)
-    ∙ ap (λ (ls : List (List ℕ)). onto_line line ls) (cond-false (slice_index script i == 10) ([] ∷ lines_of (drop (i + 1) script)) (onto_first (seen_byte (slice_index script i) (drop (i + 1) script)) (lines_of (drop (i + 1) script))) (ne_eqb (slice_index script i) 10 other))
+    ∙ ap (λ (ls : List (List ℕ)). onto_line line ls) (cond-false (slice_index script i == 10) ([] ∷ lines_of (drop (i + 1) script))
+    (onto_first (seen_byte (slice_index script i) (drop (i + 1) script)) (lines_of (drop (i + 1) script))) (ne_eqb (slice_index script i) 10 other))
     ∙ onto_more line (seen_byte (slice_index script i) (drop (i + 1) script)) (lines_of (drop (i + 1) script))
     ∙ ap (λ (c : ℕ). onto_line (line ++ c ∷ []) (lines_of (drop (i + 1) script))) (sym is)
     ∙ ap (λ (xs : List ℕ). onto_line xs (lines_of (drop (i + 1) script))) (sym made)
@@ -41,5 +42,6 @@ pub line_end : (script line : List ℕ) (i : ℕ) → i < length script → slic
     → onto_line line (lines_of (drop i script)) ≡ line ∷ lines_of (drop (i + 1) script)
 line_end script line i h feed =
     ap (λ (xs : List ℕ). onto_line line (lines_of xs)) (here script i h)
-    ∙ ap (λ (ls : List (List ℕ)). onto_line line ls) (cond-true (slice_index script i == 10) ([] ∷ lines_of (drop (i + 1) script)) (onto_first (seen_byte (slice_index script i) (drop (i + 1) script)) (lines_of (drop (i + 1) script))) (eq-eqb (slice_index script i) 10 feed))
+    ∙ ap (λ (ls : List (List ℕ)). onto_line line ls) (cond-true (slice_index script i == 10) ([] ∷ lines_of (drop (i + 1) script))
+    (onto_first (seen_byte (slice_index script i) (drop (i + 1) script)) (lines_of (drop (i + 1) script))) (eq-eqb (slice_index script i) 10 feed))
     ∙ onto_none line (lines_of (drop (i + 1) script))

@@ -72,6 +72,7 @@ flat_next f made new x xs rest first added =
     ap (λ (ys : List _). ys ++ flat_map f xs) added ∙ append_assoc made (f x) (flat_map f xs) ∙ ap (λ (zs : List _). made ++ flat_map f zs) (sym first)
 
 -- one item of a list more, where the last one comes by itself
-pub map_next : {X Y : Type 0} (f : X → Y) (made new : List Y) (x : X) (xs rest : List X) (last : X) → rest ≡ x ∷ xs → new ≡ made ++ f x ∷ [] → new ++ map f (xs ++ last ∷ []) ≡ made ++ map f (rest ++ last ∷ [])
+pub map_next : {X Y : Type 0} (f : X → Y) (made new : List Y) (x : X) (xs rest : List X) (last : X) → rest ≡ x ∷ xs → new ≡ made ++ f x ∷ []
+    → new ++ map f (xs ++ last ∷ []) ≡ made ++ map f (rest ++ last ∷ [])
 map_next f made new x xs rest last first added =
     ap (λ (ys : List _). ys ++ map f (xs ++ last ∷ [])) added ∙ append_assoc made (f x ∷ []) (map f (xs ++ last ∷ [])) ∙ ap (λ (zs : List _). made ++ map f (zs ++ last ∷ [])) (sym first)

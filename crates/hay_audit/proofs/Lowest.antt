@@ -34,8 +34,10 @@ first_is settings size n (r ∷ rs) = by_test (lacks_room settings size r) (firs
     one_more None = refl
     one_more (Some i) = ap (λ (m : ℕ). Some m) (omega arith)
 
-    by_test : (lacks : Bool) → option_map (λ at. at.0) (find (λ at. lacks_room settings size at.1) (enumerate_from (n + 1) rs)) ≡ option_map (λ i. i + (n + 1)) (first_true (map (lacks_room settings size) rs))
-        → option_map (λ at. at.0) (cond lacks (Some (n, r)) (find (λ at. lacks_room settings size at.1) (enumerate_from (n + 1) rs))) ≡ option_map (λ i. i + n) (first_true (lacks ∷ map (lacks_room settings size) rs))
+    by_test : (lacks : Bool) → option_map (λ at. at.0) (find (λ at. lacks_room settings size at.1) (enumerate_from (n + 1) rs))
+        ≡ option_map (λ i. i + (n + 1)) (first_true (map (lacks_room settings size) rs))
+        → option_map (λ at. at.0) (cond lacks (Some (n, r)) (find (λ at. lacks_room settings size at.1) (enumerate_from (n + 1) rs)))
+        ≡ option_map (λ i. i + n) (first_true (lacks ∷ map (lacks_room settings size) rs))
     by_test true h = ap (λ (m : ℕ). Some m) (omega arith)
     by_test false h = h ∙ one_more (first_true (map (lacks_room settings size) rs))
 
@@ -47,7 +49,8 @@ number_of : (o : Option (ℕ × ReplicaKnown)) → option_map (λ (p : ℕ × �
 number_of None = refl
 number_of (Some at) = refl
 
-pub first_lacking : (settings : Settings) (size v : ℕ) (box : Box) (least : Option (ℕ × ℕ)) → LacksAt settings size v box least → first_true (rooms settings size (lowest box) v) ≡ option_map (λ at. at.0) least
+pub first_lacking : (settings : Settings) (size v : ℕ) (box : Box) (least : Option (ℕ × ℕ)) → LacksAt settings size v box least
+    → first_true (rooms settings size (lowest box) v) ≡ option_map (λ at. at.0) least
 first_lacking settings size v box least h =
     ap (λ (rs : List ReplicaKnown). first_true (map (lacks_room settings size) rs)) (low_is box v)
     ∙ sym (at_zero (first_true (map (lacks_room settings size) (low_replicas box v))))
@@ -67,7 +70,8 @@ pub refusal_low : (settings : Settings) (size v : ℕ) (box : Box) (least : Opti
 refusal_low settings size v box least h =
     ap (λ (by : Option ℕ). refusal_by v by (room_refusal settings (lowest box) v size)) (closed_fill box.low settings box.base v)
     ∙ ap (λ (room : Option Refused). refusal_by v (closed settings box.base v) room)
-    (ap (λ (rs : List ReplicaKnown). option_map (λ at. NoRoom v (machine_of settings v at.0) (at.1).end (needle_total size)) (find (λ at. lacks_room settings size at.1) (enumerate_from 0 rs))) (low_is box v)
+    (ap (λ (rs : List ReplicaKnown). option_map (λ at. NoRoom v (machine_of settings v at.0) (at.1).end (needle_total size))
+    (find (λ at. lacks_room settings size at.1) (enumerate_from 0 rs))) (low_is box v)
     ∙ room_is settings size v (find (λ at. lacks_room settings size at.1) (enumerate_from 0 (low_replicas box v)))
     ∙ ap (λ (o : Option (ℕ × ℕ)). room_refused settings v size o) h)
 

@@ -62,7 +62,8 @@ none_before left text rest n fits is none (x ∷ notes) behind many each e =
     let cut = one_note n x rest (flat_map note_line notes ++ behind) fits each.0 (sym (append_assoc (note_line x) (flat_map note_line notes) behind) ∙ e ∙ sym is) in
     none notes behind (omega (arith, many)) each.1 cut.1
 
-pub read_on : (text part : List ℕ) (count : ℕ) (notes new : List Note) (behind more : ℕ) (n : Note) → NotesRead text count notes behind → length notes < count → part ≡ drop behind text → more ≤ length part
+pub read_on : (text part : List ℕ) (count : ℕ) (notes new : List Note) (behind more : ℕ) (n : Note) → NotesRead text count notes behind → length notes < count
+    → part ≡ drop behind text → more ≤ length part
     → FitsNote n → note_line n ++ drop more part ≡ part → new ≡ notes ++ n ∷ [] → NotesRead text count new (behind + more)
 read_on text part count notes new behind more n h left is within fits read added =
     let rest : drop (behind + more) text ≡ drop more part = drop_twice behind more text ∙ ap (λ (xs : List ℕ). drop more xs) (sym is) in
@@ -75,13 +76,20 @@ read_on text part count notes new behind more n h left is within fits read added
           ∙ ap (λ (xs : List ℕ). flat_map note_line notes ++ (note_line n ++ xs)) rest
           ∙ ap (λ (xs : List ℕ). flat_map note_line notes ++ xs) (read ∙ is)
           ∙ h.parts;
-      others = λ none. h.others (subst (λ (m : ℕ). NoneAt m (drop behind text)) (let e : suc (count - length (notes ++ n ∷ [])) ≡ count - length notes = omega (arith, left, long_one_more notes n) in e)
+      others =
+          λ none. h.others (subst (λ (m : ℕ). NoneAt m (drop behind text)) (let e : suc (count - length (notes ++ n ∷ [])) ≡ count - length notes = omega (arith, left, long_one_more notes n) in e)
           (subst (λ (xs : List ℕ). NoneAt (suc (count - length (notes ++ n ∷ []))) xs) is
           (none_before (count - length (notes ++ n ∷ [])) part (drop more part) n fits read (subst (λ (xs : List ℕ). NoneAt (count - length (notes ++ n ∷ [])) xs) rest none))));
     })
 
 pub none_read : (text : List ℕ) (count : ℕ) → NotesRead text count [] 0
-none_read text count = record { within = omega arith; few = omega arith; fits = tt; parts = refl; others = λ none. subst (λ (n : ℕ). NoneAt n text) (let e : count - 0 ≡ count = omega arith in e) none }
+none_read text count = record {
+  within = omega arith;
+  few = omega arith;
+  fits = tt;
+  parts = refl;
+  others = λ none. subst (λ (n : ℕ). NoneAt n text) (let e : count - 0 ≡ count = omega arith in e) none;
+}
 
 -- where the next note is not there
 pub none_next : (text part : List ℕ) (count : ℕ) (notes : List Note) (behind : ℕ) → NotesRead text count notes behind → length notes < count → part ≡ drop behind text

@@ -1,5 +1,6 @@
 -- Which items are open, and where lines begin.
-use Rattle.std.proofs.Common.{◌≡◌, ◌≢◌, ℕ, zero, suc, ◌+◌, ◌<◌, ◌≤◌, Bool, true, false, List, [], ◌∷◌, ◌++◌, length, take, drop, Option, Some, None, refl, sym, ap, subst, ◌∙◌, ◌⊎◌, inl, inr, arith, codes, decimal, append_assoc}
+use Rattle.std.proofs.Common.{◌≡◌, ◌≢◌, ℕ, zero, suc, ◌+◌, ◌<◌, ◌≤◌, Bool, true, false, List, [], ◌∷◌, ◌++◌, length, take, drop, Option, Some, None, refl, sym, ap, subst, ◌∙◌}
+use Rattle.std.proofs.Common.{◌⊎◌, inl, inr, arith, codes, decimal, append_assoc}
 use Rattle.std.specs.Prelude.{not, ◌==◌, ◌^◌, Contains, flat_map, slice_get, slice_index_or}
 use Rattle.std.specs.List.{AllByRecursion as Each, list_all, onto_first}
 use Rattle.std.proofs.lemmas.Bool.{and_parts, cases_Bool, cases_lt}
@@ -66,7 +67,8 @@ open_exists transcript (asked ∷ items) = elim (open_or transcript asked) [
       )
 ]
 
-shut_there : (transcript : List ℕ) (xs ys : List Asked) (n : ℕ) (asked : Asked) → Each (λ x. IsOpenItem transcript x → ⊥) xs → n < length xs → slice_get (xs ++ ys) n ≡ Some asked → IsOpenItem transcript asked → ⊥
+shut_there : (transcript : List ℕ) (xs ys : List Asked) (n : ℕ) (asked : Asked) → Each (λ x. IsOpenItem transcript x → ⊥) xs → n < length xs → slice_get (xs ++ ys) n ≡ Some asked
+    → IsOpenItem transcript asked → ⊥
 shut_there transcript [] ys n asked h less at is = omega (arith, less)
 shut_there transcript (x ∷ xs) ys zero asked h less at is = h.0 (subst (λ (y : Asked). IsOpenItem transcript y) (let e : Some asked ≡ Some x = sym at in cc) is)
 shut_there transcript (x ∷ xs) ys (suc n) asked h less at is = shut_there transcript xs ys n asked h.1 (omega (arith, less)) at is
@@ -136,7 +138,8 @@ no_mem_is_open transcript back rest line at r small start is e wants =
     sym e ∙ ap (λ (x : Reply). numbered_line line x ++ rest) wants ∙ line_text line reply.NoMem rest ∙ append_assoc (decimal line) (codes " ") (reply_text reply.NoMem ++ 10 ∷ rest)
     ∙ sym (append_assoc (decimal line) (32 ∷ reply_text reply.NoMem) (10 ∷ rest)) in
     let here : Contains (lines_in back) (wanting_text line) =
-    subst (λ (lines : List (List ℕ)). Contains lines (wanting_text line)) (sym (ap (λ (xs : List ℕ). lines_in xs) text ∙ fine_line (wanting_text line) rest (wanting_fine line small))) (zero, omega arith, refl) in
+    subst (λ (lines : List (List ℕ)). Contains lines (wanting_text line)) (sym (ap (λ (xs : List ℕ). lines_in xs) text
+    ∙ fine_line (wanting_text line) rest (wanting_fine line small))) (zero, omega arith, refl) in
     let later = behind_feed start.0 back (wanting_text line) here in
     subst (λ (lines : List (List ℕ)). Contains lines (wanting_text line)) (sym (ap (λ (xs : List ℕ). lines_in xs) (start.1 ∙ ap (λ (xs : List ℕ). start.0 ++ 10 ∷ xs) (sym is)) ∙ later.parts))
     (there later.first later.more (wanting_text line) later.has)

@@ -50,9 +50,11 @@ tries_base : (b : Known) (settings : Settings) (size : ℕ) (tries : List ℕ) (
 tries_base b settings size [] d e = (e, tt)
 tries_base b settings size (v ∷ tries) d e =
     each_flat (IsAbove b) (try_cuts settings size tries) (volume_cuts settings size v (replicas_at d v) d)
-    (each_to (IsAbove b) (λ x. Each (IsAbove b) (try_cuts settings size tries x)) (volume_cuts settings size v (replicas_at d v) d) (λ x g. tries_base b settings size tries x g) (volume_base b settings size v (replicas_at d v) d e))
+    (each_to (IsAbove b) (λ x. Each (IsAbove b) (try_cuts settings size tries x)) (volume_cuts settings size v (replicas_at d v) d) (λ x g. tries_base b settings size tries x g)
+    (volume_base b settings size v (replicas_at d v) d e))
 
-pub parts_grow : (settings : Settings) (size : ℕ) (tries : List ℕ) (box : Box) (parts : List Box) → parts ≡ try_cuts settings size tries box → Each VolumeMayGrow box.base.volumes → Each (λ part. Each VolumeMayGrow part.base.volumes) parts
+pub parts_grow : (settings : Settings) (size : ℕ) (tries : List ℕ) (box : Box) (parts : List Box) → parts ≡ try_cuts settings size tries box → Each VolumeMayGrow box.base.volumes
+    → Each (λ part. Each VolumeMayGrow part.base.volumes) parts
 parts_grow settings size tries box parts is grow =
     subst (λ (ds : List Box). Each (λ part. Each VolumeMayGrow part.base.volumes) ds) (sym is)
     (each_to (IsAbove box.base) (λ part. Each VolumeMayGrow part.base.volumes) (try_cuts settings size tries box) (λ d e. subst (λ (k : Known). Each VolumeMayGrow k.volumes) (sym e) grow)

@@ -38,7 +38,8 @@ placed_all transcript rest at (k ∷ states) e =
     ∙ ap (λ (zs : List (Kept Box)). candidate rest k ∷ zs) (placed_all transcript rest at states e)
 
 pub goes_to : (settings : Settings) (line : ℕ) (asked : Item) (transcript text : List ℕ) (c : Candidate) (old new : List Candidate) (r : Reply) (behind : ℕ) (states : List Box)
-    → text ≡ drop c.at transcript → IsNoRestart asked → FitsReply r → IsTold asked r → IsBoxOf settings c.state → states ≡ box_plain settings line asked r c.state → numbered_line line r ++ drop behind text ≡ text
+    → text ≡ drop c.at transcript → IsNoRestart asked → FitsReply r → IsTold asked r → IsBoxOf settings c.state → states ≡ box_plain settings line asked r c.state
+    → numbered_line line r ++ drop behind text ≡ text
     → new ≡ old ++ map (placed (c.at + behind)) states → Goes settings line asked transcript c old new
 goes_to settings line asked transcript text c old new r behind states is plain fits told of made read added =
     let rest : drop (c.at + behind) transcript ≡ drop behind text = drop_twice c.at behind transcript ∙ ap (λ (xs : List ℕ). drop behind xs) (sym is) in (
@@ -54,7 +55,8 @@ pub goes_nowhere : (settings : Settings) (line : ℕ) (asked : Item) (transcript
 goes_nowhere settings line asked transcript text c old is none =
     ([], none_more (all_standing transcript old), unread_ends settings line asked (standing transcript c) (λ r rest fits e. none r rest fits (e ∙ sym is)))
 
-each_placed : (settings : Settings) (transcript : List ℕ) (at : ℕ) (states : List Box) → at ≤ length transcript → IsLineStart transcript at → Each (IsBoxOf settings) states → AreKept settings transcript (map (placed at) states)
+each_placed : (settings : Settings) (transcript : List ℕ) (at : ℕ) (states : List Box) → at ≤ length transcript → IsLineStart transcript at → Each (IsBoxOf settings) states
+    → AreKept settings transcript (map (placed at) states)
 each_placed settings transcript at [] h start of = tt
 each_placed settings transcript at (d ∷ states) h start of = (record { within = h; start = start; of = of.0 }, each_placed settings transcript at states h start of.1)
 
@@ -63,7 +65,8 @@ each_kept settings transcript [] more h g = g
 each_kept settings transcript (c ∷ old) more h g = (h.0, each_kept settings transcript old more h.1 g)
 
 -- candidates of the settings, behind one line more
-pub placed_kept : (settings : Settings) (transcript text : List ℕ) (at behind : ℕ) (old new : List Candidate) (states : List Box) → text ≡ drop at transcript → at ≤ length transcript → behind ≤ length text
+pub placed_kept : (settings : Settings) (transcript text : List ℕ) (at behind : ℕ) (old new : List Candidate) (states : List Box) → text ≡ drop at transcript
+    → at ≤ length transcript → behind ≤ length text
     → (ahead : List ℕ) × (transcript ≡ ahead ++ 10 ∷ drop behind text) → Each (IsBoxOf settings) states → new ≡ old ++ map (placed (at + behind)) states
     → AreKept settings transcript old → AreKept settings transcript new
 placed_kept settings transcript text at behind old new states is within more starts of added h =
@@ -71,10 +74,12 @@ placed_kept settings transcript text at behind old new states is within more sta
     let rest : drop (at + behind) transcript ≡ drop behind text = drop_twice at behind transcript ∙ ap (λ (xs : List ℕ). drop behind xs) (sym is) in
     subst (λ (xs : List Candidate). AreKept settings transcript xs) (sym added)
     (each_kept settings transcript old (map (placed (at + behind)) states) h
-    (each_placed settings transcript (at + behind) states (omega (arith, within, more, long, length-drop at transcript)) (starts.0, starts.1 ∙ ap (λ (xs : List ℕ). starts.0 ++ 10 ∷ xs) (sym rest)) of))
+    (each_placed settings transcript (at + behind) states (omega (arith, within, more, long, length-drop at transcript))
+    (starts.0, starts.1 ∙ ap (λ (xs : List ℕ). starts.0 ++ 10 ∷ xs) (sym rest)) of))
 
 -- the item of a reply that is read is not open
-pub told_so : (transcript text : List ℕ) (line : ℕ) (asked : Item) (at behind : ℕ) (r : Reply) → line < 2 ^ 64 → (IsOpenItem transcript (Alone line asked) → ⊥) → IsLineStart transcript at → text ≡ drop at transcript
+pub told_so : (transcript text : List ℕ) (line : ℕ) (asked : Item) (at behind : ℕ) (r : Reply) → line < 2 ^ 64 → (IsOpenItem transcript (Alone line asked) → ⊥)
+    → IsLineStart transcript at → text ≡ drop at transcript
     → numbered_line line r ++ drop behind text ≡ text → IsTold asked r
 told_so transcript text line item.Bad at behind r small shut start is read wants = refl
 told_so transcript text line (item.Command command) at behind r small shut start is read wants = absurd (shut (no_mem_is_open transcript text (drop behind text) line at r small start is read wants))
@@ -109,7 +114,8 @@ pub any_kept : (settings : Settings) (transcript : List ℕ) (cs : List Candidat
 any_kept settings transcript [] kept some = absurd (some refl)
 any_kept settings transcript (c ∷ cs) kept some = inl (boxes_stand_for_states settings c.state (kept.0).of)
 
-pub used_here : (settings : Settings) (transcript : List ℕ) (c : Candidate) (cs : List Candidate) → IsKept settings transcript c → c.at ≡ length transcript → IsUsed Has (all_standing transcript (c ∷ cs))
+pub used_here : (settings : Settings) (transcript : List ℕ) (c : Candidate) (cs : List Candidate) → IsKept settings transcript c → c.at ≡ length transcript
+    → IsUsed Has (all_standing transcript (c ∷ cs))
 used_here settings transcript c cs kept all = let some = boxes_stand_for_states settings c.state kept.of in inl (drop_all c.at transcript all, some.0, some.1)
   where
     drop_all : (n : ℕ) (xs : List ℕ) → n ≡ length xs → drop n xs ≡ []
@@ -120,7 +126,8 @@ used_here settings transcript c cs kept all = let some = boxes_stand_for_states 
 
 -- THE FIRST CANDIDATE
 
-pub begins_so : (settings : Settings) (transcript text : List ℕ) (box : Box) → box ≡ exact_box (fresh_unharmed settings) → header_line settings ++ text ≡ transcript → Begins Has settings transcript (candidate text box)
+pub begins_so : (settings : Settings) (transcript text : List ℕ) (box : Box) → box ≡ exact_box (fresh_unharmed settings) → header_line settings ++ text ≡ transcript
+    → Begins Has settings transcript (candidate text box)
 begins_so settings transcript text box is header =
     let first = fresh_box_is_first settings in record {
       header = header;

@@ -1,5 +1,6 @@
 -- What a restart finds, from its notes.
-use Rattle.std.proofs.Common.{◌≡◌, ℕ, zero, suc, ◌+◌, ◌<◌, ◌≤◌, ◌&&◌, Bool, true, false, not, cond, List, [], ◌∷◌, ◌++◌, length, map, drop, replicate, slice_get, Option, Some, None, refl, sym, ap, subst, ◌∙◌, ◌⊎◌, inl, inr, arith, append_assoc, drop_of_length-le, get_or}
+use Rattle.std.proofs.Common.{◌≡◌, ℕ, zero, suc, ◌+◌, ◌<◌, ◌≤◌, ◌&&◌, Bool, true, false, not, cond, List, [], ◌∷◌, ◌++◌, length, map, drop, replicate, slice_get, Option, Some}
+use Rattle.std.proofs.Common.{None, refl, sym, ap, subst, ◌∙◌, ◌⊎◌, inl, inr, arith, append_assoc, drop_of_length-le, get_or}
 use Rattle.std.proofs.lemmas.List.{drop_more}
 use Rattle.std.specs.List.{AllByRecursion as Each}
 use Rattle.hay_needle.specs.declared.settings.Settings.{Settings}
@@ -38,7 +39,8 @@ none_behind : (all : List Bool) (later : Option (Read (List Bool))) → behind_k
 none_behind all None = refl
 none_behind all (Some read) = refl
 
-pub read_more : (settings : Settings) (v line j : ℕ) (all new : List Bool) (kept : Bool) (replicas others : List ReplicaKnown) (notes : List Note) (replica : ReplicaKnown) (note : Note) (rest : List Note)
+pub read_more : (settings : Settings) (v line j : ℕ) (all new : List Bool) (kept : Bool) (replicas others : List ReplicaKnown) (notes : List Note) (replica : ReplicaKnown)
+    (note : Note) (rest : List Note)
     → replicas ≡ replica ∷ others → notes ≡ note ∷ rest → kept_by v (machine_of settings v j) line note ≡ Some kept → new ≡ all ++ kept ∷ []
     → behind_kept all (read_kept settings v line j replicas notes) ≡ behind_kept new (read_kept settings v line (j + 1) others rest)
 read_more settings v line j all new kept replicas others notes replica note rest some first says added =
@@ -135,7 +137,8 @@ known_by volumes directory drained faults arms fuses = record { volumes = volume
 abbrev directory_by : List HomeRow → Bool → Option PendingRow → DirKnown
 directory_by rows frozen pending = record { rows = rows; frozen = frozen; pending = pending }
 
-pub frame_is : (b : Known) (old none : List VolumeKnown) (directory : DirKnown) (drained drained' : List Bool) (faults arms fuses : List ℕ) (before rows more : List HomeRow) (frozen : Bool) (pending : Option PendingRow)
+pub frame_is : (b : Known) (old none : List VolumeKnown) (directory : DirKnown) (drained drained' : List Bool) (faults arms fuses : List ℕ) (before rows more : List HomeRow)
+    (frozen : Bool) (pending : Option PendingRow)
     → known_by old directory drained faults arms fuses ≡ b → directory_by before frozen pending ≡ directory → none ≡ [] → rows ≡ before ++ more → drained' ≡ replicate (length drained) false
     → known_by none (directory_by rows false None) drained' faults arms fuses ≡ frame_of b more
 frame_is b old none directory drained drained' faults arms fuses before rows more frozen pending state_is directory_is empty rows_are drained_is =

@@ -78,16 +78,20 @@ pub record AreNotes (box : Box) (text : List ℕ) (notes : List Note) (behind : 
   pub fits : Each FitsNote notes
   pub parts : flat_map note_line notes ++ drop behind text ≡ text
 
-pub restart_goes : (settings : Settings) (line : ℕ) (asked : Item) (transcript text more : List ℕ) (c : Candidate) (old new : List Candidate) (r : Reply) (d behind further : ℕ) (notes : List Note) (states : List Box)
-    → IsRestart asked → IsBoxOf settings c.state → text ≡ drop c.at transcript → r ≡ reply.Restarted d → FitsReply r → numbered_line line r ++ drop behind text ≡ text → more ≡ drop (c.at + behind) transcript
-    → AreNotes c.state more notes further → states ≡ restart_boxes settings c.state (reply.Restarted d) notes → new ≡ old ++ map (placed ((c.at + behind) + further)) states → Goes settings line asked transcript c old new
+pub restart_goes : (settings : Settings) (line : ℕ) (asked : Item) (transcript text more : List ℕ) (c : Candidate) (old new : List Candidate) (r : Reply) (d behind further : ℕ)
+    (notes : List Note) (states : List Box)
+    → IsRestart asked → IsBoxOf settings c.state → text ≡ drop c.at transcript → r ≡ reply.Restarted d → FitsReply r → numbered_line line r ++ drop behind text ≡ text
+    → more ≡ drop (c.at + behind) transcript
+    → AreNotes c.state more notes further → states ≡ restart_boxes settings c.state (reply.Restarted d) notes → new ≡ old ++ map (placed ((c.at + behind) + further)) states
+    → Goes settings line asked transcript c old new
 restart_goes settings line (item.Command (command.Restart pick)) transcript text more c old new r d behind further notes states restart of is restarted fits read on h made added =
     let rest : drop behind text ≡ more = ap (λ (xs : List ℕ). drop behind xs) is ∙ sym (drop_twice c.at behind transcript) ∙ sym on in
     let whole : numbered_line line (reply.Restarted d) ++ (flat_map note_line notes ++ drop further more) ≡ text =
     ap (λ (x : Reply). numbered_line line x ++ (flat_map note_line notes ++ drop further more)) (sym restarted)
     ∙ ap (λ (xs : List ℕ). numbered_line line r ++ xs) (h.parts ∙ sym rest) ∙ read in
     let step : IsBoxStep (restart_row settings (reply.Restarted d) notes) c.state states =
-    subst (λ (ds : List Box). IsBoxStep (restart_row settings (reply.Restarted d) notes) c.state ds) (sym made) (restarts_step_boxes settings c.state (reply.Restarted d) notes (not_wanting d) of.whole) in
+    subst (λ (ds : List Box). IsBoxStep (restart_row settings (reply.Restarted d) notes) c.state ds) (sym made)
+    (restarts_step_boxes settings c.state (reply.Restarted d) notes (not_wanting d) of.whole) in
     let advance = restarts_advance Has settings c.state line pick d notes (drop further more) states (subst (λ (x : Reply). FitsReply x) restarted fits) h.fits
     (λ k has. notes_are_counted c.state k has ∙ sym h.many) step in (
       map (candidate (drop further more)) states,
@@ -99,14 +103,16 @@ restart_goes settings line (item.Command (command.Restart pick)) transcript text
     )
 restart_goes settings line asked transcript text more c old new r d behind further notes states restart of is restarted fits read on h made added = absurd restart
 
-pub restart_keeps : (settings : Settings) (box : Box) (d : ℕ) (notes : List Note) (states : List Box) → IsBoxOf settings box → states ≡ restart_boxes settings box (reply.Restarted d) notes → Each (IsBoxOf settings) states
+pub restart_keeps : (settings : Settings) (box : Box) (d : ℕ) (notes : List Note) (states : List Box) → IsBoxOf settings box
+    → states ≡ restart_boxes settings box (reply.Restarted d) notes → Each (IsBoxOf settings) states
 restart_keeps settings box d notes states of made =
     subst (λ (ds : List Box). Each (IsBoxOf settings) ds) (sym made) (restarts_keep_boxes settings box (reply.Restarted d) notes (not_wanting d) of)
 
 -- a restart that was not answered that it restarted, or whose notes are not there
 pub unread_goes : (settings : Settings) (line : ℕ) (asked : Item) (transcript text : List ℕ) (c : Candidate) (old : List Candidate) (r : Reply) (behind : ℕ)
     → IsRestart asked → text ≡ drop c.at transcript → FitsReply r → r ≢ reply.NoMem → numbered_line line r ++ drop behind text ≡ text
-    → ((d : ℕ) (notes : List Note) (rest : List ℕ) → r ≡ reply.Restarted d → length notes ≡ note_count c.state.base → Each FitsNote notes → flat_map note_line notes ++ rest ≢ drop (c.at + behind) transcript)
+    → ((d : ℕ) (notes : List Note) (rest : List ℕ) → r ≡ reply.Restarted d → length notes ≡ note_count c.state.base → Each FitsNote notes
+    → flat_map note_line notes ++ rest ≢ drop (c.at + behind) transcript)
     → Goes settings line asked transcript c old old
 unread_goes settings line (item.Command (command.Restart pick)) transcript text c old r behind restart is fits known read none =
     let rest : drop (c.at + behind) transcript ≡ drop behind text = drop_twice c.at behind transcript ∙ ap (λ (xs : List ℕ). drop behind xs) (sym is) in (

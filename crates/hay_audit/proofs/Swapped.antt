@@ -53,7 +53,8 @@ no_finish box v m j v' m' g finish is not_so =
     sym (ap (λ (b : Bool). cond b (swapped_box box v j ∷ []) [])
     (and_none (names v m v' m') (is_open box.base v) (may_finish box.base v j) (g == (replica_of box.base v j).generation + 1) (has_sizes box v j) (sym is ∙ not_so)))
 
-fits_is : (box : Box) (v j end cells most many : ℕ) → end ≡ least_end box.base v j → cells ≡ least_cells box.base v j → most ≡ most_end box v j → many ≡ most_cells box v j → fits_file end cells most many ≡ has_sizes box v j
+fits_is : (box : Box) (v j end cells most many : ℕ) → end ≡ least_end box.base v j → cells ≡ least_cells box.base v j → most ≡ most_end box v j → many ≡ most_cells box v j
+    → fits_file end cells most many ≡ has_sizes box v j
 fits_is box v j end cells most many a b d e =
     ap (λ (n : ℕ). fits_file n cells most many) a ∙ ap (λ (n : ℕ). fits_file (least_end box.base v j) n most many) b
     ∙ ap (λ (n : ℕ). fits_file (least_end box.base v j) (least_cells box.base v j) n many) d ∙ ap (λ (n : ℕ). fits_file (least_end box.base v j) (least_cells box.base v j) (most_end box v j) n) e
@@ -62,18 +63,23 @@ pub no_file : (box : Box) (v m j v' m' g end cells most many : ℕ) (fits : Bool
     → fits ≡ fits_file end cells most many → fits ≡ false → [] ≡ finished_boxes box v m j v' m' g
 no_file box v m j v' m' g end cells most many fits a b d e is not_so =
     sym (ap (λ (t : Bool). cond t (swapped_box box v j ∷ []) [])
-    (and_lost (names v m v' m') (is_open box.base v) (may_finish box.base v j) (g == (replica_of box.base v j).generation + 1) (has_sizes box v j) (sym (fits_is box v j end cells most many a b d e) ∙ sym is ∙ not_so)))
+    (and_lost (names v m v' m') (is_open box.base v) (may_finish box.base v j) (g == (replica_of box.base v j).generation + 1) (has_sizes box v j)
+    (sym (fits_is box v j end cells most many a b d e) ∙ sym is ∙ not_so)))
 
 pub finish_made : (box : Box) (v m j v' m' g end last cells most many : ℕ) (finish fits : Bool) (low : Slack) (made : List Box) → finish ≡ is_finish box.base v m j v' m' g → finish ≡ true
-    → end ≡ least_end box.base v j → cells ≡ least_cells box.base v j → most ≡ most_end box v j → many ≡ most_cells box v j → fits ≡ fits_file end cells most many → fits ≡ true → last ≡ end → low ≡ no_slack
+    → end ≡ least_end box.base v j → cells ≡ least_cells box.base v j → most ≡ most_end box v j → many ≡ most_cells box v j → fits ≡ fits_file end cells most many → fits ≡ true
+    → last ≡ end → low ≡ no_slack
     → made ≡ with_range box v j (plain.swapped last cells) low (record { end = most - last; cells = many - cells; bare = 0 }) ∷ [] → made ≡ finished_boxes box v m j v' m' g
 finish_made box v m j v' m' g end last cells most many finish fits low made is yes_so a b d e fits_so fit same none made_is =
     made_is
     ∙ ap (λ (s : Slack). with_range box v j (plain.swapped last cells) s (record { end = most - last; cells = many - cells; bare = 0 }) ∷ []) none
     ∙ ap (λ (n : ℕ). with_range box v j (plain.swapped n cells) no_slack (record { end = most - n; cells = many - cells; bare = 0 }) ∷ []) (same ∙ a)
     ∙ ap (λ (n : ℕ). with_range box v j (plain.swapped (least_end box.base v j) n) no_slack (record { end = most - least_end box.base v j; cells = many - n; bare = 0 }) ∷ []) b
-    ∙ ap (λ (n : ℕ). with_range box v j (plain.swapped (least_end box.base v j) (least_cells box.base v j)) no_slack (record { end = n - least_end box.base v j; cells = many - least_cells box.base v j; bare = 0 }) ∷ []) d
-    ∙ ap (λ (n : ℕ). with_range box v j (plain.swapped (least_end box.base v j) (least_cells box.base v j)) no_slack (record { end = most_end box v j - least_end box.base v j; cells = n - least_cells box.base v j; bare = 0 }) ∷ []) e
+    ∙ ap (λ (n : ℕ). with_range box v j (plain.swapped (least_end box.base v j) (least_cells box.base v j)) no_slack
+    (record { end = n - least_end box.base v j; cells = many - least_cells box.base v j; bare = 0 }) ∷ []) d
+    ∙ ap (λ (n : ℕ). with_range box v j (plain.swapped (least_end box.base v j) (least_cells box.base v j)) no_slack
+    (record { end = most_end box v j - least_end box.base v j; cells = n - least_cells box.base v j; bare = 0 }) ∷ []) e
     ∙ ap (λ (x : Box). x ∷ []) (finish_is box v j)
     ∙ sym (ap (λ (t : Bool). cond t (swapped_box box v j ∷ []) [])
-    (and_last (names v m v' m') (is_open box.base v) (may_finish box.base v j) (g == (replica_of box.base v j).generation + 1) (has_sizes box v j) (sym is ∙ yes_so) (sym (fits_is box v j end cells most many a b d e) ∙ sym fits_so ∙ fit)))
+    (and_last (names v m v' m') (is_open box.base v) (may_finish box.base v j) (g == (replica_of box.base v j).generation + 1) (has_sizes box v j) (sym is ∙ yes_so)
+    (sym (fits_is box v j end cells most many a b d e) ∙ sym fits_so ∙ fit)))

@@ -27,7 +27,8 @@ use Rattle.hay_audit.specs.Outside.{IsWithinItem}
 use Rattle.hay_audit.proofs.Judging.{goes_on, is_open, is_unlawful, skipped}
 use Rattle.hay_audit.proofs.Placing.{any_kept}
 
-pub walks_nothing : (settings : Settings) (transcript : List ℕ) (cs : List Candidate) (number turns : ℕ) (said : Said) → said ≡ Nothing → AreKept settings transcript cs → Walks settings transcript cs number turns said (On cs turns)
+pub walks_nothing : (settings : Settings) (transcript : List ℕ) (cs : List Candidate) (number turns : ℕ) (said : Said) → said ≡ Nothing → AreKept settings transcript cs
+    → Walks settings transcript cs number turns said (On cs turns)
 walks_nothing settings transcript cs number turns said e kept = subst (λ (s : Said). Walks settings transcript cs number turns s (On cs turns)) (sym e) (λ script c behind line. (
   skipped settings script transcript c (all_standing transcript cs) number turns line.left line.text behind line.before line.lines (line.said number),
   kept,
@@ -45,7 +46,8 @@ block_next : (number : ℕ) (block : OpenBlock) (texts : List (List ℕ)) → Is
 block_next number block [] = record { lines = block.lines; rest = []; parts = refl }
 block_next number block (text ∷ texts) = by_line (line_of (Some block.lanes) text) (λ held. block_next (number + 1) held texts)
   where
-    by_line : (said : Line) → ((held : OpenBlock) → IsBlockNext (items_from (number + 1) (Some held) texts)) → IsBlockNext ((inside number block said).0 ++ items_from (number + 1) (inside number block said).1 texts)
+    by_line : (said : Line) → ((held : OpenBlock) → IsBlockNext (items_from (number + 1) (Some held) texts))
+        → IsBlockNext ((inside number block said).0 ++ items_from (number + 1) (inside number block said).1 texts)
     by_line line.Skip later = later block
     by_line line.End later = record { lines = block.lines; rest = items_from (number + 1) None texts; parts = refl }
     by_line (line.InLane lane command) later = later (with_command number lane command block)
@@ -65,23 +67,29 @@ pub walks_open : (settings : Settings) (transcript : List ℕ) (cs : List Candid
     → Walks settings transcript cs number turns said (Ends (judgement.Open turns))
 walks_open settings transcript cs number turns said asked e opened = subst (λ (s : Said). Walks settings transcript cs number turns s (Ends (judgement.Open turns))) (sym e) (λ script c behind line.
     is_open settings script transcript c (all_standing transcript cs) number turns line.left (Alone number asked) (items_from (number + 1) None (lines_of behind)) line.before
-    (ap (λ (ls : List (List ℕ)). items_from number None ls) line.lines ∙ ap (λ (o : List Asked × Option OpenBlock). o.0 ++ items_from (number + 1) o.1 (lines_of behind)) ((line.said).0 number)) opened)
+    (ap (λ (ls : List (List ℕ)). items_from number None ls) line.lines ∙ ap (λ (o : List Asked × Option OpenBlock). o.0 ++ items_from (number + 1) o.1 (lines_of behind))
+    ((line.said).0 number)) opened)
 
-pub walks_nowhere : (settings : Settings) (transcript : List ℕ) (cs next : List Candidate) (number turns : ℕ) (said : Said) (asked : Item) → said ≡ Asks asked → (IsOpenItem transcript (Alone number asked) → ⊥) → next ≡ []
+pub walks_nowhere : (settings : Settings) (transcript : List ℕ) (cs next : List Candidate) (number turns : ℕ) (said : Said) (asked : Item) → said ≡ Asks asked
+    → (IsOpenItem transcript (Alone number asked) → ⊥) → next ≡ []
     → AllAdvance Has settings (Alone number asked) (all_standing transcript cs) (all_standing transcript next)
     → Walks settings transcript cs number turns said (Ends (judgement.Unlawful turns))
-walks_nowhere settings transcript cs next number turns said asked e shut none went = subst (λ (s : Said). Walks settings transcript cs number turns s (Ends (judgement.Unlawful turns))) (sym e) (λ script c behind line.
+walks_nowhere settings transcript cs next number turns said asked e shut none went =
+    subst (λ (s : Said). Walks settings transcript cs number turns s (Ends (judgement.Unlawful turns))) (sym e) (λ script c behind line.
     is_unlawful settings script transcript c (all_standing transcript cs) number turns line.left line.text behind asked line.before line.lines ((line.said).0 number) shut
     (subst (λ (ds : List Candidate). AllAdvance Has settings (Alone number asked) (all_standing transcript cs) (all_standing transcript ds)) none went))
 
-pub walks_on : (settings : Settings) (transcript : List ℕ) (cs next : List Candidate) (number turns : ℕ) (said : Said) (asked : Item) → said ≡ Asks asked → (IsOpenItem transcript (Alone number asked) → ⊥) → (next ≡ [] → ⊥)
+pub walks_on : (settings : Settings) (transcript : List ℕ) (cs next : List Candidate) (number turns : ℕ) (said : Said) (asked : Item) → said ≡ Asks asked
+    → (IsOpenItem transcript (Alone number asked) → ⊥) → (next ≡ [] → ⊥)
     → AllAdvance Has settings (Alone number asked) (all_standing transcript cs) (all_standing transcript next) → AreKept settings transcript next
     → Walks settings transcript cs number turns said (On next (turns + 1))
-walks_on settings transcript cs next number turns said asked e shut some went kept = subst (λ (s : Said). Walks settings transcript cs number turns s (On next (turns + 1))) (sym e) (λ script c behind line. (
-  goes_on settings script transcript c (all_standing transcript cs) (all_standing transcript next) number turns line.left line.text behind asked line.before line.lines ((line.said).0 number) shut (line.said).1 went (any_kept settings transcript next kept some),
-  kept,
-  omega arith,
-))
+walks_on settings transcript cs next number turns said asked e shut some went kept =
+    subst (λ (s : Said). Walks settings transcript cs number turns s (On next (turns + 1))) (sym e) (λ script c behind line. (
+      goes_on settings script transcript c (all_standing transcript cs) (all_standing transcript next) number turns line.left line.text behind asked line.before line.lines
+          ((line.said).0 number) shut (line.said).1 went (any_kept settings transcript next kept some),
+      kept,
+      omega arith,
+    ))
 
 -- WHAT A LINE SAID
 
@@ -108,7 +116,8 @@ ends_so settings script transcript c cs number turns said left text behind walk 
     subst (λ (w : Walk). GoesOn settings script transcript c number turns behind w) e
     (walks script c behind (record { left = left; text = text; before = before; lines = lines; said = by }))
 
-pub goes_so : (settings : Settings) (script transcript : List ℕ) (c : Kept Box) (cs : List Candidate) (number turns : ℕ) (said : Said) (left text behind : List ℕ) (walk : Walk) (next : List Candidate) (more : ℕ)
+pub goes_so : (settings : Settings) (script transcript : List ℕ) (c : Kept Box) (cs : List Candidate) (number turns : ℕ) (said : Said) (left text behind : List ℕ) (walk : Walk)
+    (next : List Candidate) (more : ℕ)
     → Walks settings transcript cs number turns said walk → walk ≡ On next more
     → IsBehind settings script transcript c (all_standing transcript cs) number turns left → lines_of left ≡ text ∷ lines_of behind → SaidBy (line_of None text) said
     → IsBehind settings script transcript c (all_standing transcript next) (number + 1) more behind × AreKept settings transcript next × (more ≤ turns + 1)

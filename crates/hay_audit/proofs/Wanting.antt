@@ -1,5 +1,7 @@
 -- Lines that tell of want of memory.
-use Rattle.std.proofs.Common.{◌≡◌, ◌≢◌, ℕ, zero, suc, ◌+◌, ◌-◌, ◌<◌, ◌≤◌, ◌^◌, ◌==◌, ◌&&◌, ◌↔◌, nat_lt, ◌⊎◌, Bool, true, false, not, cond, List, [], ◌∷◌, ◌++◌, length, take, drop, Contains, Option, Some, None, option_map, Ordering, Less, Equal, Greater, is_eq, nat_cmp, BTreeSet, refl, sym, ap, subst, ◌∙◌, inl, inr, arith, decimal}
+use Rattle.std.proofs.Common.{◌≡◌, ◌≢◌, ℕ, zero, suc, ◌+◌, ◌-◌, ◌<◌, ◌≤◌, ◌^◌, ◌==◌, ◌&&◌, ◌↔◌, nat_lt, ◌⊎◌, Bool, true, false, not, cond, List, [], ◌∷◌, ◌++◌, length, take, drop}
+use Rattle.std.proofs.Common.{Contains, Option, Some, None, option_map, Ordering, Less, Equal, Greater, is_eq, nat_cmp, BTreeSet, refl, sym, ap, subst, ◌∙◌, inl, inr, arith}
+use Rattle.std.proofs.Common.{decimal}
 use Rattle.std.specs.BTreeMap.{is_at}
 use Rattle.std.specs.Char.{is_ascii_digit}
 use Rattle.std.specs.Cmp.{nat_cmp_is}
@@ -106,7 +108,8 @@ feed_some (b ∷ text) n e = by_first (cases_Bool (b == 10)) (λ m found. feed_s
 pub record WantingSoFar (transcript : List ℕ) (at : ℕ) (lines : BTreeSet ℕ) : Type 0 where
   pub within : at ≤ length transcript + 1
   pub sound : (line : ℕ) → line < 2 ^ 64 → has lines line ≡ true → Contains (lines_in transcript) (wanting_text line)
-  pub left : (line : ℕ) → line < 2 ^ 64 → Contains (lines_in transcript) (wanting_text line) → (has lines line ≡ true) ⊎ ((at ≤ length transcript) × Contains (lines_in (drop at transcript)) (wanting_text line))
+  pub left : (line : ℕ) → line < 2 ^ 64 → Contains (lines_in transcript) (wanting_text line)
+      → (has lines line ≡ true) ⊎ ((at ≤ length transcript) × Contains (lines_in (drop at transcript)) (wanting_text line))
   pub inside : (text : List ℕ) → at ≤ length transcript → Contains (lines_in (drop at transcript)) text → Contains (lines_in transcript) text
 
 no_true : (b : Bool) → b ≡ false → b ≡ true → ⊥
@@ -120,7 +123,8 @@ wanting_none transcript lines none = record {
   inside = λ text within is. is;
 }
 
-pub wanting_more : (transcript text : List ℕ) (at feed : ℕ) (before after : BTreeSet ℕ) → WantingSoFar transcript at before → at ≤ length transcript → text ≡ drop at transcript → feed_at text ≡ Some feed → feed < length text
+pub wanting_more : (transcript text : List ℕ) (at feed : ℕ) (before after : BTreeSet ℕ) → WantingSoFar transcript at before → at ≤ length transcript → text ≡ drop at transcript
+    → feed_at text ≡ Some feed → feed < length text
     → WantsMore (take feed text) before after → WantingSoFar transcript (at + (feed + 1)) after
 wanting_more transcript text at feed before after h here is found less adds =
     let long : length text ≡ length (drop at transcript) = ap (λ (xs : List ℕ). length xs) is in
@@ -136,12 +140,15 @@ wanting_more transcript text at feed before after h here is found less adds =
       ];
       left = λ line small is_in. elim (h.left line small is_in) [
         | inl old ↦ inl ((adds line small).1 (inl old))
-        | inr later ↦ elim (first_or (take feed text) (lines_in (drop (at + (feed + 1)) transcript)) (wanting_text line) (subst (λ (ls : List (List ℕ)). Contains ls (wanting_text line)) lines later.1)) [
-          | inl same ↦ inl ((adds line small).1 (inr same))
-          | inr more ↦ inr (within, more)
-        ]
+        | inr later ↦ elim (first_or (take feed text) (lines_in (drop (at + (feed + 1)) transcript)) (wanting_text line)
+            (subst (λ (ls : List (List ℕ)). Contains ls (wanting_text line)) lines later.1)) [
+              | inl same ↦ inl ((adds line small).1 (inr same))
+              | inr more ↦ inr (within, more)
+            ]
       ];
-      inside = λ other in_range is_in. h.inside other here (subst (λ (ls : List (List ℕ)). Contains ls other) (sym lines) (there (take feed text) (lines_in (drop (at + (feed + 1)) transcript)) other is_in));
+      inside =
+          λ other in_range is_in. h.inside other here (subst (λ (ls : List (List ℕ)). Contains ls other) (sym lines)
+          (there (take feed text) (lines_in (drop (at + (feed + 1)) transcript)) other is_in));
     }
 
 pub wanting_last : (transcript text : List ℕ) (at : ℕ) (before after : BTreeSet ℕ) → WantingSoFar transcript at before → at ≤ length transcript → text ≡ drop at transcript → feed_at text ≡ None
@@ -180,7 +187,8 @@ is_equal Greater e = absurd cc
 at_itself : (n : ℕ) → is_at (nat_cmp n) n ≡ true
 at_itself n = ap (λ (o : Ordering). is_eq o) (sym (nat_cmp_is n n Equal refl))
 
-pub one_wants : (text : List ℕ) (n : ℕ) (before after : BTreeSet ℕ) → n < 2 ^ 64 → text ≡ wanting_text n → ((q : ℕ) → has after q ≡ cond (is_at (nat_cmp n) q) true (has before q)) → WantsMore text before after
+pub one_wants : (text : List ℕ) (n : ℕ) (before after : BTreeSet ℕ) → n < 2 ^ 64 → text ≡ wanting_text n → ((q : ℕ) → has after q ≡ cond (is_at (nat_cmp n) q) true (has before q))
+    → WantsMore text before after
 one_wants text n before after fits is updates = λ line small. elim (cases_Bool (is_at (nat_cmp n) line)) [
   | inl here ↦
       let same : n ≡ line = exact_unsigned n line (is_equal (nat_cmp n line) here) in (

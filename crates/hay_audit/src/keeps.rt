@@ -65,7 +65,8 @@ fn read_kept(
     notes: &[Note],
 ) -> Result<Option<Listed<bool>>, NoMemory>
     requires { 0 < settings.now.machines }
-    ensures some { IfOk result (λ read. IfSome read (λ kept. reopen.read_kept settings.now volume line 0 replicas.now notes.now ≡ Some (record { value = kept; rest = drop (length replicas.now) notes.now }))) }
+    ensures some { IfOk result (λ read. IfSome read (λ kept. reopen.read_kept settings.now volume line 0 replicas.now notes.now
+        ≡ Some (record { value = kept; rest = drop (length replicas.now) notes.now }))) }
     ensures none { IfOk result (λ read. IfNone read (reopen.read_kept settings.now volume line 0 replicas.now notes.now ≡ None)) }
     ensures within { IfOk result (λ read. IfSome read (λ kept. length replicas.now ≤ length notes.now)) }
 {
@@ -221,7 +222,8 @@ pub(crate) fn volume_kept(
     notes: &[Note],
 ) -> Result<Option<KeptBy>, NoMemory>
     requires { 0 < settings.now.machines }
-    ensures some { IfOk result (λ made. IfSome made (λ told. box_reopen.volume_kept settings.now number volume.now notes.now volume.now.pending ≡ Some (record { value = told.kept; rest = drop told.used notes.now }))) }
+    ensures some { IfOk result (λ made. IfSome made (λ told. box_reopen.volume_kept settings.now number volume.now notes.now volume.now.pending
+        ≡ Some (record { value = told.kept; rest = drop told.used notes.now }))) }
     ensures within { IfOk result (λ made. IfSome made (λ told. told.used ≤ length notes.now)) }
     ensures none { IfOk result (λ made. IfNone made (box_reopen.volume_kept settings.now number volume.now notes.now volume.now.pending ≡ None)) }
 {

@@ -146,7 +146,8 @@ fn as_swapped(
 ) -> Result<Option<PartState>, NoMemory>
     requires grow { MayGrow old.now }
     requires slight { IsSlight high }
-    ensures { IfOk result (λ made. (low : SlackOf) → choosing.part_list made ≡ choosing.swapped_parts volume.now (boxes.part_of old.now low high) (restarting.change_list (option_copied change.entry))) }
+    ensures { IfOk result (λ made. (low : SlackOf) → choosing.part_list made ≡ choosing.swapped_parts volume.now (boxes.part_of old.now low high)
+        (restarting.change_list (option_copied change.entry))) }
 {
     if !old.poised {
         return Ok(None);

@@ -59,7 +59,8 @@ fn reopened_stores(
     requires lows { length state.now.low ≡ settings.now.volumes }
     requires highs { length state.now.high ≡ settings.now.volumes }
     requires small { IsSmall state.now }
-    ensures some { IfOk result (λ made. IfSome made (λ all. box_reopen.reopened_stores settings.now 0 state.now.base.volumes state.now.low state.now.high notes.now ≡ Some (record { value = all.stores; rest = drop all.used notes.now }))) }
+    ensures some { IfOk result (λ made. IfSome made (λ all. box_reopen.reopened_stores settings.now 0 state.now.base.volumes state.now.low state.now.high notes.now
+        ≡ Some (record { value = all.stores; rest = drop all.used notes.now }))) }
     ensures within { IfOk result (λ made. IfSome made (λ all. all.used ≤ length notes.now)) }
     ensures none { IfOk result (λ made. IfNone made (box_reopen.reopened_stores settings.now 0 state.now.base.volumes state.now.low state.now.high notes.now ≡ None)) }
 {

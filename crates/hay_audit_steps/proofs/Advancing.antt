@@ -245,7 +245,8 @@ unread_notes_end {S} Has settings s line pick r rest fits known unread = record 
   complete = λ k faults arms fuses turn t behind has f a leads.
       let is = restart_of settings (with_counts k faults arms fuses) line pick (numbered_line line r ++ rest) turn t behind leads in
       let first = one_reply line r is.reply rest (flat_map note_line is.notes ++ behind) fits is.fits is.text in
-      absurd (none r known unread k faults arms fuses t behind has is.notes is.note_fits (subst (λ (x : Reply). LegalRestart settings (with_counts k faults arms fuses) x is.notes t) first.0 is.legal) first.1);
+      absurd (none r known unread k faults arms fuses t behind has is.notes is.note_fits
+      (subst (λ (x : Reply). LegalRestart settings (with_counts k faults arms fuses) x is.notes t) first.0 is.legal) first.1);
 }
   where
     none : (r : Reply) → r ≢ reply.NoMem

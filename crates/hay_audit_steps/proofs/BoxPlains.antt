@@ -26,12 +26,15 @@ use Rattle.hay_legal.specs.Subject.{IsOf}
 use Rattle.hay_legal.proofs.Subject.Entries.{is_of-fresh, plain_is_of, restart_is_of}
 use Rattle.hay_legal.proofs.Subject.Standing.{replica_bounded}
 use Rattle.hay_audit_steps.specs.BoxNext.{finished_boxes, room_above, swapped_box}
-use Rattle.hay_audit_steps.specs.BoxPlain.{BoxesStandForStates, FreshBoxIsFirst, IsBoxOf, NotesAreCounted, PlainLinesKeepBoxes, PlainLinesStepBoxes, RestartsKeepBoxes, box_plain, exact_box, no_slacks, on_place}
-use Rattle.hay_audit_steps.specs.BoxReopen.{base_of, before_others, high_of, low_of, parts_of, reopened_stores, restart_boxes, restarted_box, restarted_from, restarted_with, then_others, volume_kept, volume_of}
+use Rattle.hay_audit_steps.specs.BoxPlain.{BoxesStandForStates, FreshBoxIsFirst, IsBoxOf, NotesAreCounted, PlainLinesKeepBoxes, PlainLinesStepBoxes, RestartsKeepBoxes, box_plain}
+use Rattle.hay_audit_steps.specs.BoxPlain.{exact_box, no_slacks, on_place}
+use Rattle.hay_audit_steps.specs.BoxReopen.{base_of, before_others, high_of, low_of, parts_of, reopened_stores, restart_boxes, restarted_box, restarted_from, restarted_with}
+use Rattle.hay_audit_steps.specs.BoxReopen.{then_others, volume_kept, volume_of}
 use Rattle.hay_audit_steps.specs.Boxes.{Box, Has, IsBoxStep, IsFilled, Within, fill, fill_replicas, fill_volumes, ranged, set_slack}
 use Rattle.hay_audit_steps.specs.Next.{next_plain}
 use Rattle.hay_audit_steps.specs.Parts.{Part, as_it_was, as_swapped, choices_with, may_swap, reopened_choices, reopened_parts}
-use Rattle.hay_audit_steps.specs.Places.{compacted_boxes, copied_all, copied_some, copied_parts, flushed_boxes, flushed_part, flushed_parts, part_at, stepped_boxes, stepped_parts, tight_part, with_part}
+use Rattle.hay_audit_steps.specs.Places.{compacted_boxes, copied_all, copied_some, copied_parts, flushed_boxes, flushed_part, flushed_parts, part_at, stepped_boxes, stepped_parts}
+use Rattle.hay_audit_steps.specs.Places.{tight_part, with_part}
 use Rattle.hay_audit_steps.specs.Reached.{note_count, volumes_note_count}
 use Rattle.hay_audit_steps.specs.Reopen.{Read, new_rows, restart_row}
 use Rattle.hay_audit_steps.specs.Rooms.{IsWhole, lowest, put_box, put_by, put_boxes, refuse_box, refused_boxes, try_cuts, all_refused_at}
@@ -122,7 +125,8 @@ record IsWide (settings : Settings) (box : Box) : Type 0 where
   some : Within box.low box.high
 
 zip_by : (volumes : List VolumeKnown) (lows : List (List Slack)) → length volumes ≡ length lows
-    → ((v : ℕ) → v < length lows → length (slice_index_or volumes v empty_volume).replicas ≡ length (slice_index_or lows v [])) → AllZip (λ volume row. length volume.replicas ≡ length row) volumes lows
+    → ((v : ℕ) → v < length lows → length (slice_index_or volumes v empty_volume).replicas ≡ length (slice_index_or lows v []))
+    → AllZip (λ volume row. length volume.replicas ≡ length row) volumes lows
 zip_by [] [] e h = tt
 zip_by (w ∷ volumes) (l ∷ lows) e h = (h 0 (omega arith), zip_by volumes lows (omega (arith, e)) (λ v below. h (suc v) (omega (arith, below))))
 zip_by [] (l ∷ lows) e h = absurd (omega (arith, e))
@@ -156,7 +160,8 @@ wide_of settings box shape is = record {
   some = is.some;
 }
 
-index_other : (xss : List (List Slack)) (v w : ℕ) (ys : List Slack) → length ys ≡ length (slice_index_or xss v []) → length (slice_index_or (slice_set xss v ys) w []) ≡ length (slice_index_or xss w [])
+index_other : (xss : List (List Slack)) (v w : ℕ) (ys : List Slack) → length ys ≡ length (slice_index_or xss v [])
+    → length (slice_index_or (slice_set xss v ys) w []) ≡ length (slice_index_or xss w [])
 index_other [] v w ys e = refl
 index_other (xs ∷ xss) zero zero ys e = e
 index_other (xs ∷ xss) zero (suc w) ys e = refl
@@ -164,7 +169,8 @@ index_other (xs ∷ xss) (suc v) zero ys e = refl
 index_other (xs ∷ xss) (suc v) (suc w) ys e = index_other xss v w ys e
 
 -- one range set anew
-wide_set : (settings : Settings) (box : Box) (b : Known) (v j : ℕ) (x y : Slack) → IsWide settings box → Lies x y → IsWide settings (record { base = b; low = set_slack box.low v j x; high = set_slack box.high v j y })
+wide_set : (settings : Settings) (box : Box) (b : Known) (v j : ℕ) (x y : Slack) → IsWide settings box → Lies x y
+    → IsWide settings (record { base = b; low = set_slack box.low v j x; high = set_slack box.high v j y })
 wide_set settings box b v j x y wide lies = record {
   volumes = set_length box.low v (slice_set (slice_index_or box.low v []) j x) ∙ wide.volumes;
   replicas = λ w below. index_other box.low v w (slice_set (slice_index_or box.low v []) j x) (set_length (slice_index_or box.low v []) j x) ∙ wide.replicas w below;
@@ -218,7 +224,8 @@ put_wide settings tag pair bytes (reply.ReadOnly by) box shape is same = refused
 put_wide settings tag pair bytes r box shape is same =
     each_wide settings box (put_by settings box.base tag pair bytes r (taker_of settings (lowest box) pair (length bytes))) (wide_of settings box shape is)
 
-puts_wide : (settings : Settings) (tag : CoreTag) (pair : Pair) (bytes : List ℕ) (r : Reply) (box : Box) → HasShape settings box.base → IsWhole box → Each (IsWide settings) (put_boxes settings tag pair bytes r box)
+puts_wide : (settings : Settings) (tag : CoreTag) (pair : Pair) (bytes : List ℕ) (r : Reply) (box : Box) → HasShape settings box.base → IsWhole box
+    → Each (IsWide settings) (put_boxes settings tag pair bytes r box)
 puts_wide settings tag pair bytes r box shape is =
     each_flat (IsWide settings) (put_box settings tag pair bytes r) (try_cuts settings (length bytes) (tries_of settings box.base pair) box)
     (each_of (λ d. IsPartOf box d × AllSame settings (length bytes) (tries_of settings box.base pair) d) (λ d. Each (IsWide settings) (put_box settings tag pair bytes r d))
@@ -253,17 +260,23 @@ plain_wide : (settings : Settings) (box : Box) (line : ℕ) (asked : Item) (r : 
 plain_wide settings box line (item.Command (command.Put pair bytes)) r shape is = puts_wide settings (record { lane = 0; line = line }) pair bytes r box shape is
 plain_wide settings box line (item.Command (command.Flush v m)) (reply.Flushed v' m' n) shape is =
     on_each (IsWide settings) (replica_on settings v m) (λ j. flushed_boxes box v m j v' m' n)
-    (λ j. each_where (IsWide settings) _ _ (each_part settings box v j (flushed_parts (part_at box v j) n) (wide_of settings box shape is) (flushed_lie (part_at box v j) n (within_at box.low box.high v j is.some))))
+    (λ j. each_where (IsWide settings) _ _ (each_part settings box v j (flushed_parts (part_at box v j) n) (wide_of settings box shape is)
+    (flushed_lie (part_at box v j) n (within_at box.low box.high v j is.some))))
 plain_wide settings box line (item.Command (command.Step v m cells)) (reply.Stepped v' m' n) shape is =
     on_each (IsWide settings) (replica_on settings v m) (λ j. stepped_boxes box v m j cells v' m' n)
     (λ j. each_where (IsWide settings) _ _ (each_part settings box v j (stepped_parts (part_at box v j) (replica_of box.base v j).run cells n) (wide_of settings box shape is)
     (stepped_lie (part_at box v j) (replica_of box.base v j).run cells n (within_at box.low box.high v j is.some))))
 plain_wide settings box line (item.Command (command.Compact v m)) (reply.Compacted v' m' g) shape is =
     on_each (IsWide settings) (replica_on settings v m) (λ j. compacted_boxes box v m j v' m' g)
-    (λ j. each_where (IsWide settings) _ (map (with_part box v j) (tight_part box v j ∷ [])) (each_part settings box v j (tight_part box v j ∷ []) (wide_of settings box shape is) (record { end = omega arith; cells = omega arith; bare = omega arith }, tt)))
+    (λ j. each_where (IsWide settings) _ (map (with_part box v j) (tight_part box v j ∷ []))
+    (each_part settings box v j (tight_part box v j ∷ []) (wide_of settings box shape is) (record { end = omega arith; cells = omega arith; bare = omega arith }, tt)))
 plain_wide settings box line (item.Command (command.Finish v m)) (reply.Compacted v' m' g) shape is =
     on_each (IsWide settings) (replica_on settings v m) (λ j. finished_boxes box v m j v' m' g)
-    (λ j. each_where (IsWide settings) _ (swapped_box box v j ∷ []) (wide_set settings box (swapped_box box v j).base v j no_slack (room_above box v j) (wide_of settings box shape is) (record { end = omega arith; cells = omega arith; bare = omega arith }), tt))
+    (λ j. each_where (IsWide settings) _ (swapped_box box v j ∷ []) (
+      wide_set settings box (swapped_box box v j).base v j no_slack (room_above box v j)
+          (wide_of settings box shape is) (record { end = omega arith; cells = omega arith; bare = omega arith }),
+      tt,
+    ))
 plain_wide settings box line asked r shape is = each_wide settings box (next_plain settings line asked r box.base) (wide_of settings box shape is)
 
 each_kept : (settings : Settings) (ds : List Box) → Each (IsWide settings) ds → Each (λ d. (k : Known) → Has d k → IsOf settings k) ds → Each (IsBoxOf settings) ds
@@ -313,7 +326,8 @@ same_stores a b e = cc
 stores_lie : (settings : Settings) (v : ℕ) (volumes : List VolumeKnown) (lows highs : List (List Slack)) (notes : List Note) (read : Read (List (List (List Part)))) → Within lows highs
     → reopened_stores settings v volumes lows highs notes ≡ Some read → Each StoreLies read.value
 stores_lie settings v [] lows highs notes read some e = subst (λ (r : Read (List (List (List Part)))). Each StoreLies r.value) (same_stores (record { value = [] ∷ []; rest = notes }) read e) (tt, tt)
-stores_lie settings v (w ∷ volumes) [] highs notes read some e = subst (λ (r : Read (List (List (List Part)))). Each StoreLies r.value) (same_stores (record { value = [] ∷ []; rest = notes }) read e) (tt, tt)
+stores_lie settings v (w ∷ volumes) [] highs notes read some e =
+    subst (λ (r : Read (List (List (List Part)))). Each StoreLies r.value) (same_stores (record { value = [] ∷ []; rest = notes }) read e) (tt, tt)
 stores_lie settings v (w ∷ volumes) (l ∷ lows) [] notes read some e = absurd some
 stores_lie settings v (volume ∷ volumes) (low ∷ lows) (high ∷ highs) notes read some e =
     by_kept (λ ns r g. stores_lie settings (v + 1) volumes lows highs ns r some.1 g) (volume_kept settings v volume notes volume.pending) e
@@ -322,7 +336,8 @@ stores_lie settings v (volume ∷ volumes) (low ∷ lows) (high ∷ highs) notes
         → before_others (reopened_choices volume kept 0 (parts_of volume.replicas low high)) o ≡ Some read → Each StoreLies read.value
     by_others kept None on g = absurd (let lie : None ≡ Some read = g in cc)
     by_others kept (Some r) on g =
-        let is : record { value = choices_with (reopened_choices volume kept 0 (parts_of volume.replicas low high)) r.value; rest = r.rest } ≡ read = same_stores (record { value = choices_with (reopened_choices volume kept 0 (parts_of volume.replicas low high)) r.value; rest = r.rest }) read g in
+        let is : record { value = choices_with (reopened_choices volume kept 0 (parts_of volume.replicas low high)) r.value; rest = r.rest } ≡ read =
+        same_stores (record { value = choices_with (reopened_choices volume kept 0 (parts_of volume.replicas low high)) r.value; rest = r.rest }) read g in
         subst (λ (x : Read (List (List (List Part)))). Each StoreLies x.value) is
         (each_choice AllLie StoreLies StoreLies (λ first rest p q. (p, q)) (reopened_choices volume kept 0 (parts_of volume.replicas low high)) r.value
         (choices_lie volume kept 0 (parts_of volume.replicas low high) (parts_lie volume.replicas low high some.0)) (on r refl))
@@ -356,10 +371,12 @@ rows_whole : (b : Known) (d : ℕ) (stores : List (List (List Part))) (new : Opt
 rows_whole b d stores None h = tt
 rows_whole b d stores (Some new) h = each_where IsWhole _ _ (each_store b (b.directory.rows ++ new) stores h)
 
-from_whole : (settings : Settings) (box : Box) (d : ℕ) (notes : List Note) → IsWhole box → (o : Option (Read (List (List (List Part))))) → reopened_stores settings 0 box.base.volumes box.low box.high notes ≡ o
+from_whole : (settings : Settings) (box : Box) (d : ℕ) (notes : List Note) → IsWhole box → (o : Option (Read (List (List (List Part)))))
+    → reopened_stores settings 0 box.base.volumes box.low box.high notes ≡ o
     → Each IsWhole (restarted_from box.base d o)
 from_whole settings box d notes is None e = tt
-from_whole settings box d notes is (Some read) e = rows_whole box.base d read.value (new_rows box.base.directory.pending read.rest) (stores_lie settings 0 box.base.volumes box.low box.high notes read is.some e)
+from_whole settings box d notes is (Some read) e =
+    rows_whole box.base d read.value (new_rows box.base.directory.pending read.rest) (stores_lie settings 0 box.base.volumes box.low box.high notes read is.some e)
 
 restart_whole : (settings : Settings) (box : Box) (r : Reply) (notes : List Note) → IsWhole box → Each IsWhole (restart_boxes settings box r notes)
 restart_whole settings box (reply.Restarted d) notes is = from_whole settings box d notes is (reopened_stores settings 0 box.base.volumes box.low box.high notes) refl

@@ -18,7 +18,8 @@ use Rattle.hay_legal.specs.declared.known.Known.{Known}
 use Rattle.hay_legal.specs.Known.{NoneFalls, empty_volume}
 use Rattle.hay_legal.specs.Restarts.{IsRestarted, KeptAfter, KeptFirst, MayKeep, ReopenedVolume, ReopenedVolumes, directory_with, kept_row, pending_notes, row_notes, undrained, volume_notes}
 use Rattle.hay_audit_steps.specs.BoxLaw.{RestartsStepBoxes}
-use Rattle.hay_audit_steps.specs.BoxReopen.{base_of, before_others, high_of, is_front, kept_first, kept_if, low_of, may_keep, parts_of, reopened_stores, restart_boxes, restarted_box, restarted_from, restarted_with, then_others, volume_kept, volume_of}
+use Rattle.hay_audit_steps.specs.BoxReopen.{base_of, before_others, high_of, is_front, kept_first, kept_if, low_of, may_keep, parts_of, reopened_stores, restart_boxes}
+use Rattle.hay_audit_steps.specs.BoxReopen.{restarted_box, restarted_from, restarted_with, then_others, volume_kept, volume_of}
 use Rattle.hay_audit_steps.specs.Boxes.{Box, EachIn, Has, InReplicas, InVolumes, Within}
 use Rattle.hay_audit_steps.specs.Parts.{ArePartsOf, InParts, InVolumeParts, Part, choices_with, reopened_choices}
 use Rattle.hay_audit_steps.specs.Reopen.{Read, new_rows, read_kept, restart_row, says}
@@ -91,14 +92,16 @@ kept_sound settings v volume notes None read e =
     subst (λ (r : Read (List Bool)). IsKept settings v volume notes None r) (some_read (record { value = []; rest = notes }) read e) (record { may = refl; told = refl })
 kept_sound settings v volume notes (Some pending) read e = by_reading (read_kept settings v (pending.tag).line 0 volume.replicas notes) refl e
   where
-    by_reading : (o : Option (Read (List Bool))) → read_kept settings v (pending.tag).line 0 volume.replicas notes ≡ o → kept_if settings v volume pending o ≡ Some read → IsKept settings v volume notes (Some pending) read
+    by_reading : (o : Option (Read (List Bool))) → read_kept settings v (pending.tag).line 0 volume.replicas notes ≡ o → kept_if settings v volume pending o ≡ Some read
+        → IsKept settings v volume notes (Some pending) read
     by_reading None g e = absurd (let lie : None ≡ Some read = e in cc)
     by_reading (Some r) g e =
         let reading = read_is settings v (pending.tag).line 0 volume.replicas notes r g in
         by_test reading (cases_Bool (may_keep settings v volume pending pending.failed r.value))
       where
         by_test : IsReading settings v (pending.tag).line 0 volume.replicas notes r
-            → (may_keep settings v volume pending pending.failed r.value ≡ true) ⊎ (may_keep settings v volume pending pending.failed r.value ≡ false) → IsKept settings v volume notes (Some pending) read
+            → (may_keep settings v volume pending pending.failed r.value ≡ true) ⊎ (may_keep settings v volume pending pending.failed r.value ≡ false)
+            → IsKept settings v volume notes (Some pending) read
         by_test reading (inl may) =
             let same : r ≡ read = some_read r read (sym (cond-true _ (Some r) None may) ∙ e) in
             subst (λ (x : Read (List Bool)). IsKept settings v volume notes (Some pending) x) same
@@ -172,7 +175,8 @@ none_come : (settings : Settings) (v : ℕ) → ComesFrom settings v [] [] [] []
 none_come settings v [] h = ([], tt, tt)
 none_come settings v (new ∷ news) h = absurd h
 
-one_more_comes : (settings : Settings) (v : ℕ) (volume : VolumeKnown) (volumes : List VolumeKnown) (low : List Slack) (lows : List (List Slack)) (high : List Slack) (highs : List (List Slack)) (kept : List Bool) (kepts : List (List Bool)) (first : List Part) (rest : List (List Part))
+one_more_comes : (settings : Settings) (v : ℕ) (volume : VolumeKnown) (volumes : List VolumeKnown) (low : List Slack) (lows : List (List Slack)) (high : List Slack)
+    (highs : List (List Slack)) (kept : List Bool) (kepts : List (List Bool)) (first : List Part) (rest : List (List Part))
     → length volume.replicas ≡ length low → AllZip Lies low high
     → ((new : VolumeKnown) → InVolumeParts empty_volume first new → (old : VolumeKnown) × InVolumeParts volume (parts_of volume.replicas low high) old × ReopenedVolume settings v old kept new)
     → ComesFrom settings (v + 1) volumes lows highs kepts rest → ComesFrom settings v (volume ∷ volumes) (low ∷ lows) (high ∷ highs) (kept ∷ kepts) (first ∷ rest)
@@ -185,7 +189,8 @@ one_more_comes settings v volume volumes low lows high highs kept kepts first re
       (old.2, olds.2),
     )
 
-stores_sound : (settings : Settings) (v : ℕ) (volumes : List VolumeKnown) (lows highs : List (List Slack)) (notes : List Note) (read : Read (List (List (List Part)))) → Shape volumes lows → Within lows highs
+stores_sound : (settings : Settings) (v : ℕ) (volumes : List VolumeKnown) (lows highs : List (List Slack)) (notes : List Note) (read : Read (List (List (List Part))))
+    → Shape volumes lows → Within lows highs
     → reopened_stores settings v volumes lows highs notes ≡ Some read → Stores settings v volumes lows highs notes read
 stores_sound settings v [] [] [] notes read shape some e =
     subst (λ (r : Read (List (List (List Part)))). Stores settings v [] [] [] notes r) (some_stores (record { value = [] ∷ []; rest = notes }) read e)
@@ -216,7 +221,8 @@ stores_sound settings v (volume ∷ volumes) (low ∷ lows) (high ∷ highs) not
 
     by_kept : ((ns : List Note) (r : Read (List (List (List Part)))) → reopened_stores settings (v + 1) volumes lows highs ns ≡ Some r → Stores settings (v + 1) volumes lows highs ns r)
         → (o : Option (Read (List Bool))) → volume_kept settings v volume notes volume.pending ≡ o
-        → then_others volume (parts_of volume.replicas low high) o (reopened_stores settings (v + 1) volumes lows highs) ≡ Some read → Stores settings v (volume ∷ volumes) (low ∷ lows) (high ∷ highs) notes read
+        → then_others volume (parts_of volume.replicas low high) o (reopened_stores settings (v + 1) volumes lows highs) ≡ Some read
+        → Stores settings v (volume ∷ volumes) (low ∷ lows) (high ∷ highs) notes read
     by_kept on None g e = absurd (let lie : None ≡ Some read = e in cc)
     by_kept on (Some one) g e =
         by_others one (kept_sound settings v volume notes volume.pending one g) (reopened_stores settings (v + 1) volumes lows highs one.rest) (λ r q. on one.rest r q) e
@@ -230,7 +236,8 @@ record Reads (settings : Settings) (v : ℕ) (volumes : List VolumeKnown) (lows 
   reads : reopened_stores settings v volumes lows highs notes ≡ Some (record { value = stores; rest = rest })
   any : AnyOf (λ store. InStore store news) stores
 
-stores_complete : (settings : Settings) (v : ℕ) (volumes : List VolumeKnown) (lows highs : List (List Slack)) (olds news : List VolumeKnown) (kepts : List (List Bool)) (rest : List Note) → Shape volumes lows → Within lows highs
+stores_complete : (settings : Settings) (v : ℕ) (volumes : List VolumeKnown) (lows highs : List (List Slack)) (olds news : List VolumeKnown) (kepts : List (List Bool))
+    (rest : List Note) → Shape volumes lows → Within lows highs
     → InVolumes volumes lows highs olds → ReopenedVolumes settings v olds kepts news → Reads settings v volumes lows highs (volume_notes settings v volumes kepts ++ rest) rest news
 stores_complete settings v [] [] [] [] [] [] rest shape some is h = record { stores = [] ∷ []; reads = refl; any = inl tt }
 stores_complete settings v (volume ∷ volumes) (low ∷ lows) (high ∷ highs) (old ∷ olds) (new ∷ news) (kept ∷ kepts) rest shape some is h =
@@ -280,13 +287,15 @@ are_replicas (part ∷ parts) (r ∷ replicas) h = (h.0, are_replicas parts repl
 are_replicas [] (r ∷ replicas) h = absurd h
 are_replicas (part ∷ parts) [] h = absurd h
 
-store_is : (store : List (List Part)) (news : List VolumeKnown) → InVolumes (map volume_of store) (map (λ parts. map low_of parts) store) (map (λ parts. map high_of parts) store) news → InStore store news
+store_is : (store : List (List Part)) (news : List VolumeKnown) → InVolumes (map volume_of store) (map (λ parts. map low_of parts) store) (map (λ parts. map high_of parts) store)
+    news → InStore store news
 store_is [] [] h = tt
 store_is (parts ∷ store) (new ∷ news) h = (record { same = (h.0).same; replicas = replicas_are parts new.replicas (h.0).replicas }, store_is store news h.1)
 store_is [] (new ∷ news) h = absurd h
 store_is (parts ∷ store) [] h = absurd h
 
-is_store : (store : List (List Part)) (news : List VolumeKnown) → InStore store news → InVolumes (map volume_of store) (map (λ parts. map low_of parts) store) (map (λ parts. map high_of parts) store) news
+is_store : (store : List (List Part)) (news : List VolumeKnown) → InStore store news
+    → InVolumes (map volume_of store) (map (λ parts. map low_of parts) store) (map (λ parts. map high_of parts) store) news
 is_store [] [] h = tt
 is_store (parts ∷ store) (new ∷ news) h = (record { same = (h.0).same; replicas = are_replicas parts new.replicas (h.0).replicas }, is_store store news h.1)
 is_store [] (new ∷ news) h = absurd h
@@ -309,7 +318,8 @@ module _ (settings : Settings) (box : Box) (d : ℕ) (notes : List Note) (is : I
       → (store : List (List Part)) → ComesFrom settings 0 box.base.volumes box.low box.high kept store → Comes (restarted_box box.base (box.base.directory.rows ++ new) store)
   one_comes kept rest new told rows count store from t has =
       let next : Box = restarted_box box.base (box.base.directory.rows ++ new) store in
-      let each : EachIn (restarted_box box.base (box.base.directory.rows ++ new) store) t = (boxes_are_parts (restarted_box box.base (box.base.directory.rows ++ new) store) t).0 (store_shaped store) has in
+      let each : EachIn (restarted_box box.base (box.base.directory.rows ++ new) store) t =
+      (boxes_are_parts (restarted_box box.base (box.base.directory.rows ++ new) store) t).0 (store_shaped store) has in
       let olds = from t.volumes (store_is store t.volumes each.volumes) in
       let k : Known = record box.base { volumes = olds.0 } in (
         k,
@@ -335,11 +345,13 @@ module _ (settings : Settings) (box : Box) (d : ℕ) (notes : List Note) (is : I
 
   each_comes : (kept : List (List Bool)) (read_rest : List Note) (new : List HomeRow) → notes ≡ volume_notes settings 0 box.base.volumes kept ++ read_rest
       → RowsTold box.base.directory.pending read_rest new → d ≡ length (box.base.directory.rows ++ new)
-      → (stores : List (List (List Part))) → Each (ComesFrom settings 0 box.base.volumes box.low box.high kept) stores → Each Comes (map (restarted_box box.base (box.base.directory.rows ++ new)) stores)
+      → (stores : List (List (List Part))) → Each (ComesFrom settings 0 box.base.volumes box.low box.high kept) stores
+      → Each Comes (map (restarted_box box.base (box.base.directory.rows ++ new)) stores)
   each_comes kept rest new told rows count [] h = tt
   each_comes kept rest new told rows count (store ∷ stores) h = (one_comes kept rest new told rows count store h.0, each_comes kept rest new told rows count stores h.1)
 
-  rows_come : (read : Read (List (List (List Part)))) → Stores settings 0 box.base.volumes box.low box.high notes read → (new : Option (List HomeRow)) → new_rows box.base.directory.pending read.rest ≡ new
+  rows_come : (read : Read (List (List (List Part)))) → Stores settings 0 box.base.volumes box.low box.high notes read → (new : Option (List HomeRow))
+      → new_rows box.base.directory.pending read.rest ≡ new
       → Each Comes (restarted_with box.base d read.value new)
   rows_come read stores None e = tt
   rows_come read stores (Some new) e = by_test (cases_Bool (d == length (box.base.directory.rows ++ new)))
@@ -354,7 +366,8 @@ module _ (settings : Settings) (box : Box) (d : ℕ) (notes : List Note) (is : I
   all_come None e = tt
   all_come (Some read) e = rows_come read (stores_sound settings 0 box.base.volumes box.low box.high notes read is.shaped is.some e) (new_rows box.base.directory.pending read.rest) refl
 
-  any_store : (rows : List HomeRow) (t : Known) (stores : List (List (List Part))) → t.directory ≡ directory_with rows → t.drained ≡ map undrained box.base.drained → NoneFalls box.base.faults t.faults → NoneFalls box.base.arms t.arms
+  any_store : (rows : List HomeRow) (t : Known) (stores : List (List (List Part))) → t.directory ≡ directory_with rows → t.drained ≡ map undrained box.base.drained
+      → NoneFalls box.base.faults t.faults → NoneFalls box.base.arms t.arms
       → AnyOf (λ store. InStore store t.volumes) stores → AnyOf (λ next. (e : Known) × Has next e × Below e t) (map (restarted_box box.base rows) stores)
   any_store rows t [] directory drained faults arms h = h
   any_store rows t (store ∷ stores) directory drained faults arms h = elim h [
@@ -362,7 +375,8 @@ module _ (settings : Settings) (box : Box) (d : ℕ) (notes : List Note) (is : I
         let e : Known = record (restarted_box box.base rows store).base { volumes = t.volumes } in
         inl (
           record (restarted_box box.base rows store).base { volumes = t.volumes },
-          (boxes_are_parts (restarted_box box.base rows store) (record (restarted_box box.base rows store).base { volumes = t.volumes })).1 (record { same = refl; volumes = is_store store t.volumes here }),
+          (boxes_are_parts (restarted_box box.base rows store) (record (restarted_box box.base rows store).base { volumes = t.volumes })).1
+              (record { same = refl; volumes = is_store store t.volumes here }),
           record { volumes = refl; directory = directory; drained = drained; faults = faults; arms = arms },
         )
     | inr there ↦ inr (any_store rows t stores directory drained faults arms there)
@@ -374,7 +388,8 @@ module _ (settings : Settings) (box : Box) (d : ℕ) (notes : List Note) (is : I
       let each : EachIn box k = (boxes_are_parts box k).0 is.shaped has in
       let new : List HomeRow = kept_row box.base.directory.pending r.row in
       let volumes : InVolumes box.base.volumes box.low box.high k.volumes = each.volumes in
-      let reads = stores_complete settings 0 box.base.volumes box.low box.high k.volumes t.volumes r.kept (row_notes box.base.directory.pending r.row) is.shaped is.some each.volumes (r.opened).volumes in
+      let reads =
+      stores_complete settings 0 box.base.volumes box.low box.high k.volumes t.volumes r.kept (row_notes box.base.directory.pending r.row) is.shaped is.some each.volumes (r.opened).volumes in
       let same : (x : Known) → x ≡ record box.base { volumes = x.volumes } → x.directory ≡ box.base.directory = λ x e. ap (λ (q : Known). q.directory) e in
       let rows : t.directory.rows ≡ box.base.directory.rows ++ kept_row box.base.directory.pending r.row =
       (r.opened).rows ∙ ap (λ (q : Known). q.directory.rows ++ kept_row q.directory.pending r.row) each.same in
@@ -386,7 +401,8 @@ module _ (settings : Settings) (box : Box) (d : ℕ) (notes : List Note) (is : I
       ap (λ (ns : List Note). restarted_from box.base d (reopened_stores settings 0 box.base.volumes box.low box.high ns)) told
       ∙ ap (λ (o : Option (Read (List (List (List Part))))). restarted_from box.base d o) reads.reads
       ∙ ap (λ (o : Option (List HomeRow)). restarted_with box.base d reads.stores o) (rows_back box.base.directory.pending r.row)
-      ∙ cond-true _ (map (restarted_box box.base (box.base.directory.rows ++ kept_row box.base.directory.pending r.row)) reads.stores) [] (eq-eqb d (length (box.base.directory.rows ++ kept_row box.base.directory.pending r.row)) count) in
+      ∙ cond-true _ (map (restarted_box box.base (box.base.directory.rows ++ kept_row box.base.directory.pending r.row)) reads.stores) []
+      (eq-eqb d (length (box.base.directory.rows ++ kept_row box.base.directory.pending r.row)) count) in
       subst (λ (ds : List Box). AnyOf (λ next. (e : Known) × Has next e × Below e t) ds) (sym boxes)
       (any_store (box.base.directory.rows ++ kept_row box.base.directory.pending r.row) t reads.stores
       ((r.opened).directory ∙ ap (λ (xs : List HomeRow). directory_with xs) rows)

@@ -95,7 +95,8 @@ cut_end box v j most = record {
       record {
         least = (has.1).least;
         most = within_trans has.0 (up_to box v j most).high box.high (has.1).most
-            (set_within box.high box.high v j (record (slack_at box.high v j) { end = min (slack_at box.high v j).end most }) (within_own box.high) (record { end = omega arith; cells = omega arith; bare = omega arith }));
+            (set_within box.high box.high v j (record (slack_at box.high v j) { end = min (slack_at box.high v j).end most }) (within_own box.high)
+            (record { end = omega arith; cells = omega arith; bare = omega arith }));
       },
       has.2,
     ),
@@ -104,7 +105,8 @@ cut_end box v j most = record {
         has.0,
         record {
           least = within_trans box.low (above box v j most).low has.0
-              (within_set box.low box.low v j (record (slack_at box.low v j) { end = max (slack_at box.low v j).end (most + 1) }) (within_own box.low) (record { end = omega arith; cells = omega arith; bare = omega arith }))
+              (within_set box.low box.low v j (record (slack_at box.low v j) { end = max (slack_at box.low v j).end (most + 1) }) (within_own box.low)
+              (record { end = omega arith; cells = omega arith; bare = omega arith }))
               (has.1).least;
           most = (has.1).most;
         },

@@ -78,7 +78,8 @@ ending_here : (settings : Settings) (b k t : Known) (v j : ℕ) (replica : Repli
     → AnyOf (Chosen settings k t v j (replica ∷ replicas) (without_run replica ∷ ended)) (endings settings b v j (replica ∷ replicas))
 ending_here settings b k t v j replica replicas ended None none e rose rest =
     any_left _ _ _
-    (any_mapped (Chosen settings k t v (j + 1) replicas ended) (Chosen settings k t v j (replica ∷ replicas) (without_run replica ∷ ended)) (λ choice. false ∷ choice) (endings settings b v (j + 1) replicas)
+    (any_mapped (Chosen settings k t v (j + 1) replicas ended) (Chosen settings k t v j (replica ∷ replicas) (without_run replica ∷ ended)) (λ choice. false ∷ choice)
+    (endings settings b v (j + 1) replicas)
     (λ choice h. record {
       same = ap (λ (rs : List ReplicaKnown). replica ∷ rs) h.same ∙ ap (λ (r : ReplicaKnown). r ∷ ended) (sym (idle replica none));
       rose = on_rose settings k t v j false choice (λ lie. absurd (let no_way : false ≡ true = lie in cc)) h.rose;
@@ -88,8 +89,10 @@ ending_here settings b k t v j replica replicas ended (Some run) some e rose res
     index_there t.faults (slot_of settings v j) (rise_there (fault_count k (slot_of settings v j)) (fault_count t (slot_of settings v j)) rose) in
     any_right _ _ _
     (any_cond (Chosen settings k t v j (replica ∷ replicas) (without_run replica ∷ ended)) (is_some replica.run && nat_lt (slot_of settings v j) (length b.faults)) _
-    (and_from (is_some replica.run) (nat_lt (slot_of settings v j) (length b.faults)) (ap (λ (r : Option Run). is_some r) some) (less_true (slot_of settings v j) (length b.faults) (omega (arith, there, e))))
-    (any_mapped (Chosen settings k t v (j + 1) replicas ended) (Chosen settings k t v j (replica ∷ replicas) (without_run replica ∷ ended)) (λ choice. true ∷ choice) (endings settings b v (j + 1) replicas)
+    (and_from (is_some replica.run) (nat_lt (slot_of settings v j) (length b.faults)) (ap (λ (r : Option Run). is_some r) some)
+    (less_true (slot_of settings v j) (length b.faults) (omega (arith, there, e))))
+    (any_mapped (Chosen settings k t v (j + 1) replicas ended) (Chosen settings k t v j (replica ∷ replicas) (without_run replica ∷ ended)) (λ choice. true ∷ choice)
+    (endings settings b v (j + 1) replicas)
     (λ choice h. record {
       same = ap (λ (rs : List ReplicaKnown). without_run replica ∷ rs) h.same;
       rose = on_rose settings k t v j true choice (λ yes_it_is. rose) h.rose;
@@ -103,12 +106,14 @@ endings_complete settings b k t v j [] (true ∷ ended) e rose = inl (record { s
 endings_complete settings b k t v j [] (false ∷ ended) e rose = inl (record { same = refl; rose = λ i at. absurd (let none : None ≡ Some true = at in cc) })
 endings_complete settings b k t v j (replica ∷ replicas) [] e rose =
     any_left _ _ _
-    (any_mapped (Chosen settings k t v (j + 1) replicas (ended_where [] replicas)) (Chosen settings k t v j (replica ∷ replicas) (replica ∷ replicas)) (λ choice. false ∷ choice) (endings settings b v (j + 1) replicas)
+    (any_mapped (Chosen settings k t v (j + 1) replicas (ended_where [] replicas)) (Chosen settings k t v j (replica ∷ replicas) (replica ∷ replicas)) (λ choice. false ∷ choice)
+    (endings settings b v (j + 1) replicas)
     (λ choice h. record { same = ap (λ (rs : List ReplicaKnown). replica ∷ rs) h.same; rose = on_rose settings k t v j false choice (λ lie. absurd (let none : false ≡ true = lie in cc)) h.rose })
     (endings_complete settings b k t v (j + 1) replicas [] e (λ i at. absurd (let none : None ≡ Some true = at in cc))))
 endings_complete settings b k t v j (replica ∷ replicas) (false ∷ ended) e rose =
     any_left _ _ _
-    (any_mapped (Chosen settings k t v (j + 1) replicas (ended_where ended replicas)) (Chosen settings k t v j (replica ∷ replicas) (replica ∷ ended_where ended replicas)) (λ choice. false ∷ choice) (endings settings b v (j + 1) replicas)
+    (any_mapped (Chosen settings k t v (j + 1) replicas (ended_where ended replicas)) (Chosen settings k t v j (replica ∷ replicas) (replica ∷ ended_where ended replicas))
+    (λ choice. false ∷ choice) (endings settings b v (j + 1) replicas)
     (λ choice h. record { same = ap (λ (rs : List ReplicaKnown). replica ∷ rs) h.same; rose = on_rose settings k t v j false choice (λ lie. absurd (let none : false ≡ true = lie in cc)) h.rose })
     (endings_complete settings b k t v (j + 1) replicas ended e (shift_rose settings k t v j false ended rose)))
 endings_complete settings b k t v j (replica ∷ replicas) (true ∷ ended) e rose =
@@ -238,7 +243,8 @@ deleted_step settings b tag pair v p d home stood position = record {
   complete = λ faults arms fuses t f a r.
       let k : Known = with_counts b faults arms fuses in
       let rose : AllRose settings k t v 0 r.ended = λ i at. subst (λ (n : ℕ). disk_rose settings k t v n ≡ true) (omega arith) (r.cause i at) in
-      any_mapped (Chosen settings k t v 0 (volume_at b v).replicas (ended_where r.ended (volume_at b v).replicas)) (λ c. Below c t) (deleted settings b tag pair v) (endings settings b v 0 (volume_at b v).replicas)
+      any_mapped (Chosen settings k t v 0 (volume_at b v).replicas (ended_where r.ended (volume_at b v).replicas)) (λ c. Below c t) (deleted settings b tag pair v)
+      (endings settings b v 0 (volume_at b v).replicas)
       (λ choice h.
       let below : Below (change_volume b v (with_del choice tag pair)) t =
       subst (λ (rs : List ReplicaKnown). Below (change_volume b v (λ volume. record (with_del choice tag pair volume) { replicas = rs })) t) (sym h.same)
@@ -289,7 +295,11 @@ del_failed_step settings b tag pair v m f (Some j) e =
     let count : fault_count t (slot_of settings v j) ≡ f = subst (λ (i : ℕ). fault_count t (slot_of settings v i) ≡ f) is (r.rose).count in
     elim r.leaves [
       | inl leaves ↦ inl (rose_comes b b k k t (slot_of settings v j) f refl refl refl first a count leaves)
-      | inr changed ↦ inr (changed.0, rose_comes b (change_volume b v (frozen_with m tag (entry.Del pair) true)) k (change_volume k v (frozen_with m tag (entry.Del pair) true)) t (slot_of settings v j) f refl refl refl first a count changed.1)
+      | inr changed ↦ inr (
+        changed.0,
+        rose_comes b (change_volume b v (frozen_with m tag (entry.Del pair) true)) k (change_volume k v (frozen_with m tag (entry.Del pair) true)) t
+            (slot_of settings v j) f refl refl refl first a count changed.1,
+      )
     ]))
     (λ faults arms fuses t first a r.
     let is : r.replica ≡ j = same_some r.replica j (sym r.there ∙ e) in
@@ -316,7 +326,8 @@ tells_closed_home settings b pair (by ∷ []) =
     Decides-and (is_at (home_of b pair) by.volume) (is_at (closed settings b by.volume) by.machine) (tells_at (home_of b pair) by.volume) (tells_at (closed settings b by.volume) by.machine)
 tells_closed_home settings b pair (by ∷ other ∷ more) = (λ h. absurd cc, λ h. absurd h)
 
-closed_home_back : (settings : Settings) (b : Known) (pair : Pair) (by : List ClosedBy) (faults arms fuses : List ℕ) → IsClosedHome settings (with_counts b faults arms fuses) pair by → IsClosedHome settings b pair by
+closed_home_back : (settings : Settings) (b : Known) (pair : Pair) (by : List ClosedBy) (faults arms fuses : List ℕ)
+    → IsClosedHome settings (with_counts b faults arms fuses) pair by → IsClosedHome settings b pair by
 closed_home_back settings b pair [] faults arms fuses h = h
 closed_home_back settings b pair (by ∷ []) faults arms fuses h = h
 closed_home_back settings b pair (by ∷ other ∷ more) faults arms fuses h = h

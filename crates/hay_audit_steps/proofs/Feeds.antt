@@ -1,5 +1,6 @@
 -- No text of a reply or note has a line feed: so the first line of a transcript is one reply's, and no other's.
-use Rattle.std.proofs.Common.{◌≡◌, ℕ, zero, suc, ◌<◌, ◌==◌, ◌&&◌, not, nat_le, Bool, true, false, List, [], ◌∷◌, ◌++◌, length, Some, refl, sym, ◌∙◌, ap, subst, arith, decimal, codes, flat_map, append_assoc}
+use Rattle.std.proofs.Common.{◌≡◌, ℕ, zero, suc, ◌<◌, ◌==◌, ◌&&◌, not, nat_le, Bool, true, false, List, [], ◌∷◌, ◌++◌, length, Some, refl, sym, ◌∙◌, ap, subst, arith, decimal}
+use Rattle.std.proofs.Common.{codes, flat_map, append_assoc}
 use Rattle.std.specs.List.{list_all, AllByRecursion, AllByRecursion as Each}
 use Rattle.std.specs.Prelude.{if◌then◌else◌}
 use Rattle.std.proofs.lemmas.Bool.{and_parts, eq-eqb}
@@ -113,7 +114,8 @@ one head n h a = on head (field n) h (a_field n a)
 
 pub fine_reply : (r : Reply) → FitsReply r → Fine (reply_text r)
 fine_reply (reply.Stored v p d c) h =
-    on6 (codes "stored") (field v) (field p) (field d) (codes " ") (cookie_text c) refl (a_field v (wide v h.0)) (a_field p h.1) (a_field d h.2) refl (plain_lower 10 (cookie_text c) refl (long_digits c.0).1)
+    on6 (codes "stored") (field v) (field p) (field d) (codes " ") (cookie_text c) refl (a_field v (wide v h.0)) (a_field p h.1) (a_field d h.2) refl
+    (plain_lower 10 (cookie_text c) refl (long_digits c.0).1)
 fine_reply (reply.Deleted v p d) h = fields (codes "deleted") v p d refl h.0 h.1 h.2
 fine_reply (reply.Photo v m p d photo) h =
     on4 (codes "photo") (sight v m p d) (codes " ") (data_text photo) refl (a_sight v m p d h.0 h.1 h.2 h.3) refl (a_photo photo h.4 h.5)

@@ -92,14 +92,16 @@ closed_home_fill xss settings b pair (by ∷ more ∷ others) = refl
 
 changes_fill : (change : ReplicaKnown → ReplicaKnown) → ((x : Slack) (r : ReplicaKnown) → change (fill_replica x r) ≡ fill_replica x (change r))
     → (xs : List Slack) (replicas : List ReplicaKnown) (j : ℕ)
-    → slice_set (fill_replicas xs replicas) j (change (slice_index_or (fill_replicas xs replicas) j empty_replica)) ≡ fill_replicas xs (slice_set replicas j (change (slice_index_or replicas j empty_replica)))
+    → slice_set (fill_replicas xs replicas) j (change (slice_index_or (fill_replicas xs replicas) j empty_replica))
+    ≡ fill_replicas xs (slice_set replicas j (change (slice_index_or replicas j empty_replica)))
 changes_fill change commutes [] replicas j = refl
 changes_fill change commutes (x ∷ xs) [] j = refl
 changes_fill change commutes (x ∷ xs) (r ∷ replicas) zero = ap (λ (s : ReplicaKnown). s ∷ fill_replicas xs replicas) (commutes x r)
 changes_fill change commutes (x ∷ xs) (r ∷ replicas) (suc j) = ap (λ (rs : List ReplicaKnown). fill_replica x r ∷ rs) (changes_fill change commutes xs replicas j)
 
 -- a change of a replica that goes with filling
-pub change_replica_fill : (xss : List (List Slack)) (b : Known) (v j : ℕ) (change : ReplicaKnown → ReplicaKnown) → ((x : Slack) (r : ReplicaKnown) → change (fill_replica x r) ≡ fill_replica x (change r))
+pub change_replica_fill : (xss : List (List Slack)) (b : Known) (v j : ℕ) (change : ReplicaKnown → ReplicaKnown)
+    → ((x : Slack) (r : ReplicaKnown) → change (fill_replica x r) ≡ fill_replica x (change r))
     → change_replica (fill xss b) v j change ≡ fill xss (change_replica b v j change)
 change_replica_fill xss b v j change commutes =
     change_fill xss b v (λ volume. record volume { replicas = slice_set volume.replicas j (change (replica_at volume j)) })
@@ -120,7 +122,8 @@ freeze_with_fill xs m tag change failed volume =
 
 -- DELETES
 
-any_pair_fill : (xs : List Slack) (volume : VolumeKnown) (pair : Pair) (replicas : List ReplicaKnown) → list_any (has_pair volume pair) (fill_replicas xs replicas) ≡ list_any (has_pair volume pair) replicas
+any_pair_fill : (xs : List Slack) (volume : VolumeKnown) (pair : Pair) (replicas : List ReplicaKnown)
+    → list_any (has_pair volume pair) (fill_replicas xs replicas) ≡ list_any (has_pair volume pair) replicas
 any_pair_fill [] volume pair replicas = refl
 any_pair_fill (x ∷ xs) volume pair [] = refl
 any_pair_fill (x ∷ xs) volume pair (r ∷ replicas) = ap (λ (b : Bool). has_pair volume pair r || b) (any_pair_fill xs volume pair replicas)

@@ -53,7 +53,8 @@ tells_finish box v m j v' m' g =
     Decides-and (names v m v' m') _ (tells_names v m v' m')
     (Decides-and (is_open box.base v) _ (tells_none (volume_at box.base v).frozen)
     (Decides-and (may_finish box.base v j) _
-    (Decides-and (is_some (replica_of box.base v j).run) (nat_lt (replica_of box.base v j).generation 65535) (tells_has_run (replica_of box.base v j).run) (Decides-ltb (replica_of box.base v j).generation 65535))
+    (Decides-and (is_some (replica_of box.base v j).run) (nat_lt (replica_of box.base v j).generation 65535) (tells_has_run (replica_of box.base v j).run)
+    (Decides-ltb (replica_of box.base v j).generation 65535))
     (Decides-and (g == (replica_of box.base v j).generation + 1) _ (Decides-eqb g ((replica_of box.base v j).generation + 1))
     (Decides-and (nat_lt (least_end box.base v j) (most_end box v j + 1)) (nat_lt (least_cells box.base v j) (most_cells box v j + 1))
     (Decides-ltb (least_end box.base v j) (most_end box v j + 1)) (Decides-ltb (least_cells box.base v j) (most_cells box v j + 1))))))

@@ -54,7 +54,8 @@ pub some_fit : {S : Type 0} (Has : S → Known → Type 0) (settings : Settings)
     → Begins Has settings transcript c → Reached Has settings (take m items) c cs → m ≤ length items → IsAny Has cs → Fits settings items transcript m
 some_fit {S} Has settings items transcript m c cs begins reached within any = (within, first cs reached.sound any)
   where
-    first : (ds : List (Candidate S)) → Each (λ (d : Candidate S). (t : Known) → Has d.state t → (k : Known) × (turns : List Turn) × Has c.state k × Runs settings (take m items) k c.rest turns t d.rest) ds
+    first : (ds : List (Candidate S)) → Each (λ (d : Candidate S). (t : Known) → Has d.state t
+        → (k : Known) × (turns : List Turn) × Has c.state k × Runs settings (take m items) k c.rest turns t d.rest) ds
         → IsAny Has ds → Explained settings (take m items) (λ text. IsFront text transcript)
     first [] h any = absurd any
     first (d ∷ ds) h (inr there) = first ds h.1 there
@@ -124,7 +125,9 @@ shorter : (settings : Settings) (items : List Asked) (transcript : List ℕ) (m 
     → Explained settings (take m items) (λ text. IsFront text transcript)
 shorter settings items transcript m n less within h =
     let cut = cut_turns h.turns (take n items) m h.asked in
-    let part = legal_front settings (fresh settings h.faults h.fuses h.arms) h.t (take m h.turns) (drop m h.turns) (subst (λ (ts : List Turn). Legal settings (fresh settings h.faults h.fuses h.arms) ts h.t) (sym (take_drop m h.turns)) h.legal) in
+    let part =
+    legal_front settings (fresh settings h.faults h.fuses h.arms) h.t (take m h.turns) (drop m h.turns)
+    (subst (λ (ts : List Turn). Legal settings (fresh settings h.faults h.fuses h.arms) ts h.t) (sym (take_drop m h.turns)) h.legal) in
     record {
       faults = h.faults;
       fuses = h.fuses;
@@ -225,7 +228,8 @@ unlawful_within Has settings items transcript c m n cs next begins within less h
     let next_is : suc m ≡ m + 1 = omega arith in
     stops_at Has settings (take n items) transcript c m cs next begins
     (subst (λ (xs : List Asked). Reached Has settings xs c cs) (sym (take_twice items m n (omega (arith, less)))) here) any
-    (subst (λ (xs : List Asked). Reached Has settings xs c next) (sym (take_twice items (suc m) n (omega (arith, less)))) (subst (λ (i : ℕ). Reached Has settings (take i items) c next) (sym next_is) behind))
+    (subst (λ (xs : List Asked). Reached Has settings xs c next) (sym (take_twice items (suc m) n (omega (arith, less))))
+    (subst (λ (i : ℕ). Reached Has settings (take i items) c next) (sym next_is) behind))
     none (omega (arith, less, long_enough))
 
 unlawful_behind : {S : Type 0} (Has : S → Known → Type 0) (settings : Settings) (items : List Asked) (transcript : List ℕ) (c : Candidate S) (m : ℕ) (cs : List (Candidate S))

@@ -28,7 +28,8 @@ use Rattle.hay_audit_steps.specs.BoxLaw.{StoredPutsStepBoxes}
 use Rattle.hay_audit_steps.specs.BoxNext.{stored_if}
 use Rattle.hay_audit_steps.specs.Steps.{Below, AnyOf, IsStep}
 use Rattle.hay_audit_steps.specs.Laid.{laid, laid_once, on_disk, on_arm, raise_disk, raise_arm}
-use Rattle.hay_audit_steps.specs.Next.{is_at, is_seen, shows_photo, shows_nothing, shows_other, slots_before, shown_by, keep_if, next_show, may_pass, may_cause, all_caused, caused, arms_rise, stored, next_put, is_dir_open, cookie_eq}
+use Rattle.hay_audit_steps.specs.Next.{is_at, is_seen, shows_photo, shows_nothing, shows_other, slots_before, shown_by, keep_if, next_show, may_pass, may_cause, all_caused}
+use Rattle.hay_audit_steps.specs.Next.{caused, arms_rise, stored, next_put, is_dir_open, cookie_eq}
 use Rattle.hay_audit_steps.specs.Slacks.{Slack, fill_replica, fill_run}
 use Rattle.hay_audit_steps.specs.Boxes.{ranged, Between, Box, Has, IsBoxStep, fill, fill_replicas, fill_volume, fill_volumes}
 use Rattle.hay_audit_steps.proofs.Puts.{put_row, put_step}
@@ -164,9 +165,11 @@ shown_fill : (xss : List (List Slack)) (settings : Settings) (b : Known) (tag : 
     → shown_by settings (fill xss b) tag start pair v p d shows on ≡ map (fill xss) (shown_by settings b tag start pair v p d shows on)
 shown_fill xss settings b tag start pair v p d shows None = refl
 shown_fill xss settings b tag start pair v p d shows (Some j) =
-    ap (λ (seen : Bool). cond (seen && shows (outcome_at (now (volume_at (fill xss b) v) (replica_at (volume_at (fill xss b) v) j)) pair)) (laid (fill xss b) tag.lane (slots_before settings v start j)) []) (seen_fill xss b pair v p d)
+    ap (λ (seen : Bool). cond (seen && shows (outcome_at (now (volume_at (fill xss b) v) (replica_at (volume_at (fill xss b) v) j)) pair))
+    (laid (fill xss b) tag.lane (slots_before settings v start j)) []) (seen_fill xss b pair v p d)
     ∙ ap (λ (table : Table). cond (is_seen b pair v p d && shows (outcome_at table pair)) (laid (fill xss b) tag.lane (slots_before settings v start j)) []) (now_fill xss b v j)
-    ∙ ap (λ (cs : List Known). cond (is_seen b pair v p d && shows (outcome_at (now (volume_at b v) (replica_at (volume_at b v) j)) pair)) cs []) (laid_fill xss b tag.lane (slots_before settings v start j))
+    ∙ ap (λ (cs : List Known). cond (is_seen b pair v p d && shows (outcome_at (now (volume_at b v) (replica_at (volume_at b v) j)) pair)) cs [])
+    (laid_fill xss b tag.lane (slots_before settings v start j))
     ∙ kept_fill xss (is_seen b pair v p d && shows (outcome_at (now (volume_at b v) (replica_at (volume_at b v) j)) pair)) (laid b tag.lane (slots_before settings v start j))
 
 caused_fill : (xss : List (List Slack)) (settings : Settings) (lane v j : ℕ) (why : Cause) (c : Known) → caused settings lane v j why (fill xss c) ≡ fill xss (caused settings lane v j why c)
@@ -203,10 +206,14 @@ show_fill xss settings b tag start pair cookie (reply.Photo v m p d bytes) = sho
 show_fill xss settings b tag start pair cookie (reply.Gone v m p d) = shown_fill xss settings b tag start pair v p d shows_nothing (replica_on settings v m)
 show_fill xss settings b tag start pair cookie (reply.WrongCookie v m p d) = shown_fill xss settings b tag start pair v p d (shows_other cookie) (replica_on settings v m)
 show_fill xss settings b tag start pair cookie (reply.Unreadable v p d causes) =
-    ap (λ (seen : Bool). cond (seen && (may_pass settings (fill xss b) tag.lane v (order_from settings start) causes && arms_rise causes)) (all_caused settings tag.lane v (order_from settings start) causes (fill xss b) ∷ []) []) (seen_fill xss b pair v p d)
-    ∙ ap (λ (may : Bool). cond (is_seen b pair v p d && (may && arms_rise causes)) (all_caused settings tag.lane v (order_from settings start) causes (fill xss b) ∷ []) []) (may_pass_fill xss settings b tag.lane v (order_from settings start) causes)
-    ∙ ap (λ (c : Known). cond (is_seen b pair v p d && (may_pass settings b tag.lane v (order_from settings start) causes && arms_rise causes)) (c ∷ []) []) (all_caused_fill xss settings tag.lane v (order_from settings start) causes b)
-    ∙ kept_fill xss (is_seen b pair v p d && (may_pass settings b tag.lane v (order_from settings start) causes && arms_rise causes)) (all_caused settings tag.lane v (order_from settings start) causes b ∷ [])
+    ap (λ (seen : Bool). cond (seen && (may_pass settings (fill xss b) tag.lane v (order_from settings start) causes && arms_rise causes))
+    (all_caused settings tag.lane v (order_from settings start) causes (fill xss b) ∷ []) []) (seen_fill xss b pair v p d)
+    ∙ ap (λ (may : Bool). cond (is_seen b pair v p d && (may && arms_rise causes)) (all_caused settings tag.lane v (order_from settings start) causes (fill xss b) ∷ []) [])
+    (may_pass_fill xss settings b tag.lane v (order_from settings start) causes)
+    ∙ ap (λ (c : Known). cond (is_seen b pair v p d && (may_pass settings b tag.lane v (order_from settings start) causes && arms_rise causes)) (c ∷ []) [])
+    (all_caused_fill xss settings tag.lane v (order_from settings start) causes b)
+    ∙ kept_fill xss (is_seen b pair v p d && (may_pass settings b tag.lane v (order_from settings start) causes && arms_rise causes))
+    (all_caused settings tag.lane v (order_from settings start) causes b ∷ [])
 show_fill xss settings b tag start pair cookie (reply.Unknown d) = kept_fill xss (is_none (home_of b pair) && (d == length b.directory.rows)) (b ∷ [])
 show_fill xss settings b tag start pair cookie r = refl
 
@@ -242,7 +249,8 @@ stored_fill xss b tag pair bytes v c =
 
 pub stored_box_step : StoredPutsStepBoxes
 stored_box_step settings box line pair bytes v p d c taker decided =
-    lifted_to (put_row settings (record { lane = 0; line = line }) pair bytes (reply.Stored v p d c)) (λ k. next_put settings k (record { lane = 0; line = line }) pair bytes (reply.Stored v p d c)) box (stored_if settings box.base (record { lane = 0; line = line }) pair bytes v p d c taker)
+    lifted_to (put_row settings (record { lane = 0; line = line }) pair bytes (reply.Stored v p d c))
+    (λ k. next_put settings k (record { lane = 0; line = line }) pair bytes (reply.Stored v p d c)) box (stored_if settings box.base (record { lane = 0; line = line }) pair bytes v p d c taker)
     (λ k. put_step settings k (record { lane = 0; line = line }) pair bytes (reply.Stored v p d c) (λ lie. cc))
     (λ xss within.
     ap (λ (o : Option ℕ). stored_if settings (fill xss box.base) (record { lane = 0; line = line }) pair bytes v p d c o) (decided xss within)

@@ -48,7 +48,19 @@ whole_fits settings items transcript n all e =
     let same : take n items ≡ items = ap (λ (i : ℕ). take i items) all ∙ take_all items in (
       omega (arith, all),
       subst (λ (xs : List Asked). Explained settings xs (λ text. IsFront text transcript)) (sym same)
-          (record { faults = e.faults; fuses = e.fuses; arms = e.arms; disks = e.disks; lanes = e.lanes; turns = e.turns; t = e.t; asked = e.asked; legal = e.legal; fits = e.fits; told = ([], sym e.told ∙ sym (append_nil (header_line settings ++ texts e.turns))) }),
+          (record {
+            faults = e.faults;
+            fuses = e.fuses;
+            arms = e.arms;
+            disks = e.disks;
+            lanes = e.lanes;
+            turns = e.turns;
+            t = e.t;
+            asked = e.asked;
+            legal = e.legal;
+            fits = e.fits;
+            told = ([], sym e.told ∙ sym (append_nil (header_line settings ++ texts e.turns)));
+          }),
     )
 
 -- n items that fit, of which all are unlawful only if the whole does not fit

@@ -19,9 +19,11 @@ use Rattle.hay_reply.specs.declared.Reply.TheVariants as reply
 use Rattle.hay_legal.specs.declared.known.Run.{Run}
 use Rattle.hay_legal.specs.declared.known.Known.{Known}
 use Rattle.hay_legal.specs.Known.{Leaves, NoneFalls, home_of, volume_at, slot_of, machine_of, fuse_count}
-use Rattle.hay_legal.specs.Plain.{LegalUrl, LegalShow, LegalGetAt, GetShows, LegalFlush, LegalBegin, LegalDrain, LegalUndrain, LegalFuse, LegalFuseDir, IsFused, OnReplica, Names, IsOpen, IsFrozenBy, IsStuckOn, IsAtRest, RoseTo, change_replica, with_bare, with_stuck, with_run, replica_of, start_of, with_drain, with_fuses}
+use Rattle.hay_legal.specs.Plain.{LegalUrl, LegalShow, LegalGetAt, GetShows, LegalFlush, LegalBegin, LegalDrain, LegalUndrain, LegalFuse, LegalFuseDir, IsFused, OnReplica, Names}
+use Rattle.hay_legal.specs.Plain.{IsOpen, IsFrozenBy, IsStuckOn, IsAtRest, RoseTo, change_replica, with_bare, with_stuck, with_run, replica_of, start_of, with_drain, with_fuses}
 use Rattle.hay_audit_steps.specs.Steps.{IsStep, with_counts}
-use Rattle.hay_audit_steps.specs.Next.{is_at, cookie_eq, with_fault, next_url, get_shows, get_by, next_show, names, is_open, is_frozen_by, is_stuck_on, next_flush, is_idle, is_resting, is_busy, next_begin, next_drain, next_undrain, fused, next_fuse, next_fuse_dir, on_replica, next_bad}
+use Rattle.hay_audit_steps.specs.Next.{is_at, cookie_eq, with_fault, next_url, get_shows, get_by, next_show, names, is_open, is_frozen_by, is_stuck_on, next_flush, is_idle}
+use Rattle.hay_audit_steps.specs.Next.{is_resting, is_busy, next_begin, next_drain, next_undrain, fused, next_fuse, next_fuse_dir, on_replica, next_bad}
 use Rattle.hay_audit_steps.proofs.Counts.{index_set}
 use Rattle.hay_audit_steps.proofs.Puts.{MayRise, tells_rises_to, rose_needs, rose_leaves, rose_comes}
 use Rattle.hay_audit_steps.proofs.Rows.{IsRow, stays, comes, kept, tested, never, calm, one_step, each_by}
@@ -97,7 +99,11 @@ pub fail_row : (settings : Settings) (row : Known → Known → Type 0) (b e : K
     → IsRow row b (with_fault e (slot_of settings v j) f) (Needs × MayRise b (slot_of settings v j) f)
 fail_row settings row b e change v j f Needs same same_faults same_arms volumes directory drained made back = record {
   yes = λ needs. made (with_fault e (slot_of settings v j) f) needs.0
-      (record { count = subst (λ (xs : List ℕ). slice_index (slice_set xs (slot_of settings v j) f) (slot_of settings v j) ≡ f) (sym same_faults) (index_set b.faults (slot_of settings v j) f needs.1.there); rose = needs.1.rose })
+      (record {
+        count = subst (λ (xs : List ℕ). slice_index (slice_set xs (slot_of settings v j) f) (slot_of settings v j) ≡ f) (sym same_faults)
+            (index_set b.faults (slot_of settings v j) f needs.1.there);
+        rose = needs.1.rose;
+      })
       (rose_leaves b e (slot_of settings v j) f same_faults same_arms needs.1);
   back = λ faults arms fuses t first a r.
       let h = back faults arms fuses t r in (

@@ -43,7 +43,12 @@ was_sound volume part kept true e some new h =
     let x : Slack = h.slack in
     let y : Slack = record x { bare = part.high.bare } in (
       fill_replica y part.base,
-      record { slack = y; least = record { end = (h.least).end; cells = (h.least).cells; bare = some.bare }; most = record { end = (h.most).end; cells = (h.most).cells; bare = omega arith }; is = refl },
+      record {
+        slack = y;
+        least = record { end = (h.least).end; cells = (h.least).cells; bare = some.bare };
+        most = record { end = (h.most).end; cells = (h.most).cells; bare = omega arith };
+        is = refl;
+      },
       subst (λ (r : ReplicaKnown). ReopenedReplica volume (fill_replica y part.base) kept r) (sym h.is)
           (record {
             base = refl;

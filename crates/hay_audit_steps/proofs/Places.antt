@@ -18,7 +18,8 @@ use Rattle.hay_audit_steps.specs.BoxNext.{least_cells, least_end}
 use Rattle.hay_audit_steps.specs.Boxes.{Box, IsBoxStep, IsFilled, slack_at}
 use Rattle.hay_audit_steps.specs.Next.{is_least, is_open, is_resting, names}
 use Rattle.hay_audit_steps.specs.Parts.{Part, In}
-use Rattle.hay_audit_steps.specs.Places.{compacted_boxes, copied_all, copied_some, flushed_boxes, flushed_part, flushed_parts, is_between, more_cells, part_at, stepped_boxes, stepped_parts, tight_part}
+use Rattle.hay_audit_steps.specs.Places.{compacted_boxes, copied_all, copied_some, flushed_boxes, flushed_part, flushed_parts, is_between, more_cells, part_at, stepped_boxes}
+use Rattle.hay_audit_steps.specs.Places.{stepped_parts, tight_part}
 use Rattle.hay_audit_steps.specs.Slacks.{Lies, Slack, fill_replica, fill_run}
 use Rattle.hay_audit_steps.proofs.Cuts.{within_at}
 use Rattle.hay_audit_steps.proofs.Finishes.{IsLike, is_like}
@@ -152,7 +153,8 @@ all_behind part q cells n e less =
         fill_run (n - q.left) q,
         ap (λ (o : Option Run). option_map (fill_run (n - q.left)) o) e,
         grind (arith, left, less),
-        h.is ∙ same_replica part.base (part.base.end + x.end) (part.base.end + x.end) (part.base.cells + (n - q.left) + x.cells) (part.base.cells + (n - q.left)) (part.base.bare + x.bare) (part.base.bare + x.bare)
+        h.is ∙ same_replica part.base (part.base.end + x.end) (part.base.end + x.end) (part.base.cells + (n - q.left) + x.cells) (part.base.cells + (n - q.left))
+            (part.base.bare + x.bare) (part.base.bare + x.bare)
             (Some (record q { left = 0 + x.cells })) (Some (stepped n (fill_run (n - q.left) q)))
             refl (omega (arith, none)) refl (ap (λ (l : ℕ). Some (record q { left = l })) (omega (arith, none, within.0))),
       ),
@@ -202,7 +204,8 @@ some_behind part q cells n e enough =
         fill_run (more_cells part q n + x.cells) q,
         ap (λ (o : Option Run). option_map (fill_run (more_cells part q n + x.cells)) o) e,
         least_of cells n (q.left + (more_cells part q n + x.cells)) within.0 (omega (arith, far)),
-        h.is ∙ same_replica part.base (part.base.end + x.end) (part.base.end + x.end) (part.base.cells + more_cells part q n + x.cells) (part.base.cells + (more_cells part q n + x.cells)) (part.base.bare + x.bare) (part.base.bare + x.bare)
+        h.is ∙ same_replica part.base (part.base.end + x.end) (part.base.end + x.end) (part.base.cells + more_cells part q n + x.cells)
+            (part.base.cells + (more_cells part q n + x.cells)) (part.base.bare + x.bare) (part.base.bare + x.bare)
             (Some (record q { left = q.left + more_cells part q n - n + x.cells })) (Some (stepped n (fill_run (more_cells part q n + x.cells) q)))
             refl (omega arith) refl (ap (λ (l : ℕ). Some (record q { left = l })) (omega (arith, far))),
       ),
@@ -220,7 +223,8 @@ some_behind part q cells n e enough =
       is = p.3
           ∙ sym (ap (λ (r : Run). with_run (stepped n r) old) run)
           ∙ ap (λ (r : ReplicaKnown). with_run (stepped n (fill_run x.cells q)) r) h.is
-          ∙ same_replica part.base (part.base.end + x.end) (part.base.end + x.end) (part.base.cells + x.cells) (part.base.cells + more_cells part q n + (x.cells - more_cells part q n)) (part.base.bare + x.bare) (part.base.bare + x.bare)
+          ∙ same_replica part.base (part.base.end + x.end) (part.base.end + x.end) (part.base.cells + x.cells)
+          (part.base.cells + more_cells part q n + (x.cells - more_cells part q n)) (part.base.bare + x.bare) (part.base.bare + x.bare)
           (Some (stepped n (fill_run x.cells q))) (Some (record q { left = q.left + more_cells part q n - n + (x.cells - more_cells part q n) }))
           refl (omega (arith, fits)) refl (ap (λ (l : ℕ). Some (record q { left = l })) (omega (arith, fits)));
     }))
@@ -264,7 +268,8 @@ step_step settings box v m j cells v' m' n is =
               p.0,
               p.1,
               p.2,
-              subst (λ (r : ReplicaKnown). Leaves k (change_replica k v j (with_run (stepped n p.0))) (put_there k v j r)) (sym p.3) (stays k (change_replica k v j (with_run (stepped n p.0))) refl refl),
+              subst (λ (r : ReplicaKnown). Leaves k (change_replica k v j (with_run (stepped n p.0))) (put_there k v j r)) (sym p.3)
+                  (stays k (change_replica k v j (with_run (stepped n p.0))) refl refl),
             ),
           );
       back = λ k faults arms fuses t has r.
@@ -310,9 +315,11 @@ tight_behind box v j is =
     tight : ReplicaKnown
     tight = swapped (least_end box.base v j) (least_cells box.base v j) (replica_of box.base v j)
 
-    exact : (x : Slack) → Lies x (record { end = 0; cells = 0; bare = 0 }) → fill_replica x (swapped (least_end box.base v j) (least_cells box.base v j) (replica_of box.base v j)) ≡ swapped (least_end box.base v j) (least_cells box.base v j) (replica_of box.base v j)
+    exact : (x : Slack) → Lies x (record { end = 0; cells = 0; bare = 0 }) → fill_replica x (swapped (least_end box.base v j) (least_cells box.base v j) (replica_of box.base v j))
+        ≡ swapped (least_end box.base v j) (least_cells box.base v j) (replica_of box.base v j)
     exact x none =
-        same_replica (swapped (least_end box.base v j) (least_cells box.base v j) (replica_of box.base v j)) (least_end box.base v j + x.end) (least_end box.base v j) (least_cells box.base v j + x.cells) (least_cells box.base v j) (0 + x.bare) 0 None None
+        same_replica (swapped (least_end box.base v j) (least_cells box.base v j) (replica_of box.base v j)) (least_end box.base v j + x.end) (least_end box.base v j)
+        (least_cells box.base v j + x.cells) (least_cells box.base v j) (0 + x.bare) 0 None None
         (omega (arith, none.end)) (omega (arith, none.cells)) (omega (arith, none.bare)) refl
 
 set_own : {X : Type 0} (xs : List X) (i : ℕ) (d : X) → slice_set xs i (slice_index_or xs i d) ≡ xs
@@ -336,7 +343,8 @@ compact_step settings box v m j v' m' g is =
           let end : ℕ = least_end box.base v j in
           let cells : ℕ = least_cells box.base v j in
           let made : Leaves k (change_replica k v j (swapped (least_end box.base v j) (least_cells box.base v j))) (put_there k v j new) =
-          subst (λ (r : ReplicaKnown). Leaves k (change_replica k v j (swapped (least_end box.base v j) (least_cells box.base v j))) (put_there k v j r)) (sym p) (stays k (change_replica k v j (swapped (least_end box.base v j) (least_cells box.base v j))) refl refl) in (
+          subst (λ (r : ReplicaKnown). Leaves k (change_replica k v j (swapped (least_end box.base v j) (least_cells box.base v j))) (put_there k v j r)) (sym p)
+          (stays k (change_replica k v j (swapped (least_end box.base v j) (least_cells box.base v j))) refl refl) in (
             needs.0,
             like.frozen ∙ needs.1.0,
             (no_run box.base k like needs.1.1.0.0, subst (λ (n : ℕ). n < 65535) (sym (ap (λ (q : ReplicaKnown). q.generation) like.replica)) needs.1.1.0.1),

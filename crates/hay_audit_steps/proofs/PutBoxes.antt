@@ -37,10 +37,12 @@ failed_fill : (xss : List (List Slack)) (settings : Settings) (b : Known) (tag :
     → failed_if settings (fill xss b) tag pair bytes v m f taker on ≡ map (fill xss) (failed_if settings b tag pair bytes v m f taker on)
 failed_fill xss settings b tag pair bytes v m f taker None = refl
 failed_fill xss settings b tag pair bytes v m f taker (Some j) =
-    ap (λ (k : Known). keep_if (is_at taker v && (is_dir_open b pair && rises_to b (slot_of settings v j) f)) (with_fault k (slot_of settings v j) f)) (frozen_put_fill xss settings b tag pair bytes v m)
+    ap (λ (k : Known). keep_if (is_at taker v && (is_dir_open b pair && rises_to b (slot_of settings v j) f)) (with_fault k (slot_of settings v j) f))
+    (frozen_put_fill xss settings b tag pair bytes v m)
     ∙ kept_fill xss (is_at taker v && (is_dir_open b pair && rises_to b (slot_of settings v j) f)) (with_fault (put_frozen settings b tag pair bytes v m true) (slot_of settings v j) f ∷ [])
 
-row_failed_fill : (xss : List (List Slack)) (b : Known) (tag : CoreTag) (pair : Pair) (f : ℕ) (taker : Option ℕ) → row_failed_by (fill xss b) tag pair f taker ≡ map (fill xss) (row_failed_by b tag pair f taker)
+row_failed_fill : (xss : List (List Slack)) (b : Known) (tag : CoreTag) (pair : Pair) (f : ℕ) (taker : Option ℕ)
+    → row_failed_by (fill xss b) tag pair f taker ≡ map (fill xss) (row_failed_by b tag pair f taker)
 row_failed_fill xss b tag pair f None = refl
 row_failed_fill xss b tag pair f (Some v) = kept_fill xss _ (with_fault (row_pending b tag pair v) 0 f ∷ [])
 
@@ -92,26 +94,32 @@ taken_step settings tag pair bytes r box known taken is same =
 
 refuse_step : (settings : Settings) (tag : CoreTag) (pair : Pair) (bytes : List ℕ) (r : Reply) (refused : List Refused) (rest : Bool) (box : Box) → r ≢ reply.NoMem
     → ((b : Known) → next_put settings b tag pair bytes r ≡ keep_if (refuse_so (map (refusal_of settings b (length bytes)) (tries_of settings b pair)) refused && rest) b)
-    → IsWhole box → SameRefusals settings (length bytes) (tries_of settings box.base pair) box → IsBoxStep (put_row settings tag pair bytes r) box (refuse_box settings pair (length bytes) refused rest box)
+    → IsWhole box → SameRefusals settings (length bytes) (tries_of settings box.base pair) box
+    → IsBoxStep (put_row settings tag pair bytes r) box (refuse_box settings pair (length bytes) refused rest box)
 refuse_step settings tag pair bytes r refused rest box known next_is is same =
     lifted_to (put_row settings tag pair bytes r) (λ k. next_put settings k tag pair bytes r) box
     (keep_if (refuse_so (map (refusal_of settings (lowest box) (length bytes)) (tries_of settings box.base pair)) refused && rest) box.base)
     (λ k. put_step settings k tag pair bytes r known)
     (λ xss within.
     next_is (fill xss box.base)
-    ∙ ap (λ (refusals : List (Option Refused)). keep_if (refuse_so refusals refused && rest) (fill xss box.base)) (refusals_there settings (length bytes) (tries_of settings box.base pair) box (fill xss box.base) is same (xss, within, refl))
+    ∙ ap (λ (refusals : List (Option Refused)). keep_if (refuse_so refusals refused && rest) (fill xss box.base))
+    (refusals_there settings (length bytes) (tries_of settings box.base pair) box (fill xss box.base) is same (xss, within, refl))
     ∙ kept_fill xss (refuse_so (map (refusal_of settings (lowest box) (length bytes)) (tries_of settings box.base pair)) refused && rest) (box.base ∷ []))
 
 refused_step : (settings : Settings) (tag : CoreTag) (pair : Pair) (bytes : List ℕ) (r : Reply) (refused : List Refused) (rest : Bool) (box : Box) → r ≢ reply.NoMem
     → ((b : Known) → next_put settings b tag pair bytes r ≡ keep_if (refuse_so (map (refusal_of settings b (length bytes)) (tries_of settings b pair)) refused && rest) b)
-    → ((k : Known) (faults arms fuses : List ℕ) (t : Known) → put_row settings tag pair bytes r (record k { faults = faults; arms = arms; fuses = fuses }) t → AllRefuse settings (length bytes) (tries_of settings k pair) refused k)
-    → IsWhole box → AllSame settings (length bytes) (tries_of settings box.base pair) box → IsBoxStep (put_row settings tag pair bytes r) box (refused_boxes settings pair (length bytes) refused rest box)
+    → ((k : Known) (faults arms fuses : List ℕ) (t : Known) → put_row settings tag pair bytes r (record k { faults = faults; arms = arms; fuses = fuses }) t
+    → AllRefuse settings (length bytes) (tries_of settings k pair) refused k)
+    → IsWhole box → AllSame settings (length bytes) (tries_of settings box.base pair) box
+    → IsBoxStep (put_row settings tag pair bytes r) box (refused_boxes settings pair (length bytes) refused rest box)
 refused_step settings tag pair bytes r refused rest box known next_is so is same =
     steps_of_parts (put_row settings tag pair bytes r) box (AllRefuse settings (length bytes) (tries_of settings box.base pair) refused)
-    (all_refused_at settings (length bytes) (tries_of settings box.base pair) refused box) (SameRefusals settings (length bytes) (tries_of settings box.base pair)) (refuse_box settings pair (length bytes) refused rest)
+    (all_refused_at settings (length bytes) (tries_of settings box.base pair) refused box) (SameRefusals settings (length bytes) (tries_of settings box.base pair))
+    (refuse_box settings pair (length bytes) refused rest)
     (all_refused_divide settings (length bytes) (tries_of settings box.base pair) refused box is same)
     (λ k faults arms fuses t has row. subst (λ (q : Known). AllRefuse settings (length bytes) (tries_of settings q pair) refused k) has.2 (so k faults arms fuses t row))
-    (λ d part each. refuse_step settings tag pair bytes r refused rest d known next_is part.whole (subst (λ (b : Known). SameRefusals settings (length bytes) (tries_of settings b pair) d) (sym part.base) each))
+    (λ d part each. refuse_step settings tag pair bytes r refused rest d known next_is part.whole
+    (subst (λ (b : Known). SameRefusals settings (length bytes) (tries_of settings b pair) d) (sym part.base) each))
 
 and_true : (b : Bool) → b ≡ (b && true)
 and_true true = refl

@@ -28,12 +28,15 @@ found_is : (P : ReplicaKnown → Bool) (n : ℕ) (replicas : List ReplicaKnown)
 found_is P n [] = refl
 found_is P n (r ∷ replicas) = by_first (P r) refl (found_is P (n + 1) replicas)
   where
-    later : (o : Option ℕ) → option_map {U = ℕ × ReplicaKnown} (λ j. (n + 1 + j, slice_index_or replicas j empty_replica)) o ≡ option_map {U = ℕ × ReplicaKnown} (λ j. (n + j, slice_index_or (r ∷ replicas) j empty_replica)) (option_map suc o)
+    later : (o : Option ℕ) → option_map {U = ℕ × ReplicaKnown} (λ j. (n + 1 + j, slice_index_or replicas j empty_replica)) o
+        ≡ option_map {U = ℕ × ReplicaKnown} (λ j. (n + j, slice_index_or (r ∷ replicas) j empty_replica)) (option_map suc o)
     later None = refl
     later (Some j) = ap (λ (i : ℕ). Some (i, slice_index_or replicas j empty_replica)) (let e : n + 1 + j ≡ n + suc j = omega arith in e)
 
-    by_first : (b : Bool) → P r ≡ b → find (λ at. P at.1) (enumerate_from (n + 1) replicas) ≡ option_map {U = ℕ × ReplicaKnown} (λ j. (n + 1 + j, slice_index_or replicas j empty_replica)) (first_true (map P replicas))
-        → cond (P r) (Some (n, r)) (find (λ at. P at.1) (enumerate_from (n + 1) replicas)) ≡ option_map {U = ℕ × ReplicaKnown} (λ j. (n + j, slice_index_or (r ∷ replicas) j empty_replica)) (first_true (P r ∷ map P replicas))
+    by_first : (b : Bool) → P r ≡ b → find (λ at. P at.1) (enumerate_from (n + 1) replicas)
+        ≡ option_map {U = ℕ × ReplicaKnown} (λ j. (n + 1 + j, slice_index_or replicas j empty_replica)) (first_true (map P replicas))
+        → cond (P r) (Some (n, r)) (find (λ at. P at.1) (enumerate_from (n + 1) replicas))
+        ≡ option_map {U = ℕ × ReplicaKnown} (λ j. (n + j, slice_index_or (r ∷ replicas) j empty_replica)) (first_true (P r ∷ map P replicas))
     by_first true e rest =
         ap (λ (b : Bool). cond b (Some (n, r)) (find (λ at. P at.1) (enumerate_from (n + 1) replicas))) e
         ∙ ap (λ (i : ℕ). Some (i, r)) (let e' : n ≡ n + 0 = omega arith in e')
@@ -48,14 +51,16 @@ abbrev told : Settings → ℕ → ℕ → Known → Option ℕ → Option Refus
 told settings size v k o = option_map (λ j. NoRoom v (machine_of settings v j) (replica_of k v j).end (needle_total size)) o
 
 told_is : (settings : Settings) (size v : ℕ) (k : Known) (o : Option ℕ)
-    → option_map (λ (at : ℕ × ReplicaKnown). NoRoom v (machine_of settings v at.0) (at.1).end (needle_total size)) (option_map {U = ℕ × ReplicaKnown} (λ j. (0 + j, slice_index_or (volume_at k v).replicas j empty_replica)) o) ≡ told settings size v k o
+    → option_map (λ (at : ℕ × ReplicaKnown). NoRoom v (machine_of settings v at.0) (at.1).end (needle_total size))
+    (option_map {U = ℕ × ReplicaKnown} (λ j. (0 + j, slice_index_or (volume_at k v).replicas j empty_replica)) o) ≡ told settings size v k o
 told_is settings size v k None = refl
 told_is settings size v k (Some j) = ap (λ (i : ℕ). Some (NoRoom v (machine_of settings v i) (replica_of k v j).end (needle_total size))) (let e : 0 + j ≡ j = omega arith in e)
 
 refusal_is : (settings : Settings) (size v : ℕ) (k : Known) → refusal_of settings k size v ≡ refusal_by v (closed settings k v) (told settings size v k (first_true (rooms settings size k v)))
 refusal_is settings size v k =
     ap (λ (o : Option Refused). refusal_by v (closed settings k v) o)
-    (ap (λ (o : Option (ℕ × ReplicaKnown)). option_map (λ (at : ℕ × ReplicaKnown). NoRoom v (machine_of settings v at.0) (at.1).end (needle_total size)) o) (found_is (lacks_room settings size) 0 (volume_at k v).replicas)
+    (ap (λ (o : Option (ℕ × ReplicaKnown)). option_map (λ (at : ℕ × ReplicaKnown). NoRoom v (machine_of settings v at.0) (at.1).end (needle_total size)) o)
+    (found_is (lacks_room settings size) 0 (volume_at k v).replicas)
     ∙ told_is settings size v k (first_true (rooms settings size k v)))
 
 -- so it is in each state of a box, in which the same replicas lack room
@@ -113,12 +118,14 @@ end_is box v j n k at has =
     let most = within_at has.0 (with_end box v j n).high v j (has.1).most in
     let low : (slack_at (with_end box v j n).low v j).end ≡ n = ap (λ (x : Slack). x.end) (slack_set box.low v j (record (slack_at box.low v j) { end = n }) at.low) in
     let high : (slack_at (with_end box v j n).high v j).end ≡ n = ap (λ (x : Slack). x.end) (slack_set box.high v j (record (slack_at box.high v j) { end = n }) at.high) in
-    let is : (replica_of k v j).end ≡ (replica_of box.base v j).end + (slack_at has.0 v j).end = ap (λ (q : Known). (replica_of q v j).end) has.2 ∙ ap (λ (r : ReplicaKnown). r.end) (sizes_of has.0 box.base v j at.volume) in
+    let is : (replica_of k v j).end ≡ (replica_of box.base v j).end + (slack_at has.0 v j).end =
+    ap (λ (q : Known). (replica_of q v j).end) has.2 ∙ ap (λ (r : ReplicaKnown). r.end) (sizes_of has.0 box.base v j at.volume) in
     omega (arith, least.end, most.end, low, high, is)
 
 has_end : (box : Box) (v j n : ℕ) (k : Known) → IsFilled box v j → Has box k → (replica_of k v j).end ≡ (replica_of box.base v j).end + n → Has (with_end box v j n) k
 has_end box v j n k at has e =
-    let is : (replica_of k v j).end ≡ (replica_of box.base v j).end + (slack_at has.0 v j).end = ap (λ (q : Known). (replica_of q v j).end) has.2 ∙ ap (λ (r : ReplicaKnown). r.end) (sizes_of has.0 box.base v j at.volume) in
+    let is : (replica_of k v j).end ≡ (replica_of box.base v j).end + (slack_at has.0 v j).end =
+    ap (λ (q : Known). (replica_of q v j).end) has.2 ∙ ap (λ (r : ReplicaKnown). r.end) (sizes_of has.0 box.base v j at.volume) in
     let same : (slack_at has.0 v j).end ≡ n = omega (arith, is, e) in
     let least = within_at box.low has.0 v j (has.1).least in
     let most = within_at has.0 box.high v j (has.1).most in (
@@ -133,7 +140,8 @@ has_end box v j n k at has e =
 between_of : (box : Box) (v j : ℕ) (k : Known) → IsFilled box v j → Has box k
     → ((replica_of box.base v j).end + (slack_at box.low v j).end ≤ (replica_of k v j).end) × ((replica_of k v j).end ≤ (replica_of box.base v j).end + (slack_at box.high v j).end)
 between_of box v j k at has =
-    let is : (replica_of k v j).end ≡ (replica_of box.base v j).end + (slack_at has.0 v j).end = ap (λ (q : Known). (replica_of q v j).end) has.2 ∙ ap (λ (r : ReplicaKnown). r.end) (sizes_of has.0 box.base v j at.volume) in
+    let is : (replica_of k v j).end ≡ (replica_of box.base v j).end + (slack_at has.0 v j).end =
+    ap (λ (q : Known). (replica_of q v j).end) has.2 ∙ ap (λ (r : ReplicaKnown). r.end) (sizes_of has.0 box.base v j at.volume) in
     let least = within_at box.low has.0 v j (has.1).least in
     let most = within_at has.0 box.high v j (has.1).most in
     (omega (arith, is, least.end), omega (arith, is, most.end))
@@ -159,7 +167,8 @@ record IsFull (settings : Settings) (size v : ℕ) (box : Box) (j : ℕ) : Type 
   at : IsFilled box v j
   refuses : (k : Known) → Has box k → refusal_of settings k size v ≡ Some (NoRoom v (machine_of settings v j) (replica_of k v j).end (needle_total size))
 
-full_of : (settings : Settings) (size v : ℕ) (box : Box) (j : ℕ) → IsWhole box → SameRooms settings size v box → closed settings box.base v ≡ None → first_true (rooms settings size (lowest box) v) ≡ Some j
+full_of : (settings : Settings) (size v : ℕ) (box : Box) (j : ℕ) → IsWhole box → SameRooms settings size v box → closed settings box.base v ≡ None
+    → first_true (rooms settings size (lowest box) v) ≡ Some j
     → IsFull settings size v box j
 full_of settings size v box j is same opens e = record {
   whole = is;
@@ -203,7 +212,9 @@ end_divides settings size v box j v' m' end need full =
         (λ k has so.
         let within = between_of box v j k full.at has in
         let is = end_of k has so in
-        let lie : false ≡ true = sym e ∙ (tells_between ((replica_of box.base v j).end + (slack_at box.low v j).end) end ((replica_of box.base v j).end + (slack_at box.high v j).end)).1 (omega (arith, within.0, is), omega (arith, within.1, is)) in
+        let lie : false ≡ true =
+        sym e ∙ (tells_between ((replica_of box.base v j).end + (slack_at box.low v j).end) end ((replica_of box.base v j).end + (slack_at box.high v j).end)).1
+        (omega (arith, within.0, is), omega (arith, within.1, is)) in
         absurd cc)
 
 full_divides : (settings : Settings) (size v : ℕ) (box : Box) (v' m' end need : ℕ) → IsWhole box → SameRooms settings size v box → closed settings box.base v ≡ None
@@ -212,7 +223,8 @@ full_divides settings size v box v' m' end need is same opens None e =
     divides_none box (Refuses settings size v (NoRoom v' m' end need)) (SameRefusal settings size v)
     (λ k has so.
     let none : None ≡ Some (NoRoom v' m' end need) =
-    sym (refusal_there settings size v box k is same has ∙ ap (λ (c : Option ℕ). refusal_by v c (told settings size v k (first_true (rooms settings size (lowest box) v)))) opens ∙ ap (λ (o : Option ℕ). told settings size v k o) e) ∙ so in
+    sym (refusal_there settings size v box k is same has ∙ ap (λ (c : Option ℕ). refusal_by v c (told settings size v k (first_true (rooms settings size (lowest box) v)))) opens
+    ∙ ap (λ (o : Option ℕ). told settings size v k o) e) ∙ so in
     absurd cc)
 full_divides settings size v box v' m' end need is same opens (Some j) e = end_divides settings size v box j v' m' end need (full_of settings size v box j is same opens e)
 
@@ -269,11 +281,13 @@ all_refused_divide settings size [] (r ∷ refused) box is same =
 all_refused_divide settings size (v ∷ tries) [] box is same =
     divides_none box (AllRefuse settings size (v ∷ tries) []) (SameRefusals settings size (v ∷ tries)) (λ k has lie. absurd cc)
 all_refused_divide settings size (v ∷ tries) (r ∷ refused) box is same =
-    divides_then box (Refuses settings size v r) (AllRefuse settings size (v ∷ tries) (r ∷ refused)) (refused_at settings size box v (closed settings box.base v) r) (all_refused_at settings size tries refused)
+    divides_then box (Refuses settings size v r) (AllRefuse settings size (v ∷ tries) (r ∷ refused)) (refused_at settings size box v (closed settings box.base v) r)
+    (all_refused_at settings size tries refused)
     (SameRefusal settings size v) (SameRefusals settings size tries) (SameRefusals settings size (v ∷ tries))
     (refused_divides settings size v box r is same.0 (closed settings box.base v) refl)
     (λ k h. head_same (refusal_of settings k size v) (Some r) (map (refusal_of settings k size) tries) (map Some refused) h)
-    (λ d part one. divides_less d (AllRefuse settings size tries refused) (AllRefuse settings size (v ∷ tries) (r ∷ refused)) (all_refused_at settings size tries refused d) (SameRefusals settings size tries)
+    (λ d part one. divides_less d (AllRefuse settings size tries refused) (AllRefuse settings size (v ∷ tries) (r ∷ refused)) (all_refused_at settings size tries refused d)
+    (SameRefusals settings size tries)
     (λ k h. tail_same (refusal_of settings k size v) (Some r) (map (refusal_of settings k size) tries) (map Some refused) h)
     (all_refused_divide settings size tries refused d part.whole (all_same_part settings size tries box d part same.1)))
     (λ d e part one rest. ((λ k q has also. one k q (part.inside k has) (part.inside q also)), rest))

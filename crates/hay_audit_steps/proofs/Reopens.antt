@@ -13,8 +13,10 @@ use Rattle.hay_legal.specs.declared.known.Pending.{Pending}
 use Rattle.hay_legal.specs.declared.known.ReplicaKnown.{ReplicaKnown}
 use Rattle.hay_legal.specs.declared.known.VolumeKnown.{VolumeKnown}
 use Rattle.hay_legal.specs.Known.{machine_of, replica_on}
-use Rattle.hay_legal.specs.Restarts.{nothing_at, KeptBelow, KeptAfter, MayKeep, kept_entry, is_kept, ReopenedReplica, ReopenedReplicas, ReopenedVolume, BareIs, kept_note, replica_notes, pending_notes, added_cells}
-use Rattle.hay_audit_steps.specs.Reopen.{kept_by, Read, onto, read_kept, all_below, says, kept_below, kept_at, kept_on, reopened_replica, reopened_replicas, reopened, reopen_kept, reopen_by, reopen, IsCalm, IsDecided}
+use Rattle.hay_legal.specs.Restarts.{nothing_at, KeptBelow, KeptAfter, MayKeep, kept_entry, is_kept, ReopenedReplica, ReopenedReplicas, ReopenedVolume, BareIs, kept_note}
+use Rattle.hay_legal.specs.Restarts.{replica_notes, pending_notes, added_cells}
+use Rattle.hay_audit_steps.specs.Reopen.{kept_by, Read, onto, read_kept, all_below, says, kept_below, kept_at, kept_on, reopened_replica, reopened_replicas, reopened, reopen_kept}
+use Rattle.hay_audit_steps.specs.Reopen.{reopen_by, reopen, IsCalm, IsDecided}
 
 -- NOTES
 
@@ -67,7 +69,8 @@ read_is settings v line j (r ∷ replicas) [] read e = absurd (let lie : None �
 read_is settings v line j (r ∷ replicas) (n ∷ notes) read e =
     by_parts (λ more q. read_is settings v line (j + 1) replicas notes more q) (kept_by v (machine_of settings v j) line n) (read_kept settings v line (j + 1) replicas notes) refl refl e
   where
-    by_parts : ((more : Read (List Bool)) → read_kept settings v line (j + 1) replicas notes ≡ Some more → IsReading settings v line (j + 1) replicas notes more) → (x : Option Bool) (o : Option (Read (List Bool))) → kept_by v (machine_of settings v j) line n ≡ x → read_kept settings v line (j + 1) replicas notes ≡ o
+    by_parts : ((more : Read (List Bool)) → read_kept settings v line (j + 1) replicas notes ≡ Some more → IsReading settings v line (j + 1) replicas notes more)
+        → (x : Option Bool) (o : Option (Read (List Bool))) → kept_by v (machine_of settings v j) line n ≡ x → read_kept settings v line (j + 1) replicas notes ≡ o
         → onto x o ≡ Some read → IsReading settings v line j (r ∷ replicas) (n ∷ notes) read
     by_parts on None o p q e = absurd (let lie : None ≡ Some read = e in cc)
     by_parts on (Some x) None p q e = absurd (let lie : None ≡ Some read = e in cc)
@@ -116,7 +119,8 @@ tells_kept volume change f kept =
     (tells_below (λ j. not (nothing_at volume change j) || says true (slice_get kept j)) (λ j. nothing_at volume change j ≡ true → slice_get kept j ≡ Some true)
     (λ j. tells_where (nothing_at volume change j) (says true (slice_get kept j)) (slice_get kept j ≡ Some true) (tells_says true (slice_get kept j))) (length kept))
     (tells_below (λ j. not (nat_lt f j) || (nothing_at volume change j || says false (slice_get kept j))) (λ j. nat_lt f j ≡ true → nothing_at volume change j ≡ false → slice_get kept j ≡ Some false)
-    (λ j. tells_where (nat_lt f j) _ _ (tells_unless (nothing_at volume change j) (says false (slice_get kept j)) (slice_get kept j ≡ Some false) (tells_says false (slice_get kept j)))) (length kept))))
+    (λ j. tells_where (nat_lt f j) _ _ (tells_unless (nothing_at volume change j) (says false (slice_get kept j)) (slice_get kept j ≡ Some false)
+    (tells_says false (slice_get kept j)))) (length kept))))
   where
     less_true : (a b : ℕ) → a < b → nat_lt a b ≡ true
     less_true a b h = (Decides-ltb a b).1 h
@@ -127,7 +131,8 @@ tells_kept volume change f kept =
 abbrev pub AfterFailed : Settings → ℕ → VolumeKnown → Entry → List Bool → Type 0
 AfterFailed settings v volume change kept = (m : ℕ) × (f : ℕ) × (volume.frozen ≡ Some m) × (replica_on settings v m ≡ Some f) × KeptBelow volume change f kept
 
-pub tells_after : (settings : Settings) (v : ℕ) (volume : VolumeKnown) (change : Entry) (kept : List Bool) → Decides (kept_on settings v volume change volume.frozen kept) (AfterFailed settings v volume change kept)
+pub tells_after : (settings : Settings) (v : ℕ) (volume : VolumeKnown) (change : Entry) (kept : List Bool)
+    → Decides (kept_on settings v volume change volume.frozen kept) (AfterFailed settings v volume change kept)
 tells_after settings v volume change kept = by_machine volume.frozen refl
   where
     some_same : (a b : ℕ) → Some a ≡ Some b → a ≡ b
@@ -185,7 +190,8 @@ replicas_open : (volume : VolumeKnown) (kept : List Bool) (j : ℕ) (olds : List
 replicas_open volume kept j [] calm = tt
 replicas_open volume kept j (old ∷ olds) calm = (replica_opens volume old (kept_entry volume.pending (is_kept kept j)) calm.0.0, replicas_open volume kept (j + 1) olds calm.1)
 
-replicas_back : (volume : VolumeKnown) (kept : List Bool) (j : ℕ) (olds news : List ReplicaKnown) → Each IsCalm olds → ReopenedReplicas volume kept j olds news → news ≡ reopened_replicas volume kept j olds
+replicas_back : (volume : VolumeKnown) (kept : List Bool) (j : ℕ) (olds news : List ReplicaKnown) → Each IsCalm olds → ReopenedReplicas volume kept j olds news
+    → news ≡ reopened_replicas volume kept j olds
 replicas_back volume kept j [] [] calm h = refl
 replicas_back volume kept j [] (new ∷ news) calm h = absurd h
 replicas_back volume kept j (old ∷ olds) [] calm h = absurd h
@@ -227,7 +233,8 @@ reopen_sound settings v old notes read plain e = by_pending old.pending refl e
         by_test : ((kept_on settings v old pending.entry old.frozen more.value) ≡ true) ⊎ ((kept_on settings v old pending.entry old.frozen more.value) ≡ false) → Reopening settings v old notes read
         by_test (inl may) =
             let reading = read_is settings v (pending.tag).line 0 old.replicas notes more told in
-            let same : record { value = reopened old more.value; rest = more.rest } ≡ read = some_read _ read (sym (cond-true _ (Some (record { value = reopened old more.value; rest = more.rest })) None may) ∙ e) in
+            let same : record { value = reopened old more.value; rest = more.rest } ≡ read =
+            some_read _ read (sym (cond-true _ (Some (record { value = reopened old more.value; rest = more.rest })) None may) ∙ e) in
             let allowed : MayKeep settings v old (Some pending) more.value =
             may_of settings v old pending more.value (plain.failed pending is) reading.long ((tells_after settings v old pending.entry more.value).0 may) in
             subst (λ (r : Read VolumeKnown). Reopening settings v old notes r) same
@@ -262,7 +269,8 @@ reopen_complete settings v old new kept rest plain h = by_pending old.pending re
     is : new ≡ reopened old kept
     is = same_volume new old kept h.log h.frozen h.pending (replicas_back old kept 0 old.replicas new.replicas plain.calm h.replicas)
 
-    by_pending : (pending : Option Pending) → old.pending ≡ pending → MayKeep settings v old pending kept → reopen_by settings v old (pending_notes settings v pending kept ++ rest) pending ≡ Some (record { value = new; rest = rest })
+    by_pending : (pending : Option Pending) → old.pending ≡ pending → MayKeep settings v old pending kept
+        → reopen_by settings v old (pending_notes settings v pending kept ++ rest) pending ≡ Some (record { value = new; rest = rest })
     by_pending None none may = ap (λ (ks : List Bool). Some (record { value = reopened old ks; rest = rest })) (sym may) ∙ ap (λ (n : VolumeKnown). Some (record { value = n; rest = rest })) (sym is)
     by_pending (Some pending) some may =
         let after : AfterFailed settings v old pending.entry kept = subst (λ (b : Bool). KeptAfter settings v old pending b kept) (plain.failed pending some) may.1 in

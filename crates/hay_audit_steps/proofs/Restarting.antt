@@ -58,7 +58,8 @@ all_complete : (settings : Settings) (v : ℕ) (olds news : List VolumeKnown) (k
     → reopen_all settings v olds (volume_notes settings v olds kept ++ rest) ≡ Some (record { value = news; rest = rest })
 all_complete settings v [] [] [] rest plain h = refl
 all_complete settings v (old ∷ olds) (new ∷ news) (k ∷ kept) rest plain h =
-    ap (λ (ns : List Note). then_all (reopen settings v old ns) (reopen_all settings (v + 1) olds)) (append_assoc (pending_notes settings v old.pending k) (volume_notes settings (v + 1) olds kept) rest)
+    ap (λ (ns : List Note). then_all (reopen settings v old ns) (reopen_all settings (v + 1) olds))
+    (append_assoc (pending_notes settings v old.pending k) (volume_notes settings (v + 1) olds kept) rest)
     ∙ ap (λ (o : Option (Read VolumeKnown)). then_all o (reopen_all settings (v + 1) olds)) (reopen_complete settings v old new k (volume_notes settings (v + 1) olds kept ++ rest) plain.0 h.0)
     ∙ ap (λ (o : Option (Read (List VolumeKnown))). and_volumes new o) (all_complete settings (v + 1) olds news kept rest plain.1 h.1)
 all_complete settings v [] [] (k ∷ kept) rest plain h = absurd h
@@ -122,10 +123,13 @@ restarted_sound settings b d notes read (Some new) volumes e = by_test (cases_Bo
 
     by_test : ((d == length (b.directory.rows ++ new)) ≡ true) ⊎ ((d == length (b.directory.rows ++ new)) ≡ false)
         → Each (restart_row settings (reply.Restarted d) notes b) (restarted_rows b d read.value (Some new))
-    by_test (inr other) = subst (λ (cs : List Known). Each (restart_row settings (reply.Restarted d) notes b) cs) (sym (cond-false _ (record b { volumes = read.value; directory = directory_with (b.directory.rows ++ new); drained = map undrained b.drained } ∷ []) [] other)) tt
+    by_test (inr other) =
+        subst (λ (cs : List Known). Each (restart_row settings (reply.Restarted d) notes b) cs)
+        (sym (cond-false _ (record b { volumes = read.value; directory = directory_with (b.directory.rows ++ new); drained = map undrained b.drained } ∷ []) [] other)) tt
     by_test (inl same) =
         let rows = rows_sound b.directory.pending read.rest new e in
-        subst (λ (cs : List Known). Each (restart_row settings (reply.Restarted d) notes b) cs) (sym (cond-true _ (record b { volumes = read.value; directory = directory_with (b.directory.rows ++ new); drained = map undrained b.drained } ∷ []) [] same)) (
+        subst (λ (cs : List Known). Each (restart_row settings (reply.Restarted d) notes b) cs)
+        (sym (cond-true _ (record b { volumes = read.value; directory = directory_with (b.directory.rows ++ new); drained = map undrained b.drained } ∷ []) [] same)) (
           record {
             kept = volumes.kept;
             row = rows.row;
@@ -150,7 +154,8 @@ restarted_sounds settings b d notes None plain e = tt
 restarted_sounds settings b d notes (Some read) plain e =
     restarted_sound settings b d notes read (new_rows b.directory.pending read.rest) (all_sound settings 0 b.volumes notes read plain e) refl
 
-restarted_complete : (settings : Settings) (b : Known) (d : ℕ) (notes : List Note) (faults arms fuses : List ℕ) (t : Known) → Each IsDecided b.volumes → NoneFalls b.faults faults → NoneFalls b.arms arms
+restarted_complete : (settings : Settings) (b : Known) (d : ℕ) (notes : List Note) (faults arms fuses : List ℕ) (t : Known) → Each IsDecided b.volumes → NoneFalls b.faults faults
+    → NoneFalls b.arms arms
     → IsRestarted settings (with_counts b faults arms fuses) d notes t → AnyOf (λ c. Below c t) (next_restart settings b (reply.Restarted d) notes)
 restarted_complete settings b d notes faults arms fuses t plain f a r =
     let new : List HomeRow = kept_row b.directory.pending r.row in

@@ -103,9 +103,12 @@ cut_decided settings size v j box is at fits = record {
 
     each_low : (others : List Box) → Each (λ d. IsPartOf box d × Decided settings size v j d) others
         → Each (λ d. IsPartOf box d × Decided settings size v j d) (where_end v j (up_to box v j (settings.capacity - least_need size v j box)) ++ others)
-    each_low others h = by_test (is_least (slack_at (up_to box v j (settings.capacity - least_need size v j box)).low v j).end (slack_at (up_to box v j (settings.capacity - least_need size v j box)).high v j).end) refl
+    each_low others h =
+        by_test (is_least (slack_at (up_to box v j (settings.capacity - least_need size v j box)).low v j).end
+        (slack_at (up_to box v j (settings.capacity - least_need size v j box)).high v j).end) refl
       where
-        by_test : (test : Bool) → is_least (slack_at (up_to box v j (settings.capacity - least_need size v j box)).low v j).end (slack_at (up_to box v j (settings.capacity - least_need size v j box)).high v j).end ≡ test
+        by_test : (test : Bool) → is_least (slack_at (up_to box v j (settings.capacity - least_need size v j box)).low v j).end
+            (slack_at (up_to box v j (settings.capacity - least_need size v j box)).high v j).end ≡ test
             → Each (λ d. IsPartOf box d × Decided settings size v j d) (cond test (up_to box v j (settings.capacity - least_need size v j box) ∷ []) [] ++ others)
         by_test true e = (
           (
@@ -117,9 +120,12 @@ cut_decided settings size v j box is at fits = record {
         by_test false e = h
 
     each_high : Each (λ d. IsPartOf box d × Decided settings size v j d) (where_end v j (above box v j (settings.capacity - least_need size v j box)))
-    each_high = by_test (is_least (slack_at (above box v j (settings.capacity - least_need size v j box)).low v j).end (slack_at (above box v j (settings.capacity - least_need size v j box)).high v j).end) refl
+    each_high =
+        by_test (is_least (slack_at (above box v j (settings.capacity - least_need size v j box)).low v j).end
+        (slack_at (above box v j (settings.capacity - least_need size v j box)).high v j).end) refl
       where
-        by_test : (test : Bool) → is_least (slack_at (above box v j (settings.capacity - least_need size v j box)).low v j).end (slack_at (above box v j (settings.capacity - least_need size v j box)).high v j).end ≡ test
+        by_test : (test : Bool) → is_least (slack_at (above box v j (settings.capacity - least_need size v j box)).low v j).end
+            (slack_at (above box v j (settings.capacity - least_need size v j box)).high v j).end ≡ test
             → Each (λ d. IsPartOf box d × Decided settings size v j d) (cond test (above box v j (settings.capacity - least_need size v j box) ∷ []) [])
         by_test true e = (
           (
@@ -231,7 +237,8 @@ AllSame settings size tries box = Each (λ v. SameRooms settings size v box) tri
 pub try_cuts_divide : (settings : Settings) (size : ℕ) (tries : List ℕ) (box : Box) → IsWhole box → Divides box (λ k. Unit {0}) (try_cuts settings size tries box) (AllSame settings size tries)
 try_cuts_divide settings size [] box is = divides_self box Always (AllSame settings size []) is tt
 try_cuts_divide settings size (v ∷ tries) box is =
-    divides_then box Always Always (volume_cuts settings size v (replicas_at box v) box) (try_cuts settings size tries) (SameRooms settings size v) (AllSame settings size tries) (AllSame settings size (v ∷ tries))
+    divides_then box Always Always (volume_cuts settings size v (replicas_at box v) box) (try_cuts settings size tries) (SameRooms settings size v) (AllSame settings size tries)
+    (AllSame settings size (v ∷ tries))
     (volume_decides settings size v box is) (λ k h. h)
     (λ d part one. try_cuts_divide settings size tries d part.whole)
     (λ d e part one rest. (same_rooms_part settings size v d e part one, rest))
@@ -257,8 +264,11 @@ all_take_same settings size [] box k q same has also = tt
 all_take_same settings size (v ∷ tries) box k q same has also = (takes_same settings size v box k q same.0 has also, all_take_same settings size tries box k q same.1 has also)
 
 -- the taker is that of the lowest sizes
-pub taker_there : (settings : Settings) (pair : Pair) (size : ℕ) (box : Box) (xss : List (List Slack)) → IsWhole box → AllSame settings size (tries_of settings box.base pair) box → Has box (fill xss box.base)
+pub taker_there : (settings : Settings) (pair : Pair) (size : ℕ) (box : Box) (xss : List (List Slack)) → IsWhole box → AllSame settings size (tries_of settings box.base pair) box
+    → Has box (fill xss box.base)
     → taker_of settings (fill xss box.base) pair size ≡ taker_of settings (lowest box) pair size
 taker_there settings pair size box xss is same has =
-    taker_decided settings box pair size (takes settings (lowest box) size) xss (all_take_same settings size (tries_of settings box.base pair) box (fill xss box.base) (lowest box) same has (has_lowest box is))
-    ∙ sym (taker_decided settings box pair size (takes settings (lowest box) size) box.low (all_take_same settings size (tries_of settings box.base pair) box (lowest box) (lowest box) same (has_lowest box is) (has_lowest box is)))
+    taker_decided settings box pair size (takes settings (lowest box) size) xss (all_take_same settings size (tries_of settings box.base pair) box (fill xss box.base) (lowest box)
+    same has (has_lowest box is))
+    ∙ sym (taker_decided settings box pair size (takes settings (lowest box) size) box.low
+    (all_take_same settings size (tries_of settings box.base pair) box (lowest box) (lowest box) same (has_lowest box is) (has_lowest box is)))

@@ -26,13 +26,17 @@ finds_none settings size v n (r ∷ replicas) = by_first (cases_Bool (lacks_room
     told w o = option_map (λ at. NoRoom w (machine_of settings w at.0) (at.1).end (needle_total size)) o
 
     by_first : (lacks_room settings size r ≡ true) ⊎ (lacks_room settings size r ≡ false)
-        → is_none (option_map (λ at. NoRoom v (machine_of settings v at.0) (at.1).end (needle_total size)) (find (λ at. lacks_room settings size at.1) (enumerate_from (n + 1) replicas))) ≡ not (list_any (lacks_room settings size) replicas)
-        → is_none (option_map (λ at. NoRoom v (machine_of settings v at.0) (at.1).end (needle_total size)) (find (λ at. lacks_room settings size at.1) (enumerate_from n (r ∷ replicas)))) ≡ not (list_any (lacks_room settings size) (r ∷ replicas))
+        → is_none (option_map (λ at. NoRoom v (machine_of settings v at.0) (at.1).end (needle_total size))
+        (find (λ at. lacks_room settings size at.1) (enumerate_from (n + 1) replicas))) ≡ not (list_any (lacks_room settings size) replicas)
+        → is_none (option_map (λ at. NoRoom v (machine_of settings v at.0) (at.1).end (needle_total size))
+        (find (λ at. lacks_room settings size at.1) (enumerate_from n (r ∷ replicas)))) ≡ not (list_any (lacks_room settings size) (r ∷ replicas))
     by_first (inl lacking) rest =
-        ap (λ (o : Option (ℕ × ReplicaKnown)). is_none (option_map (λ at. NoRoom v (machine_of settings v at.0) (at.1).end (needle_total size)) o)) (cond-true (lacks_room settings size r) (Some (n, r)) (find (λ at. lacks_room settings size at.1) (enumerate_from (n + 1) replicas)) lacking)
+        ap (λ (o : Option (ℕ × ReplicaKnown)). is_none (option_map (λ at. NoRoom v (machine_of settings v at.0) (at.1).end (needle_total size)) o))
+        (cond-true (lacks_room settings size r) (Some (n, r)) (find (λ at. lacks_room settings size at.1) (enumerate_from (n + 1) replicas)) lacking)
         ∙ sym (ap (λ (b : Bool). not (b || list_any (lacks_room settings size) replicas)) lacking)
     by_first (inr room) rest =
-        ap (λ (o : Option (ℕ × ReplicaKnown)). is_none (option_map (λ at. NoRoom v (machine_of settings v at.0) (at.1).end (needle_total size)) o)) (cond-false (lacks_room settings size r) (Some (n, r)) (find (λ at. lacks_room settings size at.1) (enumerate_from (n + 1) replicas)) room)
+        ap (λ (o : Option (ℕ × ReplicaKnown)). is_none (option_map (λ at. NoRoom v (machine_of settings v at.0) (at.1).end (needle_total size)) o))
+        (cond-false (lacks_room settings size r) (Some (n, r)) (find (λ at. lacks_room settings size at.1) (enumerate_from (n + 1) replicas)) room)
         ∙ rest ∙ sym (ap (λ (b : Bool). not (b || list_any (lacks_room settings size) replicas)) room)
 
 refuses_none : (v : ℕ) (o : Option ℕ) (room : Option Refused) → is_none (refusal_by v o room) ≡ (is_none o && is_none room)
@@ -66,7 +70,8 @@ room_above settings size r x h = (Decides-ltb settings.capacity (r.end + x.end +
 room_up_to : (settings : Settings) (size : ℕ) (r : ReplicaKnown) (x : Slack) → r.end + x.end + needle_total size + 8 ≤ settings.capacity → lacks_room settings size (fill_replica x r) ≡ false
 room_up_to settings size r x h = by_test (cases_Bool (nat_lt settings.capacity (r.end + x.end + needle_total size + 8)))
   where
-    by_test : (nat_lt settings.capacity (r.end + x.end + needle_total size + 8) ≡ true) ⊎ (nat_lt settings.capacity (r.end + x.end + needle_total size + 8) ≡ false) → nat_lt settings.capacity (r.end + x.end + needle_total size + 8) ≡ false
+    by_test : (nat_lt settings.capacity (r.end + x.end + needle_total size + 8) ≡ true) ⊎ (nat_lt settings.capacity (r.end + x.end + needle_total size + 8) ≡ false)
+        → nat_lt settings.capacity (r.end + x.end + needle_total size + 8) ≡ false
     by_test (inl lie) = absurd (omega (arith, h, (Decides-ltb settings.capacity (r.end + x.end + needle_total size + 8)).0 lie))
     by_test (inr is) = is
 

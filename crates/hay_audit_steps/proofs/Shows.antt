@@ -26,7 +26,8 @@ use Rattle.hay_legal.specs.Known.{NoneFalls, home_of, volume_at, replica_at, now
 use Rattle.hay_legal.specs.Plain.{LegalShow, IsShown, HasCause, ArmRises, PassedReplicas, order_from, disk_rose}
 use Rattle.hay_audit_steps.specs.Steps.{Below, IsStep, with_counts}
 use Rattle.hay_audit_steps.specs.Laid.{laid}
-use Rattle.hay_audit_steps.specs.Next.{is_at, is_seen, cookie_eq, shows_photo, shows_nothing, shows_other, slots_before, shown_by, next_show, caused, may_cause, may_pass, all_caused, arm_rises, rises_on, arms_rise}
+use Rattle.hay_audit_steps.specs.Next.{is_at, is_seen, cookie_eq, shows_photo, shows_nothing, shows_other, slots_before, shown_by, next_show, caused, may_cause, may_pass}
+use Rattle.hay_audit_steps.specs.Next.{all_caused, arm_rises, rises_on, arms_rise}
 use Rattle.hay_audit_steps.proofs.Counts.{falls_refl, falls_trans, falls_set, falls_at, falls_length, falls_raised, index_set, index_there}
 use Rattle.hay_audit_steps.proofs.Laying.{unrisen, Laid, Good, laid_sound, laid_complete}
 use Rattle.hay_audit_steps.proofs.Rows.{IsRow, comes, kept, tested, never, calm, each_by, any_by}
@@ -222,7 +223,8 @@ cause_sound settings b c t tag v j (cause.Disk f) disks lanes may faults arms =
     let slot : ℕ = slot_of settings v j in
     let parts = and_parts (nat_lt (slot_of settings v j) (length b.faults)) (has_risen (fault_count b (slot_of settings v j)) f) may in
     let has : nat_lt (slot_of settings v j) (length c.faults) ≡ true = ap (λ (n : ℕ). nat_lt (slot_of settings v j) n) disks ∙ parts.0 in
-    come_up (fault_count b (slot_of settings v j)) (fault_count c (slot_of settings v j)) f (fault_count t (slot_of settings v j)) parts.1 (come_set c.faults t.faults (slot_of settings v j) f has faults)
+    come_up (fault_count b (slot_of settings v j)) (fault_count c (slot_of settings v j)) f (fault_count t (slot_of settings v j)) parts.1
+    (come_set c.faults t.faults (slot_of settings v j) f has faults)
 cause_sound settings b c t tag v j (cause.Damage at) disks lanes may faults arms = absurd (let none : false ≡ true = may in cc)
 
 abbrev EachCaused : Settings → Known → Known → CoreTag → ℕ → List ℕ → List Passed → Type 0
@@ -276,7 +278,8 @@ cause_back settings b k c t tag v j (cause.Disk f) first1 first2 then1 then2 bel
     directory = below.directory;
     drained = below.drained;
     faults = falls_set c.faults t.faults (slot_of settings v j) (max (fault_count c (slot_of settings v j)) f) below.faults
-        (come_least (fault_count c (slot_of settings v j)) (fault_count k (slot_of settings v j)) f (fault_count t (slot_of settings v j)) (falls_at c.faults t.faults (slot_of settings v j) below.faults) h);
+        (come_least (fault_count c (slot_of settings v j)) (fault_count k (slot_of settings v j)) f (fault_count t (slot_of settings v j))
+        (falls_at c.faults t.faults (slot_of settings v j) below.faults) h);
     arms = below.arms;
   },
 )
@@ -361,7 +364,8 @@ show_step settings b tag start pair cookie (reply.Unreadable v p d causes) known
     kept (show_row settings tag start pair cookie (reply.Unreadable v p d causes)) b (all_caused settings tag.lane v (order_from settings start) causes b)
     (NeedsUnreadable settings b tag start pair v p d causes) _
     (Decides-and (is_seen b pair v p d) _ (tells_seen b pair v p d)
-    (Decides-and (may_pass settings b tag.lane v (order_from settings start) causes) (arms_rise causes) (tells_flag (may_pass settings b tag.lane v (order_from settings start) causes)) (tells_arms causes)))
+    (Decides-and (may_pass settings b tag.lane v (order_from settings start) causes) (arms_rise causes)
+    (tells_flag (may_pass settings b tag.lane v (order_from settings start) causes)) (tells_arms causes)))
     (unreadable_row settings b tag start pair cookie v p d causes)
 show_step settings b tag start pair cookie (reply.Unknown d) known =
     kept (show_row settings tag start pair cookie (reply.Unknown d)) b b _ _

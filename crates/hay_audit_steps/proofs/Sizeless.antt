@@ -22,8 +22,11 @@ use Rattle.hay_audit_steps.specs.BoxNext.{IsSizeless}
 use Rattle.hay_audit_steps.specs.Steps.{plain_row}
 use Rattle.hay_audit_steps.specs.Slacks.{Slack}
 use Rattle.hay_audit_steps.specs.Boxes.{fill}
-use Rattle.hay_audit_steps.specs.Next.{is_at, is_home, keep_if, rises_to, with_fault, stands_there, deleted, del_failed_by, next_del, endings, is_busy, is_frozen_by, is_stuck_on, names, is_open, is_idle, is_resting, next_flush, next_begin, next_step, swap_failed, next_compact, next_finish, next_show, next_url, get_shows, get_by, next_drain, next_undrain, fused, next_fuse, next_fuse_dir, on_replica, next_bad, next_command, next_plain}
-use Rattle.hay_audit_steps.proofs.Fills.{all_deleted_fill, busy_fill, change_replica_fill, closed_fill, closed_home_fill, endings_fill, freeze_fill, freeze_with_fill, frozen_fill, generation_fill, home_fill, idle_fill, open_fill, resting_fill, runs_fill, stands_fill, stuck_fill, stuck_on_fill}
+use Rattle.hay_audit_steps.specs.Next.{is_at, is_home, keep_if, rises_to, with_fault, stands_there, deleted, del_failed_by, next_del, endings, is_busy, is_frozen_by, is_stuck_on}
+use Rattle.hay_audit_steps.specs.Next.{names, is_open, is_idle, is_resting, next_flush, next_begin, next_step, swap_failed, next_compact, next_finish, next_show, next_url}
+use Rattle.hay_audit_steps.specs.Next.{get_shows, get_by, next_drain, next_undrain, fused, next_fuse, next_fuse_dir, on_replica, next_bad, next_command, next_plain}
+use Rattle.hay_audit_steps.proofs.Fills.{all_deleted_fill, busy_fill, change_replica_fill, closed_fill, closed_home_fill, endings_fill, freeze_fill, freeze_with_fill, frozen_fill}
+use Rattle.hay_audit_steps.proofs.Fills.{generation_fill, home_fill, idle_fill, open_fill, resting_fill, runs_fill, stands_fill, stuck_fill, stuck_on_fill}
 use Rattle.hay_audit_steps.proofs.Lifting.{change_fill, kept_fill, log_fill, show_fill, lifted}
 use Rattle.hay_audit_steps.proofs.Swaps.{plain_step}
 
@@ -78,7 +81,8 @@ del_failed_fill : (xss : List (List Slack)) (settings : Settings) (b : Known) (t
     → del_failed_by settings (fill xss b) tag pair v m f on ≡ map (fill xss) (del_failed_by settings b tag pair v m f on)
 del_failed_fill xss settings b tag pair v m f None = refl
 del_failed_fill xss settings b tag pair v m f (Some j) =
-    ap (λ (ks : List Known). cond (is_at (home_of b pair) v && (is_none (closed settings (fill xss b) v) && rises_to b (slot_of settings v j) f)) (with_fault (fill xss b) (slot_of settings v j) f ∷ ks) [])
+    ap (λ (ks : List Known). cond (is_at (home_of b pair) v && (is_none (closed settings (fill xss b) v) && rises_to b (slot_of settings v j) f))
+    (with_fault (fill xss b) (slot_of settings v j) f ∷ ks) [])
     (kept_if_fill xss (stands_there (fill xss b) pair v) (stands_there b pair v) (with_fault (change_volume b v (frozen_with m tag (entry.Del pair) true)) (slot_of settings v j) f)
     (with_fault (change_volume (fill xss b) v (frozen_with m tag (entry.Del pair) true)) (slot_of settings v j) f) (stands_fill xss b pair v)
     (ap (λ (k : Known). with_fault k (slot_of settings v j) f) (change_fill xss b v (frozen_with m tag (entry.Del pair) true) (λ xs volume. freeze_with_fill xs m tag (entry.Del pair) true volume))))
@@ -87,12 +91,17 @@ del_failed_fill xss settings b tag pair v m f (Some j) =
     ∙ kept_fill xss (is_at (home_of b pair) v && (is_none (closed settings b v) && rises_to b (slot_of settings v j) f)) (with_fault b (slot_of settings v j) f
     ∷ keep_if (stands_there b pair v) (with_fault (change_volume b v (frozen_with m tag (entry.Del pair) true)) (slot_of settings v j) f))
 
-del_fill : (xss : List (List Slack)) (settings : Settings) (b : Known) (tag : CoreTag) (pair : Pair) (r : Reply) → next_del settings (fill xss b) tag pair r ≡ map (fill xss) (next_del settings b tag pair r)
+del_fill : (xss : List (List Slack)) (settings : Settings) (b : Known) (tag : CoreTag) (pair : Pair) (r : Reply)
+    → next_del settings (fill xss b) tag pair r ≡ map (fill xss) (next_del settings b tag pair r)
 del_fill xss settings b tag pair (reply.Deleted v p d) =
-    ap (λ (is : Bool). cond (is && (stands_there (fill xss b) pair v && (p == length (volume_at (fill xss b) v).log + 1))) (map (deleted settings (fill xss b) tag pair v) (endings_at (fill xss b))) []) (home_fill xss settings b pair v d)
-    ∙ ap (λ (is : Bool). cond (is_home settings b pair v d && (is && (p == length (volume_at (fill xss b) v).log + 1))) (map (deleted settings (fill xss b) tag pair v) (endings_at (fill xss b))) []) (stands_fill xss b pair v)
-    ∙ ap (λ (log : List Logged). cond (is_home settings b pair v d && (stands_there b pair v && (p == length log + 1))) (map (deleted settings (fill xss b) tag pair v) (endings_at (fill xss b))) []) (log_fill xss b v)
-    ∙ ap (λ (ends : List (List Bool)). cond (is_home settings b pair v d && (stands_there b pair v && (p == length (volume_at b v).log + 1))) (map (deleted settings (fill xss b) tag pair v) ends) []) (endings_fill xss settings b v)
+    ap (λ (is : Bool). cond (is && (stands_there (fill xss b) pair v && (p == length (volume_at (fill xss b) v).log + 1)))
+    (map (deleted settings (fill xss b) tag pair v) (endings_at (fill xss b))) []) (home_fill xss settings b pair v d)
+    ∙ ap (λ (is : Bool). cond (is_home settings b pair v d && (is && (p == length (volume_at (fill xss b) v).log + 1)))
+    (map (deleted settings (fill xss b) tag pair v) (endings_at (fill xss b))) []) (stands_fill xss b pair v)
+    ∙ ap (λ (log : List Logged). cond (is_home settings b pair v d && (stands_there b pair v && (p == length log + 1)))
+    (map (deleted settings (fill xss b) tag pair v) (endings_at (fill xss b))) []) (log_fill xss b v)
+    ∙ ap (λ (ends : List (List Bool)). cond (is_home settings b pair v d && (stands_there b pair v && (p == length (volume_at b v).log + 1)))
+    (map (deleted settings (fill xss b) tag pair v) ends) []) (endings_fill xss settings b v)
     ∙ ap (λ (ks : List Known). cond (is_home settings b pair v d && (stands_there b pair v && (p == length (volume_at b v).log + 1))) ks []) (all_deleted_fill xss settings b tag pair v (endings_at b))
     ∙ kept_fill xss (is_home settings b pair v d && (stands_there b pair v && (p == length (volume_at b v).log + 1))) (map (deleted settings b tag pair v) (endings_at b))
   where
@@ -111,7 +120,8 @@ del_fill xss settings b tag pair r = refl
 -- FLUSH AND COMPACTION
 
 busy_again : (xss : List (List Slack)) (b : Known) (v m j v' m' g : ℕ)
-    → keep_if (names v m v' m' && (is_open (fill xss b) v && is_busy (replica_of (fill xss b) v j).run g)) (fill xss b) ≡ map (fill xss) (keep_if (names v m v' m' && (is_open b v && is_busy (replica_of b v j).run g)) b)
+    → keep_if (names v m v' m' && (is_open (fill xss b) v && is_busy (replica_of (fill xss b) v j).run g)) (fill xss b)
+    ≡ map (fill xss) (keep_if (names v m v' m' && (is_open b v && is_busy (replica_of b v j).run g)) b)
 busy_again xss b v m j v' m' g =
     kept_if_fill xss _ _ b (fill xss b)
     (ap (λ (is : Bool). names v m v' m' && (is && is_busy (replica_of (fill xss b) v j).run g)) (open_fill xss b v)
@@ -201,7 +211,8 @@ finish_fill xss settings b v m j (reply.Compacted v' m' g) sizeless = absurd siz
 finish_fill xss settings b v m j (reply.ReadOnly by) sizeless = kept_if_fill xss _ _ b (fill xss b) (frozen_fill xss b v by) refl
 finish_fill xss settings b v m j (reply.Idle v' m') sizeless = idle_again xss b v m j v' m'
 finish_fill xss settings b v m j (reply.Failed v' m' f) sizeless =
-    ap (λ (is : Bool). cond (names v m v' m' && (is && (is_some (replica_of (fill xss b) v j).run && rises_to b (slot_of settings v j) f))) (swap_failed settings (fill xss b) v m j f) []) (open_fill xss b v)
+    ap (λ (is : Bool). cond (names v m v' m' && (is && (is_some (replica_of (fill xss b) v j).run && rises_to b (slot_of settings v j) f)))
+    (swap_failed settings (fill xss b) v m j f) []) (open_fill xss b v)
     ∙ ap (λ (is : Bool). cond (names v m v' m' && (is_open b v && (is && rises_to b (slot_of settings v j) f))) (swap_failed settings (fill xss b) v m j f) []) (runs_fill xss b v j)
     ∙ ap (λ (ks : List Known). cond (names v m v' m' && (is_open b v && (is_some (replica_of b v j).run && rises_to b (slot_of settings v j) f))) ks []) (swap_failed_fill xss settings b v m j f)
     ∙ kept_fill xss (names v m v' m' && (is_open b v && (is_some (replica_of b v j).run && rises_to b (slot_of settings v j) f))) (swap_failed settings b v m j f)
@@ -222,12 +233,16 @@ command_fill xss settings b tag (command.Read pair cookie) r sizeless = show_fil
 command_fill xss settings b tag (command.Get url) r sizeless = get_fill xss settings b tag url (replica_on settings url.volume url.machine) r
 command_fill xss settings b tag (command.Del pair) r sizeless = del_fill xss settings b tag pair r
 command_fill xss settings b tag (command.Url pair) r sizeless = url_fill xss settings b tag pair r
-command_fill xss settings b tag (command.Flush v m) r sizeless = on_fill xss b (replica_on settings v m) (next_flush settings b v m) (next_flush settings (fill xss b) v m) r (λ j. flush_fill xss settings b v m j r sizeless)
-command_fill xss settings b tag (command.Compact v m) r sizeless = on_fill xss b (replica_on settings v m) (next_compact settings b v m) (next_compact settings (fill xss b) v m) r (λ j. compact_fill xss settings b v m j r sizeless)
-command_fill xss settings b tag (command.Begin v m) r sizeless = on_fill xss b (replica_on settings v m) (next_begin settings b v m) (next_begin settings (fill xss b) v m) r (λ j. begin_fill xss settings b v m j r)
+command_fill xss settings b tag (command.Flush v m) r sizeless =
+    on_fill xss b (replica_on settings v m) (next_flush settings b v m) (next_flush settings (fill xss b) v m) r (λ j. flush_fill xss settings b v m j r sizeless)
+command_fill xss settings b tag (command.Compact v m) r sizeless =
+    on_fill xss b (replica_on settings v m) (next_compact settings b v m) (next_compact settings (fill xss b) v m) r (λ j. compact_fill xss settings b v m j r sizeless)
+command_fill xss settings b tag (command.Begin v m) r sizeless =
+    on_fill xss b (replica_on settings v m) (next_begin settings b v m) (next_begin settings (fill xss b) v m) r (λ j. begin_fill xss settings b v m j r)
 command_fill xss settings b tag (command.Step v m n) r sizeless =
     on_fill xss b (replica_on settings v m) (λ j. next_step settings b v m j n) (λ j. next_step settings (fill xss b) v m j n) r (λ j. step_fill xss settings b v m j n r sizeless)
-command_fill xss settings b tag (command.Finish v m) r sizeless = on_fill xss b (replica_on settings v m) (next_finish settings b v m) (next_finish settings (fill xss b) v m) r (λ j. finish_fill xss settings b v m j r sizeless)
+command_fill xss settings b tag (command.Finish v m) r sizeless =
+    on_fill xss b (replica_on settings v m) (next_finish settings b v m) (next_finish settings (fill xss b) v m) r (λ j. finish_fill xss settings b v m j r sizeless)
 command_fill xss settings b tag (command.Drain m) r sizeless = drain_fill xss settings b m r
 command_fill xss settings b tag (command.Undrain m) r sizeless = undrain_fill xss settings b m r
 command_fill xss settings b tag (command.Fuse v m n) r sizeless = fuse_fill xss settings b v m n (replica_on settings v m) r

@@ -14,17 +14,20 @@ use Rattle.hay_legal.specs.declared.known.Run.{Run}
 use Rattle.hay_legal.specs.declared.known.Known.{Known}
 use Rattle.hay_legal.specs.declared.turn.Item.TheVariants as item
 use Rattle.hay_legal.specs.Known.{Leaves, NoneFalls, volume_at, now, slot_of, replica_on}
-use Rattle.hay_legal.specs.Plain.{LegalStep, LegalCompact, LegalFinish, OnReplica, LegalCommand, Names, IsOpen, IsAtRest, IsFrozenBy, RoseTo, SwapFailed, HasRun, change_replica, change_volume, with_run, stepped, without_run, swapped, as_it_is, poised_by, replica_of, start_of, LegalFlush, LegalBegin, LegalFuse}
+use Rattle.hay_legal.specs.Plain.{LegalStep, LegalCompact, LegalFinish, OnReplica, LegalCommand, Names, IsOpen, IsAtRest, IsFrozenBy, RoseTo, SwapFailed, HasRun, change_replica}
+use Rattle.hay_legal.specs.Plain.{change_volume, with_run, stepped, without_run, swapped, as_it_is, poised_by, replica_of, start_of, LegalFlush, LegalBegin, LegalFuse}
 use Rattle.hay_audit_steps.specs.Law.{IsExact, PlainLinesAreSteps}
 use Rattle.hay_audit_steps.specs.Steps.{IsStep, with_counts}
-use Rattle.hay_audit_steps.specs.Next.{with_fault, names, is_open, is_idle, is_resting, is_busy, stepped_by, next_step, swap_failed, tight, next_compact, next_finish, on_replica, next_flush, next_begin, next_fuse, next_command}
+use Rattle.hay_audit_steps.specs.Next.{with_fault, names, is_open, is_idle, is_resting, is_busy, stepped_by, next_step, swap_failed, tight, next_compact, next_finish, on_replica}
+use Rattle.hay_audit_steps.specs.Next.{next_flush, next_begin, next_fuse, next_command}
 use Rattle.hay_audit_steps.proofs.Counts.{index_set}
 use Rattle.hay_audit_steps.proofs.Puts.{MayRise, tells_rises_to, rose_needs, rose_leaves, rose_comes, put_step}
 use Rattle.hay_audit_steps.proofs.Rows.{stays, comes, kept, tested, never, calm, each_by}
 use Rattle.hay_audit_steps.proofs.Tests.{tells_none}
 use Rattle.hay_audit_steps.proofs.Shows.{show_step}
 use Rattle.hay_audit_steps.proofs.Dels.{del_step}
-use Rattle.hay_audit_steps.proofs.Others.{tells_names, tells_frozen, frozen_back, tells_run, tells_busy, tells_resting, fail_row, url_step, flush_step, begin_step, drain_step, undrain_step, fuse_step, fuse_dir_step, on_replica_step, bad_step, get_step}
+use Rattle.hay_audit_steps.proofs.Others.{tells_names, tells_frozen, frozen_back, tells_run, tells_busy, tells_resting, fail_row, url_step, flush_step, begin_step, drain_step}
+use Rattle.hay_audit_steps.proofs.Others.{undrain_step, fuse_step, fuse_dir_step, on_replica_step, bad_step, get_step}
 
 abbrev step_row : Settings → ℕ → ℕ → ℕ → ℕ → Reply → Known → Known → Type 0
 step_row settings v m j cells r k t = LegalStep settings k v m j cells r t
@@ -47,7 +50,8 @@ of_run_step b v j cells n (Some run) e =
           let leaves : Leaves (with_counts b faults arms fuses) (change_replica (with_counts b faults arms fuses) v j (with_run (stepped n run))) t =
           subst (λ (x : Run). Leaves (with_counts b faults arms fuses) (change_replica (with_counts b faults arms fuses) v j (with_run (stepped n x))) t) is r.3 in (
             subst (λ (x : Run). n ≡ min cells x.left) is r.2,
-            comes (change_replica b v j (with_run (stepped n run))) (with_counts b faults arms fuses) (change_replica (with_counts b faults arms fuses) v j (with_run (stepped n run))) t refl refl refl f a leaves,
+            comes (change_replica b v j (with_run (stepped n run))) (with_counts b faults arms fuses)
+                (change_replica (with_counts b faults arms fuses) v j (with_run (stepped n run))) t refl refl refl f a leaves,
           );
     })
 
@@ -62,7 +66,8 @@ step_step settings b v m j cells (reply.Stepped v' m' n) known =
     (λ needs.
     let step = of_run_step b v j cells n (replica_of b v j).run refl in
     record {
-      sound = each_by (OfRun v j cells n b) (λ t. step_row settings v m j cells (reply.Stepped v' m' n) b t) (stepped_by b v j cells n (replica_of b v j).run) (λ t h. (needs.0, needs.1, h)) step.sound;
+      sound =
+          each_by (OfRun v j cells n b) (λ t. step_row settings v m j cells (reply.Stepped v' m' n) b t) (stepped_by b v j cells n (replica_of b v j).run) (λ t h. (needs.0, needs.1, h)) step.sound;
       complete = λ faults arms fuses t f a r. step.complete faults arms fuses t f a r.2;
     })
     (λ faults arms fuses t f a r. (r.0, r.1))
@@ -95,7 +100,8 @@ compact_row settings v m j r k t = LegalCompact settings k v m j r t
 
 swap_failed_step : (settings : Settings) (row : Known → Known → Type 0) (b : Known) (v m j f : ℕ) (Needs : Type 0)
     → ((t : Known) → Needs → RoseTo settings b v j f t → SwapFailed m b v j t → row b t)
-    → ((faults arms fuses : List ℕ) (t : Known) → row (with_counts b faults arms fuses) t → Needs × RoseTo settings (with_counts b faults arms fuses) v j f t × SwapFailed m (with_counts b faults arms fuses) v j t)
+    → ((faults arms fuses : List ℕ) (t : Known) → row (with_counts b faults arms fuses) t
+    → Needs × RoseTo settings (with_counts b faults arms fuses) v j f t × SwapFailed m (with_counts b faults arms fuses) v j t)
     → (test : Bool) → Decides test (Needs × MayRise b (slot_of settings v j) f)
     → IsStep row b (cond test (swap_failed settings b v m j f) [])
 swap_failed_step settings row b v m j f Needs made back test decides =

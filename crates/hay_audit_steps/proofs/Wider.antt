@@ -82,12 +82,15 @@ swap_fill xss b v j end cells y place none =
     let size : ReplicaKnown → ReplicaKnown = swapped (end + (slack_at xss v j).end) (cells + (slack_at xss v j).cells) in
     let own : volume_at (fill (slice_set xss v ys) b) v ≡ fill_volume ys (volume_at b v) =
     volume_fill (slice_set xss v ys) b v ∙ ap (λ (zs : List Slack). fill_volume zs (volume_at b v)) (index_list xss v ys place.0) in
-    let made : VolumeKnown → VolumeKnown = λ (w : VolumeKnown). record w { replicas = slice_set w.replicas j (swapped (end + (slack_at xss v j).end) (cells + (slack_at xss v j).cells) (replica_at w j)) } in
+    let made : VolumeKnown → VolumeKnown =
+    λ (w : VolumeKnown). record w { replicas = slice_set w.replicas j (swapped (end + (slack_at xss v j).end) (cells + (slack_at xss v j).cells) (replica_at w j)) } in
     ap (λ (w : VolumeKnown). record b { volumes = slice_set (fill_volumes (slice_set xss v ys) b.volumes) v (made w) }) own
     ∙ ap (λ (rs : List ReplicaKnown). record b { volumes = slice_set (fill_volumes (slice_set xss v ys) b.volumes) v (record (volume_at b v) { replicas = rs }) })
     (swap_place xs (volume_at b v).replicas j y end cells place.1 none)
-    ∙ ap (λ (vs : List VolumeKnown). record b { volumes = vs }) (sets_same xss ys b.volumes v (fill_volume xs (record (volume_at b v) { replicas = slice_set (volume_at b v).replicas j (swapped end cells (replica_at (volume_at b v) j)) })))
-    ∙ ap (λ (vs : List VolumeKnown). record b { volumes = vs }) (sets_fill xss b.volumes v (record (volume_at b v) { replicas = slice_set (volume_at b v).replicas j (swapped end cells (replica_at (volume_at b v) j)) }))
+    ∙ ap (λ (vs : List VolumeKnown). record b { volumes = vs }) (sets_same xss ys b.volumes v
+    (fill_volume xs (record (volume_at b v) { replicas = slice_set (volume_at b v).replicas j (swapped end cells (replica_at (volume_at b v) j)) })))
+    ∙ ap (λ (vs : List VolumeKnown). record b { volumes = vs }) (sets_fill xss b.volumes v
+    (record (volume_at b v) { replicas = slice_set (volume_at b v).replicas j (swapped end cells (replica_at (volume_at b v) j)) }))
 
 -- RANGES AT ONE PLACE
 
@@ -112,7 +115,8 @@ zip_swap_right R [] (z ∷ ys) (suc i) d x b h f = absurd h
 zip_swap_right R (w ∷ xs) (z ∷ ys) zero d x b h f = (f h.0, h.1)
 zip_swap_right R (w ∷ xs) (z ∷ ys) (suc i) d x b h f = (h.0, zip_swap_right R xs ys i d x b h.1 f)
 
-zip_set_both : {X : Type 0} (R : X → X → Type 0) (xs ys : List X) (i : ℕ) (d a b : X) → AllZip R xs ys → (R (slice_index_or xs i d) (slice_index_or ys i d) → R a b) → AllZip R (slice_set xs i a) (slice_set ys i b)
+zip_set_both : {X : Type 0} (R : X → X → Type 0) (xs ys : List X) (i : ℕ) (d a b : X) → AllZip R xs ys → (R (slice_index_or xs i d) (slice_index_or ys i d) → R a b)
+    → AllZip R (slice_set xs i a) (slice_set ys i b)
 zip_set_both R [] [] i d a b h f = tt
 zip_set_both R [] (z ∷ ys) i d a b h f = absurd h
 zip_set_both R (x ∷ xs) [] i d a b h f = absurd h
@@ -246,7 +250,8 @@ swap_box_step box v j is ends cells = record {
         let x : Slack = slack_at xss v j in
         let end : ℕ = r.0 in
         let many : ℕ = r.1 in
-        let table : now (volume_at k v) (replica_of k v j) ≡ now (volume_at b v) (replica_of b v j) = subst (λ (q : Known). now (volume_at q v) (replica_of q v j) ≡ now (volume_at b v) (replica_of b v j)) (sym has.2) (now_fill xss b v j) in
+        let table : now (volume_at k v) (replica_of k v j) ≡ now (volume_at b v) (replica_of b v j) =
+        subst (λ (q : Known). now (volume_at q v) (replica_of q v j) ≡ now (volume_at b v) (replica_of b v j)) (sym has.2) (now_fill xss b v j) in
         let live : live_end (now (volume_at k v) (replica_of k v j)) ≡ least_end b v j = ap (λ (y : Table). live_end y) table in
         let count : length (now (volume_at k v) (replica_of k v j)) ≡ least_cells b v j = ap (λ (y : Table). length y) table in
         let sizes : replica_of k v j ≡ fill_replica x (replica_of b v j) = subst (λ (q : Known). replica_of q v j ≡ fill_replica x (replica_of b v j)) (sym has.2) (sizes_of xss b v j is.volume) in
@@ -266,7 +271,8 @@ swap_box_step box v j is ends cells = record {
         let is_filled : swap end many xss ≡ fill (set_slack xss v j z) (swapped_box box v j).base =
         sym (ap (λ (n : ℕ). swap n many xss) new_end)
         ∙ sym (ap (λ (m : ℕ). swap (least_end b v j + (slack_at (set_slack xss v j z) v j).end) m xss) new_cells)
-        ∙ sym (ap (λ (yss : List (List Slack)). swap (least_end b v j + (slack_at (set_slack xss v j z) v j).end) (least_cells b v j + (slack_at (set_slack xss v j z) v j).cells) yss) (slack_back xss v j z place))
+        ∙ sym (ap (λ (yss : List (List Slack)). swap (least_end b v j + (slack_at (set_slack xss v j z) v j).end) (least_cells b v j + (slack_at (set_slack xss v j z) v j).cells)
+        yss) (slack_back xss v j z place))
         ∙ ap (λ (q : Known). change_volume q v as_it_is) made
         ∙ as_fill (set_slack xss v j z) (change_replica b v j (swapped (least_end b v j) (least_cells b v j))) v in
         let from_k : change_volume (change_replica k v j (swapped end many)) v as_it_is ≡ fill (set_slack xss v j z) (swapped_box box v j).base =
@@ -282,5 +288,6 @@ swap_box_step box v j is ends cells = record {
             refl,
           ),
           subst (λ (q : Known). Below q t) from_k
-              (comes (change_volume (change_replica k v j (swapped end many)) v as_it_is) (with_counts k faults arms fuses) (change_volume (change_replica (with_counts k faults arms fuses) v j (swapped end many)) v as_it_is) t refl refl refl f a r.3),
+              (comes (change_volume (change_replica k v j (swapped end many)) v as_it_is) (with_counts k faults arms fuses)
+              (change_volume (change_replica (with_counts k faults arms fuses) v j (swapped end many)) v as_it_is) t refl refl refl f a r.3),
         )

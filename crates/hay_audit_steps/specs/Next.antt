@@ -1,5 +1,6 @@
 -- The states behind a plain line, of which no other has lower counts.
-use Rattle.std.specs.Prelude.{ℕ, ◌+◌, ◌-◌, ◌^◌, ◌==◌, ◌&&◌, ◌||◌, not, nat_lt, min, max, Bool, true, false, List, [], ◌∷◌, ◌++◌, length, map, take_while, slice_set, Option, Some, None, is_none, is_some, if◌then◌else◌}
+use Rattle.std.specs.Prelude.{ℕ, ◌+◌, ◌-◌, ◌^◌, ◌==◌, ◌&&◌, ◌||◌, not, nat_lt, min, max, Bool, true, false, List, [], ◌∷◌, ◌++◌, length, map, take_while, slice_set, Option, Some}
+use Rattle.std.specs.Prelude.{None, is_none, is_some, if◌then◌else◌}
 use Rattle.std.specs.List.{list_any}
 use Rattle.std.specs.Str.{bytes_eq}
 use Rattle.hay_needle.specs.declared.needle.Pair.{Pair}
@@ -19,11 +20,14 @@ use Rattle.hay_reply.specs.declared.Cause.{Cause}
 use Rattle.hay_reply.specs.declared.Cause.TheVariants.{Arm, Disk, Damage}
 use Rattle.hay_reply.specs.declared.Passed.{Passed}
 use Rattle.hay_reply.specs.declared.Reply.{Reply}
-use Rattle.hay_reply.specs.declared.Reply.TheVariants.{Stored, Deleted, Photo, Gone, Absent, WrongCookie, Unknown, Moved, Url, Full, ReadOnly, ReadOnlyDir, Failed, FailedDir, Unreadable, Flushed, Begun, Stepped, Compacted, Busy, Idle, Worn, Drained, Undrained, Fused, FusedDir, Nowhere, BadLine}
+use Rattle.hay_reply.specs.declared.Reply.TheVariants.{Stored, Deleted, Photo, Gone, Absent, WrongCookie, Unknown, Moved, Url, Full, ReadOnly, ReadOnlyDir, Failed, FailedDir}
+use Rattle.hay_reply.specs.declared.Reply.TheVariants.{Unreadable, Flushed, Begun, Stepped, Compacted, Busy, Idle, Worn, Drained, Undrained, Fused, FusedDir, Nowhere, BadLine}
 use Rattle.hay_legal.specs.declared.known.Known.{Known}
 use Rattle.hay_legal.specs.declared.known.ReplicaKnown.{ReplicaKnown}
-use Rattle.hay_legal.specs.Known.{volume_at, replica_at, machine_of, slot_of, replica_on, home_of, settled, tries_of, with_home, now, closed, refusal_of, taker_of, has_risen, fault_count, arm_count, fuse_count}
-use Rattle.hay_legal.specs.Plain.{change_volume, change_replica, with_put, put_frozen, row_pending, as_closed, wants_room, order_from, start_of, has_pair, frozen_with, with_del, replica_of, with_bare, with_stuck, with_run, stepped, without_run, swapped, poised_by, as_it_is, with_drain, with_fuses}
+use Rattle.hay_legal.specs.Known.{volume_at, replica_at, machine_of, slot_of, replica_on, home_of, settled, tries_of, with_home, now, closed, refusal_of, taker_of, has_risen}
+use Rattle.hay_legal.specs.Known.{fault_count, arm_count, fuse_count}
+use Rattle.hay_legal.specs.Plain.{change_volume, change_replica, with_put, put_frozen, row_pending, as_closed, wants_room, order_from, start_of, has_pair, frozen_with, with_del}
+use Rattle.hay_legal.specs.Plain.{replica_of, with_bare, with_stuck, with_run, stepped, without_run, swapped, poised_by, as_it_is, with_drain, with_fuses}
 use Rattle.hay_legal.specs.declared.known.Run.{Run}
 use Rattle.hay_legal.specs.declared.turn.Item.{Item}
 use Rattle.hay_legal.specs.declared.turn.Item.TheVariants as item

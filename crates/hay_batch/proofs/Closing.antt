@@ -45,8 +45,10 @@ module _ {X H : Type 0} (Given : (ℕ → H) → ℕ → X → Type 0) (first wi
     above = λ slot high. refl;
   }
 
-  pub gives_more : (all rest rest' : List X) (x : X) (old mid new : ℕ → H) → Stays Given first width → rest ≡ rest' ++ x ∷ [] → GivesSome Given first width all rest old mid → Given new (length rest') x
-      → ((slot : ℕ) → slot < first + length rest' * width → new slot ≡ mid slot) → ((slot : ℕ) → first + length rest' * width + width ≤ slot → new slot ≡ mid slot) → GivesSome Given first width all rest' old new
+  pub gives_more : (all rest rest' : List X) (x : X) (old mid new : ℕ → H) → Stays Given first width → rest ≡ rest' ++ x ∷ [] → GivesSome Given first width all rest old mid
+      → Given new (length rest') x
+      → ((slot : ℕ) → slot < first + length rest' * width → new slot ≡ mid slot) → ((slot : ℕ) → first + length rest' * width + width ≤ slot → new slot ≡ mid slot)
+      → GivesSome Given first width all rest' old new
   gives_more all rest rest' x old mid new stays is g given below above =
       let long : length rest ≡ length rest' + 1 = ap length is ∙ length-append rest' (x ∷ []) in
       let fewer = g.fewer in
@@ -78,7 +80,8 @@ ReplicaGiven Tells files drawn faults fuses first held i r = IsGivenDisk Tells f
 
 -- the replicas of the volume of this number are in their slots
 abbrev pub VolumeGiven : {D : Type 0} → Type 0 → (D → Files) → (D → ℕ → ℕ) → (D → ℕ) → (D → ℕ) → ℕ → (ℕ → HeldDisk) → ℕ → LoadVolume D → Type 0
-VolumeGiven {D} Tells files drawn faults fuses replicas held v w = (j : ℕ) (r : LoadReplica D) → At w.replicas.items j r → IsGivenDisk Tells files drawn faults fuses (held (1 + v * replicas + j)) r.disk
+VolumeGiven {D} Tells files drawn faults fuses replicas held v w =
+    (j : ℕ) (r : LoadReplica D) → At w.replicas.items j r → IsGivenDisk Tells files drawn faults fuses (held (1 + v * replicas + j)) r.disk
 
 module _ {D : Type 0} (Tells : Type 0) (files : D → Files) (drawn : D → ℕ → ℕ) (faults fuses : D → ℕ) where
   pub replica_stays : (first : ℕ) → Stays (ReplicaGiven Tells files drawn faults fuses first) first 1

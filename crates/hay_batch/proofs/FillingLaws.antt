@@ -47,16 +47,19 @@ pub record Filling {D : Type 0} (n : ℕ) (disks rest : List D) (files behind : 
   pub left : reverse rest ≡ drop n disks
   pub unread : reverse behind ≡ drop n files
 
-pub filling_none : {D : Type 0} (replicas : ℕ) (rest : List D) (behind : List VolumeFile) (volume : LoadVolume D) → IsEmpty replicas volume → Filling 0 (reverse rest) rest (reverse behind) behind volume
+pub filling_none : {D : Type 0} (replicas : ℕ) (rest : List D) (behind : List VolumeFile) (volume : LoadVolume D) → IsEmpty replicas volume
+    → Filling 0 (reverse rest) rest (reverse behind) behind volume
 filling_none {D} replicas rest behind volume empty =
-    let no : (j : ℕ) (r : LoadReplica D) → At volume.replicas.items j r → ⊥ = λ j r at. let below = at_below volume.replicas.items j r at in let e = ap (λ (l : List (LoadReplica D)). length l) empty.none in omega (arith, below, e) in
+    let no : (j : ℕ) (r : LoadReplica D) → At volume.replicas.items j r → ⊥ =
+    λ j r at. let below = at_below volume.replicas.items j r at in let e = ap (λ (l : List (LoadReplica D)). length l) empty.none in omega (arith, below, e) in
     record {
       filled = record { many = ap (λ (l : List (LoadReplica D)). length l) empty.none; disk = λ j r at. absurd (no j r at); file = λ j r at. absurd (no j r at) };
       left = refl;
       unread = refl;
     }
 
-pub filling_more : {D : Type 0} (n : ℕ) (disks rest rest' : List D) (files behind behind' : List VolumeFile) (volume volume' : LoadVolume D) (r : LoadReplica D) → Filling n disks rest files behind volume
+pub filling_more : {D : Type 0} (n : ℕ) (disks rest rest' : List D) (files behind behind' : List VolumeFile) (volume volume' : LoadVolume D) (r : LoadReplica D)
+    → Filling n disks rest files behind volume
     → rest ≡ rest' ++ r.disk ∷ [] → behind ≡ behind' ++ r.volume ∷ [] → volume'.replicas.items ≡ volume.replicas.items ++ r ∷ [] → Filling (n + 1) disks rest' files behind' volume'
 filling_more {D} n disks rest rest' files behind behind' volume volume' r f disk file longer =
     let first : r.disk ∷ reverse rest' ≡ drop n disks = sym (turned_last rest rest' r.disk disk) ∙ f.left in
@@ -68,11 +71,15 @@ filling_more {D} n disks rest rest' files behind behind' volume volume' r f disk
         many = (let e = ap (λ (l : List (LoadReplica D)). length l) longer ∙ length-append volume.replicas.items (r ∷ []) in omega (arith, e, many));
         disk = λ j x at. elim (either j x at) [
           | inl h ↦ f.filled.disk j x h
-          | inr h ↦ let here : n ≡ 0 + j = (let e = h.0 in omega (arith, e, many)) in subst (λ i. At disks i x.disk) here (subst (λ (y : LoadReplica D). At disks n y.disk) (sym h.1) (drop_here n disks (reverse rest') r.disk first))
+          | inr h ↦ let here : n ≡ 0 + j =
+              (let e = h.0 in omega (arith, e, many)) in subst (λ i. At disks i x.disk) here (subst (λ (y : LoadReplica D). At disks n y.disk) (sym h.1)
+              (drop_here n disks (reverse rest') r.disk first))
         ];
         file = λ j x at. elim (either j x at) [
           | inl h ↦ f.filled.file j x h
-          | inr h ↦ let here : n ≡ 0 + j = (let e = h.0 in omega (arith, e, many)) in subst (λ i. At files i x.volume) here (subst (λ (y : LoadReplica D). At files n y.volume) (sym h.1) (drop_here n files (reverse behind') r.volume second))
+          | inr h ↦ let here : n ≡ 0 + j =
+              (let e = h.0 in omega (arith, e, many)) in subst (λ i. At files i x.volume) here (subst (λ (y : LoadReplica D). At files n y.volume) (sym h.1)
+              (drop_here n files (reverse behind') r.volume second))
         ];
       };
       left = drop_next n disks (reverse rest') r.disk first;
@@ -80,7 +87,8 @@ filling_more {D} n disks rest rest' files behind behind' volume volume' r f disk
     }
 
 -- in lists of which these are the rest
-pub fills_behind : {D : Type 0} (replicas place : ℕ) (disks : List D) (files : List VolumeFile) (front : List D) (before : List VolumeFile) (volume : LoadVolume D) → front ≡ drop place disks → before ≡ drop place files
+pub fills_behind : {D : Type 0} (replicas place : ℕ) (disks : List D) (files : List VolumeFile) (front : List D) (before : List VolumeFile) (volume : LoadVolume D)
+    → front ≡ drop place disks → before ≡ drop place files
     → Fills replicas front before 0 volume → Fills replicas disks files place volume
 fills_behind {D} replicas place disks files front before volume disk file f = record {
   many = f.many;
@@ -98,7 +106,8 @@ pub record FillsFirst {D : Type 0} (replicas n : ℕ) (disks rest : List D) (fil
   pub left : reverse rest ≡ drop (n * replicas) disks
   pub unread : reverse behind ≡ drop (n * replicas) files
 
-pub fills_none : {D : Type 0} (replicas : ℕ) (rest : List D) (behind : List VolumeFile) (volumes : List (LoadVolume D)) → FillsFirst replicas 0 (reverse rest) rest (reverse behind) behind volumes volumes
+pub fills_none : {D : Type 0} (replicas : ℕ) (rest : List D) (behind : List VolumeFile) (volumes : List (LoadVolume D))
+    → FillsFirst replicas 0 (reverse rest) rest (reverse behind) behind volumes volumes
 fills_none {D} replicas rest behind volumes = record {
   count = refl;
   done = λ v w below at. absurd (omega (arith, below));
@@ -107,8 +116,10 @@ fills_none {D} replicas rest behind volumes = record {
   unread = (let e : 0 ≡ 0 * replicas = omega arith in ap (λ k. drop k (reverse behind)) e);
 }
 
-pub fills_more : {D : Type 0} (replicas n : ℕ) (disks rest rest' : List D) (files behind behind' : List VolumeFile) (old new : List (LoadVolume D)) (w w' : LoadVolume D) → FillsFirst replicas n disks rest files behind old new → At new n w
-    → Fills replicas (reverse rest) (reverse behind) 0 w' → reverse rest' ≡ drop replicas (reverse rest) → reverse behind' ≡ drop replicas (reverse behind) → FillsFirst replicas (n + 1) disks rest' files behind' old (slice_set new n w')
+pub fills_more : {D : Type 0} (replicas n : ℕ) (disks rest rest' : List D) (files behind behind' : List VolumeFile) (old new : List (LoadVolume D)) (w w' : LoadVolume D)
+    → FillsFirst replicas n disks rest files behind old new → At new n w
+    → Fills replicas (reverse rest) (reverse behind) 0 w' → reverse rest' ≡ drop replicas (reverse rest) → reverse behind' ≡ drop replicas (reverse behind)
+    → FillsFirst replicas (n + 1) disks rest' files behind' old (slice_set new n w')
 fills_more {D} replicas n disks rest rest' files behind behind' old new w w' f at filled less fewer =
     let below = at_below new n w at in
     let next : n * replicas + replicas ≡ (n + 1) * replicas = omega arith in
@@ -131,7 +142,8 @@ fills_more {D} replicas n disks rest rest' files behind behind' old new w w' f a
       unread = fewer ∙ ap (λ (l : List VolumeFile). drop replicas l) f.unread ∙ drop_drop replicas (n * replicas) files ∙ ap (λ k. drop k files) next;
     }
 
-pub fills_all : {D : Type 0} (replicas n : ℕ) (disks rest : List D) (files behind : List VolumeFile) (old new : List (LoadVolume D)) → FillsFirst replicas n disks rest files behind old new → length old ≤ n → FillsAll replicas disks files new
+pub fills_all : {D : Type 0} (replicas n : ℕ) (disks rest : List D) (files behind : List VolumeFile) (old new : List (LoadVolume D))
+    → FillsFirst replicas n disks rest files behind old new → length old ≤ n → FillsAll replicas disks files new
 fills_all {D} replicas n disks rest files behind old new f all v w at = f.done v w (let below = at_below new v w at in omega (arith, below, f.count, all)) at
 
 -- LISTS THAT ARE TURNED ROUND
@@ -143,7 +155,8 @@ first_turned {X} all back rest x turned split = sym (ap (λ (l : List X). revers
 -- how many are left
 pub enough_left : {X : Type 0} (replicas n volumes : ℕ) (all rest : List X) → reverse rest ≡ drop (n * replicas) (reverse all) → n < volumes → volumes * replicas ≤ length all → replicas ≤ length rest
 enough_left {X} replicas n volumes all rest is next most =
-    let long : length rest ≡ length all - n * replicas = sym (length-reverse rest) ∙ ap (λ (l : List X). length l) is ∙ length-drop (n * replicas) (reverse all) ∙ ap (λ k. k - n * replicas) (length-reverse all) in
+    let long : length rest ≡ length all - n * replicas =
+    sym (length-reverse rest) ∙ ap (λ (l : List X). length l) is ∙ length-drop (n * replicas) (reverse all) ∙ ap (λ k. k - n * replicas) (length-reverse all) in
     let up : n + 1 ≤ volumes = omega (arith, next) in
     let product = mul-le-mul_left replicas up in
     omega (arith, long, product, most)

@@ -38,7 +38,8 @@ pub row_added : (old new : List ((ℕ × ℕ) × ℕ)) (row : DirRow) (found : O
     → (pair : Pair) → home_among new pair ≡ option_or (home_among old pair) (home_in (row ∷ []) pair)
 row_added old new row found some finds is not set pair = set pair ∙ last (pair_eq row.pair pair) refl
   where
-    last : (b : Bool) → pair_eq row.pair pair ≡ b → cond (pair_eq row.pair pair) (Some row.volume) (home_among old pair) ≡ option_or (home_among old pair) (cond (pair_eq row.pair pair) (Some row.volume) None)
+    last : (b : Bool) → pair_eq row.pair pair ≡ b → cond (pair_eq row.pair pair) (Some row.volume) (home_among old pair)
+        ≡ option_or (home_among old pair) (cond (pair_eq row.pair pair) (Some row.volume) None)
     last true e =
         let none : home_among old pair ≡ None = ap (λ (p : Pair). home_among old p) (sym (pair_same row.pair pair e)) ∙ sym finds ∙ none_there found some is not in
         cond-true (pair_eq row.pair pair) (Some row.volume) (home_among old pair) e
@@ -53,14 +54,16 @@ some_stays None last some is not = absurd cc
 some_stays (Some v) last some is not = refl
 
 -- one row more
-pub row_behind : (before middle after : Option ℕ) (rows more : List DirRow) (row : DirRow) (pair : Pair) → more ≡ rows ++ row ∷ [] → middle ≡ option_or before (home_in rows pair) → after ≡ option_or middle (home_in (row ∷ []) pair)
+pub row_behind : (before middle after : Option ℕ) (rows more : List DirRow) (row : DirRow) (pair : Pair) → more ≡ rows ++ row ∷ [] → middle ≡ option_or before (home_in rows pair)
+    → after ≡ option_or middle (home_in (row ∷ []) pair)
     → after ≡ option_or before (home_in more pair)
 row_behind before middle after rows more row pair longer first last =
     last ∙ ap (λ (home : Option ℕ). option_or home (home_in (row ∷ []) pair)) first ∙ or_more before (home_in rows pair) (home_in (row ∷ []) pair)
     ∙ ap (λ (home : Option ℕ). option_or before home) (sym (home_in-append rows (row ∷ []) pair) ∙ ap (λ (l : List DirRow). home_in l pair) (sym longer))
 
 -- the homes of more rows
-pub homes_more : (old new : List ((ℕ × ℕ) × ℕ)) (rows more : List DirRow) → AreHomes old rows → ((pair : Pair) → home_among new pair ≡ option_or (home_among old pair) (home_in more pair)) → AreHomes new (rows ++ more)
+pub homes_more : (old new : List ((ℕ × ℕ) × ℕ)) (rows more : List DirRow) → AreHomes old rows
+    → ((pair : Pair) → home_among new pair ≡ option_or (home_among old pair) (home_in more pair)) → AreHomes new (rows ++ more)
 homes_more old new rows more homes added = record {
   are = λ pair. added pair ∙ ap (λ (home : Option ℕ). option_or home (home_in more pair)) (homes.are pair) ∙ sym (home_in-append rows more pair);
 }

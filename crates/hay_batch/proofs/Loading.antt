@@ -27,7 +27,8 @@ use Rattle.hay_batch.proofs.Lists.{at_below, at_same, at_there}
 use Rattle.hay_batch.proofs.RowRuns.{journal_kept}
 
 -- an image of a replica has its cells
-pub held_image : {D : Type 0} (files : D → Files) (superblock : List ℕ) (cells : List Cell) (r : LoadReplica D) (image : List ℕ) → Holds files superblock cells r → IsImage (file_of files r) image → IsVolume superblock image cells r.volume.end
+pub held_image : {D : Type 0} (files : D → Files) (superblock : List ℕ) (cells : List Cell) (r : LoadReplica D) (image : List ℕ) → Holds files superblock cells r
+    → IsImage (file_of files r) image → IsVolume superblock image cells r.volume.end
 held_image files superblock cells r image has leaves = volume_kept superblock (file_of files r) image cells r.volume.end has.ready has.is (λ k from to. has.solid.places k) leaves
 
 -- each replica that the settings say is there
@@ -90,7 +91,8 @@ module _ {D : Type 0} (files : D → Files) (v : ℕ) (photos : List NewPhoto) (
 
   -- and what it is
   after : (u j : ℕ) → u < old.settings.volumes → j < old.settings.replicas → (r' : LoadReplica D) × ReplicaAt new u j r'
-  after u j below within = replica_there new u j touched.is (subst (λ (s : Settings). u < s.volumes) (sym touched.settings) below) (subst (λ (s : Settings). j < s.replicas) (sym touched.settings) within)
+  after u j below within =
+      replica_there new u j touched.is (subst (λ (s : Settings). u < s.volumes) (sym touched.settings) below) (subst (λ (s : Settings). j < s.replicas) (sym touched.settings) within)
 
   has_other : (u j : ℕ) (r r' : LoadReplica D) → u ≢ v → ReplicaAt old u j r → ReplicaAt new u j r' → Holds files (k.superblocks u j) (k.cells u j) r' × (r'.volume.end ≡ k.ends u j)
   has_other u j r r' apart was is =
@@ -109,7 +111,8 @@ module _ {D : Type 0} (files : D → Files) (v : ℕ) (photos : List NewPhoto) (
         subst (λ n. IsVolume (k.superblocks u j) (left.volumes u j) (k.cells u j) n) has.1 (held_image files (k.superblocks u j) (k.cells u j) is.0 (left.volumes u j) has.0 (leaves u j is.0 is.1))
 
     -- where the batch may have been added to some
-    pub left_without_rows : ((j : ℕ) (r r' : LoadReplica D) → ReplicaAt old v j r → ReplicaAt new v j r' → MayAdd files photos r r') → IsJournal k.superblock old.settings.volumes left.journal k.rows → AreWithoutRows old.settings v photos k left
+    pub left_without_rows : ((j : ℕ) (r r' : LoadReplica D) → ReplicaAt old v j r → ReplicaAt new v j r' → MayAdd files photos r r')
+        → IsJournal k.superblock old.settings.volumes left.journal k.rows → AreWithoutRows old.settings v photos k left
     unfolding before after image_other
     left_without_rows may rows = record {
       rows = rows;
@@ -127,7 +130,8 @@ module _ {D : Type 0} (files : D → Files) (v : ℕ) (photos : List NewPhoto) (
 
   -- each replica of the volume has the batch
   module _ (Tells : Type 0) (tells : Tells) (added : (j : ℕ) (r r' : LoadReplica D) → ReplicaAt old v j r → ReplicaAt new v j r' → Adds Tells files photos r r') where
-    has_added : (u j : ℕ) (r r' : LoadReplica D) → u ≡ v → ReplicaAt old u j r → ReplicaAt new u j r' → Holds files (k.superblocks u j) (k.cells u j ++ new_cells (k.ends u j) photos) r' × (r'.volume.end ≡ k.ends u j + batch_total photos)
+    has_added : (u j : ℕ) (r r' : LoadReplica D) → u ≡ v → ReplicaAt old u j r → ReplicaAt new u j r'
+        → Holds files (k.superblocks u j) (k.cells u j ++ new_cells (k.ends u j) photos) r' × (r'.volume.end ≡ k.ends u j + batch_total photos)
     has_added u j r r' same was is =
         let step = added j r r' (subst (λ n. ReplicaAt old n j r) same was) (subst (λ n. ReplicaAt new n j r') same is) in
         let end : r.volume.end ≡ k.ends u j = stands.ends u j r was in (
@@ -155,7 +159,8 @@ module _ {D : Type 0} (files : D → Files) (v : ℕ) (photos : List NewPhoto) (
     }
 
     module _ (left : Images) (leaves : (u j : ℕ) (r' : LoadReplica D) → ReplicaAt new u j r' → IsImage (file_of files r') (left.volumes u j)) where
-      image_added : (u j : ℕ) → u ≡ v → u < old.settings.volumes → j < old.settings.replicas → IsVolume (k.superblocks u j) (left.volumes u j) (k.cells u j ++ new_cells (k.ends u j) photos) (k.ends u j + batch_total photos)
+      image_added : (u j : ℕ) → u ≡ v → u < old.settings.volumes → j < old.settings.replicas
+          → IsVolume (k.superblocks u j) (left.volumes u j) (k.cells u j ++ new_cells (k.ends u j) photos) (k.ends u j + batch_total photos)
       unfolding before after has_added
       image_added u j same below within =
           let is = after u j below within in
@@ -181,7 +186,8 @@ module _ {D : Type 0} (files : D → Files) (v : ℕ) (photos : List NewPhoto) (
         cells = λ u j below within. elim (eqb_tells u v) [
           | inl same ↦
               subst (λ (cs : List Cell). IsVolume (k.superblocks u j) (left.volumes u j) cs ((with_batch v photos k).ends u j)) (sym (cells_here v u j photos k same.1))
-              (subst (λ n. IsVolume (k.superblocks u j) (left.volumes u j) (k.cells u j ++ new_cells (k.ends u j) photos) n) (sym (ends_here v u j photos k same.1)) (image_added u j same.1 below within))
+              (subst (λ n. IsVolume (k.superblocks u j) (left.volumes u j) (k.cells u j ++ new_cells (k.ends u j) photos) n) (sym (ends_here v u j photos k same.1))
+              (image_added u j same.1 below within))
           | inr apart ↦
               subst (λ (cs : List Cell). IsVolume (k.superblocks u j) (left.volumes u j) cs ((with_batch v photos k).ends u j)) (sym (cells_there v u j photos k apart.1))
               (subst (λ n. IsVolume (k.superblocks u j) (left.volumes u j) (k.cells u j) n) (sym (ends_there v u j photos k apart.1)) (image_other left leaves u j apart.1 below within))
@@ -189,7 +195,8 @@ module _ {D : Type 0} (files : D → Files) (v : ℕ) (photos : List NewPhoto) (
       })
 
 -- the next batch may be loaded
-pub ready_loaded : {D : Type 0} (Tells : Type 0) (tells : Tells) (files : D → Files) (v : ℕ) (photos : List NewPhoto) (old new : LoadStore D) (d : LoadDirectory D) → Touches v old new → IsReadyStore files old
+pub ready_loaded : {D : Type 0} (Tells : Type 0) (tells : Tells) (files : D → Files) (v : ℕ) (photos : List NewPhoto) (old new : LoadStore D) (d : LoadDirectory D)
+    → Touches v old new → IsReadyStore files old
     → ((j : ℕ) (r r' : LoadReplica D) → ReplicaAt old v j r → ReplicaAt new v j r' → Adds Tells files photos r r') → directories.IsReady files d → IsReadyStore files (with_directory new d)
 ready_loaded Tells tells files v photos old new d touched ready added settled = record {
   directory = settled;
@@ -203,7 +210,8 @@ ready_loaded Tells tells files v photos old new d touched ready added settled = 
 }
 
 -- where the Directory was not called, a stop leaves its rows
-pub rows_kept : {D : Type 0} (files : D → Files) (superblock : List ℕ) (volumes : ℕ) (rows : List DirRow) (d : LoadDirectory D) (image : List ℕ) → HoldsRows files superblock volumes rows d → IsImage (files d.disk 0) image → IsJournal superblock volumes image rows
+pub rows_kept : {D : Type 0} (files : D → Files) (superblock : List ℕ) (volumes : ℕ) (rows : List DirRow) (d : LoadDirectory D) (image : List ℕ)
+    → HoldsRows files superblock volumes rows d → IsImage (files d.disk 0) image → IsJournal superblock volumes image rows
 rows_kept files superblock volumes rows d image has leaves = journal_kept superblock volumes (files d.disk 0) image rows d.journal.end has.end has.ready has.is (λ k from to. has.solid.places k) leaves
 
 -- where nothing was changed, a stop leaves what there was
@@ -233,7 +241,8 @@ files_same {D} files store = record {
 }
 
 -- what a batch changed
-pub files_kept : {D : Type 0} (files : D → Files) (v : ℕ) (photos : List NewPhoto) (old new : LoadStore D) (d : LoadDirectory D) → Touches v old new → ((j : ℕ) (r r' : LoadReplica D) → ReplicaAt old v j r → ReplicaAt new v j r' → MayAdd files photos r r')
+pub files_kept : {D : Type 0} (files : D → Files) (v : ℕ) (photos : List NewPhoto) (old new : LoadStore D) (d : LoadDirectory D) → Touches v old new
+    → ((j : ℕ) (r r' : LoadReplica D) → ReplicaAt old v j r → ReplicaAt new v j r' → MayAdd files photos r r')
     → KeepsOthers 0 (files old.directory.disk) (files d.disk) → KeepsFiles files old (with_directory new d)
 files_kept {D} files v photos old new d touched may directory = record {
   directory = directory;
@@ -253,7 +262,8 @@ files_kept {D} files v photos old new d touched may directory = record {
 
 -- WHICH DISK FAILED
 
-pub refused_is : (fault : AppendFault) (answer : LoadFault) (slot faults base : ℕ) → ((j n : ℕ) → fault ≡ AppendFault.Failed j n → answer ≡ LoadFault.Failed (base + j) n) → (fault ≡ AppendFault.NoMemory → answer ≡ LoadFault.NoMemory)
+pub refused_is : (fault : AppendFault) (answer : LoadFault) (slot faults base : ℕ) → ((j n : ℕ) → fault ≡ AppendFault.Failed j n → answer ≡ LoadFault.Failed (base + j) n)
+    → (fault ≡ AppendFault.NoMemory → answer ≡ LoadFault.NoMemory)
     → answer ≡ LoadFault.Failed slot faults → (j : ℕ) × (fault ≡ AppendFault.Failed j faults) × (slot ≡ base + j)
 refused_is (AppendFault.Failed j n) answer slot faults base failed wanting is =
     let told : answer ≡ LoadFault.Failed (base + j) n = failed j n refl in

@@ -38,7 +38,8 @@ cells_more : (at : ℕ) (photos : List NewPhoto) (new : NewPhoto) → new_cells 
 cells_more at [] new = ap (λ (k : ℕ). cell_of k new ∷ []) (omega arith)
 cells_more at (first ∷ photos) new =
     let rest = cells_more (at + photo_total first) photos new in
-    let here : (at + photo_total first) + batch_total photos ≡ at + batch_total (first ∷ photos) = behind at (photo_total first) (batch_total photos) (batch_total (first ∷ photos)) (total_more first photos) in
+    let here : (at + photo_total first) + batch_total photos ≡ at + batch_total (first ∷ photos) =
+    behind at (photo_total first) (batch_total photos) (batch_total (first ∷ photos)) (total_more first photos) in
     ap (λ (cells : List Cell). cell_of at first ∷ cells) (rest ∙ ap (λ (k : ℕ). new_cells (at + photo_total first) photos ++ cell_of k new ∷ []) here)
 
 -- cells behind cells
@@ -61,13 +62,15 @@ cells_long at bytes [] are = ap length are
 cells_long at bytes (new ∷ photos) are =
     let long : length are.0 ≡ photo_total new = length-needle are.0 (needle_of new) are.3.is in
     let rest = cells_long (at + photo_total new) are.1 photos (subst (λ k. AreCellsAt (at + k) are.1 (new_cells (at + photo_total new) photos)) long are.4) in
-    together (length bytes) (length are.0) (length are.1) (photo_total new) (batch_total photos) (batch_total (new ∷ photos)) (ap length are.2 ∙ length-append are.0 are.1) long rest (total_more new photos)
+    together (length bytes) (length are.0) (length are.1) (photo_total new) (batch_total photos) (batch_total (new ∷ photos)) (ap length are.2 ∙ length-append are.0 are.1) long
+    rest (total_more new photos)
 
 pub length-needles : (bytes : List ℕ) (photos : List NewPhoto) → AreNeedles bytes photos → length bytes ≡ batch_total photos
 length-needles bytes photos are = cells_long 0 bytes photos (are 0)
 
 -- one needle more
-pub needles_more : (photos : List NewPhoto) (i : ℕ) (photo : NewPhoto) (bytes more needle : List ℕ) → i < length photos → photo ≡ get_or photos i photo → NeedleBytes needle (needle_of photo) → more ≡ bytes ++ needle
+pub needles_more : (photos : List NewPhoto) (i : ℕ) (photo : NewPhoto) (bytes more needle : List ℕ) → i < length photos → photo ≡ get_or photos i photo
+    → NeedleBytes needle (needle_of photo) → more ≡ bytes ++ needle
     → AreNeedles bytes (take i photos) → AreNeedles more (take (i + 1) photos)
 needles_more photos i photo bytes more needle within here is grown are = λ at.
     let before : List NewPhoto = take i photos in
@@ -103,7 +106,8 @@ first_magic bytes (new ∷ photos) some are =
 abbrev pub body_of : List ℕ → List ℕ
 body_of bytes = take (length bytes - 8) (drop 8 bytes)
 
-pub body_made : (bytes items : List ℕ) (photos : List NewPhoto) → 0 < length photos → bytes ≡ items → (needles : List ℕ) × AreNeedles needles photos × (items ≡ needles ++ end_mark) → IsBody (body_of bytes) photos
+pub body_made : (bytes items : List ℕ) (photos : List NewPhoto) → 0 < length photos → bytes ≡ items → (needles : List ℕ) × AreNeedles needles photos × (items ≡ needles ++ end_mark)
+    → IsBody (body_of bytes) photos
 body_made bytes items photos some same written =
     let needles : List ℕ = written.0 in
     let begins = first_magic needles photos some written.1 in
@@ -113,9 +117,18 @@ body_made bytes items photos some same written =
       needles = needles;
       are = written.1;
       begins = begins;
-      parts = take_all (length bytes - 8) (drop 8 bytes) (omega (arith, length-drop 8 bytes)) ∙ ap (λ (l : List ℕ). drop 8 l) split ∙ drop_at (magic_bytes needle_magic) (drop 8 needles ++ end_mark) 8 refl;
+      parts =
+          take_all (length bytes - 8) (drop 8 bytes) (omega (arith, length-drop 8 bytes)) ∙ ap (λ (l : List ℕ). drop 8 l) split
+          ∙ drop_at (magic_bytes needle_magic) (drop 8 needles ++ end_mark) 8 refl;
     }
 
 pub length-body : (body : List ℕ) (photos : List NewPhoto) → IsBody body photos → length body ≡ batch_total photos
 length-body body photos made =
-    omega (arith, ap length made.parts, length-append (drop 8 made.needles) end_mark, ap length made.begins, length-append (magic_bytes needle_magic) (drop 8 made.needles), length-needles made.needles photos made.are)
+    omega (
+      arith,
+      ap length made.parts,
+      length-append (drop 8 made.needles) end_mark,
+      ap length made.begins,
+      length-append (magic_bytes needle_magic) (drop 8 made.needles),
+      length-needles made.needles photos made.are,
+    )

@@ -29,11 +29,13 @@ use Rattle.hay_batch.specs.Directories as directories
 use Rattle.hay_batch.specs.Faults.{not_opened, of_journal}
 use Rattle.hay_batch.specs.Openings.{directory_of, journal_super}
 use Rattle.hay_batch.specs.Replicas.{At, Holds, IsReady}
-use Rattle.hay_batch.specs.Shelves.{AreSoundBelow, EachDisk, IsDamagedDisk, IsLeft, IsLimited, IsOpenAs, IsUndamagedBelow, OpensRows, OpensSlot, OpensStore, RecallsEnd, RecallsRows, StandsAs, StoredStore, contents_of, disk_count, place_super, reads_of, replica_super, slot_of}
+use Rattle.hay_batch.specs.Shelves.{AreSoundBelow, EachDisk, IsDamagedDisk, IsLeft, IsLimited, IsOpenAs, IsUndamagedBelow, OpensRows, OpensSlot, OpensStore, RecallsEnd}
+use Rattle.hay_batch.specs.Shelves.{RecallsRows, StandsAs, StoredStore, contents_of, disk_count, place_super, reads_of, replica_super, slot_of}
 use Rattle.hay_batch.specs.Slots.{IsAtRest, IsSound, IsSoundJournal, MovesDisks, OpensDisks, OpensFile, OpensJournal, RefusesBehind, RefusesDisks, RefusesFirst}
 use Rattle.hay_batch.specs.Stores.{IsReadyStore, IsShaped, ReplicaAt, Stands}
 use Rattle.hay_batch.proofs.Lists.{at_below, at_there}
-use Rattle.hay_batch.proofs.ShelfLaws.{damaged_at, damaged_first, order_here, place_is, reads_given, reads_taken, rests_taken, slot_directory, slot_given, slot_replica, slot_untouched, undamaged_below}
+use Rattle.hay_batch.proofs.ShelfLaws.{damaged_at, damaged_first, order_here, place_is, reads_given, reads_taken, rests_taken, slot_directory, slot_given, slot_replica}
+use Rattle.hay_batch.proofs.ShelfLaws.{slot_untouched, undamaged_below}
 
 -- a disk that is damaged is not void
 damaged_some : (sup : Super) (contents : ℕ → List ℕ) (file at : ℕ) → IsOpeningDamage sup contents file at → IsVoid contents → ⊥
@@ -82,7 +84,8 @@ journal_damaged file at journal.NoMemory is = absurd cc
 
 -- THE DISKS THAT WERE TAKEN
 
-module _ {D : Type 0} (Tells : Type 0) (files : D → Files) (drawn : D → ℕ → ℕ) (faults fuses : D → ℕ) (settings : Settings) (limits : IsLimited settings) (held : ℕ → HeldDisk) (old new : List D) (count : length old ≡ disk_count settings)
+module _ {D : Type 0} (Tells : Type 0) (files : D → Files) (drawn : D → ℕ → ℕ) (faults fuses : D → ℕ) (settings : Settings) (limits : IsLimited settings) (held : ℕ → HeldDisk)
+    (old new : List D) (count : length old ≡ disk_count settings)
     (taken : InOrder (λ slot disk. IsMountedDisk Tells files drawn faults fuses (held slot) disk) 0 old) (many : length new ≡ length old) where
   taken_at : (slot : ℕ) (d : D) → At old slot d → IsMountedDisk Tells files drawn faults fuses (held slot) d
   taken_at slot d at = order_here (λ n disk. IsMountedDisk Tells files drawn faults fuses (held n) disk) old slot d at taken
@@ -125,8 +128,10 @@ module _ {D : Type 0} (Tells : Type 0) (files : D → Files) (drawn : D → ℕ 
     pub directory : store.directory ≡ directory_of store.directory.disk kept
     pub replicas : (v j : ℕ) (r : LoadReplica D) → ReplicaAt store v j r → At new (v * settings.replicas + j + 1) r.disk × At volumes (v * settings.replicas + j) r.volume
 
-  pub made_of : (kept : OpenJournal) (volumes : List VolumeFile) (store : LoadStore D) (list : List D) → list ≡ new → store.settings ≡ settings → IsShaped store → store.directory.journal ≡ kept.journal → store.directory.homes ≡ kept.homes → store.directory.rows ≡ kept.rows
-      → At list 0 store.directory.disk → ((v j : ℕ) (r : LoadReplica D) → ReplicaAt store v j r → At list (v * settings.replicas + j + 1) r.disk × At volumes (v * settings.replicas + j) r.volume) → IsMadeOf kept volumes store
+  pub made_of : (kept : OpenJournal) (volumes : List VolumeFile) (store : LoadStore D) (list : List D) → list ≡ new → store.settings ≡ settings → IsShaped store
+      → store.directory.journal ≡ kept.journal → store.directory.homes ≡ kept.homes → store.directory.rows ≡ kept.rows
+      → At list 0 store.directory.disk → ((v j : ℕ) (r : LoadReplica D) → ReplicaAt store v j r
+      → At list (v * settings.replicas + j + 1) r.disk × At volumes (v * settings.replicas + j) r.volume) → IsMadeOf kept volumes store
   made_of kept volumes store list whole same shape journal homes rows first others = record {
     settings_are = same;
     shape = shape;
@@ -230,8 +235,10 @@ module _ {D : Type 0} (Tells : Type 0) (files : D → Files) (drawn : D → ℕ 
     pub made_stands : Tells → (s : StoredStore) → OpensStore settings (reads_of held) s → StandsAs files store s
     unfolding was_file was_journal reads_at open_holds open_as
     made_stands tells s finds =
-        let rows : OpensRows settings (files was_journal.disk 0).now s.rows = subst (λ (c : ℕ → List ℕ). OpensRows settings (c 0) s.rows) (sym (reads_at tells 0 was_journal.disk was_journal.there)) finds.rows in
-        let holds : HoldsRows files (super_bytes (journal_super settings)) settings.volumes s.rows store.directory = subst (λ (d : LoadDirectory D). HoldsRows files (super_bytes (journal_super settings)) settings.volumes s.rows d) (sym m.directory) (was_journal.is.opened tells s.rows rows) in
+        let rows : OpensRows settings (files was_journal.disk 0).now s.rows =
+        subst (λ (c : ℕ → List ℕ). OpensRows settings (c 0) s.rows) (sym (reads_at tells 0 was_journal.disk was_journal.there)) finds.rows in
+        let holds : HoldsRows files (super_bytes (journal_super settings)) settings.volumes s.rows store.directory =
+        subst (λ (d : LoadDirectory D). HoldsRows files (super_bytes (journal_super settings)) settings.volumes s.rows d) (sym m.directory) (was_journal.is.opened tells s.rows rows) in
         record {
           contents = subst (λ (x : Settings). Stands files store (contents_of x s)) (sym m.settings_are) (record {
             directory = subst (λ (x : Settings). HoldsRows files (super_bytes (journal_super settings)) x.volumes s.rows store.directory) (sym m.settings_are) holds;
@@ -255,7 +262,8 @@ module _ {D : Type 0} (Tells : Type 0) (files : D → Files) (drawn : D → ℕ 
     made_sound tells = undamaged_below settings (reads_of held) (disk_count settings) limits (omega arith)
         (λ _ some at damage.
         let path = reads_at tells 0 was_journal.disk was_journal.there in
-        (was_journal.is.sound tells).before (subst (λ (c : ℕ → List ℕ). 0 < length (c 0)) (sym path) some) at (subst (λ (c : ℕ → List ℕ). IsDamagedJournal (journal_super settings) (c 0) at) (sym path) damage))
+        (was_journal.is.sound tells).before (subst (λ (c : ℕ → List ℕ). 0 < length (c 0)) (sym path) some) at
+        (subst (λ (c : ℕ → List ℕ). IsDamagedJournal (journal_super settings) (c 0) at) (sym path) damage))
         (λ i below file at damage.
         let d = at_there old (i + 1) (omega (arith, below, count)) in
         let d' = is_at (i + 1) below in
@@ -275,14 +283,16 @@ module _ {D : Type 0} (Tells : Type 0) (files : D → Files) (drawn : D → ℕ 
 
     pub left_slots : MovesDisks Tells files faults fuses old new → (slot : ℕ) → slot < disk_count settings → IsLeft Tells slot (held slot) (given slot)
     unfolding is_at given_at
-    left_slots moves slot below = let d' = is_at slot below in inr (slot_given Tells files drawn faults fuses slot (held slot) (given slot) d'.0 (given_at slot d'.0 d'.1) (opened_slot moves slot d'.0 d'.1))
+    left_slots moves slot below =
+        let d' = is_at slot below in inr (slot_given Tells files drawn faults fuses slot (held slot) (given slot) d'.0 (given_at slot d'.0 d'.1) (opened_slot moves slot d'.0 d'.1))
 
     pub back_slots : (slot : ℕ) → slot < disk_count settings → (given slot).is_out ≡ false
     unfolding is_at given_at
     back_slots slot below = let d' = is_at slot below in (given_at slot d'.0 d'.1).back
 
     -- where disks failed, the count is that of the disk in the slot
-    rose_at : (slot n : ℕ) (d d' : D) → At old slot d → At new slot d' → Rose (faults d) (faults d') × (n ≡ faults d') → Rose (held slot).fault_count (given slot).fault_count × (n ≡ (given slot).fault_count)
+    rose_at : (slot n : ℕ) (d d' : D) → At old slot d → At new slot d' → Rose (faults d) (faults d') × (n ≡ faults d')
+        → Rose (held slot).fault_count (given slot).fault_count × (n ≡ (given slot).fault_count)
     unfolding taken_at given_at
     rose_at slot n d d' at at' both =
         let first : faults d ≡ (held slot).fault_count = (taken_at slot d at).fault_count in
@@ -301,19 +311,22 @@ module _ {D : Type 0} (Tells : Type 0) (files : D → Files) (drawn : D → ℕ 
         let path' = gives_at tells 0 e0.0 e0.1 in
         let sound = first d0.0 e0.0 d0.1 e0.1 in (
           undamaged_below settings (reads_of held) (place + 1) limits (omega (arith, most))
-              (λ _ some at damage. sound.before (subst (λ (c : ℕ → List ℕ). 0 < length (c 0)) (sym path) some) at (subst (λ (c : ℕ → List ℕ). IsDamagedJournal (journal_super settings) (c 0) at) (sym path) damage))
+              (λ _ some at damage. sound.before (subst (λ (c : ℕ → List ℕ). 0 < length (c 0)) (sym path) some) at
+              (subst (λ (c : ℕ → List ℕ). IsDamagedJournal (journal_super settings) (c 0) at) (sym path) damage))
               (λ i below file at damage.
               let low : i + 1 < disk_count settings = omega (arith, below, most) in
               let d = at_there old (i + 1) (omega (arith, low, count)) in
               let d' = is_at (i + 1) low in
-              (others i d.0 d'.0 (omega (arith, below)) d.1 d'.1).before file at (subst (λ (c : ℕ → List ℕ). IsOpeningDamage (place_super settings i) c file at) (sym (reads_at tells (i + 1) d.0 d.1)) damage)),
+              (others i d.0 d'.0 (omega (arith, below)) d.1 d'.1).before file at (subst (λ (c : ℕ → List ℕ). IsOpeningDamage (place_super settings i) c file at)
+              (sym (reads_at tells (i + 1) d.0 d.1)) damage)),
           undamaged_below settings (reads_of given) (place + 1) limits (omega (arith, most))
               (λ _ some at damage. sound.behind at (subst (λ (c : ℕ → List ℕ). IsDamagedJournal (journal_super settings) (c 0) at) (sym path') damage))
               (λ i below file at damage.
               let low : i + 1 < disk_count settings = omega (arith, below, most) in
               let d = at_there old (i + 1) (omega (arith, low, count)) in
               let d' = is_at (i + 1) low in
-              (others i d.0 d'.0 (omega (arith, below)) d.1 d'.1).behind file at (subst (λ (c : ℕ → List ℕ). IsOpeningDamage (place_super settings i) c file at) (sym (gives_at tells (i + 1) d'.0 d'.1)) damage)),
+              (others i d.0 d'.0 (omega (arith, below)) d.1 d'.1).behind file at (subst (λ (c : ℕ → List ℕ). IsOpeningDamage (place_super settings i) c file at)
+              (sym (gives_at tells (i + 1) d'.0 d'.1)) damage)),
         )
 
     -- and they are formatted
@@ -408,7 +421,9 @@ module _ {D : Type 0} (Tells : Type 0) (files : D → Files) (drawn : D → ℕ 
               (lower_sound one.place tells low (b.first tells) (one.earlier tells)).0;
           behind = λ tells.
               let damage = one.refused.damaged tells file at e.1 in
-              let same : ◌≡◌ {A = ℕ → List ℕ} (λ n. (files one.before n).now) (reads_of given (one.place + 1)) = fun_ext (λ n. sym (one.refused.disk.kept tells (damaged_some (place_super settings one.place) (λ n. (files one.before n).now) file at damage) n)) ∙ gives_at tells (one.place + 1) one.after one.is in
+              let same : ◌≡◌ {A = ℕ → List ℕ} (λ n. (files one.before n).now) (reads_of given (one.place + 1)) =
+              fun_ext (λ n. sym (one.refused.disk.kept tells (damaged_some (place_super settings one.place) (λ n. (files one.before n).now) file at damage) n))
+              ∙ gives_at tells (one.place + 1) one.after one.is in
               damaged_at settings (reads_of given) one.place file at low
               (subst (λ (c : ℕ → List ℕ). IsOpeningDamage (place_super settings one.place) c file at) same damage)
               (λ s opens. one.refused.only tells file at e.1 s (subst (λ (c : ℕ → List ℕ). OpensAs (place_super settings one.place) c s) (sym same) opens))
@@ -434,7 +449,8 @@ module _ {D : Type 0} (Tells : Type 0) (files : D → Files) (drawn : D → ℕ 
               (λ rows opens. f.refused.only tells file at fault rows (subst (λ (c : ℕ → List ℕ). OpensRows settings (c 0) rows) (sym path) opens));
           behind = λ tells.
               let damage = f.refused.damaged tells file at fault in
-              let same : (files f.before 0).now ≡ reads_of given 0 0 = sym (ap (λ (x : Files). (x 0).now) (f.refused.disk.same tells damage.0)) ∙ ap (λ (c : ℕ → List ℕ). c 0) (gives_at tells 0 f.after f.is) in
+              let same : (files f.before 0).now ≡ reads_of given 0 0 =
+              sym (ap (λ (x : Files). (x 0).now) (f.refused.disk.same tells damage.0)) ∙ ap (λ (c : ℕ → List ℕ). c 0) (gives_at tells 0 f.after f.is) in
               damaged_first settings (reads_of given) file at (f.refused.file file at fault) (subst (λ (l : List ℕ). IsDamagedJournal (journal_super settings) l at) same damage.1)
               (λ rows opens. f.refused.only tells file at fault rows (subst (λ (l : List ℕ). OpensRows settings l rows) (sym same) opens));
           sound = λ tells. record {

@@ -65,7 +65,8 @@ pub record Reads {D : Type 0} (files : D → Files) (sup : Super) (disk : D) (ke
   pub homes : AreHomes kept.homes items
   pub count : kept.rows ≡ length items
 
-pub journal_holds : {D : Type 0} (files : D → Files) (settings : Settings) (sup : Super) (disk : D) (kept : OpenJournal) (items rows : List DirRow) → sup ≡ journal_super settings → items ≡ rows → Reads files sup disk kept items
+pub journal_holds : {D : Type 0} (files : D → Files) (settings : Settings) (sup : Super) (disk : D) (kept : OpenJournal) (items rows : List DirRow) → sup ≡ journal_super settings
+    → items ≡ rows → Reads files sup disk kept items
     → HoldsRows files (super_bytes (journal_super settings)) settings.volumes rows (directory_of disk kept)
 journal_holds {D} files settings sup disk kept items rows same all r =
     subst (λ (l : List DirRow). HoldsRows files (super_bytes (journal_super settings)) settings.volumes l (directory_of disk kept)) all (record {

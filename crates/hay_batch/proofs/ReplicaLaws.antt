@@ -17,7 +17,8 @@ use Rattle.hay_batch.proofs.Lists.{Went, at_below, at_same, at_set_same, went_ev
 
 -- what an append says of one that was added
 pub added : {D : Type 0} (Tells : Type 0) (files : D → Files) (photos : List NewPhoto) (old new : LoadReplica D) → new.volume ≡ record old.volume { end = old.volume.end + batch_total photos }
-    → (Tells → (superblock : List ℕ) (cells : List Cell) → IsVolume superblock (file_of files old).now cells old.volume.end → IsVolume superblock (files new.disk old.volume.file).now (cells ++ new_cells old.volume.end photos) new.volume.end)
+    → (Tells → (superblock : List ℕ) (cells : List Cell) → IsVolume superblock (file_of files old).now cells old.volume.end
+    → IsVolume superblock (files new.disk old.volume.file).now (cells ++ new_cells old.volume.end photos) new.volume.end)
     → (Tells → IsSolid (files new.disk old.volume.file)) → (Tells → IsGate needle_magic new.volume.end (files new.disk old.volume.file)) → Adds Tells files photos old new
 added Tells files photos old new moved grown solid next =
     let same : new.volume.file ≡ old.volume.file = ap (λ (v : VolumeFile). v.file) moved in
@@ -33,7 +34,8 @@ added Tells files photos old new moved grown solid next =
 
 -- what it says of one that was added or not
 pub may_add : {D : Type 0} (files : D → Files) (photos : List NewPhoto) (old new : LoadReplica D) → new.volume.file ≡ old.volume.file → new.volume.capacity ≡ old.volume.capacity
-    → ((superblock : List ℕ) (cells : List Cell) (image : List ℕ) → IsVolume superblock (file_of files old).now cells old.volume.end → IsSolidIn 0 old.volume.end (file_of files old) → IsImage (files new.disk old.volume.file) image
+    → ((superblock : List ℕ) (cells : List Cell) (image : List ℕ) → IsVolume superblock (file_of files old).now cells old.volume.end
+    → IsSolidIn 0 old.volume.end (file_of files old) → IsImage (files new.disk old.volume.file) image
     → HasWithOrWithout superblock cells old.volume.end photos image)
     → KeepsOthers old.volume.file (files old.disk) (files new.disk) → MayAdd files photos old new
 may_add files photos old new same room left others = record {
@@ -77,16 +79,19 @@ touched_each {D} Tells files fault_count fuse_count photos n old new went j r r'
 
 -- and where the next one refused
 pub touched_broken : {D : Type 0} (Tells : Type 0) (files : D → Files) (fault_count fuse_count : D → ℕ) (photos : List NewPhoto) (n : ℕ) (old new : List (LoadReplica D)) (here after : LoadReplica D)
-    → Went (Appended Tells files fault_count fuse_count photos) n old new → At new n here → (Tells → MayAdd files photos here after) → fault_count here.disk ≤ fault_count after.disk → fuse_count after.disk ≡ fuse_count here.disk
+    → Went (Appended Tells files fault_count fuse_count photos) n old new → At new n here → (Tells → MayAdd files photos here after)
+    → fault_count here.disk ≤ fault_count after.disk → fuse_count after.disk ≡ fuse_count here.disk
     → (j : ℕ) (r r' : LoadReplica D) → At old j r → At (slice_set new n after) j r' → Touched Tells files fault_count fuse_count photos r r'
 touched_broken {D} Tells files fault_count fuse_count photos n old new here after went there left later fuses j r r' e f =
     let R = Touched Tells files fault_count fuse_count photos in
     went_every R R (n + 1) old (slice_set new n after)
-    (went_step (Appended Tells files fault_count fuse_count photos) R n old new here after went there (λ x y p. record { left = p.left; later = p.later; fuses = p.fuses }) (record { left = left; later = later; fuses = fuses }))
+    (went_step (Appended Tells files fault_count fuse_count photos) R n old new here after went there (λ x y p. record { left = p.left; later = p.later; fuses = p.fuses })
+    (record { left = left; later = later; fuses = fuses }))
     (λ x y p. p) (λ i x at. touched_same Tells files fault_count fuse_count photos x) j r r' e f
 
 -- the count of the replica whose disk failed
-pub failed_there : {D : Type 0} (R : LoadReplica D → LoadReplica D → Type 0) (fault_count : D → ℕ) (n found : ℕ) (old new : List (LoadReplica D)) (here after : LoadReplica D) → Went R n old new → At new n here
+pub failed_there : {D : Type 0} (R : LoadReplica D → LoadReplica D → Type 0) (fault_count : D → ℕ) (n found : ℕ) (old new : List (LoadReplica D)) (here after : LoadReplica D)
+    → Went R n old new → At new n here
     → Rose (fault_count here.disk) (fault_count after.disk) → found ≡ fault_count after.disk
     → (j faults : ℕ) (r r' : LoadReplica D) → n ≡ j → found ≡ faults → At old j r → At (slice_set new n after) j r' → Rose (fault_count r.disk) (fault_count r'.disk) × (faults ≡ fault_count r'.disk)
 failed_there {D} R fault_count n found old new here after went there rose counts j faults r r' place same e f =

@@ -111,7 +111,8 @@ module _ {D : Type 0} (Tells : Type 0) (files : D → Files) (drawn : D → ℕ 
       }
 
   -- in its slot again
-  pub slot_given : (slot : ℕ) (held back : HeldDisk) (d' : D) → IsGiven back d' → OpensSlot Tells slot held (files d') (faults d') (fuses d') → OpensSlot Tells slot held back.files back.fault_count back.fuse_count
+  pub slot_given : (slot : ℕ) (held back : HeldDisk) (d' : D) → IsGiven back d' → OpensSlot Tells slot held (files d') (faults d') (fuses d')
+      → OpensSlot Tells slot held back.files back.fault_count back.fuse_count
   slot_given slot held back d' given opens = record {
     kept = λ tells none image may. opens.kept tells none image (subst (λ (f : Files). MayLeave f image) (given.files_are tells) may);
     now = λ tells none n. ap (λ (f : Files). (f n).now) (given.files_are tells) ∙ opens.now tells none n;
@@ -139,12 +140,14 @@ module _ (settings : Settings) (contents : ℕ → ℕ → List ℕ) where
       let volume = div_below i settings.replicas settings.volumes positive inside in
       let here : suc i ≡ i + 1 = omega arith in
       let slot : suc i ≡ slot_of settings (i / settings.replicas) (i % settings.replicas) = omega (arith, split) in
-      others i (omega (arith, below)) file at (subst (λ n. IsOpeningDamage (place_super settings i) (contents n) file at) here (damage.replica (i / settings.replicas) (i % settings.replicas) volume low slot))
+      others i (omega (arith, below)) file at (subst (λ n. IsOpeningDamage (place_super settings i) (contents n) file at) here
+      (damage.replica (i / settings.replicas) (i % settings.replicas) volume low slot))
 
   pub damaged_at : (place file at : ℕ) → place + 1 < disk_count settings → IsOpeningDamage (place_super settings place) (contents (place + 1)) file at
       → ((s : Stored) → OpensAs (place_super settings place) (contents (place + 1)) s → ⊥) → IsUndamagedBelow settings (place + 1) contents → IsDamagedDisk settings contents (place + 1) file at
   damaged_at place file at within damage only lowest =
-      let same : (v j : ℕ) → j < settings.replicas → place + 1 ≡ slot_of settings v j → place_super settings place ≡ replica_super settings v j = λ v j low is. place_is settings v j place low (let e : place ≡ v * settings.replicas + j = omega (arith, is) in e) in
+      let same : (v j : ℕ) → j < settings.replicas → place + 1 ≡ slot_of settings v j → place_super settings place ≡ replica_super settings v j =
+      λ v j low is. place_is settings v j place low (let e : place ≡ v * settings.replicas + j = omega (arith, is) in e) in
       record {
         within = within;
         not_whole = record {
@@ -158,7 +161,8 @@ module _ (settings : Settings) (contents : ℕ → ℕ → List ℕ) where
         lowest = lowest;
       }
 
-  pub damaged_first : (file at : ℕ) → file ≡ 0 → IsDamagedJournal (journal_super settings) (contents 0 0) at → ((rows : List DirRow) → OpensRows settings (contents 0 0) rows → ⊥) → IsDamagedDisk settings contents 0 file at
+  pub damaged_first : (file at : ℕ) → file ≡ 0 → IsDamagedJournal (journal_super settings) (contents 0 0) at → ((rows : List DirRow) → OpensRows settings (contents 0 0) rows → ⊥)
+      → IsDamagedDisk settings contents 0 file at
   damaged_first file at is damage only = record {
     within = omega arith;
     not_whole = record {

@@ -33,7 +33,8 @@ others_leave (photo ∷ photos) at pair before lacks =
     ∙ cond-false (pair_eq photo.pair pair) (shown_of photo) before apart
 
 -- the pair of one of them has its photo
-one_shows : (photos : List NewPhoto) (at i : ℕ) (photo : NewPhoto) (before : Outcome) → AreDistinct photos → slice_get photos i ≡ Some photo → look_after (rows_of (needles_of (new_cells at photos))) photo.pair before ≡ shown_of photo
+one_shows : (photos : List NewPhoto) (at i : ℕ) (photo : NewPhoto) (before : Outcome) → AreDistinct photos → slice_get photos i ≡ Some photo
+    → look_after (rows_of (needles_of (new_cells at photos))) photo.pair before ≡ shown_of photo
 unfolding Lacks others_leave
 one_shows [] at i photo before distinct there = absurd cc
 one_shows (first ∷ photos) at zero photo before distinct there =
@@ -43,10 +44,12 @@ one_shows (first ∷ photos) at zero photo before distinct there =
     others_leave photos (at + photo_total first) photo.pair (cond (pair_eq first.pair photo.pair) (shown_of first) before) lacks
     ∙ cond-true (pair_eq first.pair photo.pair) (shown_of first) before here ∙ ap shown_of same
 one_shows (first ∷ photos) at (suc i) photo before distinct there =
-    one_shows photos (at + photo_total first) i photo (cond (pair_eq first.pair photo.pair) (shown_of first) before) (λ j k a b less at_j at_k. distinct (suc j) (suc k) a b (omega (arith, less)) at_j at_k) there
+    one_shows photos (at + photo_total first) i photo (cond (pair_eq first.pair photo.pair) (shown_of first) before)
+    (λ j k a b less at_j at_k. distinct (suc j) (suc k) a b (omega (arith, less)) at_j at_k) there
 
 -- behind whatever cells
-pub batch_shows : (photos : List NewPhoto) (cells : List Cell) (at i : ℕ) (photo : NewPhoto) → AreDistinct photos → slice_get photos i ≡ Some photo → look (rows_of (needles_of (cells ++ new_cells at photos))) photo.pair ≡ shown_of photo
+pub batch_shows : (photos : List NewPhoto) (cells : List Cell) (at i : ℕ) (photo : NewPhoto) → AreDistinct photos → slice_get photos i ≡ Some photo
+    → look (rows_of (needles_of (cells ++ new_cells at photos))) photo.pair ≡ shown_of photo
 unfolding one_shows
 batch_shows photos cells at i photo distinct there =
     ap (λ (l : List Needle). look (rows_of l) photo.pair) (map-append needle_of_cell cells (new_cells at photos))

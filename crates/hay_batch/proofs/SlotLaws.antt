@@ -20,7 +20,8 @@ pub record FilesFirst {D : Type 0} (Tells : Type 0) (files : D → Files) (fault
   pub many : length volumes + 1 ≡ n
   pub count : length new ≡ length old
   pub first : (d d' : D) → At old 0 d → At new 0 d' → d' ≡ d
-  pub done : (place : ℕ) (d d' : D) (volume : VolumeFile) → place + 1 < n → At old (place + 1) d → At new (place + 1) d' → At volumes place volume → OpensFile Tells files faults fuses (place_super settings place) d d' volume
+  pub done : (place : ℕ) (d d' : D) (volume : VolumeFile) → place + 1 < n → At old (place + 1) d → At new (place + 1) d' → At volumes place volume
+      → OpensFile Tells files faults fuses (place_super settings place) d d' volume
   pub rest : (i : ℕ) (d d' : D) → n ≤ i → At old i d → At new i d' → d' ≡ d
 
 module _ {D : Type 0} (Tells : Type 0) (files : D → Files) (faults fuses : D → ℕ) (settings : Settings) where
@@ -42,7 +43,8 @@ module _ {D : Type 0} (Tells : Type 0) (files : D → Files) (faults fuses : D �
       let e : n ≤ n = omega arith in
       subst (λ z. At old n z) (sym (f.rest n there.0 d e there.1 at)) there.1
 
-  pub files_more : (n place : ℕ) (old new : List D) (volumes more : List VolumeFile) (d d' : D) (volume : VolumeFile) → n ≡ place + 1 → FilesFirst Tells files faults fuses settings n old new volumes → At new n d
+  pub files_more : (n place : ℕ) (old new : List D) (volumes more : List VolumeFile) (d d' : D) (volume : VolumeFile) → n ≡ place + 1
+      → FilesFirst Tells files faults fuses settings n old new volumes → At new n d
       → OpensFile Tells files faults fuses (place_super settings place) d d' volume → more ≡ volumes ++ volume ∷ [] → FilesFirst Tells files faults fuses settings (n + 1) old (slice_set new n d') more
   files_more n place old new volumes more d d' volume next f at opens longer =
       let was = files_was n old new volumes d f at in
@@ -79,14 +81,16 @@ module _ {D : Type 0} (Tells : Type 0) (files : D → Files) (faults fuses : D �
             f.rest i a b later aa (sym (at_set_other new i n d' apart) ∙ bb);
       }
 
-  pub files_all : (n : ℕ) (old new : List D) (volumes : List VolumeFile) → FilesFirst Tells files faults fuses settings n old new volumes → n ≡ length old → OpensFiles Tells files faults fuses settings old new volumes
+  pub files_all : (n : ℕ) (old new : List D) (volumes : List VolumeFile) → FilesFirst Tells files faults fuses settings n old new volumes → n ≡ length old
+      → OpensFiles Tells files faults fuses settings old new volumes
   files_all n old new volumes f all = record {
     count = f.many ∙ all;
     each = λ place d d' volume at at' there. f.done place d d' volume (let below = at_below old (place + 1) d at in omega (arith, below, all)) at at' there;
   }
 
   -- where the next disk is not opened
-  pub files_refused : (n place : ℕ) (old new : List D) (volumes : List VolumeFile) (d d' : D) (fault : OpenFault) (told : LoadOpenFault) → n ≡ place + 1 → FilesFirst Tells files faults fuses settings n old new volumes → At new n d
+  pub files_refused : (n place : ℕ) (old new : List D) (volumes : List VolumeFile) (d d' : D) (fault : OpenFault) (told : LoadOpenFault) → n ≡ place + 1
+      → FilesFirst Tells files faults fuses settings n old new volumes → At new n d
       → RefusesFile Tells files faults fuses (place_super settings place) d d' fault → told ≡ not_opened n fault → RefusesOne Tells files faults fuses settings old (slice_set new n d') told
   files_refused n place old new volumes d d' fault told next f at refuses is =
       let below = at_below new n d at in
@@ -105,7 +109,8 @@ module _ {D : Type 0} (Tells : Type 0) (files : D → Files) (faults fuses : D �
             (f.done i a b there.0 (omega (arith, low, next)) aa (sym (at_set_other new (i + 1) n d' apart) ∙ bb) there.1).sound tells;
       }
 
-  moved_one : (n : ℕ) (old new : List D) (volumes : List VolumeFile) → FilesFirst Tells files faults fuses settings n old new volumes → (place : ℕ) (a b : D) → At old (place + 1) a → At new (place + 1) b → (b ≡ a) ⊎ OpensReplica Tells files faults fuses a b
+  moved_one : (n : ℕ) (old new : List D) (volumes : List VolumeFile) → FilesFirst Tells files faults fuses settings n old new volumes → (place : ℕ) (a b : D) → At old (place + 1) a
+      → At new (place + 1) b → (b ≡ a) ⊎ OpensReplica Tells files faults fuses a b
   moved_one n old new volumes f place a b aa bb = elim (cases_lt (place + 1) n) [
     | inl less ↦
         let there = at_there volumes place (let low : place < length volumes = omega (arith, less, f.many) in low) in
@@ -116,7 +121,8 @@ module _ {D : Type 0} (Tells : Type 0) (files : D → Files) (faults fuses : D �
   pub files_moved : (n : ℕ) (old new : List D) (volumes : List VolumeFile) → FilesFirst Tells files faults fuses settings n old new volumes → MovesFiles Tells files faults fuses old new
   files_moved n old new volumes f = record { count = f.count; first = f.first; others = moved_one n old new volumes f }
 
-  pub files_stopped : (n : ℕ) (old new : List D) (volumes : List VolumeFile) (d d' : D) → 0 < n → FilesFirst Tells files faults fuses settings n old new volumes → At new n d → OpensReplica Tells files faults fuses d d'
+  pub files_stopped : (n : ℕ) (old new : List D) (volumes : List VolumeFile) (d d' : D) → 0 < n → FilesFirst Tells files faults fuses settings n old new volumes → At new n d
+      → OpensReplica Tells files faults fuses d d'
       → MovesFiles Tells files faults fuses old (slice_set new n d')
   files_stopped n old new volumes d d' some f at moves =
       let was = files_was n old new volumes d f at in
@@ -161,7 +167,8 @@ module _ {D : Type 0} (Tells : Type 0) (files : D → Files) (faults fuses : D �
     others = λ place a b at at'. moves.others place a b (ahead place a at) at';
   }
 
-  pub all_opened : (d : D) (kept : OpenJournal) (volumes : List VolumeFile) → At old 0 d → OpensJournal Tells files faults fuses settings d x kept → MovesFiles Tells files faults fuses (slice_set old 0 x) new
+  pub all_opened : (d : D) (kept : OpenJournal) (volumes : List VolumeFile) → At old 0 d → OpensJournal Tells files faults fuses settings d x kept
+      → MovesFiles Tells files faults fuses (slice_set old 0 x) new
       → OpensFiles Tells files faults fuses settings (slice_set old 0 x) new volumes → OpensDisks Tells files faults fuses settings old new kept volumes
   unfolding ahead first_is
   all_opened d kept volumes there opens moves each = record {

@@ -1,5 +1,6 @@
 -- A store that a batch is loaded to.
-use Rattle.std.proofs.Common.{◌≡◌, ◌≢◌, inl, inr, ◌<◌, ◌≤◌, ◌+◌, ◌%◌, ℕ, List, [], ◌∷◌, ◌++◌, Result, Ok, Err, All, length, get_or, take, drop, refl, sym, ap, subst, ◌∙◌, arith, length-append, append-nil}
+use Rattle.std.proofs.Common.{◌≡◌, ◌≢◌, inl, inr, ◌<◌, ◌≤◌, ◌+◌, ◌%◌, ℕ, List, [], ◌∷◌, ◌++◌, Result, Ok, Err, All, length, get_or, take, drop, refl, sym, ap, subst, ◌∙◌, arith}
+use Rattle.std.proofs.Common.{length-append, append-nil}
 use Rattle.std.specs.Prelude.{IfErr, IfOk, OnOk, slice_set}
 use Rattle.std.specs.Vec.{with_item, with_items}
 use Rattle.std.proofs.lemmas.Bool.{cases_eq}
@@ -17,7 +18,8 @@ use Rattle.hay_batch.proofs.Lists.{at_below, at_either, at_read, at_same, at_set
 
 -- TRIES
 
-pub try_is : {D : Type 0} (store : LoadStore D) (key need turn volume machine end : ℕ) (w : LoadVolume D) (slice : List (LoadReplica D)) (j : ℕ) → volume ≡ try_at store.settings key turn → At store.volumes.items volume w → slice ≡ w.replicas.items
+pub try_is : {D : Type 0} (store : LoadStore D) (key need turn volume machine end : ℕ) (w : LoadVolume D) (slice : List (LoadReplica D)) (j : ℕ)
+    → volume ≡ try_at store.settings key turn → At store.volumes.items volume w → slice ≡ w.replicas.items
     → (r : LoadReplica D) × IsFirstFull need slice j r × (end ≡ r.volume.end) → machine ≡ (volume + j) % store.settings.machines
     → IsTry store key need turn (record { volume = volume; machine = machine; end = end; need = need })
 try_is {D} store key need turn volume machine end w slice j is there same full machine_is = record {
@@ -32,7 +34,8 @@ try_is {D} store key need turn volume machine end w slice j is there same full m
   end = full.2;
 }
 
-pub tries_more : {D : Type 0} (store : LoadStore D) (key need turn : ℕ) (tries more : List FullTry) (full : FullTry) → more ≡ tries ++ full ∷ [] → AreTries store key need turn tries → IsTry store key need turn full → AreTries store key need (turn + 1) more
+pub tries_more : {D : Type 0} (store : LoadStore D) (key need turn : ℕ) (tries more : List FullTry) (full : FullTry) → more ≡ tries ++ full ∷ []
+    → AreTries store key need turn tries → IsTry store key need turn full → AreTries store key need (turn + 1) more
 tries_more store key need turn tries more full longer before one = record {
   count = omega (arith, ap length longer, length-append tries (full ∷ []), before.count);
   are = λ i x at. elim (at_either tries full i x (subst (λ (l : List FullTry). At l i x) longer at)) [
@@ -42,10 +45,12 @@ tries_more store key need turn tries more full longer before one = record {
 }
 
 -- of the same key and as many bytes
-pub same_tries : {D : Type 0} (store : LoadStore D) (key other need total turns : ℕ) (tries : List FullTry) → key ≡ other → need ≡ total → AreTries store key need turns tries → AreTries store other total turns tries
+pub same_tries : {D : Type 0} (store : LoadStore D) (key other need total turns : ℕ) (tries : List FullTry) → key ≡ other → need ≡ total → AreTries store key need turns tries
+    → AreTries store other total turns tries
 same_tries store key other need total turns tries same much are = subst (λ n. AreTries store other n turns tries) much (subst (λ n. AreTries store n need turns tries) same are)
 
-pub first_room : {D : Type 0} (store : LoadStore D) (key other need total volume : ℕ) → key ≡ other → need ≡ total → (turn : ℕ) × (volume ≡ try_at store.settings key turn) × (tries : List FullTry) × AreTries store key need turn tries
+pub first_room : {D : Type 0} (store : LoadStore D) (key other need total volume : ℕ) → key ≡ other → need ≡ total
+    → (turn : ℕ) × (volume ≡ try_at store.settings key turn) × (tries : List FullTry) × AreTries store key need turn tries
     → ((w : LoadVolume D) → At store.volumes.items volume w → (j : ℕ) (r : LoadReplica D) → At w.replicas.items j r → HasRoom need r) → IsFirstRoom store other total volume
 first_room store key other need total volume same much first room = record {
   turn = first.0;
@@ -85,7 +90,8 @@ written_volume w ws = record { replicas = with_items w.replicas ws }
 abbrev pub written_store : {D : Type 0} → LoadStore D → ℕ → LoadVolume D → List (LoadReplica D) → LoadStore D
 written_store old v w ws = record { settings = old.settings; directory = old.directory; volumes = with_item old.volumes v (written_volume w ws) }
 
-pub swapped : {D : Type 0} (v : ℕ) (w : LoadVolume D) (xs ws : List (LoadReplica D)) (old : LoadStore D) → w ≡ get_or old.volumes.items v w → v < length old.volumes.items → xs ≡ w.replicas.items → length ws ≡ length xs
+pub swapped : {D : Type 0} (v : ℕ) (w : LoadVolume D) (xs ws : List (LoadReplica D)) (old : LoadStore D) → w ≡ get_or old.volumes.items v w → v < length old.volumes.items
+    → xs ≡ w.replicas.items → length ws ≡ length xs
     → Swapped v w (written_volume w ws) xs ws old (written_store old v w ws)
 swapped v w xs ws old here within slice count = record {
   settings = refl;

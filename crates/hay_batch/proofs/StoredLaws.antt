@@ -41,7 +41,8 @@ opens_stored sup contents s is = inr is
 -- CONTENTS OF WHICH ONLY THE VOLUME FILE IS ANOTHER
 
 module _ (sup : Super) (s : Stored) (old new : ℕ → List ℕ) (photos : List NewPhoto) where
-  stored_same : IsStored sup old s → new 0 ≡ old 0 → new (index_file s.generation) ≡ old (index_file s.generation) → IsVolume (super_bytes (volume_super sup s.generation)) (new (volume_file s.generation)) s.cells s.end → IsStored sup new s
+  stored_same : IsStored sup old s → new 0 ≡ old 0 → new (index_file s.generation) ≡ old (index_file s.generation)
+      → IsVolume (super_bytes (volume_super sup s.generation)) (new (volume_file s.generation)) s.cells s.end → IsStored sup new s
   stored_same is head index volume = record {
     head = subst (λ (l : List ℕ). IsHead (super_bytes (head_super sup)) l s.generation) (sym head) is.head;
     volume = volume;
@@ -51,13 +52,16 @@ module _ (sup : Super) (s : Stored) (old new : ℕ → List ℕ) (photos : List 
   }
 
   stored_more : IsStored sup old s → new 0 ≡ old 0 → new (index_file s.generation) ≡ old (index_file s.generation)
-      → IsVolume (super_bytes (volume_super sup s.generation)) (new (volume_file s.generation)) (s.cells ++ new_cells s.end photos) (s.end + batch_total photos) → IsStored sup new (with_needles photos s)
+      → IsVolume (super_bytes (volume_super sup s.generation)) (new (volume_file s.generation)) (s.cells ++ new_cells s.end photos) (s.end + batch_total photos)
+      → IsStored sup new (with_needles photos s)
   stored_more is head index volume = record {
     head = subst (λ (l : List ℕ). IsHead (super_bytes (head_super sup)) l s.generation) (sym head) is.head;
     volume = volume;
     lags = longer s.records s.cells (new_cells s.end photos) is.lags;
     index_end = is.index_end;
-    index = subst (λ (l : List Record). IsIndex (super_bytes (index_super sup s.generation)) (new (index_file s.generation)) l is.index_end) (sym (front_records s.records s.cells (new_cells s.end photos) is.lags))
+    index =
+        subst (λ (l : List Record). IsIndex (super_bytes (index_super sup s.generation)) (new (index_file s.generation)) l is.index_end)
+        (sym (front_records s.records s.cells (new_cells s.end photos) is.lags))
         (subst (λ (l : List ℕ). IsIndex (super_bytes (index_super sup s.generation)) l (recorded s) is.index_end) (sym index) is.index);
   }
 
@@ -76,7 +80,8 @@ volume_is x f e c first second third =
     let with_capacity : ℕ → VolumeFile = λ n. record { file = f; end = e; capacity = n } in
     ap with_file first ∙ ap with_end second ∙ ap with_capacity third
 
-module _ {D : Type 0} (files : D → Files) (sup : Super) (photos : List NewPhoto) (st : Stored) (r r' : LoadReplica D) (was : IsOpenAs files sup st r) (number : r'.volume.file ≡ r.volume.file) (room : r'.volume.capacity ≡ r.volume.capacity)
+module _ {D : Type 0} (files : D → Files) (sup : Super) (photos : List NewPhoto) (st : Stored) (r r' : LoadReplica D) (was : IsOpenAs files sup st r)
+    (number : r'.volume.file ≡ r.volume.file) (room : r'.volume.capacity ≡ r.volume.capacity)
     (others : KeepsOthers r.volume.file (files r.disk) (files r'.disk)) where
   file_is : r.volume.file ≡ volume_file st.generation
   file_is = ap (λ (x : VolumeFile). x.file) was.volume
@@ -100,7 +105,8 @@ module _ {D : Type 0} (files : D → Files) (sup : Super) (photos : List NewPhot
   unfolding kept_others
   index_same = kept_others (index_file st.generation) (index_apart st.generation)
 
-  pub open_by : (b : Bool) → r'.volume.end ≡ (if b then st.end + batch_total photos else st.end) → Holds files (super_bytes (volume_super sup st.generation)) (if b then st.cells ++ new_cells st.end photos else st.cells) r'
+  pub open_by : (b : Bool) → r'.volume.end ≡ (if b then st.end + batch_total photos else st.end)
+      → Holds files (super_bytes (volume_super sup st.generation)) (if b then st.cells ++ new_cells st.end photos else st.cells) r'
       → IsOpenAs files sup (if b then with_needles photos st else st) r'
   unfolding head_same index_same new_file capacity_is
   open_by true end holds = record {
@@ -134,7 +140,9 @@ module _ {D : Type 0} (files : D → Files) (sup : Super) (photos : List NewPhot
 
     index_left : image (index_file st.generation) ≡ (files r.disk (index_file st.generation)).now
     unfolding index_same
-    index_left = solid_whole (files r.disk (index_file st.generation)) (image (index_file st.generation)) was.rests.index (subst (λ (f : FileState). IsImage f (image (index_file st.generation))) index_same (leaves (index_file st.generation)))
+    index_left =
+        solid_whole (files r.disk (index_file st.generation)) (image (index_file st.generation)) was.rests.index
+        (subst (λ (f : FileState). IsImage f (image (index_file st.generation))) index_same (leaves (index_file st.generation)))
 
     pub left_volume : IsImage (file_of files r') (image (volume_file st.generation))
     unfolding new_file
@@ -144,17 +152,20 @@ module _ {D : Type 0} (files : D → Files) (sup : Super) (photos : List NewPhot
     unfolding head_left index_left
     left_same volume = opens_stored sup image st (stored_same sup st (λ n. (files r.disk n).now) image photos was.rests.is head_left index_left volume)
 
-    pub left_more : IsVolume (super_bytes (volume_super sup st.generation)) (image (volume_file st.generation)) (st.cells ++ new_cells st.end photos) (st.end + batch_total photos) → OpensAs sup image (with_needles photos st)
+    pub left_more : IsVolume (super_bytes (volume_super sup st.generation)) (image (volume_file st.generation)) (st.cells ++ new_cells st.end photos) (st.end + batch_total photos)
+        → OpensAs sup image (with_needles photos st)
     unfolding head_left index_left
     left_more volume = opens_stored sup image (with_needles photos st) (stored_more sup st (λ n. (files r.disk n).now) image photos was.rests.is head_left index_left volume)
 
-    pub left_by : (b : Bool) → IsVolume (super_bytes (volume_super sup st.generation)) (image (volume_file st.generation)) (if b then st.cells ++ new_cells st.end photos else st.cells) (if b then st.end + batch_total photos else st.end)
+    pub left_by : (b : Bool) → IsVolume (super_bytes (volume_super sup st.generation)) (image (volume_file st.generation))
+        (if b then st.cells ++ new_cells st.end photos else st.cells) (if b then st.end + batch_total photos else st.end)
         → OpensAs sup image (if b then with_needles photos st else st)
     unfolding left_same left_more
     left_by true volume = left_more volume
     left_by false volume = left_same volume
 
-holds_by : {D : Type 0} (files : D → Files) (sup : Super) (photos : List NewPhoto) (st : Stored) (r : LoadReplica D) (b : Bool) → Holds files (super_bytes (volume_super sup st.generation)) (if b then st.cells ++ new_cells st.end photos else st.cells) r
+holds_by : {D : Type 0} (files : D → Files) (sup : Super) (photos : List NewPhoto) (st : Stored) (r : LoadReplica D) (b : Bool)
+    → Holds files (super_bytes (volume_super sup st.generation)) (if b then st.cells ++ new_cells st.end photos else st.cells) r
     → let now : Stored = if b then with_needles photos st else st in Holds files (super_bytes (volume_super sup now.generation)) now.cells r
 holds_by files sup photos st r true holds = holds
 holds_by files sup photos st r false holds = holds
@@ -179,7 +190,8 @@ replica_was {D} old new v j r' shape shape' same there =
     let r = replica_there old v j shape volume replica in
     record { before = r.0; is_there = r.1 }
 
-module _ {D : Type 0} (files : D → Files) (photos : List NewPhoto) (s : StoredStore) (old new : LoadStore D) (shape : IsShaped old) (shape' : IsShaped new) (same : new.settings ≡ old.settings) (kept : KeepsFiles files old new) (was : StandsAs files old s) where
+module _ {D : Type 0} (files : D → Files) (photos : List NewPhoto) (s : StoredStore) (old new : LoadStore D) (shape : IsShaped old) (shape' : IsShaped new)
+    (same : new.settings ≡ old.settings) (kept : KeepsFiles files old new) (was : StandsAs files old s) where
   pub stands_stored : (v : ℕ) → Stands files new (with_batch v photos (contents_of old.settings s)) → StandsAs files new (with_stored v photos s)
   stands_stored v stands = record {
     contents = subst (λ (x : Settings). Stands files new (contents_of x (with_stored v photos s))) (sym same) (record {
@@ -190,7 +202,8 @@ module _ {D : Type 0} (files : D → Files) (photos : List NewPhoto) (s : Stored
     replicas = λ u j r' there.
         let w = replica_was old new u j r' shape shape' same there in
         subst (λ (x : Settings). IsOpenAs files (replica_super x u j) ((with_stored v photos s).replicas u j) r') (sym same)
-        (open_by files (replica_super old.settings u j) photos (s.replicas u j) w.before r' (was.replicas u j w.before w.is_there) (kept.numbers u j w.before r' w.is_there there) (kept.rooms u j w.before r' w.is_there there)
+        (open_by files (replica_super old.settings u j) photos (s.replicas u j) w.before r' (was.replicas u j w.before w.is_there) (kept.numbers u j w.before r' w.is_there there)
+        (kept.rooms u j w.before r' w.is_there there)
         (kept.replicas u j w.before r' w.is_there there) (nat_eq u v) (stands.ends u j r' there) (stands.replicas u j r' there));
   }
 
@@ -220,29 +233,35 @@ module _ {D : Type 0} (files : D → Files) (photos : List NewPhoto) (s : Stored
       journal = leaves.directory 0;
       volumes = λ u j r' there.
           let w = replica_was old new u j r' shape shape' same there in
-          left_volume files (replica_super old.settings u j) photos (s.replicas u j) w.before r' (was.replicas u j w.before w.is_there) (kept.numbers u j w.before r' w.is_there there) (kept.rooms u j w.before r' w.is_there there) (kept.replicas u j w.before r' w.is_there there)
+          left_volume files (replica_super old.settings u j) photos (s.replicas u j) w.before r' (was.replicas u j w.before w.is_there)
+          (kept.numbers u j w.before r' w.is_there there) (kept.rooms u j w.before r' w.is_there there) (kept.replicas u j w.before r' w.is_there there)
           (image (slot_of old.settings u j)) (leaves_at u j r' there);
     }
 
-    opens_same : (u j : ℕ) → u < old.settings.volumes → j < old.settings.replicas → IsVolume (super_bytes (volume_super (replica_super old.settings u j) (s.replicas u j).generation)) (left_images.volumes u j) (s.replicas u j).cells (s.replicas u j).end
+    opens_same : (u j : ℕ) → u < old.settings.volumes → j < old.settings.replicas → IsVolume
+        (super_bytes (volume_super (replica_super old.settings u j) (s.replicas u j).generation)) (left_images.volumes u j) (s.replicas u j).cells (s.replicas u j).end
         → OpensAs (replica_super old.settings u j) (image (slot_of old.settings u j)) (s.replicas u j)
     unfolding both_at leaves_at left_images
     opens_same u j volume replica is =
         let b = both_at u j volume replica in
-        left_same files (replica_super old.settings u j) photos (s.replicas u j) b.before b.after (was.replicas u j b.before b.was_there) (kept.numbers u j b.before b.after b.was_there b.is_there) (kept.rooms u j b.before b.after b.was_there b.is_there)
+        left_same files (replica_super old.settings u j) photos (s.replicas u j) b.before b.after (was.replicas u j b.before b.was_there)
+        (kept.numbers u j b.before b.after b.was_there b.is_there) (kept.rooms u j b.before b.after b.was_there b.is_there)
         (kept.replicas u j b.before b.after b.was_there b.is_there) (image (slot_of old.settings u j)) (leaves_at u j b.after b.is_there) is
 
     opens_more : (u j : ℕ) → u < old.settings.volumes → j < old.settings.replicas
-        → IsVolume (super_bytes (volume_super (replica_super old.settings u j) (s.replicas u j).generation)) (left_images.volumes u j) ((s.replicas u j).cells ++ new_cells (s.replicas u j).end photos) ((s.replicas u j).end + batch_total photos)
+        → IsVolume (super_bytes (volume_super (replica_super old.settings u j) (s.replicas u j).generation)) (left_images.volumes u j)
+        ((s.replicas u j).cells ++ new_cells (s.replicas u j).end photos) ((s.replicas u j).end + batch_total photos)
         → OpensAs (replica_super old.settings u j) (image (slot_of old.settings u j)) (with_needles photos (s.replicas u j))
     unfolding both_at leaves_at left_images
     opens_more u j volume replica is =
         let b = both_at u j volume replica in
-        left_more files (replica_super old.settings u j) photos (s.replicas u j) b.before b.after (was.replicas u j b.before b.was_there) (kept.numbers u j b.before b.after b.was_there b.is_there) (kept.rooms u j b.before b.after b.was_there b.is_there)
+        left_more files (replica_super old.settings u j) photos (s.replicas u j) b.before b.after (was.replicas u j b.before b.was_there)
+        (kept.numbers u j b.before b.after b.was_there b.is_there) (kept.rooms u j b.before b.after b.was_there b.is_there)
         (kept.replicas u j b.before b.after b.was_there b.is_there) (image (slot_of old.settings u j)) (leaves_at u j b.after b.is_there) is
 
     opens_by : (b : Bool) (u j : ℕ) → u < old.settings.volumes → j < old.settings.replicas
-        → IsVolume (super_bytes (volume_super (replica_super old.settings u j) (s.replicas u j).generation)) (left_images.volumes u j) (if b then (s.replicas u j).cells ++ new_cells (s.replicas u j).end photos else (s.replicas u j).cells)
+        → IsVolume (super_bytes (volume_super (replica_super old.settings u j) (s.replicas u j).generation)) (left_images.volumes u j)
+        (if b then (s.replicas u j).cells ++ new_cells (s.replicas u j).end photos else (s.replicas u j).cells)
         (if b then (s.replicas u j).end + batch_total photos else (s.replicas u j).end)
         → OpensAs (replica_super old.settings u j) (image (slot_of old.settings u j)) (if b then with_needles photos (s.replicas u j) else s.replicas u j)
     opens_by true u j volume replica is = opens_more u j volume replica is
@@ -268,7 +287,8 @@ module _ {D : Type 0} (files : D → Files) (photos : List NewPhoto) (s : Stored
     ]
 
 -- what a stop leaves of a store at which nothing is under way
-pub stands_left : {D : Type 0} (files : D → Files) (s : StoredStore) (store : LoadStore D) (image : ℕ → ℕ → List ℕ) → IsShaped store → StandsAs files store s → MayLeaveDisks files store image → OpensStore store.settings image s
+pub stands_left : {D : Type 0} (files : D → Files) (s : StoredStore) (store : LoadStore D) (image : ℕ → ℕ → List ℕ) → IsShaped store → StandsAs files store s
+    → MayLeaveDisks files store image → OpensStore store.settings image s
 stands_left {D} files s store image shape was leaves = record {
   rows = inr (rows_kept files (super_bytes (journal_super store.settings)) store.settings.volumes s.rows store.directory (image 0 0) was.contents.directory (leaves.directory 0));
   replicas = λ v j volume replica.
@@ -276,8 +296,10 @@ stands_left {D} files s store image shape was leaves = record {
       let opened = was.replicas v j r.0 r.1 in
       let may = leaves.replicas v j r.0 r.1 in
       let st = s.replicas v j in
-      let whole : image (slot_of store.settings v j) (volume_file st.generation) ≡ (files r.0.disk (volume_file st.generation)).now = solid_whole (files r.0.disk (volume_file st.generation)) (image (slot_of store.settings v j) (volume_file st.generation)) opened.rests.volume (may (volume_file st.generation)) in
-      opens_stored (replica_super store.settings v j) (image (slot_of store.settings v j)) st (stored_same (replica_super store.settings v j) st (λ n. (files r.0.disk n).now) (image (slot_of store.settings v j)) [] opened.rests.is
+      let whole : image (slot_of store.settings v j) (volume_file st.generation) ≡ (files r.0.disk (volume_file st.generation)).now =
+      solid_whole (files r.0.disk (volume_file st.generation)) (image (slot_of store.settings v j) (volume_file st.generation)) opened.rests.volume (may (volume_file st.generation)) in
+      opens_stored (replica_super store.settings v j) (image (slot_of store.settings v j)) st
+      (stored_same (replica_super store.settings v j) st (λ n. (files r.0.disk n).now) (image (slot_of store.settings v j)) [] opened.rests.is
       (solid_whole (files r.0.disk 0) (image (slot_of store.settings v j) 0) opened.rests.head (may 0))
       (solid_whole (files r.0.disk (index_file st.generation)) (image (slot_of store.settings v j) (index_file st.generation)) opened.rests.index (may (index_file st.generation)))
       (subst (λ (l : List ℕ). IsVolume (super_bytes (volume_super (replica_super store.settings v j) st.generation)) l st.cells st.end) (sym whole) opened.rests.is.volume));

@@ -32,18 +32,21 @@ with_cells superblock file image cells end photos body made is log =
     (subst (λ (l : List ℕ). IsLog needle_magic l image) whole log)
 
 -- the log without it is the volume file as it was
-without_cells : (superblock file image : List ℕ) (cells : List Cell) (end : ℕ) (is : IsVolume superblock file cells end) → IsLog needle_magic (superblock ++ is.has.needles) image → IsVolume superblock image cells end
+without_cells : (superblock file image : List ℕ) (cells : List Cell) (end : ℕ) (is : IsVolume superblock file cells end) → IsLog needle_magic (superblock ++ is.has.needles) image
+    → IsVolume superblock image cells end
 without_cells superblock file image cells end is log =
     log_volume superblock is.has.needles image cells end (length-superblock superblock file cells end is) is.has.ends is.has.are log
 
-pub volume_grows : (superblock old new : List ℕ) (cells : List Cell) (end need : ℕ) (photos : List NewPhoto) (body : List ℕ) → need ≡ batch_total photos → IsBody body photos → LogGrows needle_magic end body old new
+pub volume_grows : (superblock old new : List ℕ) (cells : List Cell) (end need : ℕ) (photos : List NewPhoto) (body : List ℕ) → need ≡ batch_total photos → IsBody body photos
+    → LogGrows needle_magic end body old new
     → IsVolume superblock old cells end → IsVolume superblock new (cells ++ new_cells end photos) (end + need)
 volume_grows superblock old new cells end need photos body needs made grows is =
     subst (λ n. IsVolume superblock new (cells ++ new_cells end photos) (end + n)) (sym needs)
     (with_cells superblock old new cells end photos body made is
     (grows.longer (superblock ++ is.has.needles) (drop 8 made.needles) (front_length superblock old cells end is) made.parts (volume_log superblock old cells end is)))
 
-pub volume_stays : (superblock : List ℕ) (old new : FileState) (image : List ℕ) (cells : List Cell) (end : ℕ) (photos : List NewPhoto) (body : List ℕ) → IsBody body photos → LogStays needle_magic end body old new
+pub volume_stays : (superblock : List ℕ) (old new : FileState) (image : List ℕ) (cells : List Cell) (end : ℕ) (photos : List NewPhoto) (body : List ℕ) → IsBody body photos
+    → LogStays needle_magic end body old new
     → IsVolume superblock old.now cells end → IsSolidIn 0 end old → IsImage new image
     → IsVolume superblock image cells end ⊎ IsVolume superblock image (cells ++ new_cells end photos) (end + batch_total photos)
 volume_stays superblock old new image cells end photos body made stays is solid leaves =

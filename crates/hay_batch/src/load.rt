@@ -17,7 +17,8 @@ ghost use Rattle.hay_batch.specs.Directories as directories;
 ghost use Rattle.hay_batch.specs.Homes.{AddsHomes, home_among};
 ghost use Rattle.hay_batch.specs.Replicas.{Adds, At, HasRoom, IsReady, MayAdd};
 ghost use Rattle.hay_batch.specs.Shelves.{LeavesBatch, MayLeaveDisks, OpensStore, StandsAs, StoredStore, with_stored};
-ghost use Rattle.hay_batch.specs.Stores.{AreContents, AreTries, Contents, FailsAt, Images, IsDiskFault, IsReadyStore, IsShaped, IsTargetOf, KeepsCounts, KeepsFiles, LeavesWithOrWithout, MayLeaveStore, MovesEnds, ReplicaAt, Stands, with_batch};
+ghost use Rattle.hay_batch.specs.Stores.{AreContents, AreTries, Contents, FailsAt, Images, IsDiskFault, IsReadyStore, IsShaped, IsTargetOf, KeepsCounts, KeepsFiles};
+ghost use Rattle.hay_batch.specs.Stores.{LeavesWithOrWithout, MayLeaveStore, MovesEnds, ReplicaAt, Stands, with_batch};
 
 use crate::directory::LoadDirectory;
 use crate::fault::LoadFault;

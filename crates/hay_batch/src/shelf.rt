@@ -9,7 +9,8 @@ ghost use Rattle.hay_batch.specs.declared.fault.LoadOpenFault.{LoadOpenFault};
 ghost use Rattle.hay_batch.specs.declared.replica.LoadReplica.{LoadReplica};
 ghost use Rattle.hay_batch.specs.declared.store.LoadVolume.{LoadVolume};
 ghost use Rattle.hay_batch.specs.Replicas.{At};
-ghost use Rattle.hay_batch.specs.Shelves.{AreSoundBelow, EachDisk, IsDamagedDisk, IsLeft, IsLimited, IsUndamagedBelow, OpensSlot, OpensStore, RecallsEnd, RecallsRows, StandsAs, StoredStore, disk_count, reads_of, replica_super, slot_of};
+ghost use Rattle.hay_batch.specs.Shelves.{AreSoundBelow, EachDisk, IsDamagedDisk, IsLeft, IsLimited, IsUndamagedBelow, OpensSlot, OpensStore, RecallsEnd, RecallsRows, StandsAs};
+ghost use Rattle.hay_batch.specs.Shelves.{StoredStore, disk_count, reads_of, replica_super, slot_of};
 ghost use Rattle.hay_batch.specs.Stores.{IsReadyStore, IsShaped, ReplicaAt};
 
 use crate::disks::open_disks;

@@ -93,7 +93,8 @@ module _ {V D S T A W : Type 0} (fits : ℕ → V → Settings → ℕ → S →
             subst (λ (z : Settings). is_of w z v) same.settings (subst (is_of w (new.shared).settings) number (is.waits j w there));
       }
 
-module _ {V D S T A W : Type 0} {fits : ℕ → V → Settings → ℕ → S → Type 0} {fits_rows : D → Settings → ℕ → T → Type 0} {is_of : W → Settings → ℕ → Type 0} {is_at : S → StoreVolume → Type 0} {is_at_rows : T → Start → Type 0}
+module _ {V D S T A W : Type 0} {fits : ℕ → V → Settings → ℕ → S → Type 0} {fits_rows : D → Settings → ℕ → T → Type 0} {is_of : W → Settings → ℕ → Type 0}
+    {is_at : S → StoreVolume → Type 0} {is_at_rows : T → Start → Type 0}
     {of : S → LockSight VolumeAct Entry} {of_rows : T → LockSight DirAct HomeRow} {arm_sure : A → Bool} {arm_faults : A → ℕ} {stands : W → VolumeKnown → Type 0} {faults fuses : W → ℕ → ℕ} where
   -- what was run from the frame in which no volume has a lock
   pub ran_all : (old new : Frame V D S T A W) (volumes : List W) (jobs : List (List Job)) (replies : List (List Reply)) → IsFrame fits fits_rows is_of old → IsFrame fits fits_rows is_of new
@@ -174,7 +175,8 @@ module _ {V D S T A W : Type 0} {stands : W → VolumeKnown → Type 0} {faults 
   store_same settings locks lock drained shared before after seats arms volumes seats_behind arms_behind volumes_behind = record {
     seats = seats_behind ∙ (seats_back ∙ seats);
     volumes = subst (AreStill stands faults fuses settings (before.volumes).items) (sym volumes_behind)
-        (subst (λ (z : Settings). AreStill stands faults fuses z (before.volumes).items (reverse (new.waiting).items)) (ap (λ (z : Shared V D). z.settings) shared) (volumes_back (before.volumes).items volumes));
+        (subst (λ (z : Settings). AreStill stands faults fuses z (before.volumes).items (reverse (new.waiting).items)) (ap (λ (z : Shared V D). z.settings) shared)
+        (volumes_back (before.volumes).items volumes));
     arms = arms_behind ∙ (arms_back ∙ arms);
   }
 
@@ -196,20 +198,24 @@ module _ {S T A : Type 0} (volumes : ℕ) (lanes : List (Lane S T A)) (rooms : L
 
 -- ALL VOLUMES, as a caller names them
 
-module _ {V D S T A W : Type 0} (fits : ℕ → V → Settings → ℕ → S → Type 0) (fits_rows : D → Settings → ℕ → T → Type 0) (is_of : W → Settings → ℕ → Type 0) (is_at : S → StoreVolume → Type 0) (is_at_rows : T → Start → Type 0)
+module _ {V D S T A W : Type 0} (fits : ℕ → V → Settings → ℕ → S → Type 0) (fits_rows : D → Settings → ℕ → T → Type 0) (is_of : W → Settings → ℕ → Type 0)
+    (is_at : S → StoreVolume → Type 0) (is_at_rows : T → Start → Type 0)
     (of : S → LockSight VolumeAct Entry) (of_rows : T → LockSight DirAct HomeRow) (arm_sure : A → Bool) (arm_faults : A → ℕ) (stands : W → VolumeKnown → Type 0) (faults fuses : W → ℕ → ℕ) where
   abbrev RanWith : (shared : Shared V D) (volumes : List W) (seats : List T) (arms : List A) (behind : List W) (tags : List (Vec Tag Global)) (seats_behind : List T) (arms_behind : List A)
       (jobs : List (List Job)) (replies : List (List Reply)) → Type 0
   RanWith shared volumes seats arms behind tags seats_behind arms_behind jobs replies =
-      RanAll fits fits_rows is_at is_at_rows of of_rows arm_sure arm_faults stands faults fuses shared.settings shared.directory shared.drained volumes seats arms behind tags seats_behind arms_behind jobs replies
+      RanAll fits fits_rows is_at is_at_rows of of_rows arm_sure arm_faults stands faults fuses shared.settings shared.directory shared.drained volumes seats arms behind tags
+      seats_behind arms_behind jobs replies
 
-  pub ran_whole : {X E : Type 0} (old new : Frame V D S T A W) (volumes : List W) (shared : Shared V D) (seats : List T) (arms : List A) (behind : List W) (tags : List (Vec Tag Global)) (seats_behind : List T) (arms_behind : List A)
+  pub ran_whole : {X E : Type 0} (old new : Frame V D S T A W) (volumes : List W) (shared : Shared V D) (seats : List T) (arms : List A) (behind : List W)
+      (tags : List (Vec Tag Global)) (seats_behind : List T) (arms_behind : List A)
       → IsFrame fits fits_rows is_of old → IsFrame fits fits_rows is_of new → AreSameLocks old.shared new.shared → ((old.shared).volumes).items ≡ [] → (old.waiting).items ≡ reverse volumes
       → old.shared ≡ shared → map (λ l. l.directory) (old.lanes).items ≡ seats → map (λ l. l.arm) (old.lanes).items ≡ arms → behind ≡ reverse (new.waiting).items → tags ≡ reverse (new.tags).items
       → seats_behind ≡ map (λ l. l.directory) (new.lanes).items → arms_behind ≡ map (λ l. l.arm) (new.lanes).items → (jobs : List (List Job)) (answer : Result X E) (replies : X → List (List Reply))
       → IfOk answer (λ r. RanFrom fits fits_rows is_at is_at_rows of of_rows arm_sure arm_faults stands faults fuses old new jobs (replies r))
       → IfOk answer (λ r. RanWith shared volumes seats arms behind tags seats_behind arms_behind jobs (replies r))
-  ran_whole old new volumes shared seats arms behind tags seats_behind arms_behind is_old is_new same none waiting shared_is seats_are arms_are behind_is tags_are seats_last arms_last jobs answer replies =
+  ran_whole old new volumes shared seats arms behind tags seats_behind arms_behind is_old is_new same none waiting shared_is seats_are arms_are behind_is tags_are seats_last
+      arms_last jobs answer replies =
       ok_weaker (λ r. RanFrom fits fits_rows is_at is_at_rows of of_rows arm_sure arm_faults stands faults fuses old new jobs (replies r))
       (λ r. RanWith shared volumes seats arms behind tags seats_behind arms_behind jobs (replies r))
       (λ r ran.
@@ -217,8 +223,10 @@ module _ {V D S T A W : Type 0} (fits : ℕ → V → Settings → ℕ → S →
       (subst (λ z. RanWith old.shared volumes z arms behind tags seats_behind arms_behind jobs (replies r)) seats_are
       (subst (λ z. RanWith old.shared volumes (map (λ l. l.directory) (old.lanes).items) z behind tags seats_behind arms_behind jobs (replies r)) arms_are
       (subst (λ z. RanWith old.shared volumes (map (λ l. l.directory) (old.lanes).items) (map (λ l. l.arm) (old.lanes).items) z tags seats_behind arms_behind jobs (replies r)) (sym behind_is)
-      (subst (λ z. RanWith old.shared volumes (map (λ l. l.directory) (old.lanes).items) (map (λ l. l.arm) (old.lanes).items) (reverse (new.waiting).items) z seats_behind arms_behind jobs (replies r)) (sym tags_are)
-      (subst (λ z. RanWith old.shared volumes (map (λ l. l.directory) (old.lanes).items) (map (λ l. l.arm) (old.lanes).items) (reverse (new.waiting).items) (reverse (new.tags).items) z arms_behind jobs (replies r))
+      (subst (λ z. RanWith old.shared volumes (map (λ l. l.directory) (old.lanes).items) (map (λ l. l.arm) (old.lanes).items) (reverse (new.waiting).items) z seats_behind
+      arms_behind jobs (replies r)) (sym tags_are)
+      (subst (λ z. RanWith old.shared volumes (map (λ l. l.directory) (old.lanes).items) (map (λ l. l.arm) (old.lanes).items) (reverse (new.waiting).items)
+      (reverse (new.tags).items) z arms_behind jobs (replies r))
       (sym seats_last)
       (subst (λ z. RanWith old.shared volumes (map (λ l. l.directory) (old.lanes).items) (map (λ l. l.arm) (old.lanes).items) (reverse (new.waiting).items) (reverse (new.tags).items)
       (map (λ l. l.directory) (new.lanes).items) z jobs (replies r)) (sym arms_last)

@@ -1,5 +1,6 @@
 -- A block whose locks were made and ended round its lines is legal.
-use Rattle.std.proofs.Common.{◌≡◌, ◌≢◌, ◌<◌, ◌≤◌, ◌+◌, ◌-◌, ◌^◌, ◌++◌, ◌⊎◌, inl, inr, ℕ, zero, suc, List, [], ◌∷◌, map, length, refl, sym, ap, subst, ◌∙◌, arith, Option, Some, None, Result, Ok, Err, slice_get, length-append, Vec, Global}
+use Rattle.std.proofs.Common.{◌≡◌, ◌≢◌, ◌<◌, ◌≤◌, ◌+◌, ◌-◌, ◌^◌, ◌++◌, ◌⊎◌, inl, inr, ℕ, zero, suc, List, [], ◌∷◌, map, length, refl, sym, ap, subst, ◌∙◌, arith, Option, Some}
+use Rattle.std.proofs.Common.{None, Result, Ok, Err, slice_get, length-append, Vec, Global}
 use Rattle.std.specs.Prelude.{Bool, IfOk, slice_index}
 use Rattle.std.specs.List.{AllByRecursion as Each, AllZip}
 use Rattle.std.proofs.lemmas.Bool.{cases_lt}
@@ -141,7 +142,8 @@ module _ {V D S T A W F : Type 0} {fits : ℕ → V → Settings → ℕ → S �
   volume_of lane l at v seat at_seat = let long = (ran.seated lane l at).seats in let within = slice_get_within (l.volumes).items v seat at_seat in omega (arith, long, within)
 
   -- the seat of a lane is the one that it was given
-  seat_of : (lane : ℕ) (l : Lane S T A) → slice_get ran.lanes lane ≡ Some l → (v : ℕ) (seat : S) → slice_get (l.volumes).items v ≡ Some seat → (below : v < n) → slice_get (took v below).seats lane ≡ Some seat
+  seat_of : (lane : ℕ) (l : Lane S T A) → slice_get ran.lanes lane ≡ Some l → (v : ℕ) (seat : S) → slice_get (l.volumes).items v ≡ Some seat → (below : v < n)
+      → slice_get (took v below).seats lane ≡ Some seat
   seat_of lane l at v seat at_seat below =
       let Here : Lane S T A → S → Type 0 = λ l seat. slice_get (l.volumes).items v ≡ Some seat in
       let s = there (took v below).seats lane
@@ -337,7 +339,9 @@ module _ {V D S T A W F : Type 0} {fits : ℕ → V → Settings → ℕ → S �
       → RanLegally stands faults fuses stands_rows row_faults row_fuses arm_faults settings k items (log_notes_of settings k h) (row_note_of k h) behind last arms_last others
   block_ran items are distinct = record {
     after = t;
-    legal = (lanes_are_legal V D S T A fits fits_rows is_at is_at_rows of of_rows arm_sure arm_faults shared start k ran.lanes ran.after jobs replies h faults_behind fuses_behind arms lanes_ran items are distinct).0;
+    legal =
+        (lanes_are_legal V D S T A fits fits_rows is_at is_at_rows of of_rows arm_sure arm_faults shared start k ran.lanes ran.after jobs replies h faults_behind fuses_behind arms
+        lanes_ran items are distinct).0;
     stands_for = stands_behind;
   }
 

@@ -141,7 +141,8 @@ module _ {V D S T A W : Type 0} {fits : ℕ → V → Settings → ℕ → S →
   same_lanes frame is lanes same = with_lanes frame is lanes (λ lane l at. is.sits lane l (subst (λ z. slice_get z lane ≡ Some l) same at))
 
   -- and with the same volumes that wait
-  pub same_waiting : (frame : Frame V D S T A W) → IsFrame fits fits_rows is_of frame → (waiting : Vec W Global) → waiting.items ≡ (frame.waiting).items → vec_capacity waiting ≡ vec_capacity frame.waiting
+  pub same_waiting : (frame : Frame V D S T A W) → IsFrame fits fits_rows is_of frame → (waiting : Vec W Global) → waiting.items ≡ (frame.waiting).items
+      → vec_capacity waiting ≡ vec_capacity frame.waiting
       → IsFrame fits fits_rows is_of (record frame { waiting = waiting })
   same_waiting frame is waiting same room = record {
     fit = is.fit;
@@ -179,7 +180,8 @@ module _ {V D S T A W : Type 0} (fits : ℕ → V → Settings → ℕ → S →
 
   -- THE LAST LOCK IS MADE, AND THE LINES ARE ANSWERED
 
-  pub ran_at_all : (old new : Frame V D S T A W) (jobs : List (List Job)) (replies : List (List Reply)) (is_of : W → Settings → ℕ → Type 0) → IsFrame fits fits_rows is_of old → (old.waiting).items ≡ []
+  pub ran_at_all : (old new : Frame V D S T A W) (jobs : List (List Job)) (replies : List (List Reply)) (is_of : W → Settings → ℕ → Type 0) → IsFrame fits fits_rows is_of old
+      → (old.waiting).items ≡ []
       → length jobs ≡ length (old.lanes).items → AnswersLanes (gives old.shared) (old.lanes).items jobs (new.lanes).items replies
       → new.waiting ≡ old.waiting → new.tags ≡ old.tags
       → RanFrom fits fits_rows is_at is_at_rows of of_rows arm_sure arm_faults stands faults fuses old new jobs replies
@@ -300,7 +302,8 @@ module _ {V D S T A W : Type 0} (old : Frame V D S T A W) (locks : Vec V Global)
                 (λ same.
                 let lock_is : lock ≡ other = same_item (((old.shared).volumes).items ++ lock ∷ []) i (added_at ((old.shared).volumes).items lock)
                 (sym (ap (λ z. slice_get z i) locks_are) ∙ subst (λ n. slice_get locks.items n ≡ Some other) same at_lock) in
-                let seat_is : seat.0 ≡ s = same_item (((l.0).volumes).items ++ seat.0 ∷ []) i (subst (λ n. slice_get (((l.0).volumes).items ++ seat.0 ∷ []) n ≡ Some seat.0) long (added_at ((l.0).volumes).items seat.0))
+                let seat_is : seat.0 ≡ s =
+                same_item (((l.0).volumes).items ++ seat.0 ∷ []) i (subst (λ n. slice_get (((l.0).volumes).items ++ seat.0 ∷ []) n ≡ Some seat.0) long (added_at ((l.0).volumes).items seat.0))
                 (sym (ap (λ z. slice_get z i) one.seats) ∙ subst (λ n. slice_get (m.volumes).items n ≡ Some s) same at_seat) in
                 subst (λ n. fits n other (old.shared).settings lane s) (sym same)
                 (subst (λ z. fits i z (old.shared).settings lane s) lock_is (subst (fits i lock (old.shared).settings lane) seat_is (seated.each lane seat.0 seat.1))))

@@ -32,7 +32,8 @@ module _ {L S : Type 0} (Became : S → L → L → Type 0) (old : List L) where
   pub none_became : (seats : List S) → HaveBecome seats 0 old
   none_became seats = record { long = refl; each = λ j a b s less. absurd (omega (arith, less)); rest = λ j le. refl }
 
-  module _ (seats : List S) (i : ℕ) (now : List L) (have : HaveBecome seats i now) (below : i < length now) (x : L) (at : slice_get now i ≡ Some x) (y : L) (s : S) (at_s : slice_get seats i ≡ Some s) (one : Became s x y) where
+  module _ (seats : List S) (i : ℕ) (now : List L) (have : HaveBecome seats i now) (below : i < length now) (x : L) (at : slice_get now i ≡ Some x) (y : L) (s : S)
+      (at_s : slice_get seats i ≡ Some s) (one : Became s x y) where
     pub one_more : HaveBecome seats (i + 1) (slice_set now i y)
     one_more = record {
       long = length_set now i y ∙ have.long;

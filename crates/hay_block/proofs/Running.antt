@@ -67,7 +67,8 @@ module _ {D P L T A : Type 0} (shared : Shared (SharedVolume D P) L) where
         All-from_recursion (λ job. IsSeated fits fits_rows (w.shared).now lane w.lane × IsServed job.item) js
         (each_weaker (λ (job : Job). IsServed job.item) (λ job. IsSeated fits fits_rows (w.shared).now lane w.lane × IsServed job.item) (λ job serves. (sits, serves)) js each)
 
-    module _ (is_at : Seated D P → StoreVolume → Type 0) (is_at_rows : T → Start → Type 0) (of : Seated D P → LockSight VolumeAct Entry) (of_rows : T → LockSight DirAct HomeRow) (arm_sure : A → Bool) (arm_faults : A → ℕ) where
+    module _ (is_at : Seated D P → StoreVolume → Type 0) (is_at_rows : T → Start → Type 0) (of : Seated D P → LockSight VolumeAct Entry) (of_rows : T → LockSight DirAct HomeRow)
+        (arm_sure : A → Bool) (arm_faults : A → ℕ) where
       abbrev by_worker : LaneWorker D P L T A → ℕ → Job → LaneWorker D P L T A → Reply → Type 0
       by_worker w lane job after out =
           ((after.shared).now ≡ (w.shared).now) × Answers fits fits_rows is_at is_at_rows of of_rows arm_sure arm_faults (w.shared).now lane job w.lane after.lane out

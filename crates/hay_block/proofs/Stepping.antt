@@ -37,7 +37,8 @@ back_here {V} {D} {S} {T} {A} {W} {stands} {faults} {fuses} frame lanes waiting 
       waiting = subst (AreStill stands faults fuses (frame.shared).settings (frame.waiting).items) (sym same_waiting) (still_self (frame.waiting).items);
     }
 
-module _ {V D S T A W : Type 0} {fits : ℕ → V → Settings → ℕ → S → Type 0} {fits_rows : D → Settings → ℕ → T → Type 0} {is_of : W → Settings → ℕ → Type 0} {is_at : S → StoreVolume → Type 0} {is_at_rows : T → Start → Type 0}
+module _ {V D S T A W : Type 0} {fits : ℕ → V → Settings → ℕ → S → Type 0} {fits_rows : D → Settings → ℕ → T → Type 0} {is_of : W → Settings → ℕ → Type 0}
+    {is_at : S → StoreVolume → Type 0} {is_at_rows : T → Start → Type 0}
     {of : S → LockSight VolumeAct Entry} {of_rows : T → LockSight DirAct HomeRow} {arm_sure : A → Bool} {arm_faults : A → ℕ} {stands : W → VolumeKnown → Type 0} {faults fuses : W → ℕ → ℕ}
     (old : Frame V D S T A W) (locks : Vec V Global) (lanes : Vec (Lane S T A) Global) (waiting : Vec W Global) (lock : V) {mid new : Frame V D S T A W} {volume : W} {seats : List S}
     (is_old : IsFrame fits fits_rows is_of old) (is_mid : IsFrame fits fits_rows is_of mid) (is_new : IsFrame fits fits_rows is_of new)
@@ -108,7 +109,8 @@ module _ {V D S T A W : Type 0} {fits : ℕ → V → Settings → ℕ → S →
     pub back_one_more : IsBack stands faults fuses old new
     back_one_more =
         let first_new = have_first {i = i} {all = (next.lanes).items} {ls = (new.lanes).items} {ms = (mid.lanes).items} {seats = ends.seats} first_back ends.lanes ends.as_many long_new in
-        let first_old = have_first {i = i} {all = (next.lanes).items} {ls = (old.lanes).items} {ms = (next.lanes).items} {seats = seats} (all_first (i + 1) (next.lanes).items) more as_many long_old in record {
+        let first_old =
+        have_first {i = i} {all = (next.lanes).items} {ls = (old.lanes).items} {ms = (next.lanes).items} {seats = seats} (all_first (i + 1) (next.lanes).items) more as_many long_old in record {
           lanes = record {
             many = first_new.many ∙ sym first_old.many;
             each = λ n l m at_l at_m.
@@ -152,10 +154,13 @@ module _ {V D S T A W : Type 0} {fits : ℕ → V → Settings → ℕ → S →
     ran_behind : HaveFirst (i + 1) ran.after (mid.lanes).items
     ran_behind = subst (λ n. HaveFirst n ran.after (mid.lanes).items) many_next ran.behind
 
-    took_next : VolumeTook fits fits_rows is_at is_at_rows of of_rows arm_sure arm_faults stands faults fuses (old.shared).settings ran.lanes ran.after i last (old.waiting).items (new.waiting).items (new.tags).items
+    took_next : VolumeTook fits fits_rows is_at is_at_rows of of_rows arm_sure arm_faults stands faults fuses (old.shared).settings ran.lanes ran.after i last (old.waiting).items
+        (new.waiting).items (new.tags).items
     took_next = record {
       before = volume;
-      was = subst (λ z. slice_get z last ≡ Some volume) (sym waiting_are) (subst (λ n. slice_get ((next.waiting).items ++ volume ∷ []) n ≡ Some volume) waits_next (added_at (next.waiting).items volume));
+      was =
+          subst (λ z. slice_get z last ≡ Some volume) (sym waiting_are) (subst (λ n. slice_get ((next.waiting).items ++ volume ∷ []) n ≡ Some volume) waits_next
+          (added_at (next.waiting).items volume));
       behind = ends.behind;
       is = subst (λ z. slice_get z last ≡ Some ends.behind) (sym ends.waiting)
           (subst (λ n. slice_get ((mid.waiting).items ++ ends.behind ∷ []) n ≡ Some ends.behind) waits_mid (added_at (mid.waiting).items ends.behind));
@@ -173,8 +178,10 @@ module _ {V D S T A W : Type 0} {fits : ℕ → V → Settings → ℕ → S →
     }
 
     took_later : (v : ℕ) (j : ℕ)
-        → VolumeTook fits fits_rows is_at is_at_rows of of_rows arm_sure arm_faults stands faults fuses (next.shared).settings ran.lanes ran.after v j (next.waiting).items (mid.waiting).items (mid.tags).items
-        → VolumeTook fits fits_rows is_at is_at_rows of of_rows arm_sure arm_faults stands faults fuses (old.shared).settings ran.lanes ran.after v j (old.waiting).items (new.waiting).items (new.tags).items
+        → VolumeTook fits fits_rows is_at is_at_rows of of_rows arm_sure arm_faults stands faults fuses (next.shared).settings ran.lanes ran.after v j (next.waiting).items
+        (mid.waiting).items (mid.tags).items
+        → VolumeTook fits fits_rows is_at is_at_rows of of_rows arm_sure arm_faults stands faults fuses (old.shared).settings ran.lanes ran.after v j (old.waiting).items
+        (new.waiting).items (new.tags).items
     took_later v j took = record {
       before = took.before;
       was = ap (λ z. slice_get z j) waiting_are ∙ (before_added (next.waiting).items volume j (slice_get_within (next.waiting).items j took.before took.was) ∙ took.was);
@@ -196,7 +203,8 @@ module _ {V D S T A W : Type 0} {fits : ℕ → V → Settings → ℕ → S →
         → VolumeTook fits fits_rows is_at is_at_rows of of_rows arm_sure arm_faults stands faults fuses (old.shared).settings ran.lanes ran.after v (((old.shared).settings).volumes - 1 - v)
         (old.waiting).items (new.waiting).items (new.tags).items
     took v low high = dite (ℕ_discrete v i)
-        (λ here. subst (λ n. VolumeTook fits fits_rows is_at is_at_rows of of_rows arm_sure arm_faults stands faults fuses (old.shared).settings ran.lanes ran.after n (((old.shared).settings).volumes - 1 - n)
+        (λ here. subst (λ n. VolumeTook fits fits_rows is_at is_at_rows of of_rows arm_sure arm_faults stands faults fuses (old.shared).settings ran.lanes ran.after n
+        (((old.shared).settings).volumes - 1 - n)
         (old.waiting).items (new.waiting).items (new.tags).items) (sym here) took_next)
         (λ differs.
         let many = many_next in
@@ -225,7 +233,8 @@ module _ {V D S T A W : Type 0} {fits : ℕ → V → Settings → ℕ → S →
     }
 
 -- what a frame ran, or where it is, from the one with a lock more
-pub run_step : {V D S T A W X E : Type 0} {fits : ℕ → V → Settings → ℕ → S → Type 0} {fits_rows : D → Settings → ℕ → T → Type 0} {is_of : W → Settings → ℕ → Type 0} {is_at : S → StoreVolume → Type 0} {is_at_rows : T → Start → Type 0}
+pub run_step : {V D S T A W X E : Type 0} {fits : ℕ → V → Settings → ℕ → S → Type 0} {fits_rows : D → Settings → ℕ → T → Type 0} {is_of : W → Settings → ℕ → Type 0}
+    {is_at : S → StoreVolume → Type 0} {is_at_rows : T → Start → Type 0}
     {of : S → LockSight VolumeAct Entry} {of_rows : T → LockSight DirAct HomeRow} {arm_sure : A → Bool} {arm_faults : A → ℕ} {stands : W → VolumeKnown → Type 0} {faults fuses : W → ℕ → ℕ}
     (old : Frame V D S T A W) (locks : Vec V Global) (lanes : Vec (Lane S T A) Global) (waiting : Vec W Global) (lock : V) {mid new : Frame V D S T A W} {volume : W} {seats : List S}
     → IsFrame fits fits_rows is_of old → IsFrame fits fits_rows is_of mid → IsFrame fits fits_rows is_of new
@@ -233,13 +242,15 @@ pub run_step : {V D S T A W X E : Type 0} {fits : ℕ → V → Settings → ℕ
     → HaveMore (old.lanes).items seats lanes.items → length seats ≡ length (old.lanes).items
     → AreUnseen of seats → AreSameLocks (with_locks old.shared locks) mid.shared
     → EndsLast fits fits_rows is_at is_at_rows of of_rows arm_sure arm_faults stands faults fuses (vec_len (mid.shared).volumes - 1) volume mid new
-    → AreAt is_at stands faults fuses (old.shared).settings (length ((old.shared).volumes).items) volume seats → ((known : VolumeKnown) → stands volume known → IsRegularVolume (old.shared).settings known)
+    → AreAt is_at stands faults fuses (old.shared).settings (length ((old.shared).volumes).items) volume seats
+    → ((known : VolumeKnown) → stands volume known → IsRegularVolume (old.shared).settings known)
     → (jobs : List (List Job)) (answer : Result X E) (replies : X → List (List Reply))
     → AreSameLocks old.shared new.shared
     × (IfOk answer (λ r. RanFrom fits fits_rows is_at is_at_rows of of_rows arm_sure arm_faults stands faults fuses (framed old locks lanes waiting) mid jobs (replies r))
     → IfOk answer (λ r. RanFrom fits fits_rows is_at is_at_rows of of_rows arm_sure arm_faults stands faults fuses old new jobs (replies r)))
     × (OnErr answer (IsBack stands faults fuses (framed old locks lanes waiting) mid) → OnErr answer (IsBack stands faults fuses old new))
-run_step {V} {D} {S} {T} {A} {W} {X} {E} {fits} {fits_rows} {is_of} {is_at} {is_at_rows} {of} {of_rows} {arm_sure} {arm_faults} {stands} {faults} {fuses} old locks lanes waiting lock {mid} {new} {volume} {seats}
+run_step {V} {D} {S} {T} {A} {W} {X} {E} {fits} {fits_rows} {is_of} {is_at} {is_at_rows} {of} {of_rows} {arm_sure} {arm_faults} {stands} {faults} {fuses} old locks lanes waiting
+    lock {mid} {new} {volume} {seats}
     is_old is_mid is_new locks_are waiting_are more as_many unseen same ends at regular jobs answer replies =
     let number : vec_len (mid.shared).volumes - 1 ≡ length ((old.shared).volumes).items =
     let c = ((mid.shared).volumes).ok.0 in

@@ -104,7 +104,8 @@ module _ {W J O : Type 0} (gives : W → ℕ → J → W → O → Type 0) where
 
 module _ {V D S T A W : Type 0} {fits : ℕ → V → Settings → ℕ → S → Type 0} {fits_rows : D → Settings → ℕ → T → Type 0} {is_at : S → StoreVolume → Type 0} {is_at_rows : T → Start → Type 0}
     {of : S → LockSight VolumeAct Entry} {of_rows : T → LockSight DirAct HomeRow} {arm_sure : A → Bool} {arm_faults : A → ℕ} {stands : W → VolumeKnown → Type 0} {faults fuses : W → ℕ → ℕ}
-    {settings : Settings} {lock : D} {drained : Vec Bool Global} {volumes : List W} {seats : List T} {arms : List A} {behind : List W} {tags : List (Vec Tag Global)} {seats_behind : List T} {arms_behind : List A}
+    {settings : Settings} {lock : D} {drained : Vec Bool Global} {volumes : List W} {seats : List T} {arms : List A} {behind : List W} {tags : List (Vec Tag Global)}
+    {seats_behind : List T} {arms_behind : List A}
     {jobs : List (List Job)} {replies : List (List Reply)}
     (all : RanAll fits fits_rows is_at is_at_rows of of_rows arm_sure arm_faults stands faults fuses settings lock drained volumes seats arms behind tags seats_behind arms_behind jobs replies) where
   abbrev Gives : Lane S T A → ℕ → Job → Lane S T A → Reply → Type 0
@@ -144,7 +145,8 @@ module _ {V D S T A W : Type 0} {fits : ℕ → V → Settings → ℕ → S →
 -- WHERE NO LINE WAS ANSWERED
 
 -- a Directory at whose lock nothing happened is as it was
-pub directory_same : {T F : Type 0} {of_rows : T → LockSight DirAct HomeRow} {stands : F → DirKnown → List Bool → Type 0} {faults fuses : F → ℕ} {directory after : F} {seats : List T} {tags : List Tag}
+pub directory_same : {T F : Type 0} {of_rows : T → LockSight DirAct HomeRow} {stands : F → DirKnown → List Bool → Type 0} {faults fuses : F → ℕ} {directory after : F}
+    {seats : List T} {tags : List Tag}
     → LeavesDirectory of_rows stands faults fuses directory seats after tags → AreUnseen of_rows seats → after ≡ directory
 directory_same {T} {F} {of_rows} {stands} {faults} {fuses} {directory} {after} {seats} leaves new = leaves.untouched (nothing_made row_lock of_rows seats leaves.history leaves.ended new)
 

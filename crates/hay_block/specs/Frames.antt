@@ -141,7 +141,8 @@ module _ {V D S T A W : Type 0} (fits : ℕ → V → Settings → ℕ → S →
     pub before : HaveFirst (length ((old.shared).volumes).items) lanes (old.lanes).items
     pub seated : (lane : ℕ) (l : Lane S T A) → slice_get lanes lane ≡ Some l → IsSeated fits fits_rows (with_locks old.shared locks) lane l
     pub after : List (Lane S T A)
-    pub answers : AnswersLanes (λ before lane job behind reply. Answers fits fits_rows is_at is_at_rows of of_rows arm_sure arm_faults (with_locks old.shared locks) lane job before behind reply) lanes jobs after replies
+    pub answers : AnswersLanes (λ before lane job behind reply. Answers fits fits_rows is_at is_at_rows of of_rows arm_sure arm_faults (with_locks old.shared locks) lane job before
+        behind reply) lanes jobs after replies
     pub behind : HaveFirst (length ((old.shared).volumes).items) after (new.lanes).items
     pub volumes : (v : ℕ) → length ((old.shared).volumes).items ≤ v → v < ((old.shared).settings).volumes
         → VolumeTook (old.shared).settings lanes after v (((old.shared).settings).volumes - 1 - v) (old.waiting).items (new.waiting).items (new.tags).items
@@ -161,7 +162,8 @@ module _ {V D S T A W : Type 0} (fits : ℕ → V → Settings → ℕ → S →
     pub after : List (Lane S T A)
     pub seats_behind_are : map (λ l. l.directory) after ≡ seats_behind
     pub arms_behind_are : map (λ l. l.arm) after ≡ arms_behind
-    pub answers : AnswersLanes (λ before lane job behind reply. Answers fits fits_rows is_at is_at_rows of of_rows arm_sure arm_faults (shared_by settings locks lock drained) lane job before behind reply)
+    pub answers : AnswersLanes (λ before lane job behind reply. Answers fits fits_rows is_at is_at_rows of of_rows arm_sure arm_faults (shared_by settings locks lock drained) lane
+        job before behind reply)
         lanes jobs after replies
     pub took : (v : ℕ) → v < settings.volumes → VolumeTook settings lanes after v v volumes behind tags
     pub many_told : length tags ≡ settings.volumes

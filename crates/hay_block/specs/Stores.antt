@@ -50,7 +50,8 @@ module _ {W F A : Type 0} (stands : W → VolumeKnown → Type 0) (faults fuses 
     pub arms_are : k.arms ≡ map arm_faults arms ++ others
 
   -- These lines are a legal block, and the store stands for what is known behind it.
-  pub record RanLegally (settings : Settings) (k : Known) (items : List LaneItem) (logs : List LogNote) (rows : RowNote) (volumes : List W) (directory : F) (arms : List A) (others : List ℕ) : Type 0 where
+  pub record RanLegally (settings : Settings) (k : Known) (items : List LaneItem) (logs : List LogNote) (rows : RowNote) (volumes : List W) (directory : F) (arms : List A)
+      (others : List ℕ) : Type 0 where
     pub after : Known
     pub legal : LegalBlock settings k items logs rows after
     pub stands_for : StoreStands settings volumes directory arms others after

@@ -163,7 +163,8 @@ where
     ensures volumes { AreVolumes IsVolumeOf settings result.0.volumes.items }
     ensures seats { AreSeated L.fits locked.lock settings (length jobs.now) result.0.seats.items }
     ensures arms { length result.0.arms.items ≡ length jobs.now }
-    ensures answered { IfOk result.2 (λ replies. RanAll (IsSeatOf {P = P}) L.fits (WasAt D.Tells D.files P.Tells D.fault_count D.fuse_count) L.is_at sight_of L.sight A.is_sure A.fault_count (VolumeStands D.Tells D.files P.Tells) (count_of D.fault_count) (count_of D.fuse_count)
+    ensures answered { IfOk result.2 (λ replies. RanAll (IsSeatOf {P = P}) L.fits (WasAt D.Tells D.files P.Tells D.fault_count D.fuse_count) L.is_at sight_of L.sight A.is_sure
+        A.fault_count (VolumeStands D.Tells D.files P.Tells) (count_of D.fault_count) (count_of D.fuse_count)
         settings locked.lock drained locked.volumes.items locked.seats.items locked.arms.items
         result.0.volumes.items result.1.items result.0.seats.items result.0.arms.items (map (λ js. js.items) jobs.now) (map (λ rs. rs.items) replies.items)) }
     ensures refused { OnErr result.2 (IsSameStore (VolumeStands D.Tells D.files P.Tells) (count_of D.fault_count) (count_of D.fuse_count) settings locked result.0) }

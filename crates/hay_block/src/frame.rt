@@ -60,7 +60,8 @@ where
     ensures frame { IsFrame IsSeatOf L.fits IsVolumeOf result.0 }
     ensures shared { result.0.shared ≡ frame.shared }
     ensures lanes { vec_len result.0.lanes ≡ vec_len frame.lanes }
-    ensures answered { IfOk result.1 (λ replies. RanFrom IsSeatOf L.fits (WasAt D.Tells D.files P.Tells D.fault_count D.fuse_count) L.is_at sight_of L.sight A.is_sure A.fault_count (VolumeStands D.Tells D.files P.Tells) (count_of D.fault_count) (count_of D.fuse_count)
+    ensures answered { IfOk result.1 (λ replies. RanFrom IsSeatOf L.fits (WasAt D.Tells D.files P.Tells D.fault_count D.fuse_count) L.is_at sight_of L.sight A.is_sure A.fault_count
+        (VolumeStands D.Tells D.files P.Tells) (count_of D.fault_count) (count_of D.fuse_count)
         frame result.0 (map (λ js. js.items) jobs.now) (map (λ rs. rs.items) replies.items)) }
     ensures refused { OnErr result.1 (IsBack (VolumeStands D.Tells D.files P.Tells) (count_of D.fault_count) (count_of D.fuse_count) frame result.0) }
 {
@@ -115,7 +116,8 @@ where
     ensures lanes { vec_len result.lanes ≡ vec_len frame.lanes }
     ensures ends { (before : Volume D P) (lock : SharedVolume D P) → slice_get frame.shared.volumes.items (vec_len frame.shared.volumes - 1) ≡ Some lock →
         IsMadeOf lock room before frame.shared.settings (vec_len frame.shared.volumes - 1) (vec_len frame.lanes) →
-        EndsLast IsSeatOf L.fits (WasAt D.Tells D.files P.Tells D.fault_count D.fuse_count) L.is_at sight_of L.sight A.is_sure A.fault_count (VolumeStands D.Tells D.files P.Tells) (count_of D.fault_count) (count_of D.fuse_count) (vec_len frame.shared.volumes - 1) before frame result }
+        EndsLast IsSeatOf L.fits (WasAt D.Tells D.files P.Tells D.fault_count D.fuse_count) L.is_at sight_of L.sight A.is_sure A.fault_count (VolumeStands D.Tells D.files P.Tells)
+        (count_of D.fault_count) (count_of D.fuse_count) (vec_len frame.shared.volumes - 1) before frame result }
 {
     let Some(lock) = frame.shared.volumes.pop() else {
         unreachable!()
@@ -157,7 +159,8 @@ where
     ensures frame { IsFrame IsSeatOf L.fits IsVolumeOf result.0 }
     ensures shared { AreSameLocks frame.shared result.0.shared }
     ensures lanes { vec_len result.0.lanes ≡ vec_len frame.lanes }
-    ensures answered { IfOk result.1 (λ replies. RanFrom IsSeatOf L.fits (WasAt D.Tells D.files P.Tells D.fault_count D.fuse_count) L.is_at sight_of L.sight A.is_sure A.fault_count (VolumeStands D.Tells D.files P.Tells) (count_of D.fault_count) (count_of D.fuse_count)
+    ensures answered { IfOk result.1 (λ replies. RanFrom IsSeatOf L.fits (WasAt D.Tells D.files P.Tells D.fault_count D.fuse_count) L.is_at sight_of L.sight A.is_sure A.fault_count
+        (VolumeStands D.Tells D.files P.Tells) (count_of D.fault_count) (count_of D.fuse_count)
         frame result.0 (map (λ js. js.items) jobs.now) (map (λ rs. rs.items) replies.items)) }
     ensures refused { OnErr result.1 (IsBack (VolumeStands D.Tells D.files P.Tells) (count_of D.fault_count) (count_of D.fuse_count) frame result.0) }
 {

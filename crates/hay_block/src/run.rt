@@ -74,7 +74,8 @@ where
     requires few { length jobs.now < 2 ^ 32 }
     requires seated { (lane : ℕ) (l : _) → slice_get lanes.items lane ≡ Some l → IsSeated IsSeatOf L.fits shared.now lane l }
     requires served { AllByRecursion (λ js. AllByRecursion (λ job. IsServed job.item) js.items) jobs.now }
-    ensures answered { IfOk result (λ r. AnswersLanes (λ old lane job new reply. Answers IsSeatOf L.fits (WasAt D.Tells D.files P.Tells D.fault_count D.fuse_count) L.is_at sight_of L.sight A.is_sure A.fault_count shared.now lane job old new reply)
+    ensures answered { IfOk result (λ r. AnswersLanes (λ old lane job new reply. Answers IsSeatOf L.fits (WasAt D.Tells D.files P.Tells D.fault_count D.fuse_count) L.is_at sight_of
+        L.sight A.is_sure A.fault_count shared.now lane job old new reply)
         lanes.items (map (λ js. js.items) jobs.now) r.0.items (map (λ rs. rs.items) r.1.items)) }
     ensures refused { IfErr result (λ r. r.0.items ≡ lanes.items) }
 {

@@ -82,7 +82,8 @@ where
     ensures long { IfOk result (λ r. (settings : Settings) → L.is_of parts.now.directory settings → length r.drained.items ≡ settings.machines) }
     ensures drained { IfOk result (λ r. (known : DirKnown) (drained : List Bool) → L.stands parts.now.directory known drained → r.drained.items ≡ drained) }
     ensures rows { IfOk result (λ r. (known : DirKnown) (drained : List Bool) → L.stands parts.now.directory known drained → r.rows ≡ length known.rows) }
-    ensures fronts { IfOk result (λ r. AllZip (λ volume front. (known : VolumeKnown) → VolumeStands D.Tells D.files D.Piece.Tells volume known → front ≡ length known.log) parts.now.volumes.items r.fronts.items) }
+    ensures fronts { IfOk result (λ r. AllZip (λ volume front. (known : VolumeKnown) → VolumeStands D.Tells D.files D.Piece.Tells volume known → front ≡ length known.log)
+        parts.now.volumes.items r.fronts.items) }
     ensures room { IfOk result (λ r. HasRoom lanes (length parts.now.volumes.items) r.rooms) }
 {
     let drained = L::drained(alloc, &parts.directory)?;
@@ -205,7 +206,8 @@ where
     // Where the disks tell, the lines are a legal block of what was known, in any order that keeps each lane's own, with these notes, and
     // the parts stand for what is known behind it.
     ensures legal { IfOk result.1 (λ answers. (k : Known) (others : List ℕ) →
-        StoreStands (VolumeStands D.Tells D.files P.Tells) (count_of D.fault_count) (count_of D.fuse_count) L.stands L.faults L.fuses A.fault_count settings parts.volumes.items parts.directory parts.arms.items others k →
+        StoreStands (VolumeStands D.Tells D.files P.Tells) (count_of D.fault_count) (count_of D.fuse_count) L.stands L.faults L.fuses A.fault_count settings parts.volumes.items
+        parts.directory parts.arms.items others k →
         AllByRecursion (λ f. f ≤ 2 ^ 64 - 1) others → (items : List LaneItem) →
         AreItems (map (λ js. js.items) jobs.now) (map (λ rs. rs.items) answers.replies.items) items → EachPair (λ a b. a.line ≢ b.line) items →
         (logs : List LogNote) × (rows : RowNote) × IfOk answers.notes (NotesTell logs rows)

@@ -44,7 +44,8 @@ where
 
     ghost may_answer = { λ w lane job. IsSeated IsSeatOf L.fits w.shared.now lane w.lane × IsServed job.item };
 
-    ghost answers = { λ w lane job after out. (after.shared.now ≡ w.shared.now) × Answers IsSeatOf L.fits (WasAt D.Tells D.files P.Tells D.fault_count D.fuse_count) L.is_at sight_of L.sight A.is_sure A.fault_count w.shared.now lane job w.lane after.lane out };
+    ghost answers = { λ w lane job after out. (after.shared.now ≡ w.shared.now) × Answers IsSeatOf L.fits (WasAt D.Tells D.files P.Tells D.fault_count D.fuse_count) L.is_at
+        sight_of L.sight A.is_sure A.fault_count w.shared.now lane job w.lane after.lane out };
 
     fn line(job: &Job) -> u64 {
         job.line

@@ -1,5 +1,6 @@
 -- Records beside the cells that they are to name.
-use Rattle.std.proofs.Common.{◌≡◌, ◌≢◌, ◌⊎◌, inl, inr, ℕ, ◌+◌, ◌*◌, ◌<◌, ◌≤◌, Bool, true, false, List, [], ◌∷◌, ◌++◌, length, get_or, take, drop, map, Option, Some, None, sym, ap, subst, ◌∙◌, arith, append_assoc, length-append, length-drop, take-append-drop}
+use Rattle.std.proofs.Common.{◌≡◌, ◌≢◌, ◌⊎◌, inl, inr, ℕ, ◌+◌, ◌*◌, ◌<◌, ◌≤◌, Bool, true, false, List, [], ◌∷◌, ◌++◌, length, get_or, take, drop, map, Option, Some, None, sym, ap}
+use Rattle.std.proofs.Common.{subst, ◌∙◌, arith, append_assoc, length-append, length-drop, take-append-drop}
 use Rattle.std.specs.Prelude.{IsTrue, ◌↔◌, is_some, nat_lt, option_map}
 use Rattle.std.specs.List.{slice_get}
 use Rattle.std.proofs.lemmas.Bool.{cases_lt, lt-ltb, ltb-true}
@@ -17,14 +18,17 @@ use Rattle.hay_check.specs.Listing.{HasMisfit, IsBrokenBehind, IsMisfitAt}
 
 row_of : (heads : List CellHead) (i : ℕ) (head d : CellHead) → true ≡ nat_lt i (length heads) → head ≡ get_or heads i d → slice_get (map head_record heads) i ≡ Some (head_record head)
 row_of heads i head d within is =
-    slice_get-map head_record heads i ∙ ap (λ (o : Option CellHead). option_map head_record o) (slice_get-get_or heads i d (ltb-true i (length heads) (sym within))) ∙ ap (λ (h : CellHead). Some (head_record h)) (sym is)
+    slice_get-map head_record heads i ∙ ap (λ (o : Option CellHead). option_map head_record o) (slice_get-get_or heads i d (ltb-true i (length heads) (sym within)))
+    ∙ ap (λ (h : CellHead). Some (head_record h)) (sym is)
 
 -- the record is that of its cell
-pub row_here : (heads : List CellHead) (i : ℕ) (r : Record) (head d : CellHead) (b : Bool) → true ≡ nat_lt i (length heads) → head ≡ get_or heads i d → (IsTrue b ↔ (r ≡ head_record head)) → b ≡ true → slice_get (map head_record heads) i ≡ Some r
+pub row_here : (heads : List CellHead) (i : ℕ) (r : Record) (head d : CellHead) (b : Bool) → true ≡ nat_lt i (length heads) → head ≡ get_or heads i d
+    → (IsTrue b ↔ (r ≡ head_record head)) → b ≡ true → slice_get (map head_record heads) i ≡ Some r
 row_here heads i r head d b within is same holds = row_of heads i head d within is ∙ ap (λ (x : Record). Some x) (sym (same.0 holds))
 
 -- it is not
-pub other_row : (heads : List CellHead) (i : ℕ) (r : Record) (head d : CellHead) (b : Bool) → true ≡ nat_lt i (length heads) → head ≡ get_or heads i d → (IsTrue b ↔ (r ≡ head_record head)) → b ≡ false → slice_get (map head_record heads) i ≢ Some r
+pub other_row : (heads : List CellHead) (i : ℕ) (r : Record) (head d : CellHead) (b : Bool) → true ≡ nat_lt i (length heads) → head ≡ get_or heads i d
+    → (IsTrue b ↔ (r ≡ head_record head)) → b ≡ false → slice_get (map head_record heads) i ≢ Some r
 other_row heads i r head d b within is same differs there =
     let equal : r ≡ head_record head = sym (same_Some (head_record head) r (sym (row_of heads i head d within is) ∙ there)) in
     let holds : b ≡ true = same.1 equal in
@@ -40,7 +44,8 @@ no_row o heads i r none test there =
 
 -- A BLOCK
 
-pub misfit_here : (rows block : List Record) (i first at k : ℕ) (d : Record) → i < length block → at ≡ first + 32 * i → k ≡ at → take i block ≡ take i rows → slice_get rows i ≢ Some (get_or block i d) → HasMisfit rows block first k
+pub misfit_here : (rows block : List Record) (i first at k : ℕ) (d : Record) → i < length block → at ≡ first + 32 * i → k ≡ at → take i block ≡ take i rows
+    → slice_get rows i ≢ Some (get_or block i d) → HasMisfit rows block first k
 misfit_here rows block i first at k d within place here same other = record {
   before = take i block;
   misfit = get_or block i d;
@@ -69,17 +74,20 @@ pub rows_behind : (n count : ℕ) (heads piece : List CellHead) → piece ≡ ta
 rows_behind n count heads piece is long =
     ap (λ (l : List CellHead). map head_record l) (is ∙ take_all n (drop count heads) (omega (arith, long, length-drop count heads))) ∙ sym (drop-map head_record count heads)
 
-pub misfit_behind : (n count first k : ℕ) (heads piece : List CellHead) (block items : List Record) → piece ≡ take n (drop count heads) → length heads ≤ count + n → items ≡ block → HasMisfit (map head_record piece) items first k
+pub misfit_behind : (n count first k : ℕ) (heads piece : List CellHead) (block items : List Record) → piece ≡ take n (drop count heads) → length heads ≤ count + n → items ≡ block
+    → HasMisfit (map head_record piece) items first k
     → HasMisfit (drop count (map head_record heads)) block first k
 misfit_behind n count first k heads piece block items is long same misfit =
     subst (λ (rows : List Record). HasMisfit rows block first k) (rows_behind n count heads piece is long) (subst (λ (l : List Record). HasMisfit (map head_record piece) l first k) same misfit)
 
-pub fit_behind : (n count : ℕ) (heads piece : List CellHead) (block items rest : List Record) → piece ≡ take n (drop count heads) → length heads ≤ count + n → items ≡ block → map head_record piece ≡ items ++ rest
+pub fit_behind : (n count : ℕ) (heads piece : List CellHead) (block items rest : List Record) → piece ≡ take n (drop count heads) → length heads ≤ count + n → items ≡ block
+    → map head_record piece ≡ items ++ rest
     → drop count (map head_record heads) ≡ block ++ rest
 fit_behind n count heads piece block items rest is long same are = sym (rows_behind n count heads piece is long) ∙ are ∙ ap (λ (l : List Record). l ++ rest) same
 
 -- one block more
-pub block_fits : (superblock file : List ℕ) (rows block rest : List Record) (count end further : ℕ) → count ≤ length rows → HasRecords superblock file (take count rows) end → BeginsWithBlock (drop end file) block → drop count rows ≡ block ++ rest
+pub block_fits : (superblock file : List ℕ) (rows block rest : List Record) (count end further : ℕ) → count ≤ length rows → HasRecords superblock file (take count rows) end
+    → BeginsWithBlock (drop end file) block → drop count rows ≡ block ++ rest
     → further ≡ end + (16 + 32 * length block) → HasRecords superblock file (take (count + length block) rows) further × (count + length block ≤ length rows)
 block_fits superblock file rows block rest count end further within has begins are is =
     let front = take count rows in
@@ -90,7 +98,8 @@ block_fits superblock file rows block rest count end further within has begins a
       omega (arith, ap length whole, length-append (front ++ block) rest, long),
     )
 
-pub broken_there : (superblock file : List ℕ) (rows : List Record) (count end k : ℕ) → HasRecords superblock file (take count rows) end → (IsBrokenAt end file × (k ≡ end)) ⊎ IsMisfitAt end file (drop count rows) k
+pub broken_there : (superblock file : List ℕ) (rows : List Record) (count end k : ℕ) → HasRecords superblock file (take count rows) end
+    → (IsBrokenAt end file × (k ≡ end)) ⊎ IsMisfitAt end file (drop count rows) k
     → IsBrokenBehind superblock file rows k
 broken_there superblock file rows count end k lead broken = record {
   records = take count rows;

@@ -1,5 +1,6 @@
 -- Counting the cells of a volume file.
-use Rattle.std.proofs.Common.{◌≡◌, ℕ, ◌+◌, ◌*◌, ◌<◌, ◌≤◌, Bool, true, false, not, cond, List, [], ◌∷◌, length, get_or, take, BTreeSet, btree_set_len, refl, sym, ap, subst, ◌∙◌, arith, Option, Some, None}
+use Rattle.std.proofs.Common.{◌≡◌, ℕ, ◌+◌, ◌*◌, ◌<◌, ◌≤◌, Bool, true, false, not, cond, List, [], ◌∷◌, length, get_or, take, BTreeSet, btree_set_len, refl, sym, ap, subst, ◌∙◌}
+use Rattle.std.proofs.Common.{arith, Option, Some, None}
 use Rattle.std.specs.Prelude.{map, is_some, count_by}
 use Rattle.std.specs.List.{slice_get}
 use Rattle.std.specs.BTreeSet.{IsEmpty, Updates, contains}
@@ -46,7 +47,8 @@ one_longer : (b : Bool) (n : ℕ) → cond b n (n + 1) ≡ n + cond (not b) 1 0
 one_longer true n = omega arith
 one_longer false n = refl
 
-pub pairs_added : (old new : BTreeSet Pair) (table : Table) (pair : Pair) (photo : Photo) (added : Bool) → KeepsPairs old table → IsOrdered table → Updates pair_cmp old new pair true → added ≡ not (contains pair_cmp old pair)
+pub pairs_added : (old new : BTreeSet Pair) (table : Table) (pair : Pair) (photo : Photo) (added : Bool) → KeepsPairs old table → IsOrdered table
+    → Updates pair_cmp old new pair true → added ≡ not (contains pair_cmp old pair)
     → btree_set_len new ≡ btree_set_len old + cond added 1 0 → KeepsPairs new (with_photo table pair photo)
 pairs_added old new table pair photo added keeps ordered updates is long = record {
   has = λ q.
@@ -63,7 +65,8 @@ pairs_added old new table pair photo added keeps ordered updates is long = recor
 one_fewer : (b : Bool) (n m table left : ℕ) → m + cond b 1 0 ≡ n → n ≡ table → cond b 1 0 + left ≡ table → m ≡ left
 one_fewer b n m table left is same rest = omega (arith, is, same, rest)
 
-pub pairs_removed : (old new : BTreeSet Pair) (table : Table) (pair : Pair) (removed : Bool) → KeepsPairs old table → IsOrdered table → Updates pair_cmp old new pair false → removed ≡ contains pair_cmp old pair
+pub pairs_removed : (old new : BTreeSet Pair) (table : Table) (pair : Pair) (removed : Bool) → KeepsPairs old table → IsOrdered table → Updates pair_cmp old new pair false
+    → removed ≡ contains pair_cmp old pair
     → btree_set_len new + cond removed 1 0 ≡ btree_set_len old → KeepsPairs new (without_pair table pair)
 pairs_removed old new table pair removed keeps ordered updates is long = record {
   has = λ q.
@@ -93,15 +96,19 @@ no_pairs pairs heads none cells are = record {
 }
 
 -- the table with one cell more
-table_more : (k : ℕ) (cells : List Cell) (cell : Cell) → slice_get cells k ≡ Some cell → table_of (needles_of (take (k + 1) cells)) ≡ with_outcome (table_of (needles_of (take k cells))) cell.pair (needle_outcome (needle_of_cell cell))
+table_more : (k : ℕ) (cells : List Cell) (cell : Cell) → slice_get cells k ≡ Some cell
+    → table_of (needles_of (take (k + 1) cells)) ≡ with_outcome (table_of (needles_of (take k cells))) cell.pair (needle_outcome (needle_of_cell cell))
 table_more k cells cell there =
-    ap (λ (l : List Cell). table_of (needles_of l)) (take_here k cells cell there) ∙ ap table_of (map-append needle_of_cell (take k cells) (cell ∷ [])) ∙ table_of-append (needles_of (take k cells)) (needle_of_cell cell)
+    ap (λ (l : List Cell). table_of (needles_of l)) (take_here k cells cell there) ∙ ap table_of (map-append needle_of_cell (take k cells) (cell ∷ []))
+    ∙ table_of-append (needles_of (take k cells)) (needle_of_cell cell)
 
 -- the cell of a number
-cell_of : (k : ℕ) (heads : List CellHead) (cells : List Cell) (d : CellHead) → heads ≡ map cell_head cells → k < length heads → (cell : Cell) × (slice_get cells k ≡ Some cell) × (get_or heads k d ≡ cell_head cell)
+cell_of : (k : ℕ) (heads : List CellHead) (cells : List Cell) (d : CellHead) → heads ≡ map cell_head cells → k < length heads
+    → (cell : Cell) × (slice_get cells k ≡ Some cell) × (get_or heads k d ≡ cell_head cell)
 cell_of k heads cells d are within = head_there k cells (get_or heads k d) (ap (λ (l : List CellHead). slice_get l k) (sym are) ∙ slice_get-get_or heads k d within)
 
-pub one_added : (old new : BTreeSet Pair) (heads : List CellHead) (k : ℕ) (d : CellHead) (pair : Pair) (added : Bool) → KeepsFirst old heads k → k < length heads → (get_or heads k d).deleted ≡ false → pair ≡ (get_or heads k d).pair
+pub one_added : (old new : BTreeSet Pair) (heads : List CellHead) (k : ℕ) (d : CellHead) (pair : Pair) (added : Bool) → KeepsFirst old heads k → k < length heads
+    → (get_or heads k d).deleted ≡ false → pair ≡ (get_or heads k d).pair
     → Updates pair_cmp old new pair true → added ≡ not (contains pair_cmp old pair) → btree_set_len new ≡ btree_set_len old + cond added 1 0 → KeepsFirst new heads (k + 1)
 one_added old new heads k d pair added keeps within alive pair_is updates is long cells are =
     let cell = cell_of k heads cells d are within in
@@ -113,7 +120,8 @@ one_added old new heads k d pair added keeps within alive pair_is updates is lon
     subst (λ (t : Table). KeepsPairs new t) (ap (λ (q : Pair). with_photo table q photo) same ∙ sym put ∙ sym (table_more k cells cell.0 cell.1))
     (pairs_added old new table pair photo added (keeps cells are) (ordered-table_of (needles_of (take k cells))) updates is long)
 
-pub one_removed : (old new : BTreeSet Pair) (heads : List CellHead) (k : ℕ) (d : CellHead) (pair : Pair) (removed : Bool) → KeepsFirst old heads k → k < length heads → (get_or heads k d).deleted ≡ true → pair ≡ (get_or heads k d).pair
+pub one_removed : (old new : BTreeSet Pair) (heads : List CellHead) (k : ℕ) (d : CellHead) (pair : Pair) (removed : Bool) → KeepsFirst old heads k → k < length heads
+    → (get_or heads k d).deleted ≡ true → pair ≡ (get_or heads k d).pair
     → Updates pair_cmp old new pair false → removed ≡ contains pair_cmp old pair → btree_set_len new + cond removed 1 0 ≡ btree_set_len old → KeepsFirst new heads (k + 1)
 one_removed old new heads k d pair removed keeps within dead pair_is updates is long cells are =
     let cell = cell_of k heads cells d are within in

@@ -30,7 +30,8 @@ use Rattle.hay_check.specs.Verdicts.{CheckOf, JournalCheckOf, OpensWhole, live_c
 use Rattle.hay_check.proofs.Openings.{opening_whole}
 
 -- what ended a check, where its damage is that of the disk
-pub answered : (P : Verdict → Type 0) (r : Refusal) (faults : ℕ) (result : Result Verdict CheckFault) → result ≡ answer r faults → ((file at : ℕ) → r ≡ refusal.Damaged file at → P (verdict.Damaged file at)) → IfOk result P
+pub answered : (P : Verdict → Type 0) (r : Refusal) (faults : ℕ) (result : Result Verdict CheckFault) → result ≡ answer r faults
+    → ((file at : ℕ) → r ≡ refusal.Damaged file at → P (verdict.Damaged file at)) → IfOk result P
 answered P refusal.Failed faults result is damaged = subst (λ (x : Result Verdict CheckFault). IfOk x P) (sym is) tt
 answered P (refusal.Damaged file at) faults result is damaged = subst (λ (x : Result Verdict CheckFault). IfOk x P) (sym is) (damaged file at refl)
 answered P refusal.NoMemory faults result is damaged = subst (λ (x : Result Verdict CheckFault). IfOk x P) (sym is) tt
@@ -45,11 +46,13 @@ pub journal_void : (sup : Super) (contents : ℕ → List ℕ) (size : ℕ) → 
 unfolding JournalCheckOf
 journal_void sup contents size is empty = inl (void_is (contents 0) (sym is ∙ empty), refl)
 
-pub journal_rows : (sup : Super) (f g : Files) (count : ℕ) → g ≡ f → (rows : List DirRow) × IsJournal (super_bytes sup) sup.settings.volumes (g 0).now rows × (count ≡ length rows) → JournalCheckOf sup (λ n. (f n).now) (verdict.Rows count)
+pub journal_rows : (sup : Super) (f g : Files) (count : ℕ) → g ≡ f → (rows : List DirRow) × IsJournal (super_bytes sup) sup.settings.volumes (g 0).now rows × (count ≡ length rows)
+    → JournalCheckOf sup (λ n. (f n).now) (verdict.Rows count)
 unfolding JournalCheckOf
 journal_rows sup f g count same (rows, is, many) = inr (inl (rows, subst (λ (fs : Files). IsJournal (super_bytes sup) sup.settings.volumes (fs 0).now rows) same is, ap (λ n. verdict.Rows n) many))
 
-pub journal_damage : (sup : Super) (f g : Files) (file at : ℕ) → g ≡ f → (IsVoid (λ n. (f n).now) → ⊥) → (file ≡ 0) × IsDamagedJournal sup (g 0).now at → JournalCheckOf sup (λ n. (f n).now) (verdict.Damaged file at)
+pub journal_damage : (sup : Super) (f g : Files) (file at : ℕ) → g ≡ f → (IsVoid (λ n. (f n).now) → ⊥) → (file ≡ 0) × IsDamagedJournal sup (g 0).now at
+    → JournalCheckOf sup (λ n. (f n).now) (verdict.Damaged file at)
 unfolding JournalCheckOf
 journal_damage sup f g file at same some damage =
     inr (inr (at, some, subst (λ (fs : Files). IsDamagedJournal sup (fs 0).now at) same damage.1, ap (λ n. verdict.Damaged n at) damage.0))
@@ -67,17 +70,21 @@ pub record Holds (sup : Super) (contents : ℕ → List ℕ) (generation end : �
   pub holds : HoldsCells sup contents generation cells end
 
 -- the cells that were read
-pub cells_held : (sup : Super) (contents : ℕ → List ℕ) (generation end : ℕ) (heads items : List CellHead) → heads ≡ items → (cells : List Cell) × HoldsCells sup contents generation cells end × (items ≡ map cell_head cells) → Holds sup contents generation end heads
+pub cells_held : (sup : Super) (contents : ℕ → List ℕ) (generation end : ℕ) (heads items : List CellHead) → heads ≡ items
+    → (cells : List Cell) × HoldsCells sup contents generation cells end × (items ≡ map cell_head cells) → Holds sup contents generation end heads
 cells_held sup contents generation end heads items same (cells, holds, are) = record { cells = cells; are = same ∙ are; holds = holds }
 
 -- and as many records as were compared
-pub whole_stored : (sup isup : Super) (f g : Files) (generation end number count : ℕ) (heads : List CellHead) → (held : Holds sup (λ n. (f n).now) generation end heads) → g ≡ f → (generation ≤ 65535 → number ≡ index_file generation)
-    → isup ≡ index_super sup generation → ListsFirst (super_bytes isup) (g number).now (map head_record heads) count → IsStored sup (λ n. (f n).now) (record { cells = held.cells; end = end; records = count; generation = generation })
+pub whole_stored : (sup isup : Super) (f g : Files) (generation end number count : ℕ) (heads : List CellHead) → (held : Holds sup (λ n. (f n).now) generation end heads) → g ≡ f
+    → (generation ≤ 65535 → number ≡ index_file generation)
+    → isup ≡ index_super sup generation → ListsFirst (super_bytes isup) (g number).now (map head_record heads) count
+    → IsStored sup (λ n. (f n).now) (record { cells = held.cells; end = end; records = count; generation = generation })
 whole_stored sup isup f g generation end number count heads held same numbered isup_is lists =
     let rows : map head_record heads ≡ map cell_record held.cells = ap (λ (l : List CellHead). map head_record l) held.are ∙ map_heads held.cells in
     let here : ListsFirst (super_bytes (index_super sup generation)) (f (index_file generation)).now (map cell_record held.cells) count =
     there (λ l. ListsFirst (super_bytes (index_super sup generation)) l (map cell_record held.cells) count) f g number (index_file generation) same (numbered held.holds.head.most)
-    (subst (λ (l : List Record). ListsFirst (super_bytes (index_super sup generation)) (g number).now l count) rows (subst (λ (s : Super). ListsFirst (super_bytes s) (g number).now (map head_record heads) count) isup_is lists)) in
+    (subst (λ (l : List Record). ListsFirst (super_bytes (index_super sup generation)) (g number).now l count) rows
+    (subst (λ (s : Super). ListsFirst (super_bytes s) (g number).now (map head_record heads) count) isup_is lists)) in
     record {
       head = held.holds.head;
       volume = record { begins = held.holds.begins; has = held.holds.has; closed = held.holds.closed };
@@ -86,7 +93,8 @@ whole_stored sup isup f g generation end number count heads held same numbered i
       index = record { has = here.has; row = row_first 64 count (map cell_record held.cells) (has_row 64 end _ held.cells held.holds.has); closed = here.closed };
     }
 
-pub whole_numbers : (generation cells live records end old : ℕ) (heads : List CellHead) (read : List Cell) → heads ≡ map cell_head read → cells ≡ length heads → live ≡ live_count read → old ≡ old_count read
+pub whole_numbers : (generation cells live records end old : ℕ) (heads : List CellHead) (read : List Cell) → heads ≡ map cell_head read → cells ≡ length heads
+    → live ≡ live_count read → old ≡ old_count read
     → verdict.Whole generation cells live records end old ≡ whole_of (record { cells = read; end = end; records = records; generation = generation })
 whole_numbers generation cells live records end old heads read are many photos older =
     let count : cells ≡ length read = many ∙ ap length are ∙ heads_length read in
@@ -97,7 +105,8 @@ pub front_first : (sup : Super) (contents : ℕ → List ℕ) (file at : ℕ) �
 unfolding IsFirstDamage
 front_first sup contents file at damage = inl damage
 
-pub rest_first : (sup isup : Super) (f g : Files) (generation end number file at : ℕ) (heads : List CellHead) → Holds sup (λ n. (f n).now) generation end heads → g ≡ f → (generation ≤ 65535 → number ≡ index_file generation)
+pub rest_first : (sup isup : Super) (f g : Files) (generation end number file at : ℕ) (heads : List CellHead) → Holds sup (λ n. (f n).now) generation end heads → g ≡ f
+    → (generation ≤ 65535 → number ≡ index_file generation)
     → isup ≡ index_super sup generation → (file ≡ number) × IsDamagedListing isup (g number).now (map head_record heads) at → IsFirstDamage sup (λ n. (f n).now) file at
 unfolding IsFirstDamage
 rest_first sup isup f g generation end number file at heads held same numbered isup_is damage =
@@ -110,7 +119,8 @@ rest_first sup isup f g generation end number file at heads held same numbered i
       held.holds,
       damage.0 ∙ is,
       there (λ l. IsDamagedListing (index_super sup generation) l (map cell_record held.cells) at) f g number (index_file generation) same is
-          (subst (λ (l : List Record). IsDamagedListing (index_super sup generation) (g number).now l at) rows (subst (λ (s : Super). IsDamagedListing s (g number).now (map head_record heads) at) isup_is damage.1)),
+          (subst (λ (l : List Record). IsDamagedListing (index_super sup generation) (g number).now l at) rows
+          (subst (λ (s : Super). IsDamagedListing s (g number).now (map head_record heads) at) isup_is damage.1)),
     )
 
 -- THE VERDICT
@@ -123,12 +133,14 @@ pub check_whole : (sup : Super) (f g : Files) (v : Verdict) → g ≡ f → (s :
 unfolding CheckOf
 check_whole sup f g v same (s, is, numbers) = inr (inl (s, subst (λ (fs : Files). IsStored sup (λ n. (fs n).now) s) same is, numbers))
 
-pub check_damage : (sup : Super) (f g : Files) (file at : ℕ) → g ≡ f → (IsVoid (λ n. (f n).now) → ⊥) → IsFirstDamage sup (λ n. (g n).now) file at → CheckOf sup (λ n. (f n).now) (verdict.Damaged file at)
+pub check_damage : (sup : Super) (f g : Files) (file at : ℕ) → g ≡ f → (IsVoid (λ n. (f n).now) → ⊥) → IsFirstDamage sup (λ n. (g n).now) file at
+    → CheckOf sup (λ n. (f n).now) (verdict.Damaged file at)
 unfolding CheckOf
 check_damage sup f g file at same some damage = inr (inr (file, at, some, subst (λ (fs : Files). IsFirstDamage sup (λ n. (fs n).now) file at) same damage, refl))
 
 -- a whole disk opens as what it has
-pub check_opens : (sup : Super) (contents : ℕ → List ℕ) (v : Verdict) (generation cells live records end old : ℕ) → SuperFits sup → ((n : ℕ) → length (contents n) < 2 ^ 64) → v ≡ verdict.Whole generation cells live records end old → CheckOf sup contents v
+pub check_opens : (sup : Super) (contents : ℕ → List ℕ) (v : Verdict) (generation cells live records end old : ℕ) → SuperFits sup → ((n : ℕ) → length (contents n) < 2 ^ 64)
+    → v ≡ verdict.Whole generation cells live records end old → CheckOf sup contents v
     → OpensWhole sup contents v
 unfolding CheckOf
 check_opens sup contents v generation cells live records end old fits short is (inl void) = let wrong = sym is ∙ void.1 in absurd cc

@@ -71,7 +71,8 @@ volume_once sup file at other fits (inl a) (inr b) = absurd (super_whole sup fil
 volume_once sup file at other fits (inr a) (inl b) = absurd (super_whole sup file other fits a.0 b)
 volume_once sup file at other fits (inr a) (inr b) = broken_once 64 at other file (a.1).cells (b.1).cells (a.1).lead (a.1).broken (b.1).lead (b.1).broken
 
-pub volume_whole : (sup : Super) (file : List ℕ) (cells : List Cell) (end at : ℕ) → SuperFits sup → take 64 file ≡ super_bytes sup → HasCells 64 file cells end → IsClosed needle_magic end file → IsDamagedVolume sup file at → ⊥
+pub volume_whole : (sup : Super) (file : List ℕ) (cells : List Cell) (end at : ℕ) → SuperFits sup → take 64 file ≡ super_bytes sup → HasCells 64 file cells end
+    → IsClosed needle_magic end file → IsDamagedVolume sup file at → ⊥
 volume_whole sup file cells end at fits begins has closed (inl fault) = super_whole sup file at fits begins fault
 volume_whole sup file cells end at fits begins has closed (inr damage) = cells_undamaged 64 end at file cells (damage.1).cells has closed (damage.1).lead (damage.1).broken
 

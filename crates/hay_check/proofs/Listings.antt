@@ -1,5 +1,6 @@
 -- An index file beside rows has one reading: it is damaged at one place, or not at all.
-use Rattle.std.proofs.Common.{◌≡◌, ◌≢◌, ◌⊎◌, inl, inr, ℕ, zero, suc, ◌+◌, ◌<◌, ◌^◌, List, [], ◌∷◌, ◌++◌, length, take, drop, refl, sym, ap, ◌∙◌, subst, arith, append_assoc, length-append, length-drop, take-append-drop, Some, Err}
+use Rattle.std.proofs.Common.{◌≡◌, ◌≢◌, ◌⊎◌, inl, inr, ℕ, zero, suc, ◌+◌, ◌<◌, ◌^◌, List, [], ◌∷◌, ◌++◌, length, take, drop, refl, sym, ap, ◌∙◌, subst, arith, append_assoc}
+use Rattle.std.proofs.Common.{length-append, length-drop, take-append-drop, Some, Err}
 use Rattle.std.specs.Prelude.{All}
 use Rattle.std.specs.List.{flat_map, slice_get}
 use Rattle.std.proofs.lemmas.Bool.{cases_lt}
@@ -84,7 +85,9 @@ first_begins at end file block blocks leads =
     let bytes = flat_map block_bytes (block ∷ blocks) in
     record {
       rest = flat_map block_bytes blocks ++ drop (length bytes) (drop at file);
-      parts = sym (take-append-drop (length bytes) (drop at file)) ∙ ap (λ (l : List ℕ). l ++ drop (length bytes) (drop at file)) leads.stand ∙ append_assoc (block_bytes block) (flat_map block_bytes blocks) (drop (length bytes) (drop at file));
+      parts =
+          sym (take-append-drop (length bytes) (drop at file)) ∙ ap (λ (l : List ℕ). l ++ drop (length bytes) (drop at file)) leads.stand
+          ∙ append_assoc (block_bytes block) (flat_map block_bytes blocks) (drop (length bytes) (drop at file));
       is = all_first IsBlock block blocks leads.whole;
     }
 
@@ -131,13 +134,15 @@ beside at p q file (b ∷ blocks) (d ∷ more) fits leads again =
     let short : length (drop at file) < 2 ^ 64 = omega (arith, length-drop at file) in
     let same : d ≡ b = one_block (drop at file) d b short (first_begins at q file d more again) (first_begins at p file b blocks leads) in
     let behind : LeadsFrom (at + length (block_bytes b)) file more q = subst (λ (x : List Record). LeadsFrom (at + length (block_bytes x)) file more q) same (others_lead at q file d more again) in
-    subst (λ (x : List Record). Beside file (b ∷ blocks) (x ∷ more) p q) (sym same) (beside_more file b blocks more p q (beside (at + length (block_bytes b)) p q file blocks more fits (others_lead at p file b blocks leads) behind))
+    subst (λ (x : List Record). Beside file (b ∷ blocks) (x ∷ more) p q) (sym same) (beside_more file b blocks more p q
+    (beside (at + length (block_bytes b)) p q file blocks more fits (others_lead at p file b blocks leads) behind))
 
 -- the same of the records
 abbrev HasMore : List ℕ → List Record → List Record → ℕ → Type 0
 HasMore file records others place = (block : List Record) × (tail : List Record) × (records ≡ others ++ (block ++ tail)) × BeginsWithBlock (drop place file) block
 
-more_records : (file : List ℕ) (records others : List Record) (blocks more : List (List Record)) (place : ℕ) → flat_map (λ (b : List Record). b) blocks ≡ records → flat_map (λ (b : List Record). b) more ≡ others → GoesOn file blocks more place
+more_records : (file : List ℕ) (records others : List Record) (blocks more : List (List Record)) (place : ℕ) → flat_map (λ (b : List Record). b) blocks ≡ records
+    → flat_map (λ (b : List Record). b) more ≡ others → GoesOn file blocks more place
     → HasMore file records others place
 more_records file records others blocks more place are also (block, rest, parts, begins) = (
   block,
@@ -150,7 +155,8 @@ more_records file records others blocks more place are also (block, rest, parts,
 record RecordsBeside (file : List ℕ) (records others : List Record) (p q : ℕ) : Type 0 where
   lie : ((p ≡ q) × (records ≡ others)) ⊎ HasMore file records others q ⊎ HasMore file others records p
 
-records_beside : (superblock file : List ℕ) (records others : List Record) (p q : ℕ) → length file < 2 ^ 64 → HasRecords superblock file records p → HasRecords superblock file others q → RecordsBeside file records others p q
+records_beside : (superblock file : List ℕ) (records others : List Record) (p q : ℕ) → length file < 2 ^ 64 → HasRecords superblock file records p
+    → HasRecords superblock file others q → RecordsBeside file records others p q
 records_beside superblock file records others p q fits has again =
     let lie = (beside 64 p q file has.blocks again.blocks fits (all_lead superblock file records p has) (all_lead superblock file others q again)).lie in
     elim lie [
@@ -218,7 +224,8 @@ closed_whole at place file rest closed (inr out) = closed.shut (ap (λ (l : List
 open_at : (at : ℕ) (file : List ℕ) (block : List Record) → BeginsWithBlock (drop at file) block → IsClosed index_magic at file → ⊥
 open_at at file block begins closed = closed.shut (ap (λ (l : List ℕ). take 8 l) begins.parts)
 
-listing_whole : (superblock file : List ℕ) (rows records : List Record) (behind : List Record) (end place : ℕ) → length file < 2 ^ 64 → rows ≡ records ++ behind → IsIndex superblock file records end → IsBrokenBehind superblock file rows place → ⊥
+listing_whole : (superblock file : List ℕ) (rows records : List Record) (behind : List Record) (end place : ℕ) → length file < 2 ^ 64 → rows ≡ records ++ behind
+    → IsIndex superblock file records end → IsBrokenBehind superblock file rows place → ⊥
 listing_whole superblock file rows records behind end place fits are is x =
     elim (records_beside superblock file records x.records end x.at fits is.has x.lead).lie [
       | inl same ↦ closed_whole x.at place file x.rest (subst (λ n. IsClosed index_magic n file) same.0 is.closed) x.broken
@@ -238,7 +245,8 @@ index_once sup file rows a b fits short (inl x) (inr y) = let none = is_only fil
 index_once sup file rows a b fits short (inr x) (inl y) = let none = is_only file sup (Err y.0) fits (sym y.1) x.0 in absurd cc
 index_once sup file rows a b fits short (inr x) (inr y) = listing_once (super_bytes sup) file rows a b short x.1 y.1
 
-pub index_whole : (sup : Super) (file : List ℕ) (rows records behind : List Record) (end place : ℕ) → SuperFits sup → length file < 2 ^ 64 → rows ≡ records ++ behind → IsIndex (super_bytes sup) file records end → IsDamagedListing sup file rows place → ⊥
+pub index_whole : (sup : Super) (file : List ℕ) (rows records behind : List Record) (end place : ℕ) → SuperFits sup → length file < 2 ^ 64 → rows ≡ records ++ behind
+    → IsIndex (super_bytes sup) file records end → IsDamagedListing sup file rows place → ⊥
 index_whole sup file rows records behind end place fits short are is (inl x) =
     let none = is_only file sup (Err x.0) fits (sym x.1) (front_is (super_bytes sup) file records end is) in
     absurd cc

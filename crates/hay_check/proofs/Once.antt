@@ -33,7 +33,8 @@ front_once sup contents f a g b fits (inr x) (inl y) = absurd (head_whole (head_
 front_once sup contents f a g b fits (inr x) (inr y) =
     let same : y.0 ≡ x.0 = same_generation sup contents y.0 x.0 y.1 x.1 in (
       x.2 ∙ ap volume_file (sym same) ∙ sym y.2,
-      volume_once (volume_super sup x.0) (contents (volume_file x.0)) a b (volume_fits sup x.0 (x.1).most fits) x.3 (subst (λ n. IsDamagedVolume (volume_super sup n) (contents (volume_file n)) b) same y.3),
+      volume_once (volume_super sup x.0) (contents (volume_file x.0)) a b (volume_fits sup x.0 (x.1).most fits) x.3
+          (subst (λ n. IsDamagedVolume (volume_super sup n) (contents (volume_file n)) b) same y.3),
     )
 
 -- where the cells are held, nothing in front of them is damaged
@@ -45,26 +46,31 @@ held_whole sup contents generation end f a cells fits holds (inr x) =
     (subst (λ n. IsDamagedVolume (volume_super sup n) (contents (volume_file n)) a) same x.3)
 
 -- cells are held once
-same_cells : (sup : Super) (contents : ℕ → List ℕ) (generation end other : ℕ) (cells more : List Cell) → HoldsCells sup contents generation cells end → HoldsCells sup contents generation more other → cells ≡ more
+same_cells : (sup : Super) (contents : ℕ → List ℕ) (generation end other : ℕ) (cells more : List Cell) → HoldsCells sup contents generation cells end
+    → HoldsCells sup contents generation more other → cells ≡ more
 same_cells sup contents generation end other cells more a b = (one_volume 64 end other (contents (volume_file generation)) cells more a.has a.closed b.has b.closed).0
 
 -- damage behind other cells is damage behind these
-there_too : (sup : Super) (contents : ℕ → List ℕ) (generation end other place : ℕ) (cells more : List Cell) (h : ℕ) → HoldsCells sup contents generation cells end → HoldsCells sup contents h more other
-    → IsDamagedListing (index_super sup h) (contents (index_file h)) (map cell_record more) place → IsDamagedListing (index_super sup generation) (contents (index_file generation)) (map cell_record cells) place
+there_too : (sup : Super) (contents : ℕ → List ℕ) (generation end other place : ℕ) (cells more : List Cell) (h : ℕ) → HoldsCells sup contents generation cells end
+    → HoldsCells sup contents h more other
+    → IsDamagedListing (index_super sup h) (contents (index_file h)) (map cell_record more) place
+    → IsDamagedListing (index_super sup generation) (contents (index_file generation)) (map cell_record cells) place
 there_too sup contents generation end other place cells more h holds also damage =
     let same : h ≡ generation = same_generation sup contents h generation also.head holds.head in
     let are : more ≡ cells = same_cells sup contents generation other end more cells (subst (λ n. HoldsCells sup contents n more other) same also) holds in
     subst (λ (l : List Cell). IsDamagedListing (index_super sup generation) (contents (index_file generation)) (map cell_record l) place) are
     (subst (λ n. IsDamagedListing (index_super sup n) (contents (index_file n)) (map cell_record more) place) same damage)
 
-rest_once : (sup : Super) (contents : ℕ → List ℕ) (f a g b : ℕ) → SuperFits sup → ((n : ℕ) → length (contents n) < 2 ^ 64) → IsDamagedRest sup contents f a → IsDamagedRest sup contents g b → (f ≡ g) × (a ≡ b)
+rest_once : (sup : Super) (contents : ℕ → List ℕ) (f a g b : ℕ) → SuperFits sup → ((n : ℕ) → length (contents n) < 2 ^ 64) → IsDamagedRest sup contents f a
+    → IsDamagedRest sup contents g b → (f ≡ g) × (a ≡ b)
 rest_once sup contents f a g b fits short (n, cells, end, holds, file, damage) (m, more, other, also, number, worse) = (
   file ∙ ap index_file (same_generation sup contents n m holds.head also.head) ∙ sym number,
   index_once (index_super sup n) (contents (index_file n)) (map cell_record cells) a b (index_fits sup n holds.head.most fits) (short (index_file n)) damage
       (there_too sup contents n end other b cells more m holds also worse),
 )
 
-first_once : (sup : Super) (contents : ℕ → List ℕ) (f a g b : ℕ) → SuperFits sup → ((n : ℕ) → length (contents n) < 2 ^ 64) → IsFirstDamage sup contents f a → IsFirstDamage sup contents g b → (f ≡ g) × (a ≡ b)
+first_once : (sup : Super) (contents : ℕ → List ℕ) (f a g b : ℕ) → SuperFits sup → ((n : ℕ) → length (contents n) < 2 ^ 64) → IsFirstDamage sup contents f a
+    → IsFirstDamage sup contents g b → (f ≡ g) × (a ≡ b)
 unfolding IsFirstDamage
 first_once sup contents f a g b fits short (inl x) (inl y) = front_once sup contents f a g b fits x y
 first_once sup contents f a g b fits short (inl x) (inr y) = absurd (held_whole sup contents y.0 y.2 f a y.1 fits y.3 x)
@@ -81,7 +87,8 @@ unfolding IsFirstDamage
 stored_whole sup contents s f a fits short is (inl x) = held_whole sup contents s.generation s.end f a s.cells fits (stored_holds sup contents s is) x
 stored_whole sup contents s f a fits short is (inr (m, more, other, also, number, damage)) =
     let rows : List Record = map cell_record s.cells in
-    index_whole (index_super sup s.generation) (contents (index_file s.generation)) rows (take s.records rows) (drop s.records rows) is.index_end a (index_fits sup s.generation is.head.most fits) (short (index_file s.generation))
+    index_whole (index_super sup s.generation) (contents (index_file s.generation)) rows (take s.records rows) (drop s.records rows) is.index_end a
+    (index_fits sup s.generation is.head.most fits) (short (index_file s.generation))
     (sym (take-append-drop s.records rows)) is.index (there_too sup contents s.generation s.end other a s.cells more m (stored_holds sup contents s is) also damage)
 
 -- ONE VERDICT

@@ -20,7 +20,8 @@ index_sound sup file records end at fits short is (inl (fault, first, place)) =
     absurd cc
 index_sound sup file records end at fits short is (inr (begins, broken)) = undamaged (super_bytes sup) file records end at short is broken
 
-front_whole : (sup : Super) (contents : ℕ → List ℕ) (s : Stored) (file at : ℕ) → SuperFits sup → ((n : ℕ) → length (contents n) < 2 ^ 64) → IsStored sup contents s → IsDamagedFront sup contents file at → ⊥
+front_whole : (sup : Super) (contents : ℕ → List ℕ) (s : Stored) (file at : ℕ) → SuperFits sup → ((n : ℕ) → length (contents n) < 2 ^ 64) → IsStored sup contents s
+    → IsDamagedFront sup contents file at → ⊥
 front_whole sup contents s file at fits short is (inl x) = head_whole (head_super sup) (contents 0) s.generation at (head_fits sup fits) is.head x.1
 front_whole sup contents s file at fits short is (inr (g, head, inl x)) =
     let same : g ≡ s.generation = one_generation (super_bytes (head_super sup)) (contents 0) g s.generation head is.head in
@@ -31,7 +32,8 @@ front_whole sup contents s file at fits short is (inr (g, head, inr x)) =
     index_sound (index_super sup s.generation) (contents (index_file s.generation)) _ is.index_end at (index_fits sup s.generation is.head.most fits) (short (index_file s.generation)) is.index
     (subst (λ n. IsDamagedIndex (index_super sup n) (contents (index_file n)) at) same x.2)
 
-rest_whole : (sup : Super) (contents : ℕ → List ℕ) (s : Stored) (g end file at : ℕ) (records : List Record) → ((n : ℕ) → length (contents n) < 2 ^ 64) → IsStored sup contents s → IsRecorded sup contents g records end → IsDamagedRest sup contents g records file at → ⊥
+rest_whole : (sup : Super) (contents : ℕ → List ℕ) (s : Stored) (g end file at : ℕ) (records : List Record) → ((n : ℕ) → length (contents n) < 2 ^ 64) → IsStored sup contents s
+    → IsRecorded sup contents g records end → IsDamagedRest sup contents g records file at → ⊥
 rest_whole sup contents s g end file at records short is recorded (inl (number, last, (r, there, inl lacks))) =
     let same = stored_same sup contents g end records s short recorded is in
     fits_lacks r (contents (volume_file g)) (stored_fits sup contents g number records r s is same there) lacks.2
@@ -42,10 +44,12 @@ rest_whole sup contents s g end file at records short is recorded (inr scan) =
     let behind = stored_behind sup contents g records s is (stored_same sup contents g end records s short recorded is) in
     scan_whole (scan_start records) s.end at (contents (volume_file g)) records _ (short (volume_file g)) refl behind.0 behind.1 scan.2
 
-reading_whole : (sup : Super) (contents : ℕ → List ℕ) (s : Stored) (file at : ℕ) → SuperFits sup → ((n : ℕ) → length (contents n) < 2 ^ 64) → IsStored sup contents s → IsReadingDamage sup contents file at → ⊥
+reading_whole : (sup : Super) (contents : ℕ → List ℕ) (s : Stored) (file at : ℕ) → SuperFits sup → ((n : ℕ) → length (contents n) < 2 ^ 64) → IsStored sup contents s
+    → IsReadingDamage sup contents file at → ⊥
 reading_whole sup contents s file at fits short is (inl front) = front_whole sup contents s file at fits short is front
 reading_whole sup contents s file at fits short is (inr (g, records, end, recorded, rest)) = rest_whole sup contents s g end file at records short is recorded rest
 
-pub opening_whole : (sup : Super) (contents : ℕ → List ℕ) (s : Stored) (file at : ℕ) → SuperFits sup → ((n : ℕ) → length (contents n) < 2 ^ 64) → IsStored sup contents s → IsOpeningDamage sup contents file at → ⊥
+pub opening_whole : (sup : Super) (contents : ℕ → List ℕ) (s : Stored) (file at : ℕ) → SuperFits sup → ((n : ℕ) → length (contents n) < 2 ^ 64) → IsStored sup contents s
+    → IsOpeningDamage sup contents file at → ⊥
 unfolding IsOpeningDamage
 opening_whole sup contents s file at fits short is damage = reading_whole sup contents s file at fits short is damage.1

@@ -21,7 +21,8 @@ pub cell_damage : (sup : Super) (f g : Files) (file number at : ℕ) → g ≡ f
 cell_damage sup f g file number at same begins damage = (damage.0, inr (begins, subst (λ (fs : Files). IsDamagedCell 64 (fs file).now at) same damage.1))
 
 -- damage of the volume file that the head names
-pub volume_damage : (sup vsup : Super) (f g : Files) (generation file number at : ℕ) → IsHead (super_bytes (head_super sup)) (f 0).now generation → g ≡ f → (generation ≤ 65535 → number ≡ volume_file generation)
+pub volume_damage : (sup vsup : Super) (f g : Files) (generation file number at : ℕ) → IsHead (super_bytes (head_super sup)) (f 0).now generation → g ≡ f
+    → (generation ≤ 65535 → number ≡ volume_file generation)
     → vsup ≡ volume_super sup generation → (file ≡ number) × IsDamagedVolume vsup (g number).now at → IsDamagedFront sup (λ n. (f n).now) file at
 volume_damage sup vsup f g generation file number at head same numbered vsup_is damage =
     let is = numbered head.most in

@@ -17,7 +17,8 @@ pub own : IsNumeralModel (λ ds. list_all is_ascii_digit ds ≡ true) (digits_va
 own = numerals_by_value _ (search rules)
 
 -- what `parse` answers on digits
-pub parsed : {E : Type 0} (k : ℕ) (text : List ℕ) (r : Result ℕ E) → list_all is_ascii_digit text ≡ true → ParsesUnsigned k 10 text r → OkIff r ((0 < length text) × (digits_value 10 text < 2 ^ k)) (digits_value 10 text)
+pub parsed : {E : Type 0} (k : ℕ) (text : List ℕ) (r : Result ℕ E) → list_all is_ascii_digit text ≡ true → ParsesUnsigned k 10 text r
+    → OkIff r ((0 < length text) × (digits_value 10 text < 2 ^ k)) (digits_value 10 text)
 parsed k text r all h = parse_digits own k text r h all
 
 pub is_text : (text : List ℕ) → list_all is_ascii_digit text ≡ true → IsUtf8 text

@@ -8,7 +8,8 @@ use Rattle.clap.specs.Lexer.{long_of}
 use Rattle.clap.specs.Walk.{Rule}
 use Rattle.clap.specs.Simple.{new_shape, with_rule}
 use Rattle.std.proofs.lemmas.List.{take_all}
-use Rattle.std.proofs.Common.{◌<◌, ◌+◌, ◌-◌, ◌++◌, zero, suc, length, take, arith, ◌≡◌, ◌∙◌, ◌&&◌, ◌||◌, not, is_some, map, ℕ, true, false, refl, sym, ap, inl, inr, List, [], ◌∷◌, Bool, drop, Option, Some, None}
+use Rattle.std.proofs.Common.{◌<◌, ◌+◌, ◌-◌, ◌++◌, zero, suc, length, take, arith, ◌≡◌, ◌∙◌, ◌&&◌, ◌||◌, not, is_some, map, ℕ, true, false, refl, sym, ap, inl, inr, List, [], ◌∷◌}
+use Rattle.std.proofs.Common.{Bool, drop, Option, Some, None}
 use Rattle.std.specs.Prelude.{String, string_bytes, cond, count_by, fold}
 use Rattle.std.specs.List.{list_all, list_any}
 use Rattle.std.proofs.lemmas.Str.{IsUtf8-string_bytes}
@@ -164,7 +165,8 @@ parses mode names words texts = go (options_of names (drop 1 words)) ((reads mod
       λ id. ap (λ (rs : List Row). first_of id rs) (rows_are had h.1) ∙ value_rows had id,
     )
       where
-        rows_are : (had : List Given) → (settled (map rule names) (walk (map rule names) [] nothing_held (drop 1 words)).held).rows ≡ map row_for had → matches_of (options_app mode names) words ≡ map row_for had
+        rows_are : (had : List Given) → (settled (map rule names) (walk (map rule names) [] nothing_held (drop 1 words)).held).rows ≡ map row_for had
+            → matches_of (options_app mode names) words ≡ map row_for had
         rows_are had e = ap (λ (a : App). finished a.top.rules (walk a.top.rules [] nothing_held (drop 1 words)).held) (built_is mode names)
             ∙ kept (settled (map rule names) (walk (map rule names) [] nothing_held (drop 1 words)).held).rows names ∙ e
 

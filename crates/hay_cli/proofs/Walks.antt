@@ -6,7 +6,8 @@ use Rattle.std.proofs.lemmas.Str.{encodes-chars, encode_ascii, IsUtf8-past_char}
 use Rattle.std.proofs.lemmas.Slice.Eq.{bytes_eq-Decides}
 use Rattle.std.proofs.lemmas.Bool.Decides.{Decides-eqb}
 use Rattle.clap.specs.Lexer.{long_of, name_and_value, short_of}
-use Rattle.clap.specs.Walk.{Held, Row, Rule, Waiting, Walk, idle, option, positional, walked, arg_by_id, arg_by_long, arg_by_short, arg_by_index, has_row, without, with_values, used, settled, settled_rows, first_of}
+use Rattle.clap.specs.Walk.{Held, Row, Rule, Waiting, Walk, idle, option, positional, walked, arg_by_id, arg_by_long, arg_by_short, arg_by_index, has_row, without, with_values}
+use Rattle.clap.specs.Walk.{used, settled, settled_rows, first_of}
 use Rattle.clap.specs.Kinds.{Kinds, or_else}
 use Rattle.clap.specs.Faults.{walk_fault, flags_fault, settle_fault, use_fault, turn_fault}
 use Rattle.clap.specs.Simple.{App, Shape, new_shape, filled, filled_from, built}
@@ -382,7 +383,8 @@ module _ (mode : Text) (names : List Text) where
       comes_on _ _ word rest _ turn.0 turn.1 (ih.0 (had ++ (n, v) ∷ []) _ None (stands (had ++ (n, v) ∷ []))))
       (λ has. value_again had rows p word n v rest st dashes long named has))
 
-  idle_word : (had : List Given) (rows : List Row) (p : Option (Text × List Text)) (word : Text) (rest : List Text) → IsUtf8 word × (bytes_eq word (45 ∷ 45 ∷ []) ≡ false) → Reads rest → Stands names had rows p
+  idle_word : (had : List Given) (rows : List Row) (p : Option (Text × List Text)) (word : Text) (rest : List Text) → IsUtf8 word × (bytes_eq word (45 ∷ 45 ∷ []) ≡ false)
+      → Reads rest → Stands names had rows p
       → Comes mode names (walk_at idle rows p) (word ∷ rest) (options_from names (word ∷ rest) had None)
   idle_word had rows p word rest utf8 ih st = elim (kind_of word utf8.0) [
     | dashed d f ↦ absurd (true≢false (sym d ∙ utf8.1))

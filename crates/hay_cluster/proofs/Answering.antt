@@ -35,7 +35,8 @@ pub stays : (k : Known) → Leaves k k k
 stays k = record { volumes = refl; directory = refl; drained = refl; fuses = refl; faults = none_falls k.faults; arms = none_falls k.arms }
 
 module _ {D P A : Type 0} (files : D → Files) (Tells : Type 0) (faults fuses : D → ℕ) (arm_faults : A → ℕ) where
-  pub answered : (store : Open D P A) (settings : Settings) (k known : Known) (tag : CoreTag) (asked : Command) (answer : Reply) → store.settings ≡ settings → LegalCommand settings k tag asked answer known
+  pub answered : (store : Open D P A) (settings : Settings) (k known : Known) (tag : CoreTag) (asked : Command) (answer : Reply) → store.settings ≡ settings
+      → LegalCommand settings k tag asked answer known
       → Stands files Tells faults fuses arm_faults store known → Answered files Tells faults fuses arm_faults k tag asked answer store
   answered store settings k known tag asked answer same legal stands = record {
     known = known;
@@ -98,7 +99,8 @@ module _ {D P A : Type 0} (files : D → Files) (Tells : Type 0) (faults fuses :
     subst (λ n. Rose n f) (ap (λ ns. slice_index ns 0) (sym before.fault_counts)) (subst (λ n. Rose (slice_index (map faults (disks_of old)) 0) n) (sym rose.1) rose.0),
   )
 
-  pub not_settled : (old new : Open D P A) (settings : Settings) (k : Known) (tag : CoreTag) (pair : Pair) (bytes : List ℕ) (v : ℕ) (fault : DirFault) (outcome : Result Unit DirFault) → outcome ≡ Err fault
+  pub not_settled : (old new : Open D P A) (settings : Settings) (k : Known) (tag : CoreTag) (pair : Pair) (bytes : List ℕ) (v : ℕ) (fault : DirFault)
+      (outcome : Result Unit DirFault) → outcome ≡ Err fault
       → old.settings ≡ settings → new.settings ≡ settings → Stands files Tells faults fuses arm_faults old k → home_of k pair ≡ None → taker_of settings k pair (length bytes) ≡ Some v
       → (IsErrOf outcome settling.NoMemory → Comes files Tells faults fuses arm_faults k k new)
       → ((f : ℕ) → outcome ≡ Err (settling.Failed f) → Comes files Tells faults fuses arm_faults k (row_pending k tag pair v) new)

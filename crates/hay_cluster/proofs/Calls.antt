@@ -30,7 +30,8 @@ module _ {D P A : Type 0} where
   called_up old store v after is up opened = up_kept store v after (subst (λ (st : Open D P A). IsUp st) (sym is) up) opened
 
   -- the machine of a replica is one on which the volume has one
-  pub machine_on : (old store : Open D P A) (v : ℕ) (volume : Volume D P) (m : ℕ) → store ≡ old → IsShaped store → At store.volumes v volume → IsMachineOf volume.settings volume.number m → IsOn old.settings v m
+  pub machine_on : (old store : Open D P A) (v : ℕ) (volume : Volume D P) (m : ℕ) → store ≡ old → IsShaped store → At store.volumes v volume
+      → IsMachineOf volume.settings volume.number m → IsOn old.settings v m
   machine_on old store v volume m is shape at of =
       let was = volume_of store v volume shape at in
       let machine : m ≡ machine_of store.settings v of.0 =
@@ -59,12 +60,14 @@ module _ {D P A : Type 0} (faults fuses : D → ℕ) where
   delete_cause old store v before after NoMemory is shape called h = (tt, tt, tt)
   delete_cause old store v before after _ is shape called h = absurd h
 
-  module _ (old store : Open D P A) (v replica : ℕ) (before after : Volume D P) (is : store ≡ old) (shape : IsShaped store) (called : Called faults fuses store v before after) (within : replica < (old.settings).replicas) where
+  module _ (old store : Open D P A) (v replica : ℕ) (before after : Volume D P) (is : store ≡ old) (shape : IsShaped store) (called : Called faults fuses store v before after)
+      (within : replica < (old.settings).replicas) where
     -- the machine of the replica, by the store's settings
     here : (m : ℕ) → m ≡ machine_of before.settings before.number replica → m ≡ machine_of old.settings v replica
     here m machine =
         let was = volume_of store v before shape called.at in
-        machine ∙ ap (λ (s : Settings). machine_of s before.number replica) was.settings_are ∙ ap (λ n. machine_of store.settings n replica) was.number ∙ ap (λ (st : Open D P A). machine_of st.settings v replica) is
+        machine ∙ ap (λ (s : Settings). machine_of s before.number replica) was.settings_are ∙ ap (λ n. machine_of store.settings n replica) was.number
+        ∙ ap (λ (st : Open D P A). machine_of st.settings v replica) is
 
     -- the volume has one there
     there : (m : ℕ) → m ≡ machine_of before.settings before.number replica → IsOn old.settings v m

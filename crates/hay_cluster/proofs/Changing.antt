@@ -39,7 +39,8 @@ use Rattle.hay_cluster.proofs.Refusals.{open-thawed}
 pub replica_machine : (settings : Settings) (v m j : ℕ) → replica_on settings v m ≡ Some j → machine_of settings v j ≡ m
 replica_machine settings v m j is =
     elim (cases_Bool (nat_lt v settings.volumes)) [
-      | inl volume ↦ go (range_with_len 0 settings.replicas) (sym (cond-true (nat_lt v settings.volumes) (find (λ i. machine_of settings v i == m) (range_with_len 0 settings.replicas)) None volume) ∙ is)
+      | inl volume ↦ go (range_with_len 0 settings.replicas) (sym (cond-true (nat_lt v settings.volumes)
+          (find (λ i. machine_of settings v i == m) (range_with_len 0 settings.replicas)) None volume) ∙ is)
       | inr beyond ↦ let e : None ≡ Some j = sym (cond-false (nat_lt v settings.volumes) (find (λ i. machine_of settings v i == m) (range_with_len 0 settings.replicas)) None beyond) ∙ is in absurd cc
     ]
   where
@@ -80,15 +81,19 @@ module _ {D P A : Type 0} (files : D → Files) (Tells : Type 0) (faults fuses :
       let long' : length after.replicas ≡ (before.settings).replicas = is.all ∙ ap (λ (t : Settings). t.replicas) (is.settings_are ∙ same ∙ sym was.settings_are) in
       let old_one = has_item before.replicas j (omega (arith, long, within)) in
       let new_one = has_item after.replicas j (omega (arith, long', within)) in
-      let counted : slice_index k.faults (slot_of old.settings v j) ≡ faults (old_one.0).disk = ap (λ ns. slice_index ns (slot_of old.settings v j)) s.fault_counts ∙ count_at faults old v j before old_one.0 s.shape at old_one.1 in
+      let counted : slice_index k.faults (slot_of old.settings v j) ≡ faults (old_one.0).disk =
+      ap (λ ns. slice_index ns (slot_of old.settings v j)) s.fault_counts ∙ count_at faults old v j before old_one.0 s.shape at old_one.1 in
       let counted' : slice_index t.faults (slot_of old.settings v j) ≡ faults (new_one.0).disk =
-      ap (λ ns. slice_index ns (slot_of old.settings v j)) s'.fault_counts ∙ ap (λ (q : Settings). slice_index (map faults (disks_of new)) (slot_of q v j)) (sym same) ∙ count_at faults new v j after new_one.0 s'.shape now new_one.1 in
+      ap (λ ns. slice_index ns (slot_of old.settings v j)) s'.fault_counts ∙ ap (λ (q : Settings). slice_index (map faults (disks_of new)) (slot_of q v j)) (sym same)
+      ∙ count_at faults new v j after new_one.0 s'.shape now new_one.1 in
       ap (λ n. has_risen n (slice_index t.faults (slot_of old.settings v j))) counted ∙ ap (λ n. has_risen (faults (old_one.0).disk) n) counted'
       ∙ risen (faults (old_one.0).disk) (faults (new_one.0).disk) (rose old_one.0 new_one.0 old_one.1 new_one.1)
 
-  pub deleted : (old new : Open D P A) (k : Known) (tag : CoreTag) (pair : Pair) (v p d : ℕ) (before after : Volume D P) → new.settings ≡ old.settings → Stands files Tells faults fuses arm_faults old k
+  pub deleted : (old new : Open D P A) (k : Known) (tag : CoreTag) (pair : Pair) (v p d : ℕ) (before after : Volume D P) → new.settings ≡ old.settings
+      → Stands files Tells faults fuses arm_faults old k
       → home_of k pair ≡ Some v → closed old.settings k v ≡ None → At old.volumes v before → At new.volumes v after
-      → (done : IsDeleted files faults Tells (volume_at k v) tag pair p before after) → (came : Comes files Tells faults fuses arm_faults k (with_volume k v (with_del done.ended tag pair (volume_at k v))) new)
+      → (done : IsDeleted files faults Tells (volume_at k v) tag pair p before after) → (came : Comes files Tells faults fuses arm_faults k
+      (with_volume k v (with_del done.ended tag pair (volume_at k v))) new)
       → d ≡ length (came.known).directory.rows → Answered files Tells faults fuses arm_faults k tag (command.Del pair) (reply.Deleted v p d) new
   deleted old new k tag pair v p d before after same stands home opened at now done came rows =
       answered files Tells faults fuses arm_faults new old.settings k came.known tag (command.Del pair) (reply.Deleted v p d) same
@@ -97,7 +102,9 @@ module _ {D P A : Type 0} (files : D → Files) (Tells : Type 0) (faults fuses :
         stood = done.stood;
         position = done.position;
         ended = done.ended;
-        cause = λ j is. ended_rose old new k came.known v before after j stands came.stands same at now (subst (λ n. j < n) done.count (slice_get_within done.ended j true is)) (λ r r' was now'. done.cause j r r' is was now');
+        cause =
+            λ j is. ended_rose old new k came.known v before after j stands came.stands same at now (subst (λ n. j < n) done.count (slice_get_within done.ended j true is))
+            (λ r r' was now'. done.cause j r r' is was now');
         leaves = came.leaves;
       }) came.stands
 

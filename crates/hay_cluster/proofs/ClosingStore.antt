@@ -55,7 +55,8 @@ pub order_self : {X : Type 0} (xs : List X) → InOrder (λ k x. slice_get xs k 
 order_self xs = order_from xs 0 xs (λ i x at. let e : i ≡ 0 + i = omega arith in subst (λ k. slice_get xs k ≡ Some x) e at)
 
 -- the item in a list of lists that are equally long
-pub order_flat : {X D : Type 0} (P : ℕ → D → Type 0) (g : X → List D) (r n : ℕ) (xs : List X) (i j m : ℕ) (x : X) (d : D) → AllByRecursion (λ y. length (g y) ≡ r) xs → m ≡ n + (i * r + j) → slice_get xs i ≡ Some x → slice_get (g x) j ≡ Some d
+pub order_flat : {X D : Type 0} (P : ℕ → D → Type 0) (g : X → List D) (r n : ℕ) (xs : List X) (i j m : ℕ) (x : X) (d : D) → AllByRecursion (λ y. length (g y) ≡ r) xs
+    → m ≡ n + (i * r + j) → slice_get xs i ≡ Some x → slice_get (g x) j ≡ Some d
     → InOrder P n (flat_map g xs) → P m d
 order_flat P g r n [] i j m x d long is at there all = absurd cc
 order_flat {X} P g r n (y ∷ xs) zero j m x d long is at there all =
@@ -68,7 +69,8 @@ order_flat P g r n (y ∷ xs) (suc i) j m x d long is at there all =
 
 -- THE DISKS OF A STORE
 
-pub volumes_long : {D P : Type 0} (settings : Settings) (n : ℕ) (vs : List (Volume D P)) → InOrder (IsVolumeOf settings) n vs → AllByRecursion (λ volume. length (volume_disks volume) ≡ settings.replicas) vs
+pub volumes_long : {D P : Type 0} (settings : Settings) (n : ℕ) (vs : List (Volume D P)) → InOrder (IsVolumeOf settings) n vs
+    → AllByRecursion (λ volume. length (volume_disks volume) ≡ settings.replicas) vs
 volumes_long settings n [] all = tt
 volumes_long settings n (volume ∷ vs) all =
     (disks-long volume.replicas ∙ (all.0).all ∙ ap (λ (s : Settings). s.replicas) (all.0).settings_are, volumes_long settings (n + 1) vs all.1)
@@ -80,7 +82,8 @@ disks_many store shape =
     omega (arith, flat, product)
 
 -- what reads of a disk in its slot give
-pub contents_at : {D P A : Type 0} (files : D → Files) (store : Open D P A) (slot : ℕ) (disk : D) → slice_get (disks_of store) slot ≡ Some disk → ◌≡◌ {A = Contents} (contents_in files store slot) (λ n. (files disk n).now)
+pub contents_at : {D P A : Type 0} (files : D → Files) (store : Open D P A) (slot : ℕ) (disk : D) → slice_get (disks_of store) slot ≡ Some disk
+    → ◌≡◌ {A = Contents} (contents_in files store slot) (λ n. (files disk n).now)
 contents_at {D} files store slot disk at = let reads : Option D → Contents = λ o n. option_map_or (λ d. (files d n).now) o [] in ap reads at
 
 module _ {D P A : Type 0} (Tells : Type 0) (files : D → Files) (drawn : D → ℕ → ℕ) (faults fuses : D → ℕ) (arm_faults : A → ℕ) (sure : A → Bool) (disks : ℕ → HeldDisk) (arms : ℕ → HeldArm) where
@@ -96,13 +99,15 @@ module _ {D P A : Type 0} (Tells : Type 0) (files : D → Files) (drawn : D → 
       → IsGivenDisk Tells files drawn faults fuses (mid 0) (inside.directory).disk → disks ≡ mid → InOrder (λ lane arm. IsGivenArm arm_faults sure (arms lane) arm) 0 inside.arms → GivesBack store
   gives_back low mid inside store is shape behind others first same given_arms =
       let behind' : InOrder (λ slot disk. IsGivenDisk Tells files drawn faults fuses (mid slot) disk) 1 (flat_map volume_disks inside.volumes) =
-      InOrder-map (λ slot disk. IsGivenDisk Tells files drawn faults fuses (low slot) disk) (λ slot disk. IsGivenDisk Tells files drawn faults fuses (mid slot) disk) 1 (flat_map volume_disks inside.volumes)
+      InOrder-map (λ slot disk. IsGivenDisk Tells files drawn faults fuses (low slot) disk) (λ slot disk. IsGivenDisk Tells files drawn faults fuses (mid slot) disk) 1
+      (flat_map volume_disks inside.volumes)
       (λ n disk from to given. subst (λ (held : HeldDisk). IsGivenDisk Tells files drawn faults fuses held disk) (sym (others n (λ zeroth. absurd (omega (arith, from, zeroth))))) given) behind in
       let all : InOrder (λ slot disk. IsGivenDisk Tells files drawn faults fuses (disks slot) disk) 0 (disks_of inside) =
       subst (λ (held : ℕ → HeldDisk). InOrder (λ slot disk. IsGivenDisk Tells files drawn faults fuses (held slot) disk) 0 (disks_of inside)) (sym same) (first, behind') in
       subst (λ (st : Open D P A). GivesBack st) is (record { shape = shape; disks_are = all; arms_are = given_arms })
 
-  in_slot : (store : Open D P A) → GivesBack store → (slot : ℕ) → slot < disk_count store.settings → (disk : D) × (slice_get (disks_of store) slot ≡ Some disk) × IsGivenDisk Tells files drawn faults fuses (disks slot) disk
+  in_slot : (store : Open D P A) → GivesBack store → (slot : ℕ) → slot < disk_count store.settings
+      → (disk : D) × (slice_get (disks_of store) slot ≡ Some disk) × IsGivenDisk Tells files drawn faults fuses (disks slot) disk
   in_slot store g slot below =
       let many = disks_many store g.shape in
       let there = order_item (disks_of store) slot (let less : slot < length (disks_of store) = omega (arith, below, many) in less) in
@@ -157,11 +162,14 @@ module _ {D P A : Type 0} (Tells : Type 0) (files : D → Files) (drawn : D → 
       let is = volume_of store v x g.shape there.1 in
       let each = volumes_long settings 0 store.volumes (g.shape).volumes in
       let found = AllZip-at (VolumeHolds files) store.volumes k.volumes v x empty_volume there.1 holds (λ j. image (slot_of settings v j)) (λ j r at n.
-      let replica : j < settings.replicas = (let long : length x.replicas ≡ settings.replicas = is.all ∙ ap (λ (s : Settings). s.replicas) is.settings_are in let low = slice_get_within x.replicas j r at in omega (arith, long, low)) in
+      let replica : j < settings.replicas =
+      (let long : length x.replicas ≡ settings.replicas = is.all ∙ ap (λ (s : Settings). s.replicas) is.settings_are in let low = slice_get_within x.replicas j r at in omega (arith, long, low)) in
       let up : v + 1 ≤ settings.volumes = omega (arith, below) in
       let slot : slot_of settings v j < disk_count settings = (let product = mul-le-mul_left settings.replicas up in omega (arith, product, replica)) in
       let place : slot_of settings v j ≡ 1 + (v * settings.replicas + j) = omega arith in
-      let given = order_flat (λ n disk. IsGivenDisk Tells files drawn faults fuses (disks n) disk) volume_disks settings.replicas 1 store.volumes v j (slot_of settings v j) x r.disk each place there.1 (disk_at x.replicas j r at) (g.disks_are).1 in
+      let given =
+      order_flat (λ n disk. IsGivenDisk Tells files drawn faults fuses (disks n) disk) volume_disks settings.replicas 1 store.volumes v j (slot_of settings v j) x r.disk each
+      place there.1 (disk_at x.replicas j r at) (g.disks_are).1 in
       subst (λ (f : Files). IsImage (f n) (image (slot_of settings v j) n)) (given.files_are tells) (may (slot_of settings v j) slot n)) in
       subst (λ n. VolumeOutcome (IsReplica settings) settings n (volume_at k v) (λ j. image (slot_of settings v j))) is.number
       (subst (λ (s : Settings). VolumeOutcome (IsReplica s) s x.number (volume_at k v) (λ j. image (slot_of settings v j))) is.settings_are found)

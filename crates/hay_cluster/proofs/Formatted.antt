@@ -97,7 +97,8 @@ module _ {D : Type 0} (files : D → Files) (now : (disk : D) (n : ℕ) → IsIm
       → (slot : ℕ) → slot < disk_count store.settings → IsVoid (contents_in files store slot) → ⊥
   unfolding Stands
   stands_formatted {P} {A} Tells faults fuses arm_faults store k stands slot below void =
-      let all : AllByRecursion IsFormatted (disks_of store) = (directory_formatted store.directory k.directory k.drained stands.directory, volumes_formatted Tells store.volumes k.volumes stands.volumes) in
+      let all : AllByRecursion IsFormatted (disks_of store) =
+      (directory_formatted store.directory k.directory k.drained stands.directory, volumes_formatted Tells store.volumes k.volumes stands.volumes) in
       let many = disks_many store stands.shape in
       slot_formatted store all slot (omega (arith, below, many)) void
 
@@ -155,7 +156,8 @@ module _ {D : Type 0} (files : D → Files) (now : (disk : D) (n : ℕ) → IsIm
         | inr (kept, again) ↦ directory_formatted new _ _ again
       ]
 
-  pub refused_formatted : {P A : Type 0} (DiskTells Tells : Type 0) (faults fuses : D → ℕ) (arm_faults : A → ℕ) → DiskTells → (old mid new : Open D P A) (k : Known) → Stands files Tells faults fuses arm_faults old k
+  pub refused_formatted : {P A : Type 0} (DiskTells Tells : Type 0) (faults fuses : D → ℕ) (arm_faults : A → ℕ) → DiskTells → (old mid new : Open D P A) (k : Known)
+      → Stands files Tells faults fuses arm_faults old k
       → StoppedParts DiskTells files Tells faults fuses arm_faults old mid → MovedParts DiskTells files Tells faults fuses arm_faults mid new → IsShaped new
       → (slot : ℕ) → slot < disk_count new.settings → IsVoid (contents_in files new slot) → ⊥
   unfolding Stands

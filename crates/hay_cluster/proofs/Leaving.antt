@@ -28,7 +28,8 @@ use Rattle.hay_directory.specs.declared.fault.DirFault.TheVariants as settling
 use Rattle.hay_cluster.specs.Changes.{IsDeleteReply}
 use Rattle.hay_cluster.specs.declared.maintenance.Maintenance.{Maintenance}
 use Rattle.hay_cluster.specs.declared.maintenance.Maintenance.TheVariants.{Flush, Begin, Step, Finish, Compact}
-use Rattle.hay_cluster.specs.Leaving.{AddsRow, AnySlot, ComesToPend, DeleteKeeps, IsApart, IsApartOn, IsBeside, IsReplicaBeside, IsReplicaSlot, KeepsBehind, KeepsIn, LeavesByDelete, LeavesByPut, LeavesByWork, LeavesIn, LeavesReplicas, MayAddRow, MayPut, MayWork, PutKeeps, WorkKeeps}
+use Rattle.hay_cluster.specs.Leaving.{AddsRow, AnySlot, ComesToPend, DeleteKeeps, IsApart, IsApartOn, IsBeside, IsReplicaBeside, IsReplicaSlot, KeepsBehind, KeepsIn}
+use Rattle.hay_cluster.specs.Leaving.{LeavesByDelete, LeavesByPut, LeavesByWork, LeavesIn, LeavesReplicas, MayAddRow, MayPut, MayWork, PutKeeps, WorkKeeps}
 use Rattle.hay_cluster.specs.Maintenance.{IsRefusedAs, done_as}
 use Rattle.hay_cluster.specs.Seen.{store_seen}
 use Rattle.hay_logical.specs.Seen.{DeleteRefusedSeen, FreezesSeen, PutRefusedSeen, VolumeSeen, volume_seen}
@@ -162,7 +163,8 @@ module _ {D P A : Type 0} where
 -- WHAT READS GIVE
 
 module _ {D P A : Type 0} (files : D → Files) where
-  pub leaves_contents : (settings : Settings) (Among : ℕ → Type 0) (old new : Open D P A) → LeavesIn Among (disks_of old) (disks_of new) → KeepsIn settings Among (contents_in files old) (contents_in files new)
+  pub leaves_contents : (settings : Settings) (Among : ℕ → Type 0) (old new : Open D P A) → LeavesIn Among (disks_of old) (disks_of new)
+      → KeepsIn settings Among (contents_in files old) (contents_in files new)
   leaves_contents settings Among old new leaves slot file within among =
       ap (λ (o : Option D). option_map_or (λ disk. (files disk file).now) o []) (leaves slot among)
 
@@ -170,7 +172,8 @@ module _ {D P A : Type 0} (files : D → Files) where
   same_contents settings old new same = leaves_contents settings AnySlot old new (leaves-same AnySlot (disks_of old) (disks_of new) same)
 
   -- the Directory's disk has what it had
-  directory_keeps : (store : Open D P A) (after : directory.State D) → files after.disk ≡ files (store.directory).disk → (slot file : ℕ) → contents_in files (with_directory store after) slot file ≡ contents_in files store slot file
+  directory_keeps : (store : Open D P A) (after : directory.State D) → files after.disk ≡ files (store.directory).disk → (slot file : ℕ)
+      → contents_in files (with_directory store after) slot file ≡ contents_in files store slot file
   directory_keeps store after same zero file = ap (λ (f : Files). (f file).now) same
   directory_keeps store after same (suc i) file = refl
 
@@ -210,7 +213,8 @@ module _ {D P A : Type 0} (files : D → Files) where
 
 module _ {D P A : Type 0} (DiskTells : Type 0) (files : D → Files) (faults fuses : D → ℕ) where
   behind_in : DiskTells → (store : Open D P A) (v : ℕ) (before after : Volume D P) → IsShaped store → Called faults fuses store v before after → (m : ℕ)
-      → KeepsAbove DiskTells files before.settings before.number m before.replicas after.replicas → KeepsBehind store.settings v m (contents_in files store) (contents_in files (with_one store v after))
+      → KeepsAbove DiskTells files before.settings before.number m before.replicas after.replicas
+      → KeepsBehind store.settings v m (contents_in files store) (contents_in files (with_one store v after))
   behind_in tells store v before after shape called m above = λ i j file there behind within.
       let next = with_one store v after in
       let shape' = called_shape faults fuses store v before after shape called in

@@ -16,7 +16,9 @@ use Rattle.hay_logical.specs.declared.fault.LogicalFault.TheVariants as refusal
 use Rattle.hay_logical.specs.declared.unsure.Change.TheVariants.{Delete, Put}
 use Rattle.hay_logical.specs.declared.unsure.Unsure.{Unsure}
 use Rattle.hay_logical.specs.Fits.{At}
-use Rattle.hay_logical.specs.Seen.{AreLonger, BeginRefusedSeen, BeginsTo, BreaksPutSeen, ChangesAt, CompactRefusedSeen, CompactsTo, DeleteSeen, DeletesSeen, EndsAlone, FinishRefusedSeen, FinishesTo, FlushRefusedSeen, FlushesTo, FreezesSeen, ReplicaSeen, StepRefusedSeen, StepsPartly, StepsTo, Sticks, SwapSeen, VolumeSeen, grown}
+use Rattle.hay_logical.specs.Seen.{AreLonger, BeginRefusedSeen, BeginsTo, BreaksPutSeen, ChangesAt, CompactRefusedSeen, CompactsTo, DeleteSeen, DeletesSeen, EndsAlone}
+use Rattle.hay_logical.specs.Seen.{FinishRefusedSeen, FinishesTo, FlushRefusedSeen, FlushesTo, FreezesSeen, ReplicaSeen, StepRefusedSeen, StepsPartly, StepsTo, Sticks, SwapSeen}
+use Rattle.hay_logical.specs.Seen.{VolumeSeen, grown}
 use Rattle.hay_logical.specs.Sights.{AwaitsLook, AwaitsLookAt, DeletesSights, FindsNone, FindsPhoto, KeepsSights, LiesWithinEach, LooksAtPair, LooksInVain, Sights, StoresSights, SwapsSights}
 use Rattle.hay_logical.proofs.Lists.{at_below, at_set_other, at_there}
 use Rattle.hay_logical.proofs.Within.{within_erases, within_kept, within_longer, within_looks, within_stores, within_swaps}
@@ -46,7 +48,8 @@ same_longer old new same =
 freezes_longer : (m : ℕ) (pending : Option Unsure) (old new : VolumeSeen) → FreezesSeen m pending old new → IsLonger old new
 freezes_longer m pending old new freezes = (freezes.many, freezes.longer)
 
-changes_longer : (at : ℕ) (Becomes : ReplicaSeen → ReplicaSeen → Type 0) (old new : VolumeSeen) → ((r r' : ReplicaSeen) → Becomes r r' → r'.end ≡ r.end) → ChangesAt at Becomes old new → IsLonger old new
+changes_longer : (at : ℕ) (Becomes : ReplicaSeen → ReplicaSeen → Type 0) (old new : VolumeSeen) → ((r r' : ReplicaSeen) → Becomes r r' → r'.end ≡ r.end)
+    → ChangesAt at Becomes old new → IsLonger old new
 changes_longer at Becomes old new stays c =
     let replicas : new.replicas ≡ slice_set old.replicas at c.after = ap (λ (w : VolumeSeen). w.replicas) c.is in (
       ap (λ (xs : List ReplicaSeen). length xs) replicas ∙ length-set old.replicas at c.after,
@@ -80,7 +83,8 @@ keeps_same a pair j = refl
 
 -- PUTS AND DELETES
 
-puts_lies : (a b : Sights) (pair : Pair) (size position : ℕ) (old new : VolumeSeen) → new.replicas ≡ map (grown size) old.replicas → StoresSights pair old.replicas a b → VolumeLies a old → VolumeLies b new
+puts_lies : (a b : Sights) (pair : Pair) (size position : ℕ) (old new : VolumeSeen) → new.replicas ≡ map (grown size) old.replicas → StoresSights pair old.replicas a b
+    → VolumeLies a old → VolumeLies b new
 puts_lies a b pair size position old new grows stores lies = record {
   from = λ j x there.
       let r = at_mapped (grown size) old.replicas j x (subst (λ (xs : List ReplicaSeen). At xs j x) grows there) in
@@ -214,7 +218,8 @@ module _ (old new : StoreSeen) where
       ]
 
   -- one volume moved so that no end came nearer, and looks were all that changed of the photos
-  longer_moved : (u : ℕ) (Moves : VolumeSeen → VolumeSeen → Type 0) → ((a b : VolumeSeen) → Moves a b → IsLonger a b) → (mid : StoreSeen) → mid.volumes ≡ old.volumes → MovesVolume u Moves mid new → Stay
+  longer_moved : (u : ℕ) (Moves : VolumeSeen → VolumeSeen → Type 0) → ((a b : VolumeSeen) → Moves a b → IsLonger a b) → (mid : StoreSeen) → mid.volumes ≡ old.volumes
+      → MovesVolume u Moves mid new → Stay
       → PlacesLie old → PlacesLie new
   longer_moved u Moves longer mid same moved stay lie v volume at =
       let was : At old.volumes u moved.before = subst (λ (vs : List VolumeSeen). At vs u moved.before) same moved.was in
@@ -222,7 +227,8 @@ module _ (old new : StoreSeen) where
       let there : At (slice_set old.volumes u moved.after) v volume = subst (λ (vs : List VolumeSeen). At vs v volume) set at in
       elim (cases_eq v u) [
         | inl here ↦
-            let after : moved.after ≡ volume = same_Some moved.after volume (sym (slice_get-set old.volumes u moved.before moved.after was) ∙ subst (λ n. At (slice_set old.volumes u moved.after) n volume) here there) in
+            let after : moved.after ≡ volume =
+            same_Some moved.after volume (sym (slice_get-set old.volumes u moved.before moved.after was) ∙ subst (λ n. At (slice_set old.volumes u moved.after) n volume) here there) in
             let lies : VolumeLies (old.places u) moved.before = lie u moved.before was in
             let stays : VolumeLies (new.places u) moved.before = record { from = lies.from; within = stay u (moved.before).replicas lies.within } in
             subst (λ n. VolumeLies (new.places n) volume) (sym here)
@@ -248,7 +254,8 @@ module _ (settings : Settings) (tag : CoreTag) (old new : StoreSeen) where
       let same = gets_volumes settings pair size v old mid gets in
       let was : At old.volumes v moved.before = subst (λ (vs : List VolumeSeen). At vs v moved.before) same moved.was in
       let one : volume ≡ moved.before = same_Some volume moved.before (sym at ∙ was) in
-      let stores : StoresSights pair (moved.before).replicas (old.places v) (new.places v) = subst (λ (w : VolumeSeen). StoresSights pair w.replicas (old.places v) (new.places v)) one changes.changes in
+      let stores : StoresSights pair (moved.before).replicas (old.places v) (new.places v) =
+      subst (λ (w : VolumeSeen). StoresSights pair w.replicas (old.places v) (new.places v)) one changes.changes in
       let grows = ap (λ (w : VolumeSeen). w.replicas) (moved.moves).2 in
       moved_lies old new v moved.before moved.after was (moved.volumes ∙ ap (λ (vs : List VolumeSeen). slice_set vs v moved.after) same) changes.others
       (puts_lies (old.places v) (new.places v) pair size p moved.before moved.after grows stores) lie
@@ -258,7 +265,8 @@ module _ (settings : Settings) (tag : CoreTag) (old new : StoreSeen) where
   put_lies pair size reply.NoMem (inr (v, mid, gets, inl keeps)) kept lie =
       still_lies old new (keeps.volumes ∙ gets_volumes settings pair size v old mid gets) (kept_stay old new kept) lie
   put_lies pair size reply.NoMem (inr (v, mid, gets, inr moved)) kept lie =
-      longer_moved old new v (BreaksPutSeen tag (machine_of settings v 0)) (breaks_longer tag (machine_of settings v 0)) mid (gets_volumes settings pair size v old mid gets) moved (kept_stay old new kept) lie
+      longer_moved old new v (BreaksPutSeen tag (machine_of settings v 0)) (breaks_longer tag (machine_of settings v 0)) mid (gets_volumes settings pair size v old mid gets) moved
+      (kept_stay old new kept) lie
   put_lies pair size (reply.Full tries) answers kept lie = still_lies old new (answers.0).volumes (kept_stay old new kept) lie
   put_lies pair size (reply.ReadOnly tries) answers kept lie = still_lies old new (answers.0).volumes (kept_stay old new kept) lie
   put_lies pair size reply.ReadOnlyDir answers kept lie = still_lies old new (answers.2).volumes (kept_stay old new kept) lie
@@ -271,7 +279,8 @@ module _ (settings : Settings) (tag : CoreTag) (old new : StoreSeen) where
   delete_lies pair (reply.Deleted v p d) (opened, moved, rows) changes lie =
       moved_lies old new v moved.before moved.after moved.was moved.volumes changes.others
       (deletes_lies (old.places v) (new.places v) pair settings.replicas moved.before moved.after (moved.moves).2 changes.changes) lie
-  delete_lies pair (reply.Absent v f d) answers changes lie = still_lies old new (answers.1).volumes (looks_stay old new v pair (FindsNone pair settings.replicas) (λ a b finds. finds.looks) changes) lie
+  delete_lies pair (reply.Absent v f d) answers changes lie =
+      still_lies old new (answers.1).volumes (looks_stay old new v pair (FindsNone pair settings.replicas) (λ a b finds. finds.looks) changes) lie
   delete_lies pair (reply.Failed v m n) (opened, how) sights lie =
       let pending : Option Unsure = Some (record { tag = tag; change = Delete pair }) in
       let stay : Stay old new = elim sights [
@@ -282,7 +291,8 @@ module _ (settings : Settings) (tag : CoreTag) (old new : StoreSeen) where
         | inl keeps ↦ still_lies old new keeps.volumes stay lie
         | inr moved ↦ longer_moved old new v (FreezesSeen m pending) (freezes_longer m pending) old refl moved stay lie
       ]
-  delete_lies pair (reply.Damaged v m at) answers changes lie = still_lies old new (answers.1).volumes (looks_stay old new v pair (LooksInVain settings v pair m (AwaitsLookAt at)) (λ a b in_vain. in_vain.looks) changes) lie
+  delete_lies pair (reply.Damaged v m at) answers changes lie =
+      still_lies old new (answers.1).volumes (looks_stay old new v pair (LooksInVain settings v pair m (AwaitsLookAt at)) (λ a b in_vain. in_vain.looks) changes) lie
   delete_lies pair reply.NoMem keeps home lie = still_lies old new keeps.volumes (home_stay old new (home_seen old pair) pair home) lie
   delete_lies pair _ answers sights lie = absurd answers
 
@@ -308,7 +318,8 @@ module _ (settings : Settings) (tag : CoreTag) (old new : StoreSeen) where
   refused_kept v m refusal.NoMemory said told sights = subst (λ (r : Reply). WorkSights settings (told_by r) old new) told sights
   refused_kept v m _ said told sights = absurd told
 
-  done_swaps : (v m at number : ℕ) → replica_on settings v m ≡ Some at → (moved : VolumeSeen) → At new.volumes v moved → (generation : ℕ) → WorkSights settings (told_by (reply.Compacted v m generation)) old new
+  done_swaps : (v m at number : ℕ) → replica_on settings v m ≡ Some at → (moved : VolumeSeen) → At new.volumes v moved → (generation : ℕ)
+      → WorkSights settings (told_by (reply.Compacted v m generation)) old new
       → ChangesPhotos v (SwapsSights at moved.replicas) old new
   done_swaps v m at number there moved is generation (at', there', (volume, now, changes)) =
       let one : at' ≡ at = same_Some at' at (sym there' ∙ there) in
@@ -319,13 +330,16 @@ module _ (settings : Settings) (tag : CoreTag) (old new : StoreSeen) where
       → WorkSights settings (told_by said) old new → PlacesLie old → PlacesLie new
   done_lies v m at number Flush said there is moved sights lie =
       let kept : KeepsPhotos old new = subst (λ (r : Reply). WorkSights settings (told_by r) old new) is sights in
-      longer_moved old new v (WorkSeen Flush at number) (λ a b done. changes_longer at (FlushesTo number) a b (λ r r' flushes. ap (λ (x : ReplicaSeen). x.end) flushes.2) done.1) old refl moved (kept_stay old new kept) lie
+      longer_moved old new v (WorkSeen Flush at number) (λ a b done. changes_longer at (FlushesTo number) a b (λ r r' flushes. ap (λ (x : ReplicaSeen). x.end) flushes.2) done.1)
+      old refl moved (kept_stay old new kept) lie
   done_lies v m at number Begin said there is moved sights lie =
       let kept : KeepsPhotos old new = subst (λ (r : Reply). WorkSights settings (told_by r) old new) is sights in
-      longer_moved old new v (WorkSeen Begin at number) (λ a b done. changes_longer at (BeginsTo number) a b (λ r r' begins. ap (λ (x : ReplicaSeen). x.end) begins.2) done.1) old refl moved (kept_stay old new kept) lie
+      longer_moved old new v (WorkSeen Begin at number) (λ a b done. changes_longer at (BeginsTo number) a b (λ r r' begins. ap (λ (x : ReplicaSeen). x.end) begins.2) done.1) old
+      refl moved (kept_stay old new kept) lie
   done_lies v m at number (Step cells) said there is moved sights lie =
       let kept : KeepsPhotos old new = subst (λ (r : Reply). WorkSights settings (told_by r) old new) is sights in
-      longer_moved old new v (WorkSeen (Step cells) at number) (λ a b done. changes_longer at (StepsTo cells number) a b (λ r r' steps. ap (λ (x : ReplicaSeen). x.end) steps.only) done.1) old refl moved (kept_stay old new kept) lie
+      longer_moved old new v (WorkSeen (Step cells) at number) (λ a b done. changes_longer at (StepsTo cells number) a b (λ r r' steps. ap (λ (x : ReplicaSeen). x.end) steps.only)
+      done.1) old refl moved (kept_stay old new kept) lie
   done_lies v m at number Finish said there is moved sights lie =
       let now : At new.volumes v moved.after = subst (λ (vs : List VolumeSeen). At vs v moved.after) (sym moved.volumes) (slice_get-set old.volumes v moved.before moved.after moved.was) in
       let swaps = done_swaps v m at number there moved.after now number (subst (λ (r : Reply). WorkSights settings (told_by r) old new) is sights) in
@@ -344,7 +358,8 @@ module _ (settings : Settings) (tag : CoreTag) (old new : StoreSeen) where
       still_lies old new keeps.volumes (kept_stay old new (subst (λ (r : Reply). WorkSights settings (told_by r) old new) is sights)) lie
   work_lies work v m said (inr (inl (at, number, there, is, moved))) sights lie = done_lies v m at number work said there is moved sights lie
   work_lies work v m said (inr (inr (at, fault, there, told, moved))) sights lie =
-      longer_moved old new v (WorkRefusedSeen settings work v at fault) (λ a b refused. refused_longer settings v at a b work fault refused) old refl moved (kept_stay old new (refused_kept v m fault said told sights)) lie
+      longer_moved old new v (WorkRefusedSeen settings work v at fault) (λ a b refused. refused_longer settings v at a b work fault refused) old refl moved
+      (kept_stay old new (refused_kept v m fault said told sights)) lie
 
   drain_lies : (m : ℕ) (to : Bool) (done said : Reply) → AnswersDrain m to done said old new → KeepsPhotos old new → PlacesLie old → PlacesLie new
   drain_lies m to done said (inl (is, moves)) kept lie = still_lies old new moves.volumes (kept_stay old new kept) lie

@@ -10,7 +10,8 @@ use Rattle.hay_core.specs.declared.entry.CoreTag.{CoreTag}
 use Rattle.hay_legal.specs.declared.known.Known.{Known}
 use Rattle.hay_legal.specs.declared.known.VolumeKnown.{VolumeKnown}
 use Rattle.hay_legal.specs.Known.{Leaves, empty_volume, machine_of, replica_on, volume_at, with_volume}
-use Rattle.hay_legal.specs.Plain.{IsAtRest, IsLoose, IsOpen, IsTight, LegalCommand, MayFinish, OnReplica, LegalBegin, LegalCompact, LegalFinish, LegalFlush, LegalStep, RoseTo, SwapFailed, SwapNoMem, Swaps, as_it_is, change_volume, frozen_by, poised, stepped, swapped, with_bare, with_run, with_stuck, without_run}
+use Rattle.hay_legal.specs.Plain.{IsAtRest, IsLoose, IsOpen, IsTight, LegalCommand, MayFinish, OnReplica, LegalBegin, LegalCompact, LegalFinish, LegalFlush, LegalStep, RoseTo}
+use Rattle.hay_legal.specs.Plain.{SwapFailed, SwapNoMem, Swaps, as_it_is, change_volume, frozen_by, poised, stepped, swapped, with_bare, with_run, with_stuck, without_run}
 use Rattle.hay_logical.specs.Answers as answers
 use Rattle.hay_logical.specs.Answers.{BeginRefused, CompactRefused, FinishRefused, FlushRefused, StandsFailed, StandsSwapped, StepRefused, change_at, poised_at}
 use Rattle.hay_logical.specs.declared.fault.LogicalFault.{LogicalFault}
@@ -40,7 +41,8 @@ changed_twice k v volume f within =
 -- A REPLICA WAS ASKED
 
 -- Replica j of v, on machine m, was asked for work, and the volume was one thing before and another behind it.
-pub record Asked {D P A : Type 0} (files : D → Files) (Tells : Type 0) (faults fuses : D → ℕ) (arm_faults : A → ℕ) (old new : Open D P A) (k : Known) (v m j : ℕ) (before after : Volume D P) : Type 0 where
+pub record Asked {D P A : Type 0} (files : D → Files) (Tells : Type 0) (faults fuses : D → ℕ) (arm_faults : A → ℕ) (old new : Open D P A) (k : Known) (v m j : ℕ)
+    (before after : Volume D P) : Type 0 where
   pub same : new.settings ≡ old.settings
   pub within : v < (old.settings).volumes
   pub there : replica_on old.settings v m ≡ Some j
@@ -76,7 +78,8 @@ module _ {D P A : Type 0} (files : D → Files) (Tells : Type 0) (faults fuses :
     untouched is = still (subst (λ (w : Volume D P). logical.Stands files Tells w (volume_at k v)) (sym is) asked.stood)
 
     -- a failure of the replica's disk
-    risen : (t : Known) (m' f : ℕ) → m' ≡ m → Stands files Tells faults fuses arm_faults new t → RoseAt old.settings v m' (map faults (disks_of old)) (map faults (disks_of new)) f → RoseTo old.settings k v j f t
+    risen : (t : Known) (m' f : ℕ) → m' ≡ m → Stands files Tells faults fuses arm_faults new t → RoseAt old.settings v m' (map faults (disks_of old)) (map faults (disks_of new)) f
+        → RoseTo old.settings k v j f t
     risen t m' f is stands cause =
         let rose = rose_to files Tells faults fuses arm_faults old new old.settings k t v m' f asked.stands stands cause in
         let found : Some rose.0 ≡ Some j = sym rose.1 ∙ ap (λ n. replica_on old.settings v n) is ∙ asked.there in
@@ -112,7 +115,8 @@ module _ {D P A : Type 0} (files : D → Files) (Tells : Type 0) (faults fuses :
         record { known = came.known; is = inr (thawed, ready, inl came.leaves); stands = came.stands }
 
     -- an answer that is legal for the replica
-    told_by : (tag : CoreTag) (work : Maintenance) (r answer : Reply) (t : Known) → answer ≡ r → LegalCommand old.settings k tag (command_of work v m) r t → Stands files Tells faults fuses arm_faults new t
+    told_by : (tag : CoreTag) (work : Maintenance) (r answer : Reply) (t : Known) → answer ≡ r → LegalCommand old.settings k tag (command_of work v m) r t
+        → Stands files Tells faults fuses arm_faults new t
         → Answered files Tells faults fuses arm_faults k tag (command_of work v m) answer new
     told_by tag work r answer t is h stands =
         subst (λ (a : Reply). Answered files Tells faults fuses arm_faults k tag (command_of work v m) a new) (sym is)
@@ -259,7 +263,8 @@ module _ {D P A : Type 0} (files : D → Files) (Tells : Type 0) (faults fuses :
         told_by tag Compact reply.NoMem answer reached.known told (found_here (LegalCompact old.settings k v m) _ reached.known reached.is) reached.stands
     not_compacted tag _ answer cause refused told = absurd refused
 
-    pub not_maintained : (tag : CoreTag) (work : Maintenance) (fault : LogicalFault) (answer : Reply) → IsReplicaCause old.settings work v j (map faults (disks_of old)) (map faults (disks_of new)) fault
+    pub not_maintained : (tag : CoreTag) (work : Maintenance) (fault : LogicalFault) (answer : Reply)
+        → IsReplicaCause old.settings work v j (map faults (disks_of old)) (map faults (disks_of new)) fault
         → IsRefused files Tells work (volume_at k v) j before after fault → IsRefusedAs v m fault answer → Answered files Tells faults fuses arm_faults k tag (command_of work v m) answer new
     not_maintained tag Flush fault answer cause refused told = not_flushed tag fault answer cause refused told
     not_maintained tag Begin fault answer cause refused told = not_begun tag fault answer cause refused told

@@ -25,7 +25,8 @@ use Rattle.hay_cluster.specs.Causes.{RoseAt, SetsFuse}
 use Rattle.hay_cluster.specs.Parts.{Comes, InVolume}
 use Rattle.hay_cluster.specs.State.{Stands, StandsFor}
 use Rattle.hay_cluster.specs.Store.{Open, IsShaped, IsUp, IsVolumeOf, disk_of, disks_of, volume_disks}
-use Rattle.hay_cluster.proofs.Lists.{AllByRecursion-set, AllZip-at, AllZip-long, AllZip-set, InOrder-get, InOrder-set, length-set, numbers-at, numbers-later, numbers-same, numbers-set, set-same, slice_get-set}
+use Rattle.hay_cluster.proofs.Lists.{AllByRecursion-set, AllZip-at, AllZip-long, AllZip-set, InOrder-get, InOrder-set, length-set, numbers-at, numbers-later, numbers-same}
+use Rattle.hay_cluster.proofs.Lists.{numbers-set, set-same, slice_get-set}
 use Rattle.hay_cluster.proofs.Machines.{replica_found}
 
 -- COUNTS OF A VOLUME'S DISKS
@@ -101,7 +102,12 @@ module _ {D P A : Type 0} where
         directory = shape.directory;
         many = length-set store.volumes v after ∙ shape.many;
         volumes = InOrder-set (IsVolumeOf store.settings) 0 store.volumes v v after (omega arith)
-            (record { settings_are = same.settings ∙ was.settings_are; number = same.number ∙ was.number; all = many ∙ was.all ∙ ap (λ (s : Settings). s.replicas) (sym same.settings); sups = sups_on before after same many was.sups }) shape.volumes;
+            (record {
+              settings_are = same.settings ∙ was.settings_are;
+              number = same.number ∙ was.number;
+              all = many ∙ was.all ∙ ap (λ (s : Settings). s.replicas) (sym same.settings);
+              sups = sups_on before after same many was.sups;
+            }) shape.volumes;
         lanes = shape.lanes;
       }
 
@@ -242,7 +248,8 @@ module _ {D P A : Type 0} (faults fuses : D → ℕ) where
       })
 
 module _ {D P A : Type 0} (files : D → Files) (Tells : Type 0) (faults fuses : D → ℕ) (arm_faults : A → ℕ) where
-  pub in_volume : (old store : Open D P A) (k : Known) (v : ℕ) (before after : Volume D P) (Does : Volume D P → Volume D P → Type 0) → store ≡ old → IsShaped store → Called faults fuses store v before after
+  pub in_volume : (old store : Open D P A) (k : Known) (v : ℕ) (before after : Volume D P) (Does : Volume D P → Volume D P → Type 0) → store ≡ old → IsShaped store
+      → Called faults fuses store v before after
       → Stands files Tells faults fuses arm_faults old k → (logical.Stands files Tells before (volume_at k v) → Does before after)
       → InVolume files Tells faults fuses arm_faults k v old (with_one store v after) Does
   in_volume old store k v before after Does is shape called stands does =
@@ -346,7 +353,8 @@ pub record Fused {D P : Type 0} (faults fuses : D → ℕ) (j : ℕ) (before aft
   pub fused : (r r' : Copy D) → At before.replicas j r → At after.replicas j r' → IsNext (fuses r.disk) (fuses r'.disk) × (faults r'.disk ≡ faults r.disk)
   pub others : (i : ℕ) → (i ≡ j → ⊥) → (r r' : Copy D) → At before.replicas i r → At after.replicas i r' → r' ≡ r
 
-fused_later : {D P : Type 0} (faults fuses : D → ℕ) (j : ℕ) (before after : Volume D P) → Fused faults fuses j before after → NoneFalls (map faults (volume_disks before)) (map faults (volume_disks after))
+fused_later : {D P : Type 0} (faults fuses : D → ℕ) (j : ℕ) (before after : Volume D P) → Fused faults fuses j before after
+    → NoneFalls (map faults (volume_disks before)) (map faults (volume_disks after))
 fused_later {D} faults fuses j before after f = copies_later faults before.replicas after.replicas f.count (λ i r r' at at'.
     elim (cases_order i j) [
       | inl here ↦
@@ -366,7 +374,8 @@ module _ {D P A : Type 0} (faults fuses : D → ℕ) where
       (let later : faults (store.directory).disk ≤ faults (store.directory).disk = omega arith in
       (later, numbers-later faults volume_disks store.volumes v before after at (fused_later faults fuses j before after f)))
 
-  pub fused_fuses : (old store : Open D P A) (v j : ℕ) (before after : Volume D P) → store ≡ old → IsShaped store → At store.volumes v before → j < (store.settings).replicas → Fused faults fuses j before after
+  pub fused_fuses : (old store : Open D P A) (v j : ℕ) (before after : Volume D P) → store ≡ old → IsShaped store → At store.volumes v before → j < (store.settings).replicas
+      → Fused faults fuses j before after
       → SetsFuse (slot_of old.settings v j) (map fuses (disks_of old)) (map fuses (disks_of (with_one store v after)))
   fused_fuses old store v j before after is shape at within f =
       let was = volume_of store v before shape at in
@@ -379,7 +388,8 @@ module _ {D P A : Type 0} (faults fuses : D → ℕ) where
       subst (λ m. IsNext m n) (sym (count_at fuses store v j before old_one.0 shape at old_one.1)) (f.fused old_one.0 new_one.0 old_one.1 new_one.1).0 in
       let fuses_are : map fuses (disks_of (with_one store v after)) ≡ slice_set (map fuses (disks_of store)) (slot_of store.settings v j) n =
       sym (ap (λ i. slice_set (map fuses (disks_of store)) i n) slot
-      ∙ ap (λ ns. fuses (store.directory).disk ∷ ns) (sym (numbers-set fuses volume_disks (store.settings).replicas store.volumes v j n before after (all_long store.settings 0 store.volumes shape.volumes) at within
+      ∙ ap (λ ns. fuses (store.directory).disk ∷ ns) (sym (numbers-set fuses volume_disks (store.settings).replicas store.volumes v j n before after
+      (all_long store.settings 0 store.volumes shape.volumes) at within
       (copies_set fuses before.replicas after.replicas j n f.count f.others
       (λ r' at'. ap (λ (q : Copy D). fuses q.disk) (same_Some r' new_one.0 (sym at' ∙ new_one.1))))))) in
       subst (λ (st : Open D P A). SetsFuse (slot_of st.settings v j) (map fuses (disks_of st)) (map fuses (disks_of (with_one store v after)))) is (n, next, fuses_are)
@@ -420,4 +430,5 @@ module _ {D P A : Type 0} (files : D → Files) (Tells : Type 0) (faults fuses :
           };
         },
       ) in
-      subst (λ (t : Settings). (m : ℕ) × IsNext (fuse_count k (slot_of t v j)) m × Comes files Tells faults fuses arm_faults k (with_fuses k (slot_of t v j) m) store') (ap (λ (st : Open D P A). st.settings) is) found
+      subst (λ (t : Settings). (m : ℕ) × IsNext (fuse_count k (slot_of t v j)) m × Comes files Tells faults fuses arm_faults k (with_fuses k (slot_of t v j) m) store')
+      (ap (λ (st : Open D P A). st.settings) is) found

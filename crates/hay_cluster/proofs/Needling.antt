@@ -56,13 +56,22 @@ file_still settings contents contents' seen seen' v j Is volume within same keep
 )
 
 -- two facts of one file
-pub file_both : (settings : Settings) (contents : ℕ → Contents) (seen : StoreSeen) (v j : ℕ) (Is Has Both : ReplicaSeen → List ℕ → Type 0) → ((r : ReplicaSeen) (file : List ℕ) → Is r file → Has r file → Both r file)
+pub file_both : (settings : Settings) (contents : ℕ → Contents) (seen : StoreSeen) (v j : ℕ) (Is Has Both : ReplicaSeen → List ℕ → Type 0)
+    → ((r : ReplicaSeen) (file : List ℕ) → Is r file → Has r file → Both r file)
     → FileAt settings contents seen v j Is → FileAt settings contents seen v j Has → FileAt settings contents seen v j Both
 file_both settings contents seen v j Is Has Both makes (w, at, (r, there, is)) (w', at', (r', there', has)) =
     let one : w' ≡ w = same_Some w' w (sym at' ∙ at) in
     let here : At w.replicas j r' = subst (λ (x : VolumeSeen). At x.replicas j r') one there' in
-    let two : r' ≡ r = same_Some r' r (sym here ∙ there) in
-    (w, at, (r, there, makes r (contents (slot_of settings v j) (volume_file r.generation)) is (subst (λ (x : ReplicaSeen). Has x (contents (slot_of settings v j) (volume_file x.generation))) two has)))
+    let two : r' ≡ r = same_Some r' r (sym here ∙ there) in (
+      w,
+      at,
+      (
+        r,
+        there,
+        makes r (contents (slot_of settings v j) (volume_file r.generation)) is
+            (subst (λ (x : ReplicaSeen). Has x (contents (slot_of settings v j) (volume_file x.generation))) two has),
+      ),
+    )
 
 -- LOOKS BEHIND LOOKS
 
@@ -71,14 +80,16 @@ told_once file a b c (inl same) looks first second = subst (λ (x : Sight). IsTo
 told_once file a b c (inr shown) (inl same) first second = subst (λ (x : Sight). IsToldBy file a x) (sym same) first
 told_once file a b c (inr shown) (inr again) first second = absurd (seen_once a b c shown again)
 
-pub told_further : (settings : Settings) (contents contents' : ℕ → Contents) (old mid new : StoreSeen) (v : ℕ) (pair : Pair) → v < settings.volumes → mid.volumes ≡ old.volumes → KeepsIn settings AnySlot contents contents'
+pub told_further : (settings : Settings) (contents contents' : ℕ → Contents) (old mid new : StoreSeen) (v : ℕ) (pair : Pair) → v < settings.volumes → mid.volumes ≡ old.volumes
+    → KeepsIn settings AnySlot contents contents'
     → ChangesPhotos v (LooksAtPair pair) old mid → ChangesPhotos v (LooksAtPair pair) mid new
     → AreToldAs settings contents old v pair (mid.places v) → AreToldAs settings contents' mid v pair (new.places v) → AreToldAs settings contents old v pair (new.places v)
 told_further settings contents contents' old mid new v pair volume same keeps first second told again j within =
     file_both settings contents old v j (λ r file. IsToldBy file (old.places v pair j) (mid.places v pair j)) (λ r file. IsToldBy file (mid.places v pair j) (new.places v pair j))
     (λ r file. IsToldBy file (old.places v pair j) (new.places v pair j))
     (λ r file one two. told_once file (old.places v pair j) (mid.places v pair j) (new.places v pair j) ((first.changes).each j) ((second.changes).each j) one two) (told j within)
-    (file_still settings contents' contents mid old v j (λ r file. IsToldBy file (mid.places v pair j) (new.places v pair j)) volume within (sym same) (λ slot file low among. sym (keeps slot file low among)) (again j within))
+    (file_still settings contents' contents mid old v j (λ r file. IsToldBy file (mid.places v pair j) (new.places v pair j)) volume within (sym same)
+    (λ slot file low among. sym (keeps slot file low among)) (again j within))
 
 -- where nothing more is looked at
 pub told_kept : (settings : Settings) (contents : ℕ → Contents) (old : StoreSeen) (v : ℕ) (pair : Pair) (behind behind' : Sights) → ((j : ℕ) → behind' pair j ≡ behind pair j)
@@ -95,7 +106,8 @@ module _ {D P A : Type 0} (files : D → Files) (old store : Open D P A) (is : s
       (ap (λ (c : Contents). c (volume_file (generation_of r)))
       (contents_at files store (slot_of store.settings v j) r.disk (in_volume (λ n disk. slice_get (disks_of store) n ≡ Some disk) store v j volume r shape at there (order_self (disks_of store)))))
 
-  file_is : (Is : ReplicaSeen → List ℕ → Type 0) (j : ℕ) (r : Copy D) → At volume.replicas j r → Is (replica_seen r) (volume_bytes files r) → FileAt old.settings (contents_in files old) (store_seen old) v j Is
+  file_is : (Is : ReplicaSeen → List ℕ → Type 0) (j : ℕ) (r : Copy D) → At volume.replicas j r → Is (replica_seen r) (volume_bytes files r)
+      → FileAt old.settings (contents_in files old) (store_seen old) v j Is
   file_is Is j r there h = (
     volume_seen volume,
     seen_at old store is v volume at,
@@ -129,7 +141,8 @@ module _ {D P A : Type 0} (files : D → Files) (old store : Open D P A) (is : s
 
   -- where nothing was looked at
   pub told_still : (pair : Pair) → AreToldAs old.settings (contents_in files old) (store_seen old) v pair ((store_seen old).places v)
-  told_still pair j within = file_on (λ r file. IsToldBy file ((store_seen old).places v pair j) ((store_seen old).places v pair j)) j within (λ r there. told_self (volume_bytes files r) ((store_seen old).places v pair j))
+  told_still pair j within =
+      file_on (λ r file. IsToldBy file ((store_seen old).places v pair j) ((store_seen old).places v pair j)) j within (λ r there. told_self (volume_bytes files r) ((store_seen old).places v pair j))
 
   pub lacks_on : (pair : Pair) (j place : ℕ) → j < (old.settings).replicas → LacksSeenOn files volume.replicas pair j place (sights_of volume.rows)
       → FileAt old.settings (contents_in files old) (store_seen old) v j (λ r file. LacksSeen file place ((store_seen old).places v pair j))
@@ -172,14 +185,16 @@ pub home_told : (settings : Settings) (contents : ℕ → Contents) (old new : S
     → (w : ℕ) → home_seen old pair ≡ Some w → AreToldAs settings contents old w pair (new.places w)
 home_told settings contents old new pair v home told w is = subst (λ u. AreToldAs settings contents old u pair (new.places u)) (same_Some v w (sym home ∙ is)) told
 
-module _ (settings : Settings) (contents : ℕ → Contents) (old new : StoreSeen) (pair : Pair) (v : ℕ) (home : home_seen old pair ≡ Some v) (told : AreToldAs settings contents old v pair (new.places v)) where
+module _ (settings : Settings) (contents : ℕ → Contents) (old new : StoreSeen) (pair : Pair) (v : ℕ) (home : home_seen old pair ≡ Some v)
+    (told : AreToldAs settings contents old v pair (new.places v)) where
   pub undeleted_told : (rows : ℕ) (fault : LogicalFault) (said : Reply) → IsDeleteReply v rows fault said → LooksTold settings contents old new pair (told_by said)
   undeleted_told rows (refusal.Gone front) said is = subst (λ (r : Reply). LooksTold settings contents old new pair (told_by r)) (sym is) told
   undeleted_told rows (refusal.Failed m count) said is = subst (λ (r : Reply). LooksTold settings contents old new pair (told_by r)) (sym is) told
   undeleted_told rows (refusal.Damaged m place) said is = subst (λ (r : Reply). LooksTold settings contents old new pair (told_by r)) (sym is) told
   undeleted_told rows refusal.NoMemory said is = subst (λ (r : Reply). LooksTold settings contents old new pair (told_by r)) (sym is) (inr (home_told settings contents old new pair v home told))
   undeleted_told rows (refusal.ReadOnly m) said (inl closed) = subst (λ (r : Reply). LooksTold settings contents old new pair (told_by r)) (sym closed) tt
-  undeleted_told rows (refusal.ReadOnly m) said (inr none) = subst (λ (r : Reply). LooksTold settings contents old new pair (told_by r)) (sym none) (inr (home_told settings contents old new pair v home told))
+  undeleted_told rows (refusal.ReadOnly m) said (inr none) =
+      subst (λ (r : Reply). LooksTold settings contents old new pair (told_by r)) (sym none) (inr (home_told settings contents old new pair v home told))
   undeleted_told rows (refusal.Full m end need capacity) said is = absurd is
   undeleted_told rows (refusal.Busy m goal) said is = absurd is
   undeleted_told rows (refusal.Worn m) said is = absurd is

@@ -80,7 +80,8 @@ told_slot slot slot' file at f is told =
 pub superblock : {D P : Type 0} (settings : Settings) (v j : ℕ) (x : Volume D P) (r : Copy D) → IsVolumeOf settings v x → At x.replicas j r → r.sup ≡ super_of settings v j
 superblock settings v j x r is at = is.sups j r at ∙ ap (λ (s : Settings). super_of s x.number j) is.settings_are ∙ ap (λ n. super_of settings n j) is.number
 
-not_found : (settings : Settings) (v j : ℕ) (sup : Super) (contents : Contents) (found : Found) → sup ≡ super_of settings v j → ((s : Stored) → OpensAs sup contents s → ⊥) → IsReplica settings v j contents found → ⊥
+not_found : (settings : Settings) (v j : ℕ) (sup : Super) (contents : Contents) (found : Found) → sup ≡ super_of settings v j → ((s : Stored) → OpensAs sup contents s → ⊥)
+    → IsReplica settings v j contents found → ⊥
 unfolding IsReplica
 not_found settings v j sup contents found same none is = none is.stored (subst (λ (u : Super). OpensAs u contents is.stored) (sym same) is.opens)
 
@@ -114,7 +115,8 @@ record NamesDamage (settings : Settings) (slot file at : ℕ) (contents : Conten
   place : IsFirstDamage settings slot file at contents
   some : IsVoid contents → ⊥
 
-damaged_disk : (settings : Settings) (slot file at : ℕ) (contents : ℕ → Contents) → NamesDamage settings slot file at (contents slot) → IsUndamagedBelow settings slot contents → IsDamagedDisk settings contents slot file at
+damaged_disk : (settings : Settings) (slot file at : ℕ) (contents : ℕ → Contents) → NamesDamage settings slot file at (contents slot) → IsUndamagedBelow settings slot contents
+    → IsDamagedDisk settings contents slot file at
 damaged_disk settings slot file at contents d lowest = record { within = d.within; not_whole = d.not_whole; place = d.place; lowest = lowest }
 
 -- LOWER SLOTS
@@ -136,9 +138,11 @@ lower_place replicas v j v' j' within low = elim (cases_lt v v') [
 ]
 
 -- disks of the same bytes
-undamaged_on : (settings : Settings) (end : ℕ) (f g : ℕ → Contents) → ((slot : ℕ) → slot < end → ◌≡◌ {A = Contents} (g slot) (f slot)) → IsUndamagedBelow settings end f → IsUndamagedBelow settings end g
+undamaged_on : (settings : Settings) (end : ℕ) (f g : ℕ → Contents) → ((slot : ℕ) → slot < end → ◌≡◌ {A = Contents} (g slot) (f slot)) → IsUndamagedBelow settings end f
+    → IsUndamagedBelow settings end g
 undamaged_on settings end f g same none slot file at below some damaged =
-    none slot file at below (λ void. some (ap (λ (contents : Contents). contents 0) (same slot below) ∙ void)) (subst (λ (contents : Contents). IsFirstDamage settings slot file at contents) (same slot below) damaged)
+    none slot file at below (λ void. some (ap (λ (contents : Contents). contents 0) (same slot below) ∙ void))
+    (subst (λ (contents : Contents). IsFirstDamage settings slot file at contents) (same slot below) damaged)
 
 -- the slot that a refusal tells of
 abbrev pub TellsSlot : ClusterFault → ℕ → Type 0
@@ -172,7 +176,8 @@ directory_damaged settings other file at contents same zeroth damage none =
       some = λ void. whole [] (opens_void settings contents void);
     }
 
-replica_damaged : (settings : Settings) (v j file at : ℕ) (sup : Super) (contents : Contents) → v < settings.volumes → j < settings.replicas → sup ≡ super_of settings v j → IsOpeningDamage sup contents file at
+replica_damaged : (settings : Settings) (v j file at : ℕ) (sup : Super) (contents : Contents) → v < settings.volumes → j < settings.replicas → sup ≡ super_of settings v j
+    → IsOpeningDamage sup contents file at
     → ((s : Stored) → OpensAs sup contents s → ⊥) → NamesDamage settings (slot_of settings v j) file at contents
 replica_damaged settings v j file at sup contents volume replica mine damage none = record {
   within = slot_within settings v j volume replica;
@@ -208,7 +213,8 @@ module _ {D P A : Type 0} (DiskTells : Type 0) (files : D → Files) (Tells : Ty
   abbrev Names : Open D P A → ℕ → ℕ → ℕ → Type 0
   Names store slot file at = NamesDamage store.settings slot file at (contents_in files store slot)
 
-  directory_named : DiskTells → (old new : Open D P A) → IsShaped old → (slot file at : ℕ) → RefusesDirectory DiskTells files faults old.directory new.directory (Damaged slot file at) → Names old slot file at
+  directory_named : DiskTells → (old new : Open D P A) → IsShaped old → (slot file at : ℕ)
+      → RefusesDirectory DiskTells files faults old.directory new.directory (Damaged slot file at) → Names old slot file at
   directory_named tells old new shape slot file at (zeroth, first, damage) =
       let d = damage tells in
       subst (λ n. Names old n file at) (sym zeroth)
@@ -226,14 +232,16 @@ module _ {D P A : Type 0} (DiskTells : Type 0) (files : D → Files) (Tells : Ty
       let damaged : f ≡ opening.Damaged file at = damage_told (slot_of settings v j) f slot file at told in
       let here : slot_of settings v j ≡ slot = told_slot (slot_of settings v j) slot file at f damaged told in
       let damage : IsOpenFault DiskTells files faults r r' (opening.Damaged file at) = subst (λ g. IsOpenFault DiskTells files faults r r' g) damaged cause in
-      let stands : slice_get (disks_of old) (slot_of settings v j) ≡ Some r.disk = in_volume (λ n disk. slice_get (disks_of old) n ≡ Some disk) old v j x r shape at_volume there (order_self (disks_of old)) in
+      let stands : slice_get (disks_of old) (slot_of settings v j) ≡ Some r.disk =
+      in_volume (λ n disk. slice_get (disks_of old) n ≡ Some disk) old v j x r shape at_volume there (order_self (disks_of old)) in
       subst (λ n. Names old n file at) here
       (subst (λ (contents : Contents). NamesDamage settings (slot_of settings v j) file at contents) (sym (contents_at files old (slot_of settings v j) r.disk stands))
       (replica_damaged settings v j file at r.sup (contents_of files r.disk) volume replica (superblock settings v j x r is there) (damage.0 tells) (damage.1 tells)))
 
   named_in : DiskTells → (old new : Open D P A) (fault : ClusterFault) → IsShaped old → RefusesParts DiskTells files faults old.settings old.directory new.directory old.volumes new.volumes fault
       → (slot file at : ℕ) → fault ≡ Damaged slot file at → Names old slot file at
-  named_in tells old new fault shape (inl by) slot file at is = directory_named tells old new shape slot file at (subst (λ f. RefusesDirectory DiskTells files faults old.directory new.directory f) is by)
+  named_in tells old new fault shape (inl by) slot file at is =
+      directory_named tells old new shape slot file at (subst (λ f. RefusesDirectory DiskTells files faults old.directory new.directory f) is by)
   named_in tells old new fault shape (inr (notes, opened, inl memory)) slot file at is = let both : NoMemory ≡ Damaged slot file at = sym memory ∙ is in absurd cc
   named_in tells old new fault shape (inr (notes, opened, inr by)) slot file at is =
       let r = by.refused in
@@ -251,7 +259,8 @@ module _ {D P A : Type 0} (DiskTells : Type 0) (files : D → Files) (Tells : Ty
       ∙ fun_ext (λ n. (kept.2 (λ void. some (ap (λ (contents : Contents). contents 0) was ∙ void)) n).0) ∙ sym was
 
   named_behind : DiskTells → (old new : Open D P A) (fault : ClusterFault) → IsShaped old → MovedParts DiskTells files Tells faults fuses arm_faults old new
-      → RefusesParts DiskTells files faults old.settings old.directory new.directory old.volumes new.volumes fault → (slot file at : ℕ) → fault ≡ Damaged slot file at → NamesDamage old.settings slot file at (contents_in files new slot)
+      → RefusesParts DiskTells files faults old.settings old.directory new.directory old.volumes new.volumes fault → (slot file at : ℕ) → fault ≡ Damaged slot file at
+      → NamesDamage old.settings slot file at (contents_in files new slot)
   named_behind tells old new fault shape m refused slot file at is =
       let named = named_in tells old new fault shape refused slot file at is in
       subst (λ (contents : Contents). NamesDamage old.settings slot file at contents) (sym (contents_kept tells old new shape m slot named.within named.some)) named
@@ -259,7 +268,8 @@ module _ {D P A : Type 0} (DiskTells : Type 0) (files : D → Files) (Tells : Ty
   -- LOWER SLOTS
 
   replica_sound : (store : Open D P A) (end v j : ℕ) → IsShaped store → v < (store.settings).volumes → j < (store.settings).replicas → slot_of store.settings v j < end
-      → ((v j : ℕ) (x : Volume D P) (r : Copy D) → slot_of store.settings v j < end → At store.volumes v x → At x.replicas j r → (file at : ℕ) → IsOpeningDamage r.sup (contents_of files r.disk) file at → ⊥)
+      → ((v j : ℕ) (x : Volume D P) (r : Copy D) → slot_of store.settings v j < end → At store.volumes v x → At x.replicas j r → (file at : ℕ)
+      → IsOpeningDamage r.sup (contents_of files r.disk) file at → ⊥)
       → (file at : ℕ) → IsFirstDamage store.settings (slot_of store.settings v j) file at (contents_in files store (slot_of store.settings v j)) → ⊥
   replica_sound store end v j shape volume within low none file at damaged =
       let many = shape.many in
@@ -267,14 +277,17 @@ module _ {D P A : Type 0} (DiskTells : Type 0) (files : D → Files) (Tells : Ty
       let is = volume_of store v x.0 shape x.1 in
       let long : length (x.0).replicas ≡ (store.settings).replicas = is.all ∙ ap (λ (s : Settings). s.replicas) is.settings_are in
       let r = order_item (x.0).replicas j (let less : j < length (x.0).replicas = omega (arith, within, long) in less) in
-      let stands : slice_get (disks_of store) (slot_of store.settings v j) ≡ Some (r.0).disk = in_volume (λ m disk. slice_get (disks_of store) m ≡ Some disk) store v j x.0 r.0 shape x.1 r.1 (order_self (disks_of store)) in
+      let stands : slice_get (disks_of store) (slot_of store.settings v j) ≡ Some (r.0).disk =
+      in_volume (λ m disk. slice_get (disks_of store) m ≡ Some disk) store v j x.0 r.0 shape x.1 r.1 (order_self (disks_of store)) in
       none v j x.0 r.0 low x.1 r.1 file at
       (subst (λ (u : Super). IsOpeningDamage u (contents_of files (r.0).disk) file at) (sym (superblock store.settings v j x.0 r.0 is r.1))
-      (subst (λ (contents : Contents). IsOpeningDamage (super_of store.settings v j) contents file at) (contents_at files store (slot_of store.settings v j) (r.0).disk stands) (damaged.replica v j volume within refl)))
+      (subst (λ (contents : Contents). IsOpeningDamage (super_of store.settings v j) contents file at) (contents_at files store (slot_of store.settings v j) (r.0).disk stands)
+      (damaged.replica v j volume within refl)))
 
   slots_sound : (store : Open D P A) (end : ℕ) → IsShaped store → end ≤ disk_count store.settings
       → (0 < length (files (store.directory).disk 0).now → (at : ℕ) → IsDamagedJournal (journal_super (store.directory).settings) (files (store.directory).disk 0).now at → ⊥)
-      → ((v j : ℕ) (x : Volume D P) (r : Copy D) → slot_of store.settings v j < end → At store.volumes v x → At x.replicas j r → (file at : ℕ) → IsOpeningDamage r.sup (contents_of files r.disk) file at → ⊥)
+      → ((v j : ℕ) (x : Volume D P) (r : Copy D) → slot_of store.settings v j < end → At store.volumes v x → At x.replicas j r → (file at : ℕ)
+      → IsOpeningDamage r.sup (contents_of files r.disk) file at → ⊥)
       → IsUndamagedBelow store.settings end (contents_in files store)
   slots_sound store end shape most journal replica zero file at below some damaged =
       let same : ◌≡◌ {A = Contents} (contents_in files store 0) (contents_of files (store.directory).disk) = contents_at files store 0 (store.directory).disk refl in
@@ -288,9 +301,11 @@ module _ {D P A : Type 0} (DiskTells : Type 0) (files : D → Files) (Tells : Ty
 
   -- each replica in a lower slot was not damaged, and is not now
   abbrev LowerStay : Open D P A → Open D P A → ℕ → Type 0
-  LowerStay old new end = (v j : ℕ) (x y : Volume D P) (r r' : Copy D) → slot_of old.settings v j < end → At old.volumes v x → At new.volumes v y → At x.replicas j r → At y.replicas j r' → StaysUndamaged files r r'
+  LowerStay old new end =
+      (v j : ℕ) (x y : Volume D P) (r r' : Copy D) → slot_of old.settings v j < end → At old.volumes v x → At new.volumes v y → At x.replicas j r → At y.replicas j r' → StaysUndamaged files r r'
 
-  before_sound : DiskTells → (old new : Open D P A) (notes : List Note) (end : ℕ) → IsShaped old → MovedParts DiskTells files Tells faults fuses arm_faults old new → OpensDirectory DiskTells files old.directory new.directory notes
+  before_sound : DiskTells → (old new : Open D P A) (notes : List Note) (end : ℕ) → IsShaped old → MovedParts DiskTells files Tells faults fuses arm_faults old new
+      → OpensDirectory DiskTells files old.directory new.directory notes
       → end ≤ disk_count old.settings → LowerStay old new end → IsUndamagedBelow old.settings end (contents_in files old)
   before_sound tells old new notes end shape m opened most stay =
       slots_sound old end shape most (opened.undamaged tells) (λ v j x r low at there file place.
@@ -300,7 +315,8 @@ module _ {D P A : Type 0} (DiskTells : Type 0) (files : D → Files) (Tells : Ty
       let r' = order_item (y.0).replicas j (let less : j < length (y.0).replicas = omega (arith, within, count) in less) in
       (stay v j x y.0 r r'.0 low at y.1 there r'.1).0 file place)
 
-  behind_sound : DiskTells → (old new : Open D P A) (notes : List Note) (end : ℕ) → IsShaped old → MovedParts DiskTells files Tells faults fuses arm_faults old new → OpensDirectory DiskTells files old.directory new.directory notes
+  behind_sound : DiskTells → (old new : Open D P A) (notes : List Note) (end : ℕ) → IsShaped old → MovedParts DiskTells files Tells faults fuses arm_faults old new
+      → OpensDirectory DiskTells files old.directory new.directory notes
       → end ≤ disk_count old.settings → LowerStay old new end → IsUndamagedBelow old.settings end (contents_in files new)
   behind_sound tells old new notes end shape m opened most stay =
       let shape' = shape_moved DiskTells files Tells faults fuses arm_faults old new shape m in
@@ -318,7 +334,8 @@ module _ {D P A : Type 0} (DiskTells : Type 0) (files : D → Files) (Tells : Ty
       let count : length (z.0).replicas ≡ length (x.0).replicas = (z.2).counts.count in
       let r = order_item (x.0).replicas j (let less : j < length (x.0).replicas = omega (arith, within, count) in less) in
       let sup : r'.sup ≡ (r.0).sup =
-      superblock new.settings v j y r' (volume_of new v y shape' at') there' ∙ ap (λ (s : Settings). super_of s v j) m.settings ∙ sym (superblock old.settings v j x.0 r.0 (volume_of old v x.0 shape x.1) r.1) in
+      superblock new.settings v j y r' (volume_of new v y shape' at') there' ∙ ap (λ (s : Settings). super_of s v j) m.settings
+      ∙ sym (superblock old.settings v j x.0 r.0 (volume_of old v x.0 shape x.1) r.1) in
       (stay v j x.0 z.0 r.0 r' (subst (λ (s : Settings). slot_of s v j < end) m.settings low) x.1 z.1 r.1 there).1 file place
       (subst (λ (u : Super). IsOpeningDamage u (contents_of files r'.disk) file place) sup damage)))
 
@@ -338,7 +355,8 @@ module _ {D P A : Type 0} (DiskTells : Type 0) (files : D → Files) (Tells : Ty
       ]
 
   -- no disk in a lower slot is void
-  lower_formatted : DiskTells → (old new : Open D P A) (notes : List Note) (end : ℕ) → IsShaped old → MovedParts DiskTells files Tells faults fuses arm_faults old new → OpensDirectory DiskTells files old.directory new.directory notes
+  lower_formatted : DiskTells → (old new : Open D P A) (notes : List Note) (end : ℕ) → IsShaped old → MovedParts DiskTells files Tells faults fuses arm_faults old new
+      → OpensDirectory DiskTells files old.directory new.directory notes
       → end ≤ disk_count old.settings → LowerStay old new end → (slot : ℕ) → slot < end → IsVoid (contents_in files new slot) → ⊥
   lower_formatted tells old new notes end shape m opened most stay zero below void =
       let some = opened.formatted tells in
@@ -358,7 +376,8 @@ module _ {D P A : Type 0} (DiskTells : Type 0) (files : D → Files) (Tells : Ty
       let r' = order_item (y.0).replicas p.1 (let less : p.1 < length (y.0).replicas = omega (arith, within, long, count) in less) in
       let low : slot_of old.settings p.0 p.1 < end = subst (λ slot. slot < end) (sym p.4) below in
       let here : slot_of new.settings p.0 p.1 ≡ suc n = ap (λ (s : Settings). slot_of s p.0 p.1) m.settings ∙ p.4 in
-      let stands : slice_get (disks_of new) (slot_of new.settings p.0 p.1) ≡ Some (r'.0).disk = in_volume (λ k disk. slice_get (disks_of new) k ≡ Some disk) new p.0 p.1 y.0 r'.0 shape' y.1 r'.1 (order_self (disks_of new)) in
+      let stands : slice_get (disks_of new) (slot_of new.settings p.0 p.1) ≡ Some (r'.0).disk =
+      in_volume (λ k disk. slice_get (disks_of new) k ≡ Some disk) new p.0 p.1 y.0 r'.0 shape' y.1 r'.1 (order_self (disks_of new)) in
       (stay p.0 p.1 x.0 y.0 r.0 r'.0 low x.1 y.1 r.1 r'.1).2
       (ap (λ (contents : Contents). contents 0) (sym (contents_at files new (suc n) (r'.0).disk (subst (λ k. slice_get (disks_of new) k ≡ Some (r'.0).disk) here stands))) ∙ void)
 
@@ -369,8 +388,13 @@ module _ {D P A : Type 0} (DiskTells : Type 0) (files : D → Files) (Tells : Ty
   lower_sound : DiskTells → (old new : Open D P A) (fault : ClusterFault) (slot : ℕ) → IsShaped old → MovedParts DiskTells files Tells faults fuses arm_faults old new
       → RefusesParts DiskTells files faults old.settings old.directory new.directory old.volumes new.volumes fault → TellsSlot fault slot → LowerSound old new slot
   lower_sound tells old new fault slot shape m (inl by) told =
-      let zeroth = directory_first DiskTells files faults old.directory new.directory fault slot by told in
-      (none_below old.settings slot (contents_in files old) zeroth, record { formatted = λ n below. absurd (omega (arith, below, zeroth)); undamaged = none_below old.settings slot (contents_in files new) zeroth })
+      let zeroth = directory_first DiskTells files faults old.directory new.directory fault slot by told in (
+        none_below old.settings slot (contents_in files old) zeroth,
+        record {
+          formatted = λ n below. absurd (omega (arith, below, zeroth));
+          undamaged = none_below old.settings slot (contents_in files new) zeroth;
+        },
+      )
   lower_sound tells old new fault slot shape m (inr (notes, opened, inl memory)) told = absurd (subst (λ f. TellsSlot f slot) memory told)
   lower_sound tells old new fault slot shape m (inr (notes, opened, inr by)) told =
       let j = by.refused.refusal.replica in
@@ -390,7 +414,8 @@ module _ {D P A : Type 0} (DiskTells : Type 0) (files : D → Files) (Tells : Ty
 
   -- WHAT A RESTART NAMES
 
-  pub restart_damaged : DiskTells → (old mid new : Open D P A) (fault : ClusterFault) → IsShaped mid → StoppedParts DiskTells files Tells faults fuses arm_faults old mid → MovedParts DiskTells files Tells faults fuses arm_faults mid new
+  pub restart_damaged : DiskTells → (old mid new : Open D P A) (fault : ClusterFault) → IsShaped mid → StoppedParts DiskTells files Tells faults fuses arm_faults old mid
+      → MovedParts DiskTells files Tells faults fuses arm_faults mid new
       → RefusesParts DiskTells files faults mid.settings mid.directory new.directory mid.volumes new.volumes fault → (slot file at : ℕ) → fault ≡ Damaged slot file at
       → IsDamagedDisk old.settings (contents_in files new) slot file at
   restart_damaged tells old mid new fault shape s m refused slot file at is =
@@ -400,12 +425,15 @@ module _ {D P A : Type 0} (DiskTells : Type 0) (files : D → Files) (Tells : Ty
       (subst (λ (t : Settings). IsUndamagedBelow t slot (contents_in files new)) s.settings ((lower_sound tells mid new fault slot shape m refused told).1).undamaged)
 
   -- and those below are sound
-  pub restart_first : DiskTells → (old mid new : Open D P A) (fault : ClusterFault) → IsShaped mid → StoppedParts DiskTells files Tells faults fuses arm_faults old mid → MovedParts DiskTells files Tells faults fuses arm_faults mid new
-      → RefusesParts DiskTells files faults mid.settings mid.directory new.directory mid.volumes new.volumes fault → (slot : ℕ) → TellsSlot fault slot → AreSoundBelow old.settings slot (contents_in files new)
+  pub restart_first : DiskTells → (old mid new : Open D P A) (fault : ClusterFault) → IsShaped mid → StoppedParts DiskTells files Tells faults fuses arm_faults old mid
+      → MovedParts DiskTells files Tells faults fuses arm_faults mid new
+      → RefusesParts DiskTells files faults mid.settings mid.directory new.directory mid.volumes new.volumes fault → (slot : ℕ) → TellsSlot fault slot
+      → AreSoundBelow old.settings slot (contents_in files new)
   restart_first tells old mid new fault shape s m refused slot told =
       subst (λ (t : Settings). AreSoundBelow t slot (contents_in files new)) s.settings (lower_sound tells mid new fault slot shape m refused told).1
 
-  pub restart_sound : DiskTells → (old mid new : Open D P A) (notes : List Note) → IsShaped mid → StoppedParts DiskTells files Tells faults fuses arm_faults old mid → MovedParts DiskTells files Tells faults fuses arm_faults mid new
+  pub restart_sound : DiskTells → (old mid new : Open D P A) (notes : List Note) → IsShaped mid → StoppedParts DiskTells files Tells faults fuses arm_faults old mid
+      → MovedParts DiskTells files Tells faults fuses arm_faults mid new
       → OpensParts DiskTells files Tells faults fuses mid.directory new.directory mid.volumes new.volumes notes → IsUndamaged old.settings (contents_in files new)
   restart_sound tells old mid new notes shape s m opened =
       let stay : LowerStay mid new (disk_count mid.settings) = λ v j x y r r' low at at'.
@@ -416,13 +444,16 @@ module _ {D P A : Type 0} (DiskTells : Type 0) (files : D → Files) (Tells : Ty
 
   -- WHAT A FIRST OPENING NAMES
 
-  lower_taken : DiskTells → (drawn : D → ℕ → ℕ) (sure : A → Bool) (disks : ℕ → HeldDisk) (arms : ℕ → HeldArm) (old : Open D P A) → IsTaken DiskTells files Tells faults fuses arm_faults drawn sure disks arms old
+  lower_taken : DiskTells → (drawn : D → ℕ → ℕ) (sure : A → Bool) (disks : ℕ → HeldDisk) (arms : ℕ → HeldArm) (old : Open D P A)
+      → IsTaken DiskTells files Tells faults fuses arm_faults drawn sure disks arms old
       → (slot : ℕ) → slot ≤ disk_count old.settings → IsUndamagedBelow old.settings slot (contents_in files old) → IsUndamagedBelow old.settings slot (λ n. read_of (disks n))
   lower_taken tells drawn sure disks arms old t slot below sound =
       undamaged_on old.settings slot (contents_in files old) (λ n. read_of (disks n))
-      (λ n less. sym (taken_contents DiskTells files Tells faults fuses arm_faults drawn sure disks arms tells old t n (let low : n < disk_count old.settings = omega (arith, less, below) in low))) sound
+      (λ n less. sym (taken_contents DiskTells files Tells faults fuses arm_faults drawn sure disks arms tells old t n
+      (let low : n < disk_count old.settings = omega (arith, less, below) in low))) sound
 
-  pub opening_damaged : DiskTells → (drawn : D → ℕ → ℕ) (sure : A → Bool) (disks after : ℕ → HeldDisk) (arms : ℕ → HeldArm) (settings : Settings) (old new : Open D P A) (fault : ClusterFault) → old.settings ≡ settings
+  pub opening_damaged : DiskTells → (drawn : D → ℕ → ℕ) (sure : A → Bool) (disks after : ℕ → HeldDisk) (arms : ℕ → HeldArm) (settings : Settings) (old new : Open D P A)
+      (fault : ClusterFault) → old.settings ≡ settings
       → IsTaken DiskTells files Tells faults fuses arm_faults drawn sure disks arms old → MovedParts DiskTells files Tells faults fuses arm_faults old new
       → ((slot : ℕ) → slot < disk_count settings → ◌≡◌ {A = Contents} (read_of (after slot)) (contents_in files new slot))
       → RefusesParts DiskTells files faults old.settings old.directory new.directory old.volumes new.volumes fault → (slot file at : ℕ) → fault ≡ Damaged slot file at
@@ -435,8 +466,10 @@ module _ {D P A : Type 0} (DiskTells : Type 0) (files : D → Files) (Tells : Ty
       let lower = lower_sound tells old new fault slot t.shape m refused told in (
         damaged_disk settings slot file at (λ n. read_of (disks n))
             (subst (λ (s : Settings). NamesDamage s slot file at (read_of (disks slot))) same
-            (subst (λ (contents : Contents). NamesDamage old.settings slot file at contents) (taken_contents DiskTells files Tells faults fuses arm_faults drawn sure disks arms tells old t slot was.within) was))
-            (subst (λ (s : Settings). IsUndamagedBelow s slot (λ n. read_of (disks n))) same (lower_taken tells drawn sure disks arms old t slot (let within = was.within in let most : slot ≤ disk_count old.settings = omega (arith, within) in most) lower.0)),
+            (subst (λ (contents : Contents). NamesDamage old.settings slot file at contents) (taken_contents DiskTells files Tells faults fuses arm_faults drawn sure disks arms
+            tells old t slot was.within) was))
+            (subst (λ (s : Settings). IsUndamagedBelow s slot (λ n. read_of (disks n))) same (lower_taken tells drawn sure disks arms old t slot
+            (let within = was.within in let most : slot ≤ disk_count old.settings = omega (arith, within) in most) lower.0)),
         damaged_disk settings slot file at (λ n. read_of (after n))
             (subst (λ (s : Settings). NamesDamage s slot file at (read_of (after slot))) same
             (subst (λ (contents : Contents). NamesDamage old.settings slot file at contents) (sym (back slot below)) behind))
@@ -444,25 +477,30 @@ module _ {D P A : Type 0} (DiskTells : Type 0) (files : D → Files) (Tells : Ty
             (subst (λ (s : Settings). IsUndamagedBelow s slot (contents_in files new)) same (lower.1).undamaged)),
       )
 
-  pub opening_failed : DiskTells → (drawn : D → ℕ → ℕ) (sure : A → Bool) (disks : ℕ → HeldDisk) (arms : ℕ → HeldArm) (settings : Settings) (old new : Open D P A) (fault : ClusterFault) → old.settings ≡ settings
+  pub opening_failed : DiskTells → (drawn : D → ℕ → ℕ) (sure : A → Bool) (disks : ℕ → HeldDisk) (arms : ℕ → HeldArm) (settings : Settings) (old new : Open D P A)
+      (fault : ClusterFault) → old.settings ≡ settings
       → IsTaken DiskTells files Tells faults fuses arm_faults drawn sure disks arms old → MovedParts DiskTells files Tells faults fuses arm_faults old new
       → RefusesParts DiskTells files faults old.settings old.directory new.directory old.volumes new.volumes fault → (slot count : ℕ) → fault ≡ Failed slot count
       → IsUndamagedBelow settings slot (λ n. read_of (disks n))
   opening_failed tells drawn sure disks arms settings old new fault same t m refused slot count is =
       let told : TellsSlot fault slot = subst (λ f. TellsSlot f slot) (sym is) refl in
       let cause : HasFaultCause old.settings (map faults (disks_of old)) (map faults (disks_of new)) (Failed slot count) =
-      subst (λ f. HasFaultCause old.settings (map faults (disks_of old)) (map faults (disks_of new)) f) is (opening_cause DiskTells files Tells faults fuses arm_faults old new fault t.shape m refused) in
+      subst (λ f. HasFaultCause old.settings (map faults (disks_of old)) (map faults (disks_of new)) f) is
+      (opening_cause DiskTells files Tells faults fuses arm_faults old new fault t.shape m refused) in
       let within : slot < disk_count old.settings = cause.0 in
-      subst (λ (s : Settings). IsUndamagedBelow s slot (λ n. read_of (disks n))) same (lower_taken tells drawn sure disks arms old t slot (let most : slot ≤ disk_count old.settings = omega (arith, within) in most) (lower_sound tells old new fault slot t.shape m refused told).0)
+      subst (λ (s : Settings). IsUndamagedBelow s slot (λ n. read_of (disks n))) same (lower_taken tells drawn sure disks arms old t slot
+      (let most : slot ≤ disk_count old.settings = omega (arith, within) in most) (lower_sound tells old new fault slot t.shape m refused told).0)
 
-  pub opening_first : DiskTells → (drawn : D → ℕ → ℕ) (sure : A → Bool) (disks after : ℕ → HeldDisk) (arms : ℕ → HeldArm) (settings : Settings) (old new : Open D P A) (fault : ClusterFault) → old.settings ≡ settings
+  pub opening_first : DiskTells → (drawn : D → ℕ → ℕ) (sure : A → Bool) (disks after : ℕ → HeldDisk) (arms : ℕ → HeldArm) (settings : Settings) (old new : Open D P A)
+      (fault : ClusterFault) → old.settings ≡ settings
       → IsTaken DiskTells files Tells faults fuses arm_faults drawn sure disks arms old → MovedParts DiskTells files Tells faults fuses arm_faults old new
       → ((slot : ℕ) → slot < disk_count settings → ◌≡◌ {A = Contents} (read_of (after slot)) (contents_in files new slot))
       → RefusesParts DiskTells files faults old.settings old.directory new.directory old.volumes new.volumes fault → (slot : ℕ) → TellsSlot fault slot
       → AreSoundBelow settings slot (λ n. read_of (after n))
   opening_first tells drawn sure disks after arms settings old new fault same t m back refused slot told =
       let within = subst (λ (s : Settings). slot < disk_count s) same
-      (told_within old.settings (map faults (disks_of old)) (map faults (disks_of new)) fault slot (opening_cause DiskTells files Tells faults fuses arm_faults old new fault t.shape m refused) told) in
+      (told_within old.settings (map faults (disks_of old)) (map faults (disks_of new)) fault slot
+      (opening_cause DiskTells files Tells faults fuses arm_faults old new fault t.shape m refused) told) in
       let lower = subst (λ (s : Settings). AreSoundBelow s slot (contents_in files new)) same (lower_sound tells old new fault slot t.shape m refused told).1 in
       let here = λ (n : ℕ) (less : n < slot). back n (let low : n < disk_count settings = omega (arith, less, within) in low) in
       record {
@@ -472,7 +510,8 @@ module _ {D P A : Type 0} (DiskTells : Type 0) (files : D → Files) (Tells : Ty
 
   -- WHAT AN OPENING THAT IS NOT REFUSED FOUND
 
-  pub opened_sound : DiskTells → (drawn : D → ℕ → ℕ) (sure : A → Bool) (disks : ℕ → HeldDisk) (arms : ℕ → HeldArm) (settings : Settings) (old new : Open D P A) (notes : List Note) → old.settings ≡ settings
+  pub opened_sound : DiskTells → (drawn : D → ℕ → ℕ) (sure : A → Bool) (disks : ℕ → HeldDisk) (arms : ℕ → HeldArm) (settings : Settings) (old new : Open D P A) (notes : List Note)
+      → old.settings ≡ settings
       → IsTaken DiskTells files Tells faults fuses arm_faults drawn sure disks arms old → MovedParts DiskTells files Tells faults fuses arm_faults old new
       → OpensParts DiskTells files Tells faults fuses old.directory new.directory old.volumes new.volumes notes → IsUndamaged settings (λ slot. read_of (disks slot))
   opened_sound tells drawn sure disks arms settings old new notes mine t m opened =
@@ -483,14 +522,16 @@ module _ {D P A : Type 0} (DiskTells : Type 0) (files : D → Files) (Tells : Ty
       (lower_taken tells drawn sure disks arms old t (disk_count old.settings) all (before_sound tells old new opened.of_directory (disk_count old.settings) t.shape m opened.directory all stay))
 
   -- the rows and each disk that was void or whole
-  pub opened_reads : DiskTells → (drawn : D → ℕ → ℕ) (sure : A → Bool) (disks : ℕ → HeldDisk) (arms : ℕ → HeldArm) (settings : Settings) (old new : Open D P A) (notes : List Note) → old.settings ≡ settings
+  pub opened_reads : DiskTells → (drawn : D → ℕ → ℕ) (sure : A → Bool) (disks : ℕ → HeldDisk) (arms : ℕ → HeldArm) (settings : Settings) (old new : Open D P A) (notes : List Note)
+      → old.settings ≡ settings
       → IsTaken DiskTells files Tells faults fuses arm_faults drawn sure disks arms old → MovedParts DiskTells files Tells faults fuses arm_faults old new
       → OpensParts DiskTells files Tells faults fuses old.directory new.directory old.volumes new.volumes notes → ReadsSeen settings (λ slot. read_of (disks slot)) (store_seen new)
   opened_reads tells drawn sure disks arms settings old new notes mine t m opened =
       let shape = t.shape in
       let rows : List HomeRow = (opened.directory).seen.0 in
       let journal : ◌≡◌ {A = Contents} (contents_of files (old.directory).disk) (read_of (disks 0)) =
-      sym (contents_at files old 0 (old.directory).disk refl) ∙ taken_contents DiskTells files Tells faults fuses arm_faults drawn sure disks arms tells old t 0 (let low : 0 < disk_count old.settings = omega arith in low) in
+      sym (contents_at files old 0 (old.directory).disk refl) ∙ taken_contents DiskTells files Tells faults fuses arm_faults drawn sure disks arms tells old t 0
+      (let low : 0 < disk_count old.settings = omega arith in low) in
       subst (λ (s : Settings). ReadsSeen s (λ slot. read_of (disks slot)) (store_seen new)) mine
       (record {
         rows = rows;
@@ -506,7 +547,8 @@ module _ {D P A : Type 0} (DiskTells : Type 0) (files : D → Files) (Tells : Ty
             let y = zip_get (LeavesVolume DiskTells files Tells faults fuses) old.volumes new.volumes v x.0 x.1 m.volumes in
             let count : length (y.0).replicas ≡ length (x.0).replicas = (y.2).counts.count in
             let r' = order_item (y.0).replicas j (let less : j < length (y.0).replicas = omega (arith, within, long, count) in less) in
-            let stands : slice_get (disks_of old) (slot_of old.settings v j) ≡ Some (r.0).disk = in_volume (λ n disk. slice_get (disks_of old) n ≡ Some disk) old v j x.0 r.0 shape x.1 r.1 (order_self (disks_of old)) in
+            let stands : slice_get (disks_of old) (slot_of old.settings v j) ≡ Some (r.0).disk =
+            in_volume (λ n disk. slice_get (disks_of old) n ≡ Some disk) old v j x.0 r.0 shape x.1 r.1 (order_self (disks_of old)) in
             let bytes : ◌≡◌ {A = Contents} (contents_of files (r.0).disk) (read_of (disks (slot_of old.settings v j))) =
             sym (contents_at files old (slot_of old.settings v j) (r.0).disk stands)
             ∙ taken_contents DiskTells files Tells faults fuses arm_faults drawn sure disks arms tells old t (slot_of old.settings v j) (slot_within old.settings v j volume within) in

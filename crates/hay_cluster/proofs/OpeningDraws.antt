@@ -65,7 +65,8 @@ zip_told Tells R (x ∷ xs) (y ∷ ys) tells all = (all.0 tells, zip_told Tells 
 
 module _ {D P : Type 0} (files : D → Files) (drawn : D → ℕ → ℕ) (Tells : Type 0) (fits : (disk : D) (n : ℕ) → length (files disk n).now < 2 ^ 64) where
   -- a replica whose index has all records
-  replica_flushed : (before : ℕ → ℕ) (sup : Super) (settings : Settings) (volume : Volume D P) (k : VolumeKnown) (j : ℕ) (r : Copy D) → r.sup ≡ sup → IsNewVolume settings k → j < length k.replicas → (replica_at k j).bare ≡ 0
+  replica_flushed : (before : ℕ → ℕ) (sup : Super) (settings : Settings) (volume : Volume D P) (k : VolumeKnown) (j : ℕ) (r : Copy D) → r.sup ≡ sup → IsNewVolume settings k
+      → j < length k.replicas → (replica_at k j).bare ≡ 0
       → logical.Stands files Tells volume k → At volume.replicas j r → DrewLittle sup (contents_of files r.disk) None before (drawn r.disk)
       → drawn r.disk (volume_file (replica_at k j).generation) ≤ before (volume_file (replica_at k j).generation) + (64 + 36 + 8)
   unfolding logical.Stands
@@ -80,7 +81,9 @@ module _ {D P : Type 0} (files : D → Files) (drawn : D → ℕ → ℕ) (Tells
       let stored = stands_stored files r one.stored loose one.stands in
       let here = one.fits.bare in
       let all : one.stored.records ≡ length one.stored.cells = omega (arith, here, bare) in
-      let most = flushed_draws r.sup (contents_of files r.disk) before (drawn r.disk) one.stored (λ n. fits r.disk n) stored all (subst (λ (u : Super). DrewLittle u (contents_of files r.disk) None before (drawn r.disk)) (sym mine) drew) in
+      let most =
+      flushed_draws r.sup (contents_of files r.disk) before (drawn r.disk) one.stored (λ n. fits r.disk n) stored all
+      (subst (λ (u : Super). DrewLittle u (contents_of files r.disk) None before (drawn r.disk)) (sym mine) drew) in
       subst (λ n. drawn r.disk (volume_file n) ≤ before (volume_file n) + (64 + 36 + 8)) (sym one.fits.generation) most
 
 -- THE REPLICAS OF A STORE
@@ -136,7 +139,8 @@ module _ {D P A : Type 0} (files : D → Files) (drawn : D → ℕ → ℕ) wher
       (subst (λ (f : ℕ → ℕ). DrewLittle (o.copy).sup (contents_of files (n.copy).disk) (looked_pair (o.volume).unsure) (drawn (o.copy).disk) f) (sym (drawn_at new slot (n.copy).disk stands)) drew))))
 
   -- by a first opening, of the disks of a shelf
-  pub opening_drew : (DiskTells Tells : Type 0) (faults fuses : D → ℕ) (arm_faults : A → ℕ) (sure : A → Bool) (disks : ℕ → HeldDisk) (arms : ℕ → HeldArm) → DiskTells → (settings : Settings) (old new : Open D P A) → old.settings ≡ settings
+  pub opening_drew : (DiskTells Tells : Type 0) (faults fuses : D → ℕ) (arm_faults : A → ℕ) (sure : A → Bool) (disks : ℕ → HeldDisk) (arms : ℕ → HeldArm) → DiskTells
+      → (settings : Settings) (old new : Open D P A) → old.settings ≡ settings
       → IsTaken DiskTells files Tells faults fuses arm_faults drawn sure disks arms old → IsShaped new → new.settings ≡ old.settings → AllZip (DrawsVolume files drawn) old.volumes new.volumes
       → EachDrewLittle settings (contents_in files new) no_look (λ slot. (disks slot).drawn) (drawn_in drawn new)
   opening_drew DiskTells Tells faults fuses arm_faults sure disks arms tells settings old new mine t shape same all =
@@ -146,7 +150,8 @@ module _ {D P A : Type 0} (files : D → Files) (drawn : D → ℕ → ℕ) wher
       (λ v x at. ap (λ (u : Option Unsure). looked_pair u) (AllByRecursion-at (λ (w : Volume D P). w.unsure ≡ None) old.volumes v x at t.unsure)) all)
 
   -- by the opening of a restart
-  pub restart_drew : (old mid new : Open D P A) → IsShaped mid → IsShaped new → mid.settings ≡ old.settings → new.settings ≡ mid.settings → AllZip (StopsDrawing drawn) old.volumes mid.volumes → AllZip (DrawsVolume files drawn) mid.volumes new.volumes
+  pub restart_drew : (old mid new : Open D P A) → IsShaped mid → IsShaped new → mid.settings ≡ old.settings → new.settings ≡ mid.settings
+      → AllZip (StopsDrawing drawn) old.volumes mid.volumes → AllZip (DrawsVolume files drawn) mid.volumes new.volumes
       → EachDrewLittle old.settings (contents_in files new) (looked_in old) none_drawn (drawn_in drawn new)
   restart_drew old mid new shape shape' settings same stopped all =
       let was_at : (v : ℕ) (x : Volume D P) → At mid.volumes v x → (o : Volume D P) × (At old.volumes v o) × StopsDrawing drawn o x = λ v x at.
@@ -166,7 +171,8 @@ module _ {D P A : Type 0} (files : D → Files) (drawn : D → ℕ → ℕ) wher
   -- A STORE WHOSE INDEXES HAVE ALL RECORDS
 
   module _ (Tells : Type 0) (fits : (disk : D) (n : ℕ) → length (files disk n).now < 2 ^ 64) where
-    store_flushed : (faults fuses : D → ℕ) (arm_faults : A → ℕ) (before : ℕ → ℕ → ℕ) (store : Open D P A) (k t : Known) → IsNew store.settings k → FaultsRose k t → Stands files Tells faults fuses arm_faults store t
+    store_flushed : (faults fuses : D → ℕ) (arm_faults : A → ℕ) (before : ℕ → ℕ → ℕ) (store : Open D P A) (k t : Known) → IsNew store.settings k → FaultsRose k t
+        → Stands files Tells faults fuses arm_faults store t
         → EachDrewLittle store.settings (contents_in files store) no_look before (drawn_in drawn store) → FlushedDrewLittle store.settings k before (drawn_in drawn store)
     unfolding Stands
     store_flushed faults fuses arm_faults before store k t new rose stands drew v j low within bare =
@@ -179,14 +185,19 @@ module _ {D P A : Type 0} (files : D → Files) (drawn : D → ℕ → ℕ) wher
         let many = fresh.count in
         let mine : DrewLittle (super_of store.settings v j) (contents_of files (p.copy).disk) None (before slot) (drawn (p.copy).disk) =
         subst (λ (f : ℕ → ℕ). DrewLittle (super_of store.settings v j) (contents_of files (p.copy).disk) None (before slot) f) (drawn_at store slot (p.copy).disk p.stands)
-        (subst (λ (contents : Contents). DrewLittle (super_of store.settings v j) contents None (before slot) (drawn_in drawn store slot)) (contents_at files store slot (p.copy).disk p.stands) (drew v j low within)) in
-        let most = replica_flushed files drawn Tells fits (before slot) (super_of store.settings v j) store.settings p.volume y.0 j p.copy p.mine fresh (let less : j < length (y.0).replicas = omega (arith, within, many) in less)
+        (subst (λ (contents : Contents). DrewLittle (super_of store.settings v j) contents None (before slot) (drawn_in drawn store slot))
+        (contents_at files store slot (p.copy).disk p.stands) (drew v j low within)) in
+        let most =
+        replica_flushed files drawn Tells fits (before slot) (super_of store.settings v j) store.settings p.volume y.0 j p.copy p.mine fresh
+        (let less : j < length (y.0).replicas = omega (arith, within, many) in less)
         (subst (λ (w : VolumeKnown). (replica_at w j).bare ≡ 0) is bare) y.2 p.there mine in
         subst (λ (w : VolumeKnown). drawn_in drawn store slot (volume_file (replica_at w j).generation) ≤ before slot (volume_file (replica_at w j).generation) + (64 + 36 + 8)) (sym is)
-        (subst (λ (f : ℕ → ℕ). f (volume_file (replica_at y.0 j).generation) ≤ before slot (volume_file (replica_at y.0 j).generation) + (64 + 36 + 8)) (sym (drawn_at store slot (p.copy).disk p.stands)) most)
+        (subst (λ (f : ℕ → ℕ). f (volume_file (replica_at y.0 j).generation) ≤ before slot (volume_file (replica_at y.0 j).generation) + (64 + 36 + 8))
+        (sym (drawn_at store slot (p.copy).disk p.stands)) most)
 
     -- what is known of it as it was opened
-    pub flushed_drew : (faults fuses : D → ℕ) (arm_faults : A → ℕ) (settings : Settings) (before : ℕ → ℕ → ℕ) (store : Open D P A) (k t : Known) → store.settings ≡ settings → IsNew settings k → FaultsRose k t → Stands files Tells faults fuses arm_faults store t
+    pub flushed_drew : (faults fuses : D → ℕ) (arm_faults : A → ℕ) (settings : Settings) (before : ℕ → ℕ → ℕ) (store : Open D P A) (k t : Known) → store.settings ≡ settings
+        → IsNew settings k → FaultsRose k t → Stands files Tells faults fuses arm_faults store t
         → EachDrewLittle settings (contents_in files store) no_look before (drawn_in drawn store) → FlushedDrewLittle settings k before (drawn_in drawn store)
     flushed_drew faults fuses arm_faults settings before store k t mine new rose stands drew =
         subst (λ (s : Settings). FlushedDrewLittle s k before (drawn_in drawn store)) mine

@@ -47,7 +47,8 @@ module _ {D P : Type 0} where
       nowhere j r at = cc
 
   pub filling_more : (n : ℕ) (old new new' : Volume D P) (before after after' : List D) (disk : D) → Filling n old new before after → after ≡ after' ++ disk ∷ []
-      → new' ≡ record new { replicas = new.replicas ++ record { sup = super_of new.settings new.number (length new.replicas); disk = disk; phase = Closed } ∷ [] } → Filling (n + 1) old new' before after'
+      → new' ≡ record new { replicas = new.replicas ++ record { sup = super_of new.settings new.number (length new.replicas); disk = disk; phase = Closed } ∷ [] }
+      → Filling (n + 1) old new' before after'
   filling_more n old new new' before after after' disk f is e =
       let r0 : Copy D = record { sup = super_of new.settings new.number (length new.replicas); disk = disk; phase = Closed } in
       let all : List (Copy D) = new.replicas ++ r0 ∷ [] in
@@ -102,7 +103,8 @@ pub record AreFilled {D P : Type 0} (settings : Settings) (v : ℕ) (news : List
   pub sure : AllByRecursion (λ volume. volume.unsure ≡ None) news
   pub disks : taken ≡ flat_map volume_disks news
 
-pub are_filled : {D P : Type 0} (settings : Settings) (v : ℕ) (xs ys : List (Volume D P)) (taken : List D) → InOrder (IsEmptyVolume settings) v xs → Gathers FillsVolume xs ys taken → AreFilled settings v ys taken
+pub are_filled : {D P : Type 0} (settings : Settings) (v : ℕ) (xs ys : List (Volume D P)) (taken : List D) → InOrder (IsEmptyVolume settings) v xs → Gathers FillsVolume xs ys taken
+    → AreFilled settings v ys taken
 are_filled settings v [] [] taken empty g = record { shape = tt; closed = tt; sure = tt; disks = g }
 are_filled settings v [] (y ∷ ys) taken empty g = absurd g
 are_filled settings v (x ∷ xs) [] taken empty g = absurd g
@@ -112,7 +114,15 @@ are_filled {D} {P} settings v (x ∷ xs) (y ∷ ys) taken empty g =
     let rest = are_filled settings (v + 1) xs ys g.behind empty.1 g.rest in
     let set : y.settings ≡ x.settings = ap (λ (w : Volume D P). w.settings) f.only in
     record {
-      shape = (record { settings_are = set ∙ was.settings_are; number = ap (λ (w : Volume D P). w.number) f.only ∙ was.number; all = f.many ∙ ap (λ (s : Settings). s.replicas) (sym set); sups = f.sups }, rest.shape);
+      shape = (
+        record {
+          settings_are = set ∙ was.settings_are;
+          number = ap (λ (w : Volume D P). w.number) f.only ∙ was.number;
+          all = f.many ∙ ap (λ (s : Settings). s.replicas) (sym set);
+          sups = f.sups;
+        },
+        rest.shape,
+      );
       closed = (f.closed, rest.closed);
       sure = (ap (λ (w : Volume D P). w.unsure) f.only ∙ was.sure, rest.sure);
       disks = g.parts ∙ ap (λ (l : List D). l ++ g.behind) f.disks_are ∙ ap (λ (l : List D). volume_disks y ++ l) rest.disks;

@@ -49,7 +49,8 @@ at_or [] i x d at = absurd cc
 at_or (y ∷ xs) zero x d at = cc
 at_or (y ∷ xs) (suc i) x d at = at_or xs i x d at
 
-same_reads : {D : Type 0} (DiskTells : Type 0) (files : D → Files) (drawn : D → ℕ → ℕ) (faults fuses : D → ℕ) → DiskTells → (held : HeldDisk) (disk : D) → IsMountedDisk DiskTells files drawn faults fuses held disk → ◌≡◌ {A = Contents} (λ n. (files disk n).now) (read_of held)
+same_reads : {D : Type 0} (DiskTells : Type 0) (files : D → Files) (drawn : D → ℕ → ℕ) (faults fuses : D → ℕ) → DiskTells → (held : HeldDisk) (disk : D)
+    → IsMountedDisk DiskTells files drawn faults fuses held disk → ◌≡◌ {A = Contents} (λ n. (files disk n).now) (read_of held)
 same_reads DiskTells files drawn faults fuses tells held disk taken = fun_ext (λ n. taken.now tells n)
 
 -- two lists of numbers, place by place
@@ -68,7 +69,8 @@ same_numbers (m ∷ ms) (n ∷ ns) long each =
     let first : m ≡ n = each 0 (omega arith) in
     let rest : ms ≡ ns = same_numbers ms ns (let less : length ms ≡ length ns = omega (arith, long) in less) (λ i below. each (suc i) (omega (arith, below))) in cc
 
-module _ {D P A : Type 0} (DiskTells : Type 0) (files : D → Files) (Tells : Type 0) (faults fuses : D → ℕ) (arm_faults : A → ℕ) (drawn : D → ℕ → ℕ) (sure : A → Bool) (disks : ℕ → HeldDisk) (arms : ℕ → HeldArm) (shelf : ℕ) where
+module _ {D P A : Type 0} (DiskTells : Type 0) (files : D → Files) (Tells : Type 0) (faults fuses : D → ℕ) (arm_faults : A → ℕ) (drawn : D → ℕ → ℕ) (sure : A → Bool)
+    (disks : ℕ → HeldDisk) (arms : ℕ → HeldArm) (shelf : ℕ) where
   -- WHAT AN OPENING FINDS
 
   first_at : DiskTells → (store : Open D P A) (k : Known) → IsTaken DiskTells files Tells faults fuses arm_faults drawn sure disks arms store
@@ -89,7 +91,8 @@ module _ {D P A : Type 0} (DiskTells : Type 0) (files : D → Files) (Tells : Ty
             let same : volume_at k v ≡ y = at_or k.volumes v y empty_volume at' in
             let mine : IsReplica store.settings v j (contents_of files r.disk) (found_of (replica_at y j)) =
             subst (λ (w : VolumeKnown). IsReplica store.settings v j (contents_of files r.disk) (found_of (replica_at w j))) same
-            (subst (λ (contents : Contents). IsReplica store.settings v j contents (found_of (replica_at (volume_at k v) j))) (sym (same_reads DiskTells files drawn faults fuses tells (disks slot) r.disk taken)) here) in
+            (subst (λ (contents : Contents). IsReplica store.settings v j contents (found_of (replica_at (volume_at k v) j)))
+            (sym (same_reads DiskTells files drawn faults fuses tells (disks slot) r.disk taken)) here) in
             subst (λ (s : Settings). IsReplica s x.number j (contents_of files r.disk) (found_of (replica_at y j))) (sym is.settings_are)
             (subst (λ n. IsReplica store.settings n j (contents_of files r.disk) (found_of (replica_at y j))) (sym is.number) mine);
       }
@@ -102,11 +105,13 @@ module _ {D P A : Type 0} (DiskTells : Type 0) (files : D → Files) (Tells : Ty
   abbrev FindsNew : Known → Open D P A → Type 0
   FindsNew k store = (t : Known) × FaultsRose k t × Stands files Tells faults fuses arm_faults store t
 
-  counted : (old new : Open D P A) → IsTaken DiskTells files Tells faults fuses arm_faults drawn sure disks arms old → MovedParts DiskTells files Tells faults fuses arm_faults old new → length (disks_of new) ≡ disk_count old.settings
+  counted : (old new : Open D P A) → IsTaken DiskTells files Tells faults fuses arm_faults drawn sure disks arms old
+      → MovedParts DiskTells files Tells faults fuses arm_faults old new → length (disks_of new) ≡ disk_count old.settings
   counted old new t m = disks_many new (shape_moved DiskTells files Tells faults fuses arm_faults old new t.shape m) ∙ ap (λ (s : Settings). disk_count s) m.settings
 
   leaves_new : (old new : Open D P A) (k : Known) → IsTaken DiskTells files Tells faults fuses arm_faults drawn sure disks arms old → MovedParts DiskTells files Tells faults fuses arm_faults old new
-      → HoldsNew (IsReplica old.settings) (OpensRows old.settings) old.settings (outside_of shelf disks arms) k → FaultsRose k (record k { faults = map faults (disks_of new); arms = map arm_faults new.arms })
+      → HoldsNew (IsReplica old.settings) (OpensRows old.settings) old.settings (outside_of shelf disks arms) k
+      → FaultsRose k (record k { faults = map faults (disks_of new); arms = map arm_faults new.arms })
   leaves_new old new k t m opened =
       let many = length-map (disks_of new) faults ∙ counted old new t m in
       let lanes = length-map new.arms arm_faults ∙ ap (λ (l : List A). length l) m.arms ∙ (t.shape).lanes in
@@ -134,7 +139,8 @@ module _ {D P A : Type 0} (DiskTells : Type 0) (files : D → Files) (Tells : Ty
 
   -- the rows that were found are those that the disk has
   same_directory : DiskTells → (old new : Open D P A) (k : Known) → IsTaken DiskTells files Tells faults fuses arm_faults drawn sure disks arms old
-      → HoldsNew (IsReplica old.settings) (OpensRows old.settings) old.settings (outside_of shelf disks arms) k → (rows : List HomeRow) → OpensRows (old.directory).settings (λ n. (files (old.directory).disk n).now) rows
+      → HoldsNew (IsReplica old.settings) (OpensRows old.settings) old.settings (outside_of shelf disks arms) k → (rows : List HomeRow)
+      → OpensRows (old.directory).settings (λ n. (files (old.directory).disk n).now) rows
       → directory.Stands files new.directory (directory_with rows) (replicate ((old.directory).settings).machines false) → directory.Stands files new.directory k.directory k.drained
   same_directory tells old new k t opened rows found stands =
       let few : (old.settings).volumes ≤ 2 ^ 32 = let most = ((t.shape).built).few_volumes in omega (arith, most) in
@@ -146,7 +152,8 @@ module _ {D P A : Type 0} (DiskTells : Type 0) (files : D → Files) (Tells : Ty
       let drains : replicate ((old.directory).settings).machines false ≡ k.drained = ap (λ (s : Settings). replicate s.machines false) (t.shape).directory ∙ sym (opened.new).drained in
       subst (λ (dir : DirKnown). directory.Stands files new.directory dir k.drained) is (subst (λ (ds : List Bool). directory.Stands files new.directory (directory_with rows) ds) drains stands)
 
-  finds_new : DiskTells → (old new : Open D P A) (k : Known) (notes : List Note) → IsTaken DiskTells files Tells faults fuses arm_faults drawn sure disks arms old → MovedParts DiskTells files Tells faults fuses arm_faults old new
+  finds_new : DiskTells → (old new : Open D P A) (k : Known) (notes : List Note) → IsTaken DiskTells files Tells faults fuses arm_faults drawn sure disks arms old
+      → MovedParts DiskTells files Tells faults fuses arm_faults old new
       → OpensParts DiskTells files Tells faults fuses old.directory new.directory old.volumes new.volumes notes
       → HoldsNew (IsReplica old.settings) (OpensRows old.settings) old.settings (outside_of shelf disks arms) k → FindsNew k new
   unfolding Stands
@@ -165,7 +172,8 @@ module _ {D P A : Type 0} (DiskTells : Type 0) (files : D → Files) (Tells : Ty
         },
       )
 
-  pub found_new : DiskTells → (settings : Settings) (old new : Open D P A) (k : Known) (notes : List Note) → old.settings ≡ settings → IsTaken DiskTells files Tells faults fuses arm_faults drawn sure disks arms old
+  pub found_new : DiskTells → (settings : Settings) (old new : Open D P A) (k : Known) (notes : List Note) → old.settings ≡ settings
+      → IsTaken DiskTells files Tells faults fuses arm_faults drawn sure disks arms old
       → MovedParts DiskTells files Tells faults fuses arm_faults old new → OpensParts DiskTells files Tells faults fuses old.directory new.directory old.volumes new.volumes notes
       → HoldsNew (IsReplica settings) (OpensRows settings) settings (outside_of shelf disks arms) k
       → (t : Known) × FaultsRose k t × Stands files Tells faults fuses arm_faults new t

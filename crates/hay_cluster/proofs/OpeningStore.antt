@@ -58,7 +58,8 @@ table_none : (log : List Logged) (base : Table) → log ≡ [] → after (entrie
 table_none log base is = ap (λ (l : List Logged). after (entries_of l) (length l) base) is
 
 -- a replica that was opened is found as it is
-replica_same : (k t : VolumeKnown) (old new next : ReplicaKnown) (entries more : List Entry) → t.log ≡ [] → more ≡ [] → ReopenedReplica k old entries new → ReopenedReplica t new more next → found_of next ≡ found_of new
+replica_same : (k t : VolumeKnown) (old new next : ReplicaKnown) (entries more : List Entry) → t.log ≡ [] → more ≡ [] → ReopenedReplica k old entries new
+    → ReopenedReplica t new more next → found_of next ≡ found_of new
 replica_same k t old new next entries more log none first second =
     let again : ReopenedReplica t new [] next = subst (λ l. ReopenedReplica t new l next) none second in
     let table : next.base ≡ new.base = again.base ∙ table_none t.log new.base log in
@@ -74,7 +75,8 @@ replica_same k t old new next entries more log none first second =
       | inr swapped ↦ let both : true ≡ false = sym swapped.poised ∙ first.settled in absurd cc
     ]
 
-found_same : (k t : VolumeKnown) (kept again : List Bool) (i : ℕ) (olds news nexts : List ReplicaKnown) → t.log ≡ [] → t.pending ≡ None → ReopenedReplicas k kept i olds news → ReopenedReplicas t again i news nexts
+found_same : (k t : VolumeKnown) (kept again : List Bool) (i : ℕ) (olds news nexts : List ReplicaKnown) → t.log ≡ [] → t.pending ≡ None → ReopenedReplicas k kept i olds news
+    → ReopenedReplicas t again i news nexts
     → (j : ℕ) → found_of (slice_index_or nexts j empty_replica) ≡ found_of (slice_index_or news j empty_replica)
 found_same k t kept again i [] [] [] log none first second j = refl
 found_same k t kept again i [] [] (next ∷ nexts) log none first second j = absurd second
@@ -86,7 +88,8 @@ found_same k t kept again i (old ∷ olds) (new ∷ news) (next ∷ nexts) log n
 found_same k t kept again i (old ∷ olds) (new ∷ news) (next ∷ nexts) log none first second (suc j) = found_same k t kept again (i + 1) olds news nexts log none first.1 second.1 j
 
 -- what a second restart finds of a volume is what the first one found
-again_outcome : (replica : ℕ → ℕ → Contents → Found → Type 0) (settings : Settings) (v : ℕ) (k t : VolumeKnown) (kept : List Bool) (image : ℕ → Contents) → ReopenedVolume settings v k kept t → VolumeOutcome replica settings v t image
+again_outcome : (replica : ℕ → ℕ → Contents → Found → Type 0) (settings : Settings) (v : ℕ) (k t : VolumeKnown) (kept : List Bool) (image : ℕ → Contents)
+    → ReopenedVolume settings v k kept t → VolumeOutcome replica settings v t image
     → VolumeOutcome replica settings v k image
 again_outcome replica settings v k t kept image first outcome = record {
   kept = kept;
@@ -97,7 +100,8 @@ again_outcome replica settings v k t kept image first outcome = record {
 }
 
 -- settings of a volume of a store
-pub of_settings : {D P : Type 0} (settings : Settings) (v : ℕ) (volume : Volume D P) → IsBuilt settings → v < settings.volumes → IsVolumeOf settings v volume → IsOfSettings volume.settings volume.number
+pub of_settings : {D P : Type 0} (settings : Settings) (v : ℕ) (volume : Volume D P) → IsBuilt settings → v < settings.volumes → IsVolumeOf settings v volume
+    → IsOfSettings volume.settings volume.number
 of_settings settings v volume built within is =
     subst (λ (s : Settings). IsOfSettings s volume.number) (sym is.settings_are)
     (subst (λ n. IsOfSettings settings n) (sym is.number)
@@ -116,7 +120,8 @@ module _ {D P : Type 0} (files : D → Files) (Tells : Type 0) where
 -- EACH VOLUME HOLDS WHAT IS KNOWN
 
 module _ {D P : Type 0} (DiskTells : Type 0) (files : D → Files) (Tells : Type 0) (faults fuses : D → ℕ) where
-  pub left_each : DiskTells → (settings : Settings) (v : ℕ) (xs ys : List (Volume D P)) (ks : List VolumeKnown) → IsBuilt settings → v + length ys ≤ settings.volumes → InOrder (IsVolumeOf settings) v ys
+  pub left_each : DiskTells → (settings : Settings) (v : ℕ) (xs ys : List (Volume D P)) (ks : List VolumeKnown) → IsBuilt settings → v + length ys ≤ settings.volumes
+      → InOrder (IsVolumeOf settings) v ys
       → AllZip (LeavesVolume DiskTells files Tells faults fuses) xs ys → AllZip (Stopped files) xs ks → AllZip (VolumeHolds files) ys ks
   left_each tells settings v [] [] [] built few order all stopped = tt
   left_each tells settings v [] [] (k ∷ ks) built few order all stopped = absurd stopped
@@ -154,7 +159,8 @@ slot_below settings v j volume replica =
     omega (arith, mul-le-mul_left settings.replicas up, replica)
 
 module _ {D : Type 0} (DiskTells : Type 0) (files : D → Files) (faults : D → ℕ) where
-  directory_whole : (old new : directory.State D) (known : Rattle.hay_legal.specs.declared.known.DirKnown.DirKnown) (fault : ClusterFault) → DiskTells → directory.Stopped files old known → RefusesDirectory DiskTells files faults old new fault
+  directory_whole : (old new : directory.State D) (known : Rattle.hay_legal.specs.declared.known.DirKnown.DirKnown) (fault : ClusterFault) → DiskTells
+      → directory.Stopped files old known → RefusesDirectory DiskTells files faults old new fault
       → (slot file at : ℕ) → fault ≡ Damaged slot file at → ⊥
   directory_whole old new known (Shelf n) tells stopped refused slot file at is = refused
   directory_whole old new known (Failed s n) tells stopped refused slot file at is = absurd cc
@@ -187,7 +193,9 @@ module _ {D P A : Type 0} (DiskTells : Type 0) (files : D → Files) (Tells : Ty
     built = subst (λ (t : Settings). IsBuilt t) (sym s.settings) shape.built;
     directory = s.directory.settings ∙ shape.directory ∙ sym s.settings;
     many = sym (AllZip-long (StopsVolume DiskTells files Tells faults fuses) old.volumes new.volumes s.volumes) ∙ shape.many ∙ ap (λ (t : Settings). t.volumes) (sym s.settings);
-    volumes = subst (λ (t : Settings). InOrder (IsVolumeOf t) 0 new.volumes) (sym s.settings) (stopped_shape DiskTells files Tells faults fuses old.settings 0 old.volumes new.volumes s.volumes shape.volumes);
+    volumes =
+        subst (λ (t : Settings). InOrder (IsVolumeOf t) 0 new.volumes) (sym s.settings) (stopped_shape DiskTells files Tells faults fuses old.settings 0 old.volumes new.volumes
+        s.volumes shape.volumes);
     lanes = ap (λ (as' : List A). length as') s.arms ∙ shape.lanes;
   }
 
@@ -196,7 +204,8 @@ module _ {D P A : Type 0} (DiskTells : Type 0) (files : D → Files) (Tells : Ty
     built = subst (λ (t : Settings). IsBuilt t) (sym m.settings) shape.built;
     directory = m.directory.settings ∙ shape.directory ∙ sym m.settings;
     many = sym (AllZip-long (LeavesVolume DiskTells files Tells faults fuses) old.volumes new.volumes m.volumes) ∙ shape.many ∙ ap (λ (t : Settings). t.volumes) (sym m.settings);
-    volumes = subst (λ (t : Settings). InOrder (IsVolumeOf t) 0 new.volumes) (sym m.settings) (moved_shape DiskTells files Tells faults fuses old.settings 0 old.volumes new.volumes m.volumes shape.volumes);
+    volumes =
+        subst (λ (t : Settings). InOrder (IsVolumeOf t) 0 new.volumes) (sym m.settings) (moved_shape DiskTells files Tells faults fuses old.settings 0 old.volumes new.volumes m.volumes shape.volumes);
     lanes = ap (λ (as' : List A). length as') m.arms ∙ shape.lanes;
   }
 
@@ -226,7 +235,8 @@ module _ {D P A : Type 0} (DiskTells : Type 0) (files : D → Files) (Tells : Ty
 
   -- WHY A STORE WAS NOT OPENED
 
-  by_volume : (mid new : Open D P A) (v : ℕ) (before after : Volume D P) (f : OpenFault) (j : ℕ) → IsShaped mid → IsShaped new → new.settings ≡ mid.settings → At mid.volumes v before → At new.volumes v after
+  by_volume : (mid new : Open D P A) (v : ℕ) (before after : Volume D P) (f : OpenFault) (j : ℕ) → IsShaped mid → IsShaped new → new.settings ≡ mid.settings
+      → At mid.volumes v before → At new.volumes v after
       → (b a : Rattle.hay_physical.specs.Copies.Copy D) → At before.replicas j b → At after.replicas j a → IsOpenFault DiskTells files faults b a f
       → HasFaultCause mid.settings (map faults (disks_of mid)) (map faults (disks_of new)) (not_opened (slot_of mid.settings v j) f)
   by_volume mid new v before after (opening.Failed n) j shape shape' same was is b a there here cause =
@@ -249,7 +259,8 @@ module _ {D P A : Type 0} (DiskTells : Type 0) (files : D → Files) (Tells : Ty
       )
   by_volume mid new v before after opening.NoMemory j shape shape' same was is b a there here cause = tt
 
-  by_directory : (mid new : Open D P A) (fault : ClusterFault) → RefusesDirectory DiskTells files faults mid.directory new.directory fault → HasFaultCause mid.settings (map faults (disks_of mid)) (map faults (disks_of new)) fault
+  by_directory : (mid new : Open D P A) (fault : ClusterFault) → RefusesDirectory DiskTells files faults mid.directory new.directory fault
+      → HasFaultCause mid.settings (map faults (disks_of mid)) (map faults (disks_of new)) fault
   by_directory mid new (Shelf n) refused = refused
   by_directory mid new (Failed slot n) refused = (
     (let zeroth : slot ≡ 0 = refused.0 in omega (arith, zeroth)),
@@ -262,24 +273,28 @@ module _ {D P A : Type 0} (DiskTells : Type 0) (files : D → Files) (Tells : Ty
   )
   by_directory mid new NoMemory refused = tt
 
-  pub opening_cause : (mid new : Open D P A) (fault : ClusterFault) → IsShaped mid → MovedParts mid new → RefusesParts DiskTells files faults mid.settings mid.directory new.directory mid.volumes new.volumes fault
+  pub opening_cause : (mid new : Open D P A) (fault : ClusterFault) → IsShaped mid → MovedParts mid new
+      → RefusesParts DiskTells files faults mid.settings mid.directory new.directory mid.volumes new.volumes fault
       → HasFaultCause mid.settings (map faults (disks_of mid)) (map faults (disks_of new)) fault
   opening_cause mid new fault shape m (inl by) = by_directory mid new fault by
   opening_cause mid new fault shape m (inr (notes, opened, inl memory)) = subst (λ f. HasFaultCause mid.settings (map faults (disks_of mid)) (map faults (disks_of new)) f) (sym memory) tt
   opening_cause mid new fault shape m (inr (notes, opened, inr by)) =
       let r = by.refused in
       subst (λ f. HasFaultCause mid.settings (map faults (disks_of mid)) (map faults (disks_of new)) f) (sym r.told)
-      (by_volume mid new by.volume by.before by.after r.refusal.fault r.refusal.replica shape (shape_moved mid new shape m) m.settings by.was by.is r.cause.before r.cause.after r.cause.was r.cause.is r.cause.cause)
+      (by_volume mid new by.volume by.before by.after r.refusal.fault r.refusal.replica shape (shape_moved mid new shape m) m.settings by.was by.is r.cause.before r.cause.after
+      r.cause.was r.cause.is r.cause.cause)
 
   pub restart_cause : (old mid new : Open D P A) (fault : ClusterFault) → IsShaped mid → StoppedParts old mid → MovedParts mid new
-      → RefusesParts DiskTells files faults mid.settings mid.directory new.directory mid.volumes new.volumes fault → HasFaultCause old.settings (map faults (disks_of old)) (map faults (disks_of new)) fault
+      → RefusesParts DiskTells files faults mid.settings mid.directory new.directory mid.volumes new.volumes fault
+      → HasFaultCause old.settings (map faults (disks_of old)) (map faults (disks_of new)) fault
   restart_cause old mid new fault shape s m refused =
       subst (λ (t : Settings). HasFaultCause t (map faults (disks_of old)) (map faults (disks_of new)) fault) s.settings
       (subst (λ (ns : List ℕ). HasFaultCause mid.settings ns (map faults (disks_of new)) fault) (faults_stopped old mid s) (opening_cause mid new fault shape m refused))
 
   -- A RESTART
 
-  pub restart_left : DiskTells → (old mid new : Open D P A) (k : Known) → Stands files Tells faults fuses arm_faults old k → StoppedParts old mid → MovedParts mid new → LeftAt files faults fuses arm_faults k new
+  pub restart_left : DiskTells → (old mid new : Open D P A) (k : Known) → Stands files Tells faults fuses arm_faults old k → StoppedParts old mid → MovedParts mid new
+      → LeftAt files faults fuses arm_faults k new
   unfolding Stands Holds
   restart_left tells old mid new k stands s m =
       let shape = shape_moved mid new (shape_stopped old mid stands.shape s) m in
@@ -298,7 +313,8 @@ module _ {D P A : Type 0} (DiskTells : Type 0) (files : D → Files) (Tells : Ty
         holds = record {
           shape = shape;
           directory = subst (λ (t : Settings). DirectoryHolds files t (new.directory).disk k.directory) shape.directory
-              (left_holds files new.directory k.directory (replicate ((mid.directory).settings).machines false) (m.directory.left tells k.directory (s.directory.stopped tells k.directory k.drained stands.directory)));
+              (left_holds files new.directory k.directory (replicate ((mid.directory).settings).machines false)
+              (m.directory.left tells k.directory (s.directory.stopped tells k.directory k.drained stands.directory)));
           volumes = left_each DiskTells files Tells faults fuses tells new.settings 0 mid.volumes new.volumes k.volumes shape.built few shape.volumes m.volumes stopped;
           fault_counts = refl;
           fuse_counts = stands.fuse_counts ∙ sym (restart_fuses old mid new s m);
@@ -332,7 +348,9 @@ module _ {D P A : Type 0} (DiskTells : Type 0) (files : D → Files) (Tells : Ty
       let shape = shape_moved mid new (shape_stopped old mid stands.shape s) m in
       let mid_shape = shape_stopped old mid stands.shape s in
       let stopped = stopped_each DiskTells files Tells faults fuses tells old.volumes mid.volumes k.volumes s.volumes stands.volumes in
-      let vs = reopened_each DiskTells files Tells faults fuses tells new.settings 0 mid.volumes new.volumes o.of_volumes k.volumes (subst (λ (t : Settings). InOrder (IsVolumeOf t) 0 mid.volumes) (sym m.settings) mid_shape.volumes) o.volumes stopped in
+      let vs =
+      reopened_each DiskTells files Tells faults fuses tells new.settings 0 mid.volumes new.volumes o.of_volumes k.volumes
+      (subst (λ (t : Settings). InOrder (IsVolumeOf t) 0 mid.volumes) (sym m.settings) mid_shape.volumes) o.volumes stopped in
       let d = o.directory.reopened tells k.directory (s.directory.stopped tells k.directory k.drained stands.directory) in
       let rows = k.directory.rows ++ kept_row k.directory.pending d.0 in
       let machines : ((mid.directory).settings).machines ≡ ((old.directory).settings).machines = ap (λ (t : Settings). t.machines) s.directory.settings in

@@ -66,18 +66,21 @@ some_of [] none = absurd (none refl)
 some_of (byte ∷ bytes) none = omega arith
 
 -- an item of a store by its volume and replica
-pub in_volume : {D P A : Type 0} (Q : ℕ → D → Type 0) (store : Open D P A) (v j : ℕ) (x : Volume D P) (r : Copy D) → IsShaped store → At store.volumes v x → At x.replicas j r → InOrder Q 0 (disks_of store)
+pub in_volume : {D P A : Type 0} (Q : ℕ → D → Type 0) (store : Open D P A) (v j : ℕ) (x : Volume D P) (r : Copy D) → IsShaped store → At store.volumes v x → At x.replicas j r
+    → InOrder Q 0 (disks_of store)
     → Q (slot_of store.settings v j) r.disk
 in_volume Q store v j x r shape at there all =
     let place : slot_of store.settings v j ≡ 1 + (v * (store.settings).replicas + j) = omega arith in
-    order_flat Q volume_disks (store.settings).replicas 1 store.volumes v j (slot_of store.settings v j) x r.disk (volumes_long store.settings 0 store.volumes shape.volumes) place at (disk_at x.replicas j r there) all.1
+    order_flat Q volume_disks (store.settings).replicas 1 store.volumes v j (slot_of store.settings v j) x r.disk (volumes_long store.settings 0 store.volumes shape.volumes) place
+    at (disk_at x.replicas j r there) all.1
 
 -- what an opening does to a disk that is not void: it keeps its bytes, and a file that was solid is
 abbrev pub KeepsBytes : {D : Type 0} → (D → Files) → D → D → Type 0
 KeepsBytes files d d' = ((files d 0).now ≡ [] → ⊥) → (n : ℕ) → ((files d' n).now ≡ (files d n).now) × (IsSolid (files d n) → IsSolid (files d' n))
 
 module _ {D : Type 0} (DiskTells : Type 0) (files : D → Files) (faults fuses : D → ℕ) where
-  copies_keep : (old new : List (Copy D)) → length new ≡ length old → ((j : ℕ) (r r' : Copy D) → At old j r → At new j r' → KeepsBytes files r.disk r'.disk) → AllZip (KeepsBytes files) (map disk_of old) (map disk_of new)
+  copies_keep : (old new : List (Copy D)) → length new ≡ length old → ((j : ℕ) (r r' : Copy D) → At old j r → At new j r' → KeepsBytes files r.disk r'.disk)
+      → AllZip (KeepsBytes files) (map disk_of old) (map disk_of new)
   copies_keep [] [] many keeps = tt
   copies_keep [] (r' ∷ new) many keeps = absurd (omega (arith, many))
   copies_keep (r ∷ old) [] many keeps = absurd (omega (arith, many))
@@ -90,7 +93,8 @@ module _ {D : Type 0} (DiskTells : Type 0) (files : D → Files) (faults fuses :
       (ap (λ (f : Files). (f n).now) same, λ solid. subst (λ (f : Files). IsSolid (f n)) (sym same) solid)
 
 module _ {D P A : Type 0} (DiskTells : Type 0) (files : D → Files) (Tells : Type 0) (faults fuses : D → ℕ) (arm_faults : A → ℕ) where
-  volumes_keep : DiskTells → (xs ys : List (Volume D P)) → AllZip (LeavesVolume DiskTells files Tells faults fuses) xs ys → AllZip (KeepsBytes files) (flat_map volume_disks xs) (flat_map volume_disks ys)
+  volumes_keep : DiskTells → (xs ys : List (Volume D P)) → AllZip (LeavesVolume DiskTells files Tells faults fuses) xs ys
+      → AllZip (KeepsBytes files) (flat_map volume_disks xs) (flat_map volume_disks ys)
   volumes_keep tells [] [] all = tt
   volumes_keep tells [] (y ∷ ys) all = absurd all
   volumes_keep tells (x ∷ xs) [] all = absurd all
@@ -112,8 +116,10 @@ module _ {D P A : Type 0} (DiskTells : Type 0) (files : D → Files) (Tells : Ty
       pub disks_are : InOrder (λ slot disk. IsMountedDisk DiskTells files drawn faults fuses (disks slot) disk) 0 (disks_of store)
       pub arms_are : InOrder (λ lane arm. IsMountedArm arm_faults sure (arms lane) arm) 0 store.arms
 
-    pub is_taken : (store : Open D P A) (ds : List D) (as' : List A) → IsShaped store → directory.IsFresh store.directory → AllByRecursion IsClosed store.volumes → AllByRecursion (λ volume. volume.unsure ≡ None) store.volumes
-        → disks_of store ≡ ds → store.arms ≡ as' → InOrder (λ slot disk. IsMountedDisk DiskTells files drawn faults fuses (disks slot) disk) 0 ds → InOrder (λ lane arm. IsMountedArm arm_faults sure (arms lane) arm) 0 as' → IsTaken store
+    pub is_taken : (store : Open D P A) (ds : List D) (as' : List A) → IsShaped store → directory.IsFresh store.directory → AllByRecursion IsClosed store.volumes
+        → AllByRecursion (λ volume. volume.unsure ≡ None) store.volumes
+        → disks_of store ≡ ds → store.arms ≡ as' → InOrder (λ slot disk. IsMountedDisk DiskTells files drawn faults fuses (disks slot) disk) 0 ds
+        → InOrder (λ lane arm. IsMountedArm arm_faults sure (arms lane) arm) 0 as' → IsTaken store
     is_taken store ds as' shape fresh closed unsure same_disks same_arms mounted mounted_arms = record {
       shape = shape;
       fresh = fresh;
@@ -130,7 +136,8 @@ module _ {D P A : Type 0} (DiskTells : Type 0) (files : D → Files) (Tells : Ty
       free = λ tells. (t.disks_are).0.free tells 0;
     }
 
-    idle_each : DiskTells → (n : ℕ) (vs : List (Volume D P)) → AllByRecursion IsClosed vs → InOrder (λ slot disk. IsMountedDisk DiskTells files drawn faults fuses (disks slot) disk) n (flat_map volume_disks vs)
+    idle_each : DiskTells → (n : ℕ) (vs : List (Volume D P)) → AllByRecursion IsClosed vs
+        → InOrder (λ slot disk. IsMountedDisk DiskTells files drawn faults fuses (disks slot) disk) n (flat_map volume_disks vs)
         → AllByRecursion (IsIdleVolume files) vs
     idle_each tells n [] closed all = tt
     idle_each tells n (x ∷ vs) closed all =
@@ -223,19 +230,23 @@ module _ {D P A : Type 0} (DiskTells : Type 0) (files : D → Files) (Tells : Ty
         → (slot count : ℕ) → fault ≡ Failed slot count → (slot < disk_count old.settings) × Rose (disks slot).fault_count (after slot).fault_count × (count ≡ (after slot).fault_count)
     back_failed old new after fault t m refused given slot count is =
         let cause : HasFaultCause old.settings (map faults (disks_of old)) (map faults (disks_of new)) (Failed slot count) =
-        subst (λ f. HasFaultCause old.settings (map faults (disks_of old)) (map faults (disks_of new)) f) is (opening_cause DiskTells files Tells faults fuses arm_faults old new fault t.shape m refused) in (
+        subst (λ f. HasFaultCause old.settings (map faults (disks_of old)) (map faults (disks_of new)) f) is
+        (opening_cause DiskTells files Tells faults fuses arm_faults old new fault t.shape m refused) in (
           cause.0,
           subst (λ n. Rose n (after slot).fault_count) (taken_faults old t slot cause.0) (subst (λ n. Rose (slice_index (map faults (disks_of old)) slot) n) (sym (given slot cause.0)) cause.1),
           cause.2 ∙ sym (given slot cause.0),
         )
 
     pub back_damaged : (old new : Open D P A) (fault : ClusterFault) → IsTaken old → MovedParts DiskTells files Tells faults fuses arm_faults old new
-        → RefusesParts DiskTells files faults old.settings old.directory new.directory old.volumes new.volumes fault → (slot file at : ℕ) → fault ≡ Damaged slot file at → HasFile old.settings slot file
+        → RefusesParts DiskTells files faults old.settings old.directory new.directory old.volumes new.volumes fault → (slot file at : ℕ) → fault ≡ Damaged slot file at
+        → HasFile old.settings slot file
     back_damaged old new fault t m refused slot file at is =
-        subst (λ f. HasFaultCause old.settings (map faults (disks_of old)) (map faults (disks_of new)) f) is (opening_cause DiskTells files Tells faults fuses arm_faults old new fault t.shape m refused)
+        subst (λ f. HasFaultCause old.settings (map faults (disks_of old)) (map faults (disks_of new)) f) is
+        (opening_cause DiskTells files Tells faults fuses arm_faults old new fault t.shape m refused)
 
     -- the shelf has no part in it
     pub back_shelf : (old new : Open D P A) (fault : ClusterFault) → IsTaken old → MovedParts DiskTells files Tells faults fuses arm_faults old new
         → RefusesParts DiskTells files faults old.settings old.directory new.directory old.volumes new.volumes fault → (count : ℕ) → fault ≡ Shelf count → ⊥
     back_shelf old new fault t m refused count is =
-        subst (λ f. HasFaultCause old.settings (map faults (disks_of old)) (map faults (disks_of new)) f) is (opening_cause DiskTells files Tells faults fuses arm_faults old new fault t.shape m refused)
+        subst (λ f. HasFaultCause old.settings (map faults (disks_of old)) (map faults (disks_of new)) f) is
+        (opening_cause DiskTells files Tells faults fuses arm_faults old new fault t.shape m refused)

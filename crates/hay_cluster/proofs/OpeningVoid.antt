@@ -30,13 +30,15 @@ void_or [] = inl refl
 void_or (byte ∷ bytes) = inr (λ is. absurd cc)
 
 -- a replica of which only what was just formatted is found is a new one
-stored_new : (settings : Settings) (v j : ℕ) (sup : Super) (contents : Contents) (found : Found) → sup ≡ super_of settings v j → ((s : Stored) → OpensAs sup contents s → s ≡ fresh_stored) → IsReplica settings v j contents found
+stored_new : (settings : Settings) (v j : ℕ) (sup : Super) (contents : Contents) (found : Found) → sup ≡ super_of settings v j
+    → ((s : Stored) → OpensAs sup contents s → s ≡ fresh_stored) → IsReplica settings v j contents found
     → found ≡ found_of empty_replica
 unfolding IsReplica
 stored_new settings v j sup contents found same fresh is = is.is ∙ ap found_as (fresh is.stored (subst (λ (u : Super). OpensAs u contents is.stored) (sym same) is.opens))
 
 module _ {D : Type 0} (DiskTells : Type 0) (files : D → Files) (faults fuses : D → ℕ) where
-  one_kept : (drawn : D → ℕ → ℕ) → DiskTells → (slot : ℕ) (held held' : HeldDisk) (d d' : D) → IsMountedDisk DiskTells files drawn faults fuses held d → IsGivenDisk DiskTells files drawn faults fuses held' d' → KeepsBytes files d d'
+  one_kept : (drawn : D → ℕ → ℕ) → DiskTells → (slot : ℕ) (held held' : HeldDisk) (d d' : D) → IsMountedDisk DiskTells files drawn faults fuses held d
+      → IsGivenDisk DiskTells files drawn faults fuses held' d' → KeepsBytes files d d'
       → ((files d 0).now ≡ [] → (image : Contents) → MayLeave (files d') image → (other : Settings) → FindsNothing (IsReplica other) (OpensRows other) other slot image) → IsKept slot held held'
   one_kept drawn tells slot held held' d d' taken given keeps nothing = elim (void_or ((held.files 0).now)) [
     | inl void ↦ inl (record {
@@ -49,7 +51,8 @@ module _ {D : Type 0} (DiskTells : Type 0) (files : D → Files) (faults fuses :
   ]
 
 module _ {D P A : Type 0} (DiskTells : Type 0) (files : D → Files) (Tells : Type 0) (faults fuses : D → ℕ) (arm_faults : A → ℕ) where
-  replica_left : DiskTells → (old new : Open D P A) → IsShaped old → MovedParts DiskTells files Tells faults fuses arm_faults old new → (v j : ℕ) (d d' : D) → v < (old.settings).volumes → j < (old.settings).replicas
+  replica_left : DiskTells → (old new : Open D P A) → IsShaped old → MovedParts DiskTells files Tells faults fuses arm_faults old new → (v j : ℕ) (d d' : D)
+      → v < (old.settings).volumes → j < (old.settings).replicas
       → slice_get (disks_of old) (slot_of old.settings v j) ≡ Some d → slice_get (disks_of new) (slot_of old.settings v j) ≡ Some d' → (files d 0).now ≡ []
       → (image : Contents) → MayLeave (files d') image → (sup : Super) (s : Stored) → OpensAs sup image s → s ≡ fresh_stored
   replica_left tells old new shape m v j d d' volume replica at at' void image may sup s opens =
@@ -61,7 +64,8 @@ module _ {D P A : Type 0} (DiskTells : Type 0) (files : D → Files) (Tells : Ty
       let count : length (y.0).replicas ≡ length (x.0).replicas = (y.2).counts.count in
       let r = order_item (x.0).replicas j (let less : j < length (x.0).replicas = omega (arith, replica, many) in less) in
       let r' = order_item (y.0).replicas j (let less : j < length (y.0).replicas = omega (arith, replica, many, count) in less) in
-      let there : slice_get (disks_of old) (slot_of old.settings v j) ≡ Some (r.0).disk = in_volume (λ n disk. slice_get (disks_of old) n ≡ Some disk) old v j x.0 r.0 shape x.1 r.1 (order_self (disks_of old)) in
+      let there : slice_get (disks_of old) (slot_of old.settings v j) ≡ Some (r.0).disk =
+      in_volume (λ n disk. slice_get (disks_of old) n ≡ Some disk) old v j x.0 r.0 shape x.1 r.1 (order_self (disks_of old)) in
       let there' : slice_get (disks_of new) (slot_of old.settings v j) ≡ Some (r'.0).disk =
       subst (λ (s : Settings). slice_get (disks_of new) (slot_of s v j) ≡ Some (r'.0).disk) m.settings
       (in_volume (λ n disk. slice_get (disks_of new) n ≡ Some disk) new v j y.0 r'.0 shape' y.1 r'.1 (order_self (disks_of new))) in
@@ -87,27 +91,32 @@ module _ {D P A : Type 0} (DiskTells : Type 0) (files : D → Files) (Tells : Ty
         directory = λ zeroth. absurd (omega (arith, zeroth));
         replicas = λ v j volume replica place found is.
             stored_new other v j (super_of other v j) image found refl
-            (replica_left tells old new shape m p.0 p.1 d d' p.2 p.3 (subst (λ slot. slice_get (disks_of old) slot ≡ Some d) (sym p.4) at) (subst (λ slot. slice_get (disks_of new) slot ≡ Some d') (sym p.4) at') void image may (super_of other v j)) is;
+            (replica_left tells old new shape m p.0 p.1 d d' p.2 p.3 (subst (λ slot. slice_get (disks_of old) slot ≡ Some d) (sym p.4) at)
+            (subst (λ slot. slice_get (disks_of new) slot ≡ Some d') (sym p.4) at') void image may (super_of other v j)) is;
       }
 
   module _ (drawn : D → ℕ → ℕ) (sure : A → Bool) (disks : ℕ → HeldDisk) (arms : ℕ → HeldArm) where
-    kept_in : DiskTells → (old new : Open D P A) (after : ℕ → HeldDisk) → IsTaken DiskTells files Tells faults fuses arm_faults drawn sure disks arms old → MovedParts DiskTells files Tells faults fuses arm_faults old new
+    kept_in : DiskTells → (old new : Open D P A) (after : ℕ → HeldDisk) → IsTaken DiskTells files Tells faults fuses arm_faults drawn sure disks arms old
+        → MovedParts DiskTells files Tells faults fuses arm_faults old new
         → InOrder (λ slot disk. IsGivenDisk DiskTells files drawn faults fuses (after slot) disk) 0 (disks_of new) → (slot : ℕ) → slot < disk_count old.settings → IsKept slot (disks slot) (after slot)
     kept_in tells old new after t m given slot below =
         let i = taken_disk DiskTells files Tells faults fuses arm_faults drawn sure disks arms old t slot below in
         let k = zip_get (KeepsBytes files) (disks_of old) (disks_of new) slot i.0 i.1 (disks_keep DiskTells files Tells faults fuses arm_faults tells old new m) in
         let place : slot ≡ 0 + slot = omega arith in
-        one_kept DiskTells files faults fuses drawn tells slot (disks slot) (after slot) i.0 k.0 i.2 (order_get (λ n disk. IsGivenDisk DiskTells files drawn faults fuses (after n) disk) 0 (disks_of new) slot slot k.0 place k.1 given) k.2
+        one_kept DiskTells files faults fuses drawn tells slot (disks slot) (after slot) i.0 k.0 i.2
+        (order_get (λ n disk. IsGivenDisk DiskTells files drawn faults fuses (after n) disk) 0 (disks_of new) slot slot k.0 place k.1 given) k.2
         (void_left tells old new t.shape m slot i.0 k.0 below i.1 k.1)
 
-    pub back_kept : DiskTells → (settings : Settings) (old new : Open D P A) (after : ℕ → HeldDisk) → old.settings ≡ settings → IsTaken DiskTells files Tells faults fuses arm_faults drawn sure disks arms old
+    pub back_kept : DiskTells → (settings : Settings) (old new : Open D P A) (after : ℕ → HeldDisk) → old.settings ≡ settings
+        → IsTaken DiskTells files Tells faults fuses arm_faults drawn sure disks arms old
         → MovedParts DiskTells files Tells faults fuses arm_faults old new → InOrder (λ slot disk. IsGivenDisk DiskTells files drawn faults fuses (after slot) disk) 0 (disks_of new)
         → (slot : ℕ) → slot < disk_count settings → IsKept slot (disks slot) (after slot)
     back_kept tells settings old new after same t m given slot below =
         kept_in tells old new after t m given slot (subst (λ (s : Settings). slot < disk_count s) (sym same) below)
 
     -- each disk that was void was formatted
-    pub formats_void : (tells : DiskTells) → ((disk : D) (n : ℕ) → IsImage (files disk n) (files disk n).now) → (settings : Settings) (old new : Open D P A) (notes : List Note) → old.settings ≡ settings
+    pub formats_void : (tells : DiskTells) → ((disk : D) (n : ℕ) → IsImage (files disk n) (files disk n).now) → (settings : Settings) (old new : Open D P A) (notes : List Note)
+        → old.settings ≡ settings
         → IsTaken DiskTells files Tells faults fuses arm_faults drawn sure disks arms old → MovedParts DiskTells files Tells faults fuses arm_faults old new
         → OpensParts DiskTells files Tells faults fuses old.directory new.directory old.volumes new.volumes notes → FormatsVoid settings (λ slot. read_of (disks slot)) (contents_in files new)
     formats_void tells now settings old new notes same t m opens slot below void =

@@ -55,7 +55,8 @@ module _ {D P : Type 0} (DiskTells : Type 0) (files : D → Files) (Tells : Type
   }
 
   -- a volume behind a call that opened it, or that was refused
-  pub moves_opened : (old new : Volume D P) (notes : List Note) → IsSame old new → KeepsCounts faults fuses old.replicas new.replicas → (DiskTells → (k : VolumeKnown) → Stopped files old k → IsReopened files Tells k notes new)
+  pub moves_opened : (old new : Volume D P) (notes : List Note) → IsSame old new → KeepsCounts faults fuses old.replicas new.replicas
+      → (DiskTells → (k : VolumeKnown) → Stopped files old k → IsReopened files Tells k notes new)
       → (DiskTells → (j : ℕ) (r r' : Copy D) → At old.replicas j r → At new.replicas j r' → KeepsDisk files r r') → LeavesVolume DiskTells files Tells faults fuses old new
   moves_opened old new notes same counts reopened kept = record { same = same; counts = counts; left = λ tells k stopped. inr (notes, reopened tells k stopped); kept = kept }
 
@@ -64,7 +65,8 @@ module _ {D P : Type 0} (DiskTells : Type 0) (files : D → Files) (Tells : Type
   moves_refused old new same counts left kept = record { same = same; counts = counts; left = λ tells k stopped. inl (left tells k stopped); kept = kept }
 
   -- the volume at which it ended
-  pub refused_at : (settings : Settings) (n : ℕ) (xs ys : List (Volume D P)) (all : List Note) (y z : Volume D P) (fault : ClusterFault) → Gathered (OpensVolume DiskTells files Tells faults fuses) n xs ys all
+  pub refused_at : (settings : Settings) (n : ℕ) (xs ys : List (Volume D P)) (all : List Note) (y z : Volume D P) (fault : ClusterFault)
+      → Gathered (OpensVolume DiskTells files Tells faults fuses) n xs ys all
       → At ys n y → RefusesVolume DiskTells files faults settings n y z fault → RefusesVolumes DiskTells files faults settings xs (slice_set ys n z) fault
   refused_at settings n xs ys all y z fault g at (inl memory) = inl memory
   refused_at settings n xs ys all y z fault g at (inr by) = inr (record {
@@ -78,51 +80,69 @@ module _ {D P : Type 0} (DiskTells : Type 0) (files : D → Files) (Tells : Type
   })
 
   pub moved_at : (n : ℕ) (xs ys : List (Volume D P)) (all : List Note) (y z : Volume D P) → Gathered (OpensVolume DiskTells files Tells faults fuses) n xs ys all → At ys n y
-      → AllByRecursion (λ volume. DiskTells → IsIdleVolume files volume) xs → LeavesVolume DiskTells files Tells faults fuses y z → AllZip (LeavesVolume DiskTells files Tells faults fuses) xs (slice_set ys n z)
+      → AllByRecursion (λ volume. DiskTells → IsIdleVolume files volume) xs → LeavesVolume DiskTells files Tells faults fuses y z
+      → AllZip (LeavesVolume DiskTells files Tells faults fuses) xs (slice_set ys n z)
   moved_at n xs ys all y z g at idle moves =
-      gathered_break (OpensVolume DiskTells files Tells faults fuses) (LeavesVolume DiskTells files Tells faults fuses) (λ volume. DiskTells → IsIdleVolume files volume) n xs ys all y z (λ a b more r. r.moves) (λ a told. moves_still a told) idle g at moves
+      gathered_break (OpensVolume DiskTells files Tells faults fuses) (LeavesVolume DiskTells files Tells faults fuses) (λ volume. DiskTells → IsIdleVolume files volume) n xs ys
+      all y z (λ a b more r. r.moves) (λ a told. moves_still a told) idle g at moves
 
   -- COUNTS
 
-  pub moved_later : (xs ys : List (Volume D P)) → AllZip (LeavesVolume DiskTells files Tells faults fuses) xs ys → NoneFalls (map faults (flat_map volume_disks xs)) (map faults (flat_map volume_disks ys))
+  pub moved_later : (xs ys : List (Volume D P)) → AllZip (LeavesVolume DiskTells files Tells faults fuses) xs ys
+      → NoneFalls (map faults (flat_map volume_disks xs)) (map faults (flat_map volume_disks ys))
   moved_later xs ys all = each_later faults volume_disks (LeavesVolume DiskTells files Tells faults fuses) xs ys (λ x y m. copies_later faults x.replicas y.replicas m.counts.count m.counts.rises) all
 
   pub moved_fuses : (xs ys : List (Volume D P)) → AllZip (LeavesVolume DiskTells files Tells faults fuses) xs ys → map fuses (flat_map volume_disks ys) ≡ map fuses (flat_map volume_disks xs)
   moved_fuses xs ys all = each_same fuses volume_disks (LeavesVolume DiskTells files Tells faults fuses) xs ys (λ x y m. copies_same fuses x.replicas y.replicas m.counts.count m.counts.stay) all
 
   pub stopped_faults : (xs ys : List (Volume D P)) → AllZip (StopsVolume DiskTells files Tells faults fuses) xs ys → map faults (flat_map volume_disks ys) ≡ map faults (flat_map volume_disks xs)
-  stopped_faults xs ys all = each_same faults volume_disks (StopsVolume DiskTells files Tells faults fuses) xs ys (λ x y s. copies_same faults x.replicas y.replicas s.count (λ j r r' at at'. (s.counts j r r' at at').0)) all
+  stopped_faults xs ys all =
+      each_same faults volume_disks (StopsVolume DiskTells files Tells faults fuses) xs ys (λ x y s. copies_same faults x.replicas y.replicas s.count (λ j r r' at at'. (s.counts j r r' at at').0)) all
 
   pub stopped_fuses : (xs ys : List (Volume D P)) → AllZip (StopsVolume DiskTells files Tells faults fuses) xs ys → map fuses (flat_map volume_disks ys) ≡ map fuses (flat_map volume_disks xs)
-  stopped_fuses xs ys all = each_same fuses volume_disks (StopsVolume DiskTells files Tells faults fuses) xs ys (λ x y s. copies_same fuses x.replicas y.replicas s.count (λ j r r' at at'. (s.counts j r r' at at').1)) all
+  stopped_fuses xs ys all =
+      each_same fuses volume_disks (StopsVolume DiskTells files Tells faults fuses) xs ys (λ x y s. copies_same fuses x.replicas y.replicas s.count (λ j r r' at at'. (s.counts j r r' at at').1)) all
 
   -- SHAPES
 
-  pub moved_shape : (settings : Settings) (v : ℕ) (xs ys : List (Volume D P)) → AllZip (LeavesVolume DiskTells files Tells faults fuses) xs ys → InOrder (IsVolumeOf settings) v xs → InOrder (IsVolumeOf settings) v ys
+  pub moved_shape : (settings : Settings) (v : ℕ) (xs ys : List (Volume D P)) → AllZip (LeavesVolume DiskTells files Tells faults fuses) xs ys → InOrder (IsVolumeOf settings) v xs
+      → InOrder (IsVolumeOf settings) v ys
   moved_shape settings v [] [] all order = tt
   moved_shape settings v [] (y ∷ ys) all order = absurd all
   moved_shape settings v (x ∷ xs) [] all order = absurd all
   moved_shape settings v (x ∷ xs) (y ∷ ys) all order =
       let m = all.0 in
       let was = order.0 in (
-        record { settings_are = m.same.settings ∙ was.settings_are; number = m.same.number ∙ was.number; all = m.counts.count ∙ was.all ∙ ap (λ (s : Settings). s.replicas) (sym m.same.settings); sups = sups_on x y m.same m.counts.count was.sups },
+        record {
+          settings_are = m.same.settings ∙ was.settings_are;
+          number = m.same.number ∙ was.number;
+          all = m.counts.count ∙ was.all ∙ ap (λ (s : Settings). s.replicas) (sym m.same.settings);
+          sups = sups_on x y m.same m.counts.count was.sups;
+        },
         moved_shape settings (v + 1) xs ys all.1 order.1,
       )
 
-  pub stopped_shape : (settings : Settings) (v : ℕ) (xs ys : List (Volume D P)) → AllZip (StopsVolume DiskTells files Tells faults fuses) xs ys → InOrder (IsVolumeOf settings) v xs → InOrder (IsVolumeOf settings) v ys
+  pub stopped_shape : (settings : Settings) (v : ℕ) (xs ys : List (Volume D P)) → AllZip (StopsVolume DiskTells files Tells faults fuses) xs ys → InOrder (IsVolumeOf settings) v xs
+      → InOrder (IsVolumeOf settings) v ys
   stopped_shape settings v [] [] all order = tt
   stopped_shape settings v [] (y ∷ ys) all order = absurd all
   stopped_shape settings v (x ∷ xs) [] all order = absurd all
   stopped_shape settings v (x ∷ xs) (y ∷ ys) all order =
       let m = all.0 in
       let was = order.0 in (
-        record { settings_are = m.same.settings ∙ was.settings_are; number = m.same.number ∙ was.number; all = m.count ∙ was.all ∙ ap (λ (s : Settings). s.replicas) (sym m.same.settings); sups = sups_on x y m.same m.count was.sups },
+        record {
+          settings_are = m.same.settings ∙ was.settings_are;
+          number = m.same.number ∙ was.number;
+          all = m.count ∙ was.all ∙ ap (λ (s : Settings). s.replicas) (sym m.same.settings);
+          sups = sups_on x y m.same m.count was.sups;
+        },
         stopped_shape settings (v + 1) xs ys all.1 order.1,
       )
 
   -- WHAT THEY STAND FOR
 
-  pub stopped_each : DiskTells → (xs ys : List (Volume D P)) (ks : List VolumeKnown) → AllZip (StopsVolume DiskTells files Tells faults fuses) xs ys → AllZip (logical.Stands files Tells) xs ks → AllZip (Stopped files) ys ks
+  pub stopped_each : DiskTells → (xs ys : List (Volume D P)) (ks : List VolumeKnown) → AllZip (StopsVolume DiskTells files Tells faults fuses) xs ys
+      → AllZip (logical.Stands files Tells) xs ks → AllZip (Stopped files) ys ks
   stopped_each tells [] [] [] all stands = tt
   stopped_each tells [] [] (k ∷ ks) all stands = absurd stands
   stopped_each tells [] (y ∷ ys) ks all stands = absurd all
@@ -130,7 +150,8 @@ module _ {D P : Type 0} (DiskTells : Type 0) (files : D → Files) (Tells : Type
   stopped_each tells (x ∷ xs) (y ∷ ys) [] all stands = absurd stands
   stopped_each tells (x ∷ xs) (y ∷ ys) (k ∷ ks) all stands = (all.0.stopped tells k stands.0, stopped_each tells xs ys ks all.1 stands.1)
 
-  pub first_each : DiskTells → (xs ys : List (Volume D P)) (notes : List Note) (ks : List VolumeKnown) → Gathers (OpensVolume DiskTells files Tells faults fuses) xs ys notes → AllZip (IsFirst files) xs ks
+  pub first_each : DiskTells → (xs ys : List (Volume D P)) (notes : List Note) (ks : List VolumeKnown) → Gathers (OpensVolume DiskTells files Tells faults fuses) xs ys notes
+      → AllZip (IsFirst files) xs ks
       → (notes ≡ []) × AllZip (logical.Stands files Tells) ys ks
   first_each tells [] [] notes [] g firsts = (g, tt)
   first_each tells [] [] notes (k ∷ ks) g firsts = absurd firsts

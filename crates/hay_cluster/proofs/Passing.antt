@@ -23,7 +23,8 @@ use Rattle.hay_cluster.proofs.Machines.{replica_found}
 use Rattle.hay_cluster.proofs.ReadSights.{told_over}
 use Rattle.hay_cluster.proofs.Showing.{all_tried, in_order, machines_told, rises_each, split_tries, to_below}
 
-module _ (Tells : Type 0) (W : Cause → Type 0) (Sure : Type 0) (sure : (f : ℕ) → Sure → W (Arm f)) (settings : Settings) (lane v start : ℕ) (before after : Counts) (built : IsBuilt settings) (volume : v < settings.volumes) where
+module _ (Tells : Type 0) (W : Cause → Type 0) (Sure : Type 0) (sure : (f : ℕ) → Sure → W (Arm f)) (settings : Settings) (lane v start : ℕ) (before after : Counts)
+    (built : IsBuilt settings) (volume : v < settings.volumes) where
   -- a failure is a cause only where its count rose
   causes_told : (over : List PassedReplica) → AllByRecursion (λ p. p.replica < settings.replicas) over
       → AllByRecursion (λ p. IsPassedFor W (slot_of settings v p.replica) (slice_index before.arms lane) (slice_index after.arms lane) before.disks after.disks p.cause) over
@@ -39,11 +40,13 @@ module _ (Tells : Type 0) (W : Cause → Type 0) (Sure : Type 0) (sure : (f : �
 
   -- they are named in the order in which they were tried
   passed_over : (contents : ℕ → Contents) (pair : Pair) (seen : StoreSeen) (over : List PassedReplica) → PassesFrom W settings lane v start before after [] over
-      → MayHave (IsOfPlace Tells settings contents seen v pair) over → PassesOver Tells settings Sure contents lane v pair before after seen (map (λ p. p.replica) over) (map (passed_at settings v) over)
+      → MayHave (IsOfPlace Tells settings contents seen v pair) over → PassesOver Tells settings Sure contents lane v pair before after seen (map (λ p. p.replica) over)
+      (map (passed_at settings v) over)
   passed_over contents pair seen over passes may = record {
     order = machines_told settings v over;
     each = causes_told over
-        (all_tried (λ j. j < settings.replicas) (λ i. (start + i) % settings.replicas) (length over) 0 (λ i low high. let some = built.some_replicas in mod-lt (start + i) (omega (arith, some))) over passes.order) passes.each;
+        (all_tried (λ j. j < settings.replicas) (λ i. (start + i) % settings.replicas) (length over) 0
+        (λ i low high. let some = built.some_replicas in mod-lt (start + i) (omega (arith, some))) over passes.order) passes.each;
     rises = rises_each settings v over passes.rises;
     stood = told_over settings v pair seen built volume (λ j cause. StandsFor cause (seen.places v pair j)) start over passes.order
         (all_weaken (λ p. IsOfPlace Tells settings contents seen v pair p.replica p.cause) (λ p. StandsFor p.cause (seen.places v pair p.replica)) (λ p is. is.0) over may);
@@ -57,7 +60,8 @@ module _ (Tells : Type 0) (W : Cause → Type 0) (Sure : Type 0) (sure : (f : �
       → PassesOver Tells settings Sure contents lane v pair before after seen (order_from settings start) told
   passed_all contents pair seen over told is passes =
       subst (λ (causes : List Passed). PassesOver Tells settings Sure contents lane v pair before after seen (order_from settings start) causes) (sym is)
-      (subst (λ (js : List ℕ). PassesOver Tells settings Sure contents lane v pair before after seen js (map (passed_at settings v) over)) (in_order settings start over (passes.passes).order passes.all)
+      (subst (λ (js : List ℕ). PassesOver Tells settings Sure contents lane v pair before after seen js (map (passed_at settings v) over))
+      (in_order settings start over (passes.passes).order passes.all)
       (passed_over contents pair seen over passes.passes passes.stood))
 
   pub passed_to : (contents : ℕ → Contents) (pair : Pair) (seen : StoreSeen) (over : List PassedReplica) (j m : ℕ) → m ≡ machine_of settings v j
@@ -71,7 +75,9 @@ module _ (Tells : Type 0) (W : Cause → Type 0) (Sure : Type 0) (sure : (f : �
         replica = j;
         rest = split.0;
         tries = split.1 ∙ ap (λ (js : List ℕ). js ++ f (0 + length over) ∷ split.0) (sym (to.passes).order) ∙ ap (λ i. map (λ p. p.replica) over ++ i ∷ split.0) same;
-        there = ap (replica_on settings v) machine ∙ replica_found settings v j volume (to_below W settings lane v start before after (IsOfPlace Tells settings contents seen v pair) [] over j to) built.no_more_replicas;
+        there =
+            ap (replica_on settings v) machine ∙ replica_found settings v j volume (to_below W settings lane v start before after (IsOfPlace Tells settings contents seen v pair) []
+            over j to) built.no_more_replicas;
         causes = map (passed_at settings v) over;
         passes = passed_over contents pair seen over to.passes to.stood;
       }

@@ -17,7 +17,8 @@ use Rattle.hay_core.specs.declared.entry.CoreTag.{CoreTag}
 use Rattle.hay_core.specs.declared.entry.Entry.TheVariants as entry
 use Rattle.hay_legal.specs.declared.known.Known.{Known}
 use Rattle.hay_legal.specs.declared.known.VolumeKnown.{VolumeKnown}
-use Rattle.hay_legal.specs.Known.{Leaves, closed, drained_of, empty_volume, fault_count, home_of, machine_of, refusal_by, refusal_of, replica_on, room_refusal, room_refusal_of, settled_by, slot_of, taker_of, tries_by, try_at, volume_at, with_home, with_volume}
+use Rattle.hay_legal.specs.Known.{Leaves, closed, drained_of, empty_volume, fault_count, home_of, machine_of, refusal_by, refusal_of, replica_on, room_refusal, room_refusal_of}
+use Rattle.hay_legal.specs.Known.{settled_by, slot_of, taker_of, tries_by, try_at, volume_at, with_home, with_volume}
 use Rattle.hay_legal.specs.Plain.{DirectoryOpen, LegalPut, RefusedBy, RoseTo, change_volume, first_machine, frozen_with, wants_room, put_entry, with_put}
 use Rattle.hay_logical.specs.Answers.{IsPut, PutRefused}
 use Rattle.hay_logical.specs.declared.fault.LogicalFault.{LogicalFault}
@@ -49,7 +50,8 @@ some_each f g (suc n) at (x ∷ xs) is i low high =
       | inr (inr more) ↦ absurd (omega arith)
     ]
 
-pub first_taker : (settings : Settings) (k : Known) (pair : Pair) (size turn v : ℕ) (refused : List Refused) → turn < settings.volumes → v ≡ try_at settings pair turn → refusal_of settings k size v ≡ None
+pub first_taker : (settings : Settings) (k : Known) (pair : Pair) (size turn v : ℕ) (refused : List Refused) → turn < settings.volumes → v ≡ try_at settings pair turn
+    → refusal_of settings k size v ≡ None
     → map (refusal_of settings k size) (map (try_at settings pair) (range_with_len 0 turn)) ≡ map Some refused → IsTried settings k pair size (Taker v)
 first_taker settings k pair size turn v refused within is takes others =
     map_hit (λ u. is_none (refusal_of settings k size u)) (try_at settings pair) settings.volumes turn within
@@ -57,7 +59,8 @@ first_taker settings k pair size turn v refused within is takes others =
     (λ i below. some_each (refusal_of settings k size) (try_at settings pair) turn 0 refused others i (omega arith) (omega arith))
     ∙ ap (λ u. Some u) (sym is)
 
-pub one_more : (settings : Settings) (k : Known) (pair : Pair) (size turn v : ℕ) (refused : List Refused) (refusal : Refused) → v ≡ try_at settings pair turn → refusal_of settings k size v ≡ Some refusal
+pub one_more : (settings : Settings) (k : Known) (pair : Pair) (size turn v : ℕ) (refused : List Refused) (refusal : Refused) → v ≡ try_at settings pair turn
+    → refusal_of settings k size v ≡ Some refusal
     → map (refusal_of settings k size) (map (try_at settings pair) (range_with_len 0 turn)) ≡ map Some refused
     → map (refusal_of settings k size) (map (try_at settings pair) (range_with_len 0 (turn + 1))) ≡ map Some (refused ++ refusal ∷ [])
 one_more settings k pair size turn v refused refusal is refuses others =
@@ -84,7 +87,8 @@ refusal_caused settings before after refused _ told = absurd told
 -- LEGALITY
 
 -- what leads on from the pair's home being settled
-leaves_on : (k k1 t : Known) (pair : Pair) (v : ℕ) (change : VolumeKnown → VolumeKnown) → Leaves k (with_home k pair v) k1 → Leaves k1 (change_volume k1 v change) t → Leaves k (with_home (change_volume k v change) pair v) t
+leaves_on : (k k1 t : Known) (pair : Pair) (v : ℕ) (change : VolumeKnown → VolumeKnown) → Leaves k (with_home k pair v) k1 → Leaves k1 (change_volume k1 v change) t
+    → Leaves k (with_home (change_volume k v change) pair v) t
 leaves_on k k1 t pair v change first second = record {
   volumes = second.volumes ∙ ap (λ vs. (change_volume (record k1 { volumes = vs }) v change).volumes) first.volumes;
   directory = second.directory ∙ first.directory;
@@ -206,7 +210,8 @@ module _ {D P A : Type 0} (files : D → Files) (Tells : Type 0) (faults fuses :
     stands = comes.stands;
   }
 
-  pub put_done : (new : Open D P A) (settings : Settings) (k : Known) (tag : CoreTag) (pair : Pair) (bytes : List ℕ) (v p d : ℕ) (cookie : Cookie) (after : Volume D P) → cookie ≡ cookie_of settings.secret pair.key
+  pub put_done : (new : Open D P A) (settings : Settings) (k : Known) (tag : CoreTag) (pair : Pair) (bytes : List ℕ) (v p d : ℕ) (cookie : Cookie) (after : Volume D P)
+      → cookie ≡ cookie_of settings.secret pair.key
       → IsPut files Tells (volume_at k v) tag pair cookie bytes p after → (came : Comes files Tells faults fuses arm_faults k (with_volume k v (with_put (volume_at k v) tag pair cookie bytes)) new)
       → d ≡ length (came.known).directory.rows → StoredAs files Tells faults fuses arm_faults settings k tag pair bytes v (reply.Stored v p d cookie) new
   put_done new settings k tag pair bytes v p d cookie after own done came rows = record {
@@ -224,7 +229,8 @@ module _ {D P A : Type 0} (files : D → Files) (Tells : Type 0) (faults fuses :
   -- a put that a volume did not store, though it takes the photo
   pub put_refused : (old new : Open D P A) (k : Known) (tag : CoreTag) (pair : Pair) (bytes : List ℕ) (v : ℕ) (cookie : Cookie) (fault : LogicalFault) (answer : Reply) (before after : Volume D P)
       → cookie ≡ cookie_of (old.settings).secret pair.key → v < (old.settings).volumes → Stands files Tells faults fuses arm_faults old k → refusal_of old.settings k (length bytes) v ≡ None
-      → IsVolumeOf old.settings v before → IsPutCause old.settings v (map faults (disks_of old)) (map faults (disks_of new)) fault → PutRefused files Tells (volume_at k v) tag pair cookie bytes before after fault
+      → IsVolumeOf old.settings v before → IsPutCause old.settings v (map faults (disks_of old)) (map faults (disks_of new)) fault
+      → PutRefused files Tells (volume_at k v) tag pair cookie bytes before after fault
       → ((known : VolumeKnown) → logical.Stands files Tells after known → Comes files Tells faults fuses arm_faults k (with_volume k v known) new)
       → IsPutReply v fault answer → StoredAs files Tells faults fuses arm_faults old.settings k tag pair bytes v answer new
   put_refused old new k tag pair bytes v cookie (ReadOnly m) answer before after own within stood takes was cause refused comes told =
@@ -233,7 +239,8 @@ module _ {D P A : Type 0} (files : D → Files) (Tells : Type 0) (faults fuses :
   put_refused old new k tag pair bytes v cookie (Full m end need capacity) answer before after own within stood takes was cause refused comes told =
       let roomy = roomy_of old.settings k v (length bytes) takes in
       let e : None ≡ Some (NoRoom before.number m end need) = sym roomy
-      ∙ ap (λ n. room_refusal_of old.settings n (volume_at k v) (length bytes)) (sym was.number) ∙ ap (λ (s : Settings). room_refusal_of s before.number (volume_at k v) (length bytes)) (sym was.settings_are) ∙ refused.1 in
+      ∙ ap (λ n. room_refusal_of old.settings n (volume_at k v) (length bytes)) (sym was.number)
+      ∙ ap (λ (s : Settings). room_refusal_of s before.number (volume_at k v) (length bytes)) (sym was.settings_are) ∙ refused.1 in
       absurd cc
   put_refused old new k tag pair bytes v cookie (Failed m f) answer before after own within stood takes was cause refused comes told =
       subst (λ (r : Reply). StoredAs files Tells faults fuses arm_faults old.settings k tag pair bytes v r new) (sym told)
@@ -247,13 +254,15 @@ module _ {D P A : Type 0} (files : D → Files) (Tells : Type 0) (faults fuses :
         | inr frozen ↦
             let came = comes (frozen_with (machine_of before.settings before.number 0) tag (entry.Put pair cookie bytes) false (volume_at k v)) frozen in
             let P : ℕ → Cookie → Type 0 = λ m c. Leaves k (with_volume k v (frozen_with m tag (entry.Put pair c bytes) false (volume_at k v))) came.known in
-            let machine : machine_of before.settings before.number 0 ≡ first_machine old.settings v = ap (λ (s : Settings). machine_of s before.number 0) was.settings_are ∙ ap (λ n. machine_of old.settings n 0) was.number in
+            let machine : machine_of before.settings before.number 0 ≡ first_machine old.settings v =
+            ap (λ (s : Settings). machine_of s before.number 0) was.settings_are ∙ ap (λ n. machine_of old.settings n 0) was.number in
             record { known = came.known; stores = inr (subst (λ c. P (first_machine old.settings v) c) own (subst (λ m. P m cookie) machine came.leaves)); stands = came.stands }
       ])
   put_refused old new k tag pair bytes v cookie _ answer before after own within stood takes was cause refused comes told = absurd refused
 
 -- a put that a volume did not store tells of a failure only with its cause
-pub put_caused : (settings : Settings) (v : ℕ) (before after : List ℕ) (fault : LogicalFault) (answer : Reply) → IsPutCause settings v before after fault → IsPutReply v fault answer → IsCaused settings before after answer
+pub put_caused : (settings : Settings) (v : ℕ) (before after : List ℕ) (fault : LogicalFault) (answer : Reply) → IsPutCause settings v before after fault
+    → IsPutReply v fault answer → IsCaused settings before after answer
 put_caused settings v before after (ReadOnly m) answer cause told = refusal_caused settings before after (Closed v m ∷ []) answer told
 put_caused settings v before after (Full m end need capacity) answer cause told = refusal_caused settings before after (NoRoom v m end need ∷ []) answer told
 put_caused settings v before after (Failed m f) answer cause told = subst (λ (r : Reply). IsCaused settings before after r) (sym told) cause.1

@@ -154,4 +154,5 @@ module _ (settings : Settings) (v : ℕ) (pair : Pair) (seen : StoreSeen) (built
   pub told_over : (Is : ℕ → Cause → Type 0) (start : ℕ) (over : List PassedReplica) → ComeFirst start settings.replicas over → MayHave Is over
       → AllByRecursion (λ (passed : Passed). (j : ℕ) × (replica_on settings v passed.machine ≡ Some j) × Is j passed.cause) (map (passed_at settings v) over)
   told_over Is start over order all =
-      told_each Is over (all_tried (λ j. j < settings.replicas) (λ i. (start + i) % settings.replicas) (length over) 0 (λ i low high. let some = built.some_replicas in mod-lt (start + i) (omega (arith, some))) over order) all
+      told_each Is over (all_tried (λ j. j < settings.replicas) (λ i. (start + i) % settings.replicas) (length over) 0
+      (λ i low high. let some = built.some_replicas in mod-lt (start + i) (omega (arith, some))) over order) all

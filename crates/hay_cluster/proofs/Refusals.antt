@@ -28,7 +28,8 @@ module _ {D P A : Type 0} (files : D → Files) (Tells : Type 0) (faults fuses :
       → find (λ m. slice_index_or (store.directory).drained m false) (map (machine_of store.settings v) (replicas_of store.settings)) ≡ drained_of store.settings k v
   unfolding Stands
   drained-known store k v s =
-      ap (λ (ds : List Bool). find (λ m. slice_index_or ds m false) (map (machine_of store.settings v) (replicas_of store.settings))) (sym (drains files store.directory k.directory k.drained s.directory))
+      ap (λ (ds : List Bool). find (λ m. slice_index_or ds m false) (map (machine_of store.settings v) (replicas_of store.settings)))
+      (sym (drains files store.directory k.directory k.drained s.directory))
 
 pub open-thawed : (frozen drained : Option ℕ) → closed_by frozen drained ≡ None → frozen ≡ None
 open-thawed None drained is = refl
@@ -37,13 +38,15 @@ open-thawed (Some m) drained is = absurd cc
 abbrev refusal_at : Settings → ℕ → ℕ → ℕ × ReplicaKnown → Refused
 refusal_at settings v size at = NoRoom v (machine_of settings v at.0) (at.1).end (needle_total size)
 
-full_at : (settings : Settings) (v size : ℕ) (o : Option (ℕ × ReplicaKnown)) (fault : LogicalFault) → room_answer settings None (option_map (refusal_at settings v size) o) ≡ Err fault → lack_of v fault ≡ option_map (refusal_at settings v size) o
+full_at : (settings : Settings) (v size : ℕ) (o : Option (ℕ × ReplicaKnown)) (fault : LogicalFault)
+    → room_answer settings None (option_map (refusal_at settings v size) o) ≡ Err fault → lack_of v fault ≡ option_map (refusal_at settings v size) o
 full_at settings v size None fault is = absurd cc
 full_at settings v size (Some at) fault is =
     let same : Full (machine_of settings v at.0) (at.1).end (needle_total size) settings.capacity ≡ fault = cc in
     ap (lack_of v) (sym same)
 
-free_at : (settings : Settings) (v size : ℕ) (o : Option (ℕ × ReplicaKnown)) → room_answer settings None (option_map (refusal_at settings v size) o) ≡ Ok tt → None ≡ option_map (refusal_at settings v size) o
+free_at : (settings : Settings) (v size : ℕ) (o : Option (ℕ × ReplicaKnown)) → room_answer settings None (option_map (refusal_at settings v size) o) ≡ Ok tt
+    → None ≡ option_map (refusal_at settings v size) o
 free_at settings v size None is = refl
 free_at settings v size (Some at) is = absurd cc
 

@@ -23,7 +23,8 @@ use Rattle.hay_logical.specs.Volumes.{Volume}
 use Rattle.hay_cluster.specs.Changes.{IsDeleteReply, IsReadOnly}
 use Rattle.hay_cluster.specs.Lacks.{lack_of}
 use Rattle.hay_cluster.specs.Puts.{IsPutReply, IsRefusal, settle_reply}
-use Rattle.hay_cluster.specs.Seen.{AnswersDelete, AnswersPut, Closes, GetsHome, IsOpenAtHome, IsOpenTo, IsTaker, IsTurnedAside, Keeps, MovesDirectory, MovesVolume, NeedsHome, PutsAt, RefusesPhoto, StoreSeen, TakesPhotoAt, TurnsAside, home_seen, store_seen}
+use Rattle.hay_cluster.specs.Seen.{AnswersDelete, AnswersPut, Closes, GetsHome, IsOpenAtHome, IsOpenTo, IsTaker, IsTurnedAside, Keeps, MovesDirectory, MovesVolume, NeedsHome}
+use Rattle.hay_cluster.specs.Seen.{PutsAt, RefusesPhoto, StoreSeen, TakesPhotoAt, TurnsAside, home_seen, store_seen}
 use Rattle.hay_cluster.specs.Store.{Open}
 use Rattle.hay_cluster.proofs.Finds.{range-at}
 use Rattle.hay_cluster.proofs.Lists.{map-append, map-at, map-set, set-kept}
@@ -144,7 +145,8 @@ module _ (settings : Settings) (tag : CoreTag) (pair : Pair) (size : ℕ) where
   put_seen v said old mid new gets (inr (inl (m, n, is, moves))) = subst (λ (r : Reply). AnswersPut settings tag pair size r old new) (sym is) (mid, gets, moves)
   put_seen v said old mid new gets (inr (inr (is, wants))) = subst (λ (r : Reply). AnswersPut settings tag pair size r old new) (sym is) (inr (v, mid, gets, wants))
 
-  pub turned_seen : (refused : List Refused) (said : Reply) (seen : StoreSeen) → IsRefusal refused said → IsTurnedAside settings seen pair size refused → AnswersPut settings tag pair size said seen seen
+  pub turned_seen : (refused : List Refused) (said : Reply) (seen : StoreSeen) → IsRefusal refused said → IsTurnedAside settings seen pair size refused
+      → AnswersPut settings tag pair size said seen seen
   turned_seen refused (reply.Full tries) seen told turned = (keeps_all seen, subst (λ (rs : List Refused). IsTurnedAside settings seen pair size rs) (sym told.0) turned)
   turned_seen refused (reply.ReadOnly closed) seen told turned = (keeps_all seen, subst (λ (rs : List Refused). IsTurnedAside settings seen pair size rs) (sym told) turned)
   turned_seen refused reply.NoMem seen told turned = inl (keeps_all seen)
@@ -178,11 +180,13 @@ module _ (settings : Settings) (tag : CoreTag) (pair : Pair) (v : ℕ) where
   closed_seen m said seen (inr none) home closes = subst (λ (r : Reply). AnswersDelete settings tag pair r seen seen) (sym none) (keeps_all seen)
 
   module _ (rows : ℕ) (said : Reply) (old new : StoreSeen) (opens : IsOpenAtHome settings old pair v) (count : rows ≡ (new.directory).rows) where
-    pub undeleted_seen : (fault : LogicalFault) → IsDeleteReply v rows fault said → MovesVolume v (λ before after. DeleteRefusedSeen tag pair before after fault) old new → AnswersDelete settings tag pair said old new
+    pub undeleted_seen : (fault : LogicalFault) → IsDeleteReply v rows fault said → MovesVolume v (λ before after. DeleteRefusedSeen tag pair before after fault) old new
+        → AnswersDelete settings tag pair said old new
     undeleted_seen (refusal.Gone front) told moves =
         subst (λ (r : Reply). AnswersDelete settings tag pair r old new) (sym told)
         (opens, moves_none v old new (moves_as v old new _ _ (λ before after both. (both.0).1) moves), (moves.before, moves.was, moves.moves.1), count ∙ (moves.directory).rows)
-    undeleted_seen (refusal.Failed m count) told moves = subst (λ (r : Reply). AnswersDelete settings tag pair r old new) (sym told) (opens, moves_perhaps v old new _ (moves_as v old new _ _ (λ before after. thawed_or before after _) moves))
+    undeleted_seen (refusal.Failed m count) told moves =
+        subst (λ (r : Reply). AnswersDelete settings tag pair r old new) (sym told) (opens, moves_perhaps v old new _ (moves_as v old new _ _ (λ before after. thawed_or before after _) moves))
     undeleted_seen (refusal.Damaged m place) told moves =
         subst (λ (r : Reply). AnswersDelete settings tag pair r old new) (sym told) (opens, moves_none v old new (moves_as v old new _ _ (λ before after still. still.1) moves))
     undeleted_seen refusal.NoMemory told moves =

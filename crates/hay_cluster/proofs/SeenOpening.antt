@@ -31,13 +31,16 @@ use Rattle.hay_cluster.proofs.Sighting.{at_mapped, photos_at}
 -- OPENINGS
 
 module _ {D P : Type 0} (DiskTells : Type 0) (files : D → Files) (Tells : Type 0) (faults fuses : D → ℕ) where
-  opened_each : (settings : Settings) (v : ℕ) (ys zs : List (Volume D P)) (notes : List Note) → InOrder (IsVolumeOf settings) v zs → Gathers (OpensVolume DiskTells files Tells faults fuses) ys zs notes
+  opened_each : (settings : Settings) (v : ℕ) (ys zs : List (Volume D P)) (notes : List Note) → InOrder (IsVolumeOf settings) v zs
+      → Gathers (OpensVolume DiskTells files Tells faults fuses) ys zs notes
       → AllByRecursion (OpensVolumeSeen settings) (map volume_seen zs)
   opened_each settings v [] [] notes order opens = tt
   opened_each settings v [] (z ∷ zs) notes order opens = absurd opens
   opened_each settings v (y ∷ ys) [] notes order opens = absurd opens
-  opened_each settings v (y ∷ ys) (z ∷ zs) notes order opens =
-      ((opens.first.seen, length-map z.replicas replica_seen ∙ (order.0).all ∙ ap (λ (s : Settings). s.replicas) (order.0).settings_are), opened_each settings (v + 1) ys zs opens.behind order.1 opens.rest)
+  opened_each settings v (y ∷ ys) (z ∷ zs) notes order opens = (
+    (opens.first.seen, length-map z.replicas replica_seen ∙ (order.0).all ∙ ap (λ (s : Settings). s.replicas) (order.0).settings_are),
+    opened_each settings (v + 1) ys zs opens.behind order.1 opens.rest,
+  )
 
   lie_each : (ys zs : List (Volume D P)) (notes : List Note) → Gathers (OpensVolume DiskTells files Tells faults fuses) ys zs notes
       → (v : ℕ) (z : Volume D P) → At zs v z → VolumeLies (sights_of z.rows) (volume_seen z)
@@ -112,7 +115,8 @@ module _ {D P A : Type 0} (DiskTells : Type 0) (files : D → Files) (Tells : Ty
 -- PLACES OF DELETIONS THAT WERE PENDING
 
 module _ {D P : Type 0} (DiskTells : Type 0) (files : D → Files) (Tells : Type 0) (faults fuses : D → ℕ) where
-  pending_at : DiskTells → (xs ys zs : List (Volume D P)) (notes : List Note) → AllZip (StopsVolume DiskTells files Tells faults fuses) xs ys → Gathers (OpensVolume DiskTells files Tells faults fuses) ys zs notes
+  pending_at : DiskTells → (xs ys zs : List (Volume D P)) (notes : List Note) → AllZip (StopsVolume DiskTells files Tells faults fuses) xs ys
+      → Gathers (OpensVolume DiskTells files Tells faults fuses) ys zs notes
       → (v : ℕ) (x : Volume D P) → At xs v x → (z : Volume D P) × At zs v z × ((j : ℕ) (r : Copy D) → At z.replicas j r → ToldUnsure x.unsure (sights_of z.rows) j (volume_bytes files r))
   pending_at tells [] ys zs notes stops opens v x at = absurd cc
   pending_at tells (x' ∷ xs) [] zs notes stops opens v x at = absurd stops
@@ -121,7 +125,8 @@ module _ {D P : Type 0} (DiskTells : Type 0) (files : D → Files) (Tells : Type
       let same : x' ≡ x = cc in (
         z,
         refl,
-        λ j r there. subst (λ (u : Option Unsure). ToldUnsure u (sights_of z.rows) j (volume_bytes files r)) (stops.0.unsure ∙ ap (λ (w : Volume D P). w.unsure) same) (opens.first.told_places tells j r there),
+        λ j r there. subst (λ (u : Option Unsure). ToldUnsure u (sights_of z.rows) j (volume_bytes files r)) (stops.0.unsure ∙ ap (λ (w : Volume D P). w.unsure) same)
+            (opens.first.told_places tells j r there),
       )
   pending_at tells (x' ∷ xs) (y ∷ ys) (z ∷ zs) notes stops opens (suc v) x at = pending_at tells xs ys zs opens.behind stops.1 opens.rest v x at
 

@@ -56,7 +56,8 @@ module _ {D : Type 0} (files : D → Files) (now : (disk : D) (n : ℕ) → IsIm
       let found = finds d known drained s in
       subst (λ rows. Finds d rows) (none_kept known.pending found.0 known.rows none) found.1
 
-  module _ (old new : State D) (known : DirKnown) (drained : List Bool) (tag : CoreTag) (row : HomeRow) (few : old.settings.volumes ≤ 2 ^ 32) (settings : new.settings ≡ old.settings) (stands : Stands files old known drained) where
+  module _ (old new : State D) (known : DirKnown) (drained : List Bool) (tag : CoreTag) (row : HomeRow) (few : old.settings.volumes ≤ 2 ^ 32)
+      (settings : new.settings ≡ old.settings) (stands : Stands files old known drained) where
     abbrev Now : List HomeRow → Type 0
     Now rows = OpensRows old.settings (λ n. (files new.disk n).now) rows
 

@@ -1,5 +1,6 @@
 -- Reads are legal.
-use Rattle.std.proofs.Common.{◌≡◌, ◌≢◌, ℕ, zero, suc, ◌+◌, ◌-◌, ◌%◌, ◌^◌, ◌<◌, ◌≤◌, ◌⊎◌, not, true, false, Bool, cond, List, [], ◌∷◌, ◌++◌, length, take, drop, map, Option, Some, refl, sym, ap, subst, ◌∙◌, inl, inr, arith}
+use Rattle.std.proofs.Common.{◌≡◌, ◌≢◌, ℕ, zero, suc, ◌+◌, ◌-◌, ◌%◌, ◌^◌, ◌<◌, ◌≤◌, ◌⊎◌, not, true, false, Bool, cond, List, [], ◌∷◌, ◌++◌, length, take, drop, map, Option, Some}
+use Rattle.std.proofs.Common.{refl, sym, ap, subst, ◌∙◌, inl, inr, arith}
 use Rattle.std.specs.Prelude.{◌==◌, Err, slice_get, slice_index, slice_index_or, slice_set, take_while}
 use Rattle.std.specs.List.{AllByRecursion, AllZip, count_by, prefix_len, range_with_len}
 use Rattle.std.proofs.Math.Nat.{mod-lt}
@@ -60,7 +61,8 @@ use Rattle.hay_reader.proofs.Outcomes.{passed_for_arm, stops_unseen}
 use Rattle.hay_reader.proofs.Passing.{all_weaken, first_more, no_shorter}
 use Rattle.hay_cluster.specs.Causes.{Counts, RoseIn}
 use Rattle.hay_cluster.specs.Passing.{IsSureArm, StandsFor}
-use Rattle.hay_cluster.specs.Reads.{FoundPasses, FoundSays, IsFoundAs, IsPassedFor, IsSeenAt, IsSeenByAt, IsSightCause, IsSightFault, IsWhole, MayHave, NeverIn, PassesFrom, PassesTo, ReadPasses, ReadSays, StopsUnseen, counts_of, outcomes_of, passed_at}
+use Rattle.hay_cluster.specs.Reads.{FoundPasses, FoundSays, IsFoundAs, IsPassedFor, IsSeenAt, IsSeenByAt, IsSightCause, IsSightFault, IsWhole, MayHave, NeverIn, PassesFrom}
+use Rattle.hay_cluster.specs.Reads.{PassesTo, ReadPasses, ReadSays, StopsUnseen, counts_of, outcomes_of, passed_at}
 use Rattle.hay_cluster.specs.declared.reading.Found.{Found}
 use Rattle.hay_cluster.specs.declared.reading.Found.TheVariants as found
 use Rattle.hay_cluster.specs.Parts.{Comes}
@@ -83,7 +85,8 @@ length-range : {X : Type 0} (f : ℕ → X) (n at : ℕ) → length (map f (rang
 length-range f zero at = refl
 length-range f (suc n) at = let rest = length-range f n (at + 1) in omega (arith, rest)
 
-zip_from : {P : Type 0} (R : Place P → Outcome → Type 0) (row : List (Place P)) (f : ℕ → Outcome) (n at : ℕ) → length row ≡ n → ((j : ℕ) → j < n → R (place_in row j) (f (at + j))) → AllZip R row (map f (range_with_len at n))
+zip_from : {P : Type 0} (R : Place P → Outcome → Type 0) (row : List (Place P)) (f : ℕ → Outcome) (n at : ℕ) → length row ≡ n → ((j : ℕ) → j < n → R (place_in row j) (f (at + j)))
+    → AllZip R row (map f (range_with_len at n))
 zip_from R [] f zero at long each = tt
 zip_from R [] f (suc n) at long each = absurd (omega arith)
 zip_from R (p ∷ row) f zero at long each = absurd (omega arith)
@@ -100,15 +103,18 @@ row_means R row settings volume pair long each =
     (λ j below. let e : j ≡ 0 + j = omega arith in subst (λ i. R (place_in row j) (outcome_at (now volume (replica_at volume i)) pair)) e (each j below))
 
 -- what a place stands for, it may mean
-pub may_mean : {D P : Type 0} (files : D → Files) (Tells : Type 0) (r : Copy D) (pair : Pair) (there : Place P) (what : Outcome) → PlaceStands files Tells r pair there what → MayMean Tells pair there what
+pub may_mean : {D P : Type 0} (files : D → Files) (Tells : Type 0) (r : Copy D) (pair : Pair) (there : Place P) (what : Outcome) → PlaceStands files Tells r pair there what
+    → MayMean Tells pair there what
 may_mean files Tells r pair (place.Live needle) what stands = stands
 may_mean files Tells r pair place.None what stands = stands
 may_mean files Tells r pair place.Gone what stands = stands
 may_mean files Tells r pair (place.Unseen at size) what stands = tt
 
 -- the places of a volume's row may mean what its replicas have
-pub row_may_mean : {D P : Type 0} (files : D → Files) (Tells : Type 0) (replicas : List (Copy D)) (row : List (Place P)) (settings : Settings) (volume : VolumeKnown) (pair : Pair) → length row ≡ settings.replicas → length replicas ≡ settings.replicas
-    → ((j : ℕ) (r : Copy D) → At replicas j r → PlaceStands files Tells r pair (place_in row j) (outcome_at (now volume (replica_at volume j)) pair)) → AllZip (MayMean Tells pair) row (outcomes_of settings volume pair)
+pub row_may_mean : {D P : Type 0} (files : D → Files) (Tells : Type 0) (replicas : List (Copy D)) (row : List (Place P)) (settings : Settings) (volume : VolumeKnown) (pair : Pair)
+    → length row ≡ settings.replicas → length replicas ≡ settings.replicas
+    → ((j : ℕ) (r : Copy D) → At replicas j r → PlaceStands files Tells r pair (place_in row j) (outcome_at (now volume (replica_at volume j)) pair))
+    → AllZip (MayMean Tells pair) row (outcomes_of settings volume pair)
 row_may_mean files Tells replicas row settings volume pair long all stands =
     row_means (MayMean Tells pair) row settings volume pair long
     (λ j below. let r = has_item replicas j (omega (arith, below, all)) in may_mean files Tells r.0 pair (place_in row j) (outcome_at (now volume (replica_at volume j)) pair) (stands j r.0 r.1))
@@ -135,7 +141,8 @@ counts_at {X} f R old xs i x x' same at here =
 
 module _ {D P A : Type 0} (files : D → Files) (Tells : Type 0) (faults fuses : D → ℕ) (arm_faults : A → ℕ) where
   -- a lane's arm was used
-  pub seat_comes : (old store : Open D P A) (k : Known) (lane : ℕ) (arm arm' : A) → store ≡ old → Stands files Tells faults fuses arm_faults old k → slice_get store.arms lane ≡ Some arm → arm_faults arm ≤ arm_faults arm'
+  pub seat_comes : (old store : Open D P A) (k : Known) (lane : ℕ) (arm arm' : A) → store ≡ old → Stands files Tells faults fuses arm_faults old k
+      → slice_get store.arms lane ≡ Some arm → arm_faults arm ≤ arm_faults arm'
       → Comes files Tells faults fuses arm_faults k k (record store { arms = slice_set store.arms lane arm' })
   unfolding Stands
   seat_comes old store k lane arm arm' is stands at later =
@@ -187,11 +194,13 @@ pairs_append : {X : Type 0} (R : X → X → Type 0) (xs ys : List X) → EachPa
 pairs_append R [] ys first rest across = rest
 pairs_append R (x ∷ xs) ys first rest across = (all_append (R x) xs ys first.0 across.0, pairs_append R xs ys first.1 rest across.1)
 
-all_pairs : {X : Type 0} (Q S : X → Type 0) (R : X → X → Type 0) → ((x y : X) → Q x → S y → R x y) → (xs ys : List X) → AllByRecursion Q xs → AllByRecursion S ys → AllByRecursion (λ x. AllByRecursion (R x) ys) xs
+all_pairs : {X : Type 0} (Q S : X → Type 0) (R : X → X → Type 0) → ((x y : X) → Q x → S y → R x y) → (xs ys : List X) → AllByRecursion Q xs → AllByRecursion S ys
+    → AllByRecursion (λ x. AllByRecursion (R x) ys) xs
 all_pairs Q S R join xs ys q s = all_weaken Q (λ x. AllByRecursion (R x) ys) (λ x h. all_weaken S (R x) (λ y k. join x y h k) ys s) xs q
 
 -- a cause is one until later counts, where its disk's count stays, and since earlier ones
-cause_until : (W : Cause → Type 0) (slot arm mid later : ℕ) (disks between after : List ℕ) (cause : Cause) → mid ≤ later → (later ≡ mid) ⊎ (later < 2 ^ 64) → slice_index after slot ≡ slice_index between slot
+cause_until : (W : Cause → Type 0) (slot arm mid later : ℕ) (disks between after : List ℕ) (cause : Cause) → mid ≤ later → (later ≡ mid) ⊎ (later < 2 ^ 64)
+    → slice_index after slot ≡ slice_index between slot
     → IsPassedFor W slot arm mid disks between cause → IsPassedFor W slot arm later disks after cause
 cause_until W slot arm mid later disks between after (Arm f) more most same has =
     let below : later < 2 ^ 64 = elim most [ inl still ↦ (let low = (has.0).1 in omega (arith, low)) | inr below ↦ below ] in
@@ -199,14 +208,16 @@ cause_until W slot arm mid later disks between after (Arm f) more most same has 
 cause_until W slot arm mid later disks between after (Disk f) more most same has = (subst (λ n. Rose (slice_index disks slot) n) (sym same) has.0, has.1 ∙ sym same)
 cause_until W slot arm mid later disks between after (Damage at) more most same has = has
 
-cause_since : (W W' : Cause → Type 0) (slot arm mid later : ℕ) (disks between after : List ℕ) (cause : Cause) → ((cause : Cause) → W cause → W' cause) → arm ≤ mid → slice_index disks slot ≤ slice_index between slot
+cause_since : (W W' : Cause → Type 0) (slot arm mid later : ℕ) (disks between after : List ℕ) (cause : Cause) → ((cause : Cause) → W cause → W' cause) → arm ≤ mid
+    → slice_index disks slot ≤ slice_index between slot
     → IsPassedFor W' slot mid later between after cause → IsPassedFor W slot arm later disks after cause
 cause_since W W' slot arm mid later disks between after (Arm f) whole more low has =
     (((elim (has.0).0.0 [ inl up ↦ inl (omega arith) | inr top ↦ inr top ], (has.0).0.1), (has.0).1), λ w. has.1 (whole (Arm f) w))
 cause_since W W' slot arm mid later disks between after (Disk f) whole more low has = (elim has.0 [ inl up ↦ inl (omega arith) | inr top ↦ inr top ], has.1)
 cause_since W W' slot arm mid later disks between after (Damage at) whole more low has = λ w. has (whole (Damage at) w)
 
-rises_later : (W W' : Cause → Type 0) (slot slot' arm mid later : ℕ) (disks between after : List ℕ) (a b : Cause) → IsPassedFor W slot arm mid disks between a → IsPassedFor W' slot' mid later between after b → ArmRises a b
+rises_later : (W W' : Cause → Type 0) (slot slot' arm mid later : ℕ) (disks between after : List ℕ) (a b : Cause) → IsPassedFor W slot arm mid disks between a
+    → IsPassedFor W' slot' mid later between after b → ArmRises a b
 rises_later W W' slot slot' arm mid later disks between after (Arm f) (Arm h) has has' = elim (has'.0).0.0 [ inl up ↦ inl (let low = (has.0).0.1 in omega (arith, low, up)) | inr top ↦ inr top ]
 rises_later W W' slot slot' arm mid later disks between after (Arm f) (Disk h) has has' = tt
 rises_later W W' slot slot' arm mid later disks between after (Arm f) (Damage at) has has' = tt
@@ -231,7 +242,8 @@ module _ (W W' : Cause → Type 0) (settings : Settings) (lane v start : ℕ) (b
   abbrev Both : PassedReplica → Type 0
   Both p = IsPassedFor W (slot_of settings v p.replica) (slice_index before.arms lane) (slice_index after.arms lane) before.disks after.disks p.cause
 
-  pub passes_on : ((cause : Cause) → W cause → W' cause) → GoesOn settings lane v before mid after causes → PassesFrom W settings lane v start before mid passed causes → PassesFrom W' settings lane v start mid after causes more
+  pub passes_on : ((cause : Cause) → W cause → W' cause) → GoesOn settings lane v before mid after causes → PassesFrom W settings lane v start before mid passed causes
+      → PassesFrom W' settings lane v start mid after causes more
       → PassesFrom W settings lane v start before after passed more
   passes_on whole on first then =
       let now : List PassedReplica = passed_now passed causes in
@@ -250,11 +262,13 @@ module _ (W W' : Cause → Type 0) (settings : Settings) (lane v start : ℕ) (b
             (all_append Both now rest
             (all_both First (λ p. slice_index after.disks (slot_of settings v p.replica) ≡ slice_index mid.disks (slot_of settings v p.replica)) Both
             (λ p has same. cause_until W (slot_of settings v p.replica) _ _ _ before.disks mid.disks after.disks p.cause on.later on.most same has) now first.each still)
-            (all_weaken Then Both (λ p has. cause_since W W' (slot_of settings v p.replica) _ _ _ before.disks mid.disks after.disks p.cause whole on.first (on.fall (slot_of settings v p.replica)) has) rest then.each));
+            (all_weaken Then Both (λ p has. cause_since W W' (slot_of settings v p.replica) _ _ _ before.disks mid.disks after.disks p.cause whole on.first
+            (on.fall (slot_of settings v p.replica)) has) rest then.each));
         rises = subst (λ (xs : List PassedReplica). EachPair (λ a b. ArmRises a.cause b.cause) xs) (sym new)
             (pairs_append (λ a b. ArmRises a.cause b.cause) now rest first.rises then.rises
             (all_pairs First Then (λ a b. ArmRises a.cause b.cause)
-            (λ a b has has'. rises_later W W' (slot_of settings v a.replica) (slot_of settings v b.replica) _ _ _ before.disks mid.disks after.disks a.cause b.cause has has') now rest first.each then.each));
+            (λ a b has has'. rises_later W W' (slot_of settings v a.replica) (slot_of settings v b.replica) _ _ _ before.disks mid.disks after.disks a.cause b.cause has has') now
+            rest first.each then.each));
       }
     where
       assoc : (xs ys zs : List PassedReplica) → (xs ++ ys) ++ zs ≡ xs ++ (ys ++ zs)
@@ -319,11 +333,13 @@ module _ (W : Cause → Type 0) (whole : (at : ℕ) → W (Damage at)) (settings
   since_arm arm f slot (Disk h) rises has = has
   since_arm arm f slot (Damage at) rises has = has
 
-  reach_one : (arm j : ℕ) (cause : Cause) (rest : List PassedReplica) → IsPassedFor W (slot_of settings v j) arm arm' disks disks' cause → AllByRecursion (λ p. ArmRises cause p.cause) rest → AllByRecursion (IsOver arm) rest
+  reach_one : (arm j : ℕ) (cause : Cause) (rest : List PassedReplica) → IsPassedFor W (slot_of settings v j) arm arm' disks disks' cause
+      → AllByRecursion (λ p. ArmRises cause p.cause) rest → AllByRecursion (IsOver arm) rest
       → ((f : ℕ) → f ≤ arm' → AllByRecursion (IsOver f) rest → Reaches f (count_by (λ i. not (rose_in settings v disks disks' i)) (map (λ p. p.replica) rest)) arm') → arm ≤ arm'
       → Reaches arm (count_by (λ i. not (rose_in settings v disks disks' i)) (j ∷ map (λ p. p.replica) rest)) arm'
   reach_one arm j (Arm f) rest has rises each reach later =
-      let others : AllByRecursion (IsOver f) rest = all_both (λ p. ArmRises (Arm f) p.cause) (IsOver arm) (IsOver f) (λ p up came. since_arm arm f (slot_of settings v p.replica) p.cause up came) rest rises each in
+      let others : AllByRecursion (IsOver f) rest =
+      all_both (λ p. ArmRises (Arm f) p.cause) (IsOver arm) (IsOver f) (λ p up came. since_arm arm f (slot_of settings v p.replica) p.cause up came) rest rises each in
       elim (has.0).0.0 [
         | inl up ↦ elim (reach f (has.0).0.1 others) [
           | inl far ↦ inl (let one = count_more (λ i. not (rose_in settings v disks disks' i)) j (map (λ p. p.replica) rest) in omega (arith, one, far, up))
@@ -351,7 +367,8 @@ front_counts p q (x ∷ xs) y ys fails =
     let rest = front_counts p q xs y ys fails in
     elim (cases_Bool (p x)) [
       | inl t ↦
-          let first : take_while p (x ∷ (xs ++ y ∷ ys)) ≡ x ∷ take_while p (xs ++ y ∷ ys) = ap (λ b. take (cond b (1 + prefix_len p (xs ++ y ∷ ys)) 0) (x ∷ (xs ++ y ∷ ys))) t ∙ take_one x (prefix_len p (xs ++ y ∷ ys)) (xs ++ y ∷ ys) in
+          let first : take_while p (x ∷ (xs ++ y ∷ ys)) ≡ x ∷ take_while p (xs ++ y ∷ ys) =
+          ap (λ b. take (cond b (1 + prefix_len p (xs ++ y ∷ ys)) 0) (x ∷ (xs ++ y ∷ ys))) t ∙ take_one x (prefix_len p (xs ++ y ∷ ys)) (xs ++ y ∷ ys) in
           let taken = ap (count_by q) first ∙ count_cons q x (take_while p (xs ++ y ∷ ys)) in
           let whole = count_cons q x xs in
           omega (arith, taken, whole, rest)
@@ -373,9 +390,11 @@ split_tries f (suc tries) (suc n) at few =
     let e : at + 1 + tries ≡ at + suc tries = omega arith in
     (rest.0, ap (λ (xs : List ℕ). f at ∷ xs) rest.1 ∙ ap (λ i. f at ∷ (map f (range_with_len (at + 1) tries) ++ f i ∷ rest.0)) e)
 
-pub tried : (W : Cause → Type 0) (settings : Settings) (lane v start : ℕ) (before after : Counts) (Had : ℕ → Cause → Type 0) (causes : List PassedReplica) (j : ℕ) → ((at : ℕ) → W (Damage at)) → slice_index before.arms lane ≤ slice_index after.arms lane
+pub tried : (W : Cause → Type 0) (settings : Settings) (lane v start : ℕ) (before after : Counts) (Had : ℕ → Cause → Type 0) (causes : List PassedReplica) (j : ℕ)
+    → ((at : ℕ) → W (Damage at)) → slice_index before.arms lane ≤ slice_index after.arms lane
     → PassesTo W settings lane v start before after Had [] causes j
-    → Reaches (slice_index before.arms lane) (count_by (λ i. not (rose_in settings v before.disks after.disks i)) (take_while (λ i. not (i == j)) (order_from settings start))) (slice_index after.arms lane)
+    → Reaches (slice_index before.arms lane) (count_by (λ i. not (rose_in settings v before.disks after.disks i)) (take_while (λ i. not (i == j)) (order_from settings start)))
+    (slice_index after.arms lane)
 tried W settings lane v start before after Had causes j whole later passes =
     let q : ℕ → Bool = λ i. not (rose_in settings v before.disks after.disks i) in
     let f : ℕ → ℕ = λ i. (start + i) % settings.replicas in
@@ -394,7 +413,8 @@ tried W settings lane v start before after Had causes j whole later passes =
 -- THE REPLICAS THAT WERE TRIED
 
 -- each is one of the volume's, and none is the next
-pub all_tried : (Q : ℕ → Type 0) (f : ℕ → ℕ) (n at : ℕ) → ((i : ℕ) → at ≤ i → i < at + n → Q (f i)) → (over : List PassedReplica) → map (λ p. p.replica) over ≡ map f (range_with_len at n) → AllByRecursion (λ p. Q p.replica) over
+pub all_tried : (Q : ℕ → Type 0) (f : ℕ → ℕ) (n at : ℕ) → ((i : ℕ) → at ≤ i → i < at + n → Q (f i)) → (over : List PassedReplica)
+    → map (λ p. p.replica) over ≡ map f (range_with_len at n) → AllByRecursion (λ p. Q p.replica) over
 all_tried Q f n at each [] order = tt
 all_tried Q f zero at each (p ∷ over) order = absurd cc
 all_tried Q f (suc n) at each (p ∷ over) order =
@@ -420,7 +440,8 @@ tried_for W Tells sure cookie slot arm arm' disks disks' pair there (Disk f) mea
 tried_for W Tells sure cookie slot arm arm' disks disks' pair there (Damage at) means surely has gives =
     λ w. passed_for_arm Tells sure cookie [] pair there (Damage at) (means at w).0 (means at w).1 gives
 
-mean_at : {P : Type 0} (R : Place P → Outcome → Type 0) (row : List (Place P)) (outcomes : List Outcome) (j : ℕ) → R place.None outcome.Nothing → AllZip R row outcomes → (what : Outcome) × R (place_in row j) what
+mean_at : {P : Type 0} (R : Place P → Outcome → Type 0) (row : List (Place P)) (outcomes : List Outcome) (j : ℕ) → R place.None outcome.Nothing → AllZip R row outcomes
+    → (what : Outcome) × R (place_in row j) what
 mean_at R [] [] j none all = (outcome.Nothing, none)
 mean_at R [] (y ∷ ys) j none all = absurd all
 mean_at R (x ∷ xs) [] j none all = absurd all
@@ -428,7 +449,8 @@ mean_at R (x ∷ xs) (y ∷ ys) zero none all = (y, all.0)
 mean_at R (x ∷ xs) (y ∷ ys) (suc j) none all = mean_at R xs ys j none all.1
 
 -- why a place is passed over is of what is seen there
-pub gives_cause : {P : Type 0} (Tells : Type 0) (sure : Bool) (cookie : Cookie) (put : List ℕ) (there : Place P) (cause : Cause) → PlaceGives Tells sure cookie put there (Err cause) → StandsFor cause (sight there)
+pub gives_cause : {P : Type 0} (Tells : Type 0) (sure : Bool) (cookie : Cookie) (put : List ℕ) (there : Place P) (cause : Cause)
+    → PlaceGives Tells sure cookie put there (Err cause) → StandsFor cause (sight there)
 gives_cause Tells sure cookie put (place.Live needle) (Arm f) gives = tt
 gives_cause Tells sure cookie put (place.Live needle) (Disk f) gives = absurd gives
 gives_cause Tells sure cookie put (place.Live needle) (Damage at) gives = gives.0
@@ -436,9 +458,11 @@ gives_cause Tells sure cookie put place.None cause gives = absurd cc
 gives_cause Tells sure cookie put place.Gone cause gives = absurd cc
 gives_cause Tells sure cookie put (place.Unseen at size) cause gives = absurd cc
 
-module _ {P : Type 0} (W : Cause → Type 0) (Tells : Type 0) (sure : Bool) (settings : Settings) (lane v start : ℕ) (before after : Counts) (row : List (Place P)) (pair : Pair) (cookie : Cookie) (long : length row ≡ settings.replicas)
+module _ {P : Type 0} (W : Cause → Type 0) (Tells : Type 0) (sure : Bool) (settings : Settings) (lane v start : ℕ) (before after : Counts) (row : List (Place P)) (pair : Pair)
+    (cookie : Cookie) (long : length row ≡ settings.replicas)
     (means : (at : ℕ) → W (Damage at) → (outcomes : List Outcome) × AllZip (MayMean Tells pair) row outcomes) (surely : (f : ℕ) → W (Arm f) → sure ≡ true)
-    (Had : ℕ → Cause → Type 0) (had : (j : ℕ) (cause : Cause) → PlaceGives Tells sure cookie [] (place_in row j) (Err cause) → Had j cause) (passed : List PassedReplica) (stood : MayHave Had passed) where
+    (Had : ℕ → Cause → Type 0) (had : (j : ℕ) (cause : Cause) → PlaceGives Tells sure cookie [] (place_in row j) (Err cause) → Had j cause) (passed : List PassedReplica)
+    (stood : MayHave Had passed) where
   abbrev TheArm : ArmUse
   TheArm = record { sure = sure; before = slice_index before.arms lane; after = slice_index after.arms lane }
 
@@ -448,7 +472,8 @@ module _ {P : Type 0} (W : Cause → Type 0) (Tells : Type 0) (sure : Bool) (set
     order = subst (λ n. ComeFirst start n causes) long h.passes.order;
     each = all_both (λ p. HasArmCause (slice_index before.arms lane) (slice_index after.arms lane) p.cause) (λ p. PlaceGives Tells sure cookie [] (place_in row p.replica) (Err p.cause))
         (λ p. IsPassedFor W (slot_of settings v p.replica) (slice_index before.arms lane) (slice_index after.arms lane) before.disks after.disks p.cause)
-        (λ p has gives. tried_for W Tells sure cookie (slot_of settings v p.replica) (slice_index before.arms lane) (slice_index after.arms lane) before.disks after.disks pair (place_in row p.replica) p.cause
+        (λ p has gives. tried_for W Tells sure cookie (slot_of settings v p.replica) (slice_index before.arms lane) (slice_index after.arms lane) before.disks after.disks pair
+        (place_in row p.replica) p.cause
         (λ at w. let m = means at w in mean_at (MayMean Tells pair) row m.0 p.replica tt m.1) surely has gives)
         (passed_now passed causes) h.passes.each h.places;
     rises = h.passes.rises;
@@ -480,7 +505,8 @@ module _ {P : Type 0} (W : Cause → Type 0) (Tells : Type 0) (sure : Bool) (set
   row_read put (read.Unreadable causes) h = record { passes = row_passes causes h.0; stood = row_stood causes h.0; all = h.1 ∙ long }
 
 -- the outcome that is shown
-pub answers_say : (start before after : ℕ) (cookie : Cookie) (passed : List PassedReplica) (outcomes : List Outcome) (put : List ℕ) (reply : ReadReply) → ReadAnswers start cookie before after passed outcomes put reply → ReadSays cookie outcomes put reply
+pub answers_say : (start before after : ℕ) (cookie : Cookie) (passed : List PassedReplica) (outcomes : List Outcome) (put : List ℕ) (reply : ReadReply)
+    → ReadAnswers start cookie before after passed outcomes put reply → ReadSays cookie outcomes put reply
 answers_say start before after cookie passed outcomes put (read.Photo j) h = h.stands
 answers_say start before after cookie passed outcomes put (read.Gone j) h = h.stands
 answers_say start before after cookie passed outcomes put (read.WrongCookie j) h = (h.0, h.1, h.2.stands)
@@ -488,7 +514,8 @@ answers_say start before after cookie passed outcomes put (read.Unseen j causes)
 answers_say start before after cookie passed outcomes put (read.Unreadable causes) h = tt
 
 -- a read stops where the row has a place that was not seen
-pub row_stops : {D P A : Type 0} (Tells : Type 0) (arm : ArmUse) (start : ℕ) (row : List (Place P)) (cookie : Cookie) (passed : List PassedReplica) (put : List ℕ) (reply : ReadReply) (store : Open D P A) (v : ℕ) (volume : Volume D P) (pair : Pair)
+pub row_stops : {D P A : Type 0} (Tells : Type 0) (arm : ArmUse) (start : ℕ) (row : List (Place P)) (cookie : Cookie) (passed : List PassedReplica) (put : List ℕ)
+    (reply : ReadReply) (store : Open D P A) (v : ℕ) (volume : Volume D P) (pair : Pair)
     → At store.volumes v volume → row ≡ row_at volume.rows pair → ReadsRow Tells arm start row cookie passed put reply → StopsUnseen store v pair reply
 row_stops Tells arm start row cookie passed put (read.Photo j) store v volume pair at is h = tt
 row_stops Tells arm start row cookie passed put (read.Gone j) store v volume pair at is h = tt
@@ -536,20 +563,24 @@ rises_all : (settings : Settings) (v : ℕ) (a : PassedReplica) (over : List Pas
 rises_all settings v a [] all = tt
 rises_all settings v a (b ∷ over) all = (rises_one a.cause b.cause all.0, rises_all settings v a over all.1)
 
-pub rises_each : (settings : Settings) (v : ℕ) (over : List PassedReplica) → EachPair (λ a b. ArmRises a.cause b.cause) over → known.EachPair (λ a b. legal.ArmRises a.cause b.cause) (map (passed_at settings v) over)
+pub rises_each : (settings : Settings) (v : ℕ) (over : List PassedReplica) → EachPair (λ a b. ArmRises a.cause b.cause) over
+    → known.EachPair (λ a b. legal.ArmRises a.cause b.cause) (map (passed_at settings v) over)
 rises_each settings v [] all = tt
 rises_each settings v (a ∷ over) all = (rises_all settings v a over all.0, rises_each settings v over all.1)
 
 -- all replicas in the order of tries
-pub in_order : (settings : Settings) (start : ℕ) (over : List PassedReplica) → ComeFirst start settings.replicas over → length over ≡ settings.replicas → map (λ p. p.replica) over ≡ order_from settings start
+pub in_order : (settings : Settings) (start : ℕ) (over : List PassedReplica) → ComeFirst start settings.replicas over → length over ≡ settings.replicas
+    → map (λ p. p.replica) over ≡ order_from settings start
 in_order settings start over order all = order ∙ ap (λ n. tried_from start settings.replicas n) all
 
-pub machines_told : (settings : Settings) (v : ℕ) (over : List PassedReplica) → map (λ passed. passed.machine) (map (passed_at settings v) over) ≡ map (machine_of settings v) (map (λ p. p.replica) over)
+pub machines_told : (settings : Settings) (v : ℕ) (over : List PassedReplica) → map (λ passed. passed.machine) (map (passed_at settings v) over)
+    ≡ map (machine_of settings v) (map (λ p. p.replica) over)
 machines_told settings v [] = refl
 machines_told settings v (p ∷ over) = ap (λ (ms : List ℕ). machine_of settings v p.replica ∷ ms) (machines_told settings v over)
 
 -- the replica that showed the photo is one of the volume's
-pub to_below : (W : Cause → Type 0) (settings : Settings) (lane v start : ℕ) (before after : Counts) (Had : ℕ → Cause → Type 0) (passed causes : List PassedReplica) (j : ℕ) → PassesTo W settings lane v start before after Had passed causes j → j < settings.replicas
+pub to_below : (W : Cause → Type 0) (settings : Settings) (lane v start : ℕ) (before after : Counts) (Had : ℕ → Cause → Type 0) (passed causes : List PassedReplica) (j : ℕ)
+    → PassesTo W settings lane v start before after Had passed causes j → j < settings.replicas
 to_below W settings lane v start before after Had passed causes j to =
     let fewer = to.fewer in
     let some : 0 < settings.replicas = omega (arith, fewer) in
@@ -570,8 +601,10 @@ module _ {D P A : Type 0} (DiskTells : Type 0) (files : D → Files) (Tells : Ty
   abbrev Never : Open D P A → ℕ → Cause → Type 0
   Never store lane cause = NeverIn DiskTells files Tells faults fuses arm_faults is_sure store lane cause
 
-  pub read_shown : (old new : Open D P A) (settings : Settings) (k : Known) (tag : CoreTag) (start : ℕ) (pair : Pair) (v j m p d : ℕ) (what : Outcome) (Had : ℕ → Cause → Type 0) (causes : List PassedReplica) → IsBuilt settings → v < settings.volumes → home_of k pair ≡ Some v
-      → p ≡ length (volume_at k v).log → d ≡ length k.directory.rows → m ≡ machine_of settings v j → Whole old → Stands files Tells faults fuses arm_faults old k → (came : Comes files Tells faults fuses arm_faults k k new)
+  pub read_shown : (old new : Open D P A) (settings : Settings) (k : Known) (tag : CoreTag) (start : ℕ) (pair : Pair) (v j m p d : ℕ) (what : Outcome) (Had : ℕ → Cause → Type 0)
+      (causes : List PassedReplica) → IsBuilt settings → v < settings.volumes → home_of k pair ≡ Some v
+      → p ≡ length (volume_at k v).log → d ≡ length k.directory.rows → m ≡ machine_of settings v j → Whole old → Stands files Tells faults fuses arm_faults old k
+      → (came : Comes files Tells faults fuses arm_faults k k new)
       → slice_get (outcomes_of settings (volume_at k v) pair) j ≡ Some what
       → PassesTo (Never old tag.lane) settings tag.lane v start (counts_of faults arm_faults old) (counts_of faults arm_faults new) Had [] causes j
       → IsShown settings k tag start pair v m p d what came.known
@@ -587,7 +620,9 @@ module _ {D P A : Type 0} (DiskTells : Type 0) (files : D → Files) (Tells : Ty
         replica = j;
         there = replica_found settings v j volume got.0 built.no_more_replicas;
         stands = ap (λ i. outcome_at (now (volume_at k v) (replica_at (volume_at k v) i)) pair) (sym zero_j) ∙ got.1;
-        passed = tried (Never old tag.lane) settings tag.lane v start (known_counts k) (known_counts came.known) Had causes j (λ at. whole) (falls_at k.arms (came.known).arms tag.lane (came.leaves).arms) known;
+        passed =
+            tried (Never old tag.lane) settings tag.lane v start (known_counts k) (known_counts came.known) Had causes j (λ at. whole)
+            (falls_at k.arms (came.known).arms tag.lane (came.leaves).arms) known;
         leaves = came.leaves;
       })
 
@@ -610,7 +645,8 @@ module _ {D P A : Type 0} (DiskTells : Type 0) (files : D → Files) (Tells : Ty
 
 -- A PLACE IS SEEN
 
-module _ {D P A : Type 0} (faults fuses : D → ℕ) (old store : Open D P A) (v replica : ℕ) (before after : Volume D P) (is : store ≡ old) (shape : IsShaped store) (called : Called faults fuses store v before after)
+module _ {D P A : Type 0} (faults fuses : D → ℕ) (old store : Open D P A) (v replica : ℕ) (before after : Volume D P) (is : store ≡ old) (shape : IsShaped store)
+    (called : Called faults fuses store v before after)
     (within : replica < (old.settings).replicas) where
   -- of the volume's disks only that of the replica may have a greater count
   pub sight_others : ((j : ℕ) → (j ≡ replica → ⊥) → (r r' : Copy D) → At before.replicas j r → At after.replicas j r' → r' ≡ r) → (j : ℕ) → j < (old.settings).replicas → (j ≡ replica → ⊥)
@@ -659,7 +695,8 @@ seen_by_in {D} {P} DiskTells Tells store v before after pair replica bytes at by
     subst (λ (w : Volume D P). IsSeenBy DiskTells Tells bytes (place_in (row_at w.rows pair) replica)) same by
 
 -- a place that was seen, where it stands
-pub seen_there : {D P A : Type 0} (old store : Open D P A) (v : ℕ) (volume : Volume D P) (pair : Pair) (replica : ℕ) → store ≡ old → At store.volumes v volume → IsSeen (place_in (row_at volume.rows pair) replica) → IsSeenAt old v pair replica
+pub seen_there : {D P A : Type 0} (old store : Open D P A) (v : ℕ) (volume : Volume D P) (pair : Pair) (replica : ℕ) → store ≡ old → At store.volumes v volume
+    → IsSeen (place_in (row_at volume.rows pair) replica) → IsSeenAt old v pair replica
 seen_there {D} {P} {A} old store v volume pair replica is at seen = subst (λ (st : Open D P A). IsSeenAt st v pair replica) is (λ other there.
     let same : volume ≡ other = same_Some volume other (sym at ∙ there) in
     subst (λ (w : Volume D P). IsSeen (place_in (row_at w.rows pair) replica)) same seen)
@@ -672,7 +709,8 @@ stops_same old new v pair (read.Gone j) same stops = tt
 stops_same old new v pair (read.WrongCookie j) same stops = tt
 stops_same old new v pair (read.Unreadable causes) same stops = tt
 
-pub seen_in : {D P A : Type 0} (store : Open D P A) (v : ℕ) (before after : Volume D P) (pair : Pair) (replica : ℕ) → At store.volumes v before → IsSeen (place_in (row_at after.rows pair) replica) → IsSeenAt (with_one store v after) v pair replica
+pub seen_in : {D P A : Type 0} (store : Open D P A) (v : ℕ) (before after : Volume D P) (pair : Pair) (replica : ℕ) → At store.volumes v before
+    → IsSeen (place_in (row_at after.rows pair) replica) → IsSeenAt (with_one store v after) v pair replica
 seen_in {D} {P} store v before after pair replica at seen = λ volume there.
     let same : after ≡ volume = same_Some after volume (sym (slice_get-set store.volumes v before after at) ∙ there) in
     subst (λ (w : Volume D P). IsSeen (place_in (row_at w.rows pair) replica)) same seen
@@ -685,7 +723,8 @@ module _ {D P A : Type 0} (files : D → Files) (Tells : Type 0) (faults fuses :
   sight_comes old store k v before after is called within stands moves =
       let s : Stands files Tells faults fuses arm_faults store k = subst (λ (st : Open D P A). Stands files Tells faults fuses arm_faults st k) (sym is) stands in
       comes_still files Tells faults fuses arm_faults old (with_one store v after) k v stands within
-      (volume_comes files Tells faults fuses arm_faults store k v before after (volume_at k v) s called.at called.same called.counts (moves (volume_at k v) (volume_stood files Tells faults fuses arm_faults store k v before s called.at)))
+      (volume_comes files Tells faults fuses arm_faults store k v before after (volume_at k v) s called.at called.same called.counts
+      (moves (volume_at k v) (volume_stood files Tells faults fuses arm_faults store k v before s called.at)))
 
 -- A REPLICA IS SEEN OR PASSED OVER
 
@@ -703,21 +742,27 @@ sight_passed W slot arm arm' disks disks' (refusal.Worn m) cause h is whole = ab
 sight_passed W slot arm arm' disks disks' refusal.Idle cause h is whole = absurd h
 
 -- no replica more, and one more
-pub passes_none : (W : Cause → Type 0) (settings : Settings) (lane v start : ℕ) (before after : Counts) (causes : List PassedReplica) → ComeFirst start settings.replicas causes → PassesFrom W settings lane v start before after causes causes
+pub passes_none : (W : Cause → Type 0) (settings : Settings) (lane v start : ℕ) (before after : Counts) (causes : List PassedReplica) → ComeFirst start settings.replicas causes
+    → PassesFrom W settings lane v start before after causes causes
 passes_none W settings lane v start before after causes order = record {
   begins = take-length causes;
   order = order;
-  each = subst (λ (ps : List PassedReplica). AllByRecursion (λ p. IsPassedFor W (slot_of settings v p.replica) (slice_index before.arms lane) (slice_index after.arms lane) before.disks after.disks p.cause) ps) (sym (drop-length causes)) tt;
+  each =
+      subst (λ (ps : List PassedReplica). AllByRecursion (λ p. IsPassedFor W (slot_of settings v p.replica) (slice_index before.arms lane) (slice_index after.arms lane)
+      before.disks after.disks p.cause) ps) (sym (drop-length causes)) tt;
   rises = subst (λ (ps : List PassedReplica). EachPair (λ a b. ArmRises a.cause b.cause) ps) (sym (drop-length causes)) tt;
 }
 
 pub passes_one : (W : Cause → Type 0) (settings : Settings) (lane v start : ℕ) (before after : Counts) (causes : List PassedReplica) (over : PassedReplica) → ComeFirst start settings.replicas causes
-    → over.replica ≡ (start + length causes) % settings.replicas → IsPassedFor W (slot_of settings v over.replica) (slice_index before.arms lane) (slice_index after.arms lane) before.disks after.disks over.cause
+    → over.replica ≡ (start + length causes) % settings.replicas → IsPassedFor W (slot_of settings v over.replica) (slice_index before.arms lane) (slice_index after.arms lane)
+    before.disks after.disks over.cause
     → PassesFrom W settings lane v start before after causes (causes ++ over ∷ [])
 passes_one W settings lane v start before after causes over order next has = record {
   begins = take-append_seam causes (over ∷ []);
   order = first_more start settings.replicas causes over order next;
-  each = subst (λ (ps : List PassedReplica). AllByRecursion (λ p. IsPassedFor W (slot_of settings v p.replica) (slice_index before.arms lane) (slice_index after.arms lane) before.disks after.disks p.cause) ps) (sym (drop-append_seam causes (over ∷ []))) (has, tt);
+  each =
+      subst (λ (ps : List PassedReplica). AllByRecursion (λ p. IsPassedFor W (slot_of settings v p.replica) (slice_index before.arms lane) (slice_index after.arms lane)
+      before.disks after.disks p.cause) ps) (sym (drop-append_seam causes (over ∷ []))) (has, tt);
   rises = subst (λ (ps : List PassedReplica). EachPair (λ a b. ArmRises a.cause b.cause) ps) (sym (drop-append_seam causes (over ∷ []))) (tt, tt);
 }
 
@@ -743,7 +788,8 @@ its_photo DiskTells Tells bytes place.Gone tells by = tt
 its_photo DiskTells Tells bytes (place.Unseen at size) tells by = tt
 
 -- a read that the next replica showed passes none over
-pub shown_passes : (W : Cause → Type 0) (settings : Settings) (lane v start : ℕ) (before after : Counts) (Had : ℕ → Cause → Type 0) (passed : List PassedReplica) (reply : ReadReply) → ComeFirst start settings.replicas passed
+pub shown_passes : (W : Cause → Type 0) (settings : Settings) (lane v start : ℕ) (before after : Counts) (Had : ℕ → Cause → Type 0) (passed : List PassedReplica)
+    (reply : ReadReply) → ComeFirst start settings.replicas passed
     → length passed < settings.replicas → MayHave Had passed → ShowsAt ((start + length passed) % settings.replicas) reply → ReadPasses W settings lane v start before after Had passed reply
 shown_passes W settings lane v start before after Had passed reply order fewer stood shows = go reply shows
   where
@@ -765,7 +811,8 @@ shown_stops store v j pair (read.Unseen i causes) next = absurd next
 shown_stops store v j pair (read.Unreadable causes) next = absurd next
 
 -- what is known stands where nothing changed
-pub comes_same : {D P A : Type 0} (files : D → Files) (Tells : Type 0) (faults fuses : D → ℕ) (arm_faults : A → ℕ) (store : Open D P A) (k : Known) → Stands files Tells faults fuses arm_faults store k → Comes files Tells faults fuses arm_faults k k store
+pub comes_same : {D P A : Type 0} (files : D → Files) (Tells : Type 0) (faults fuses : D → ℕ) (arm_faults : A → ℕ) (store : Open D P A) (k : Known)
+    → Stands files Tells faults fuses arm_faults store k → Comes files Tells faults fuses arm_faults k k store
 comes_same files Tells faults fuses arm_faults store k stands = record {
   known = k;
   leaves = record { volumes = refl; directory = refl; drained = refl; fuses = refl; faults = none_falls k.faults; arms = none_falls k.arms };
@@ -775,7 +822,8 @@ comes_same files Tells faults fuses arm_faults store k stands = record {
 -- THE WHOLE READ
 
 -- a look at the place of the next replica leaves the counts of the disks of those before it
-pub sight_goes_on : (settings : Settings) (lane v start : ℕ) (before mid after : Counts) (causes : List PassedReplica) (replica : ℕ) → NoneFalls before.arms mid.arms → after.arms ≡ mid.arms → NoneFalls before.disks mid.disks
+pub sight_goes_on : (settings : Settings) (lane v start : ℕ) (before mid after : Counts) (causes : List PassedReplica) (replica : ℕ) → NoneFalls before.arms mid.arms
+    → after.arms ≡ mid.arms → NoneFalls before.disks mid.disks
     → ComeFirst start settings.replicas causes → length causes < settings.replicas → replica ≡ (start + length causes) % settings.replicas
     → ((j : ℕ) → j < settings.replicas → (j ≡ replica → ⊥) → slice_index after.disks (slot_of settings v j) ≡ slice_index mid.disks (slot_of settings v j))
     → GoesOn settings lane v before mid after causes
@@ -792,7 +840,8 @@ sight_goes_on settings lane v start before mid after causes replica arms same di
     }
 
 -- so does a use of the arm
-pub arm_goes_on : (settings : Settings) (lane v : ℕ) (before mid after : Counts) (causes : List PassedReplica) → NoneFalls before.arms mid.arms → NoneFalls mid.arms after.arms → NoneFalls before.disks mid.disks
+pub arm_goes_on : (settings : Settings) (lane v : ℕ) (before mid after : Counts) (causes : List PassedReplica) → NoneFalls before.arms mid.arms → NoneFalls mid.arms after.arms
+    → NoneFalls before.disks mid.disks
     → (slice_index after.arms lane ≡ slice_index mid.arms lane) ⊎ (slice_index after.arms lane < 2 ^ 64) → after.disks ≡ mid.disks → GoesOn settings lane v before mid after causes
 arm_goes_on settings lane v before mid after causes arms later disks most same = record {
   first = falls_at before.arms mid.arms lane arms;
@@ -807,7 +856,8 @@ arm_goes_on settings lane v before mid after causes arms later disks most same =
     everywhere (p ∷ ps) = (ap (λ ns. slice_index ns (slot_of settings v p.replica)) same, everywhere ps)
 
 -- a read that goes on stops behind the replica at which it stopped
-pub stops_further : {D P A : Type 0} (W : Cause → Type 0) (settings : Settings) (lane v start : ℕ) (before after : Counts) (Had : ℕ → Cause → Type 0) (store : Open D P A) (pair : Pair) (replica : ℕ) (causes passed : List PassedReplica) (reply : ReadReply) (j : ℕ) (more : List PassedReplica)
+pub stops_further : {D P A : Type 0} (W : Cause → Type 0) (settings : Settings) (lane v start : ℕ) (before after : Counts) (Had : ℕ → Cause → Type 0) (store : Open D P A)
+    (pair : Pair) (replica : ℕ) (causes passed : List PassedReplica) (reply : ReadReply) (j : ℕ) (more : List PassedReplica)
     → replica ≡ (start + length causes) % settings.replicas → (length passed ≡ length causes + 1) ⊎ ((length passed ≡ length causes) × IsSeenAt store v pair replica)
     → ReadPasses W settings lane v start before after Had passed reply → StopsUnseen store v pair reply → reply ≡ read.Unseen j more → length causes + 1 ≤ length more
 stops_further W settings lane v start before after Had store pair replica causes passed reply j more next on passes stops is =
@@ -824,7 +874,8 @@ stops_further W settings lane v start before after Had store pair replica causes
     ]
 
 -- what is known stands over two calls that changed nothing of it
-pub comes_on : {D P A : Type 0} (files : D → Files) (Tells : Type 0) (faults fuses : D → ℕ) (arm_faults : A → ℕ) (mid new : Open D P A) (k : Known) → (first : Comes files Tells faults fuses arm_faults k k mid)
+pub comes_on : {D P A : Type 0} (files : D → Files) (Tells : Type 0) (faults fuses : D → ℕ) (arm_faults : A → ℕ) (mid new : Open D P A) (k : Known)
+    → (first : Comes files Tells faults fuses arm_faults k k mid)
     → Comes files Tells faults fuses arm_faults first.known first.known new → Comes files Tells faults fuses arm_faults k k new
 comes_on files Tells faults fuses arm_faults mid new k first then = record {
   known = then.known;
@@ -840,7 +891,8 @@ comes_on files Tells faults fuses arm_faults mid new k first then = record {
 }
 
 -- the outcomes of replicas go by the volumes alone
-pub says_on : (settings settings' : Settings) (k t : Known) (v : ℕ) (pair : Pair) (cookie : Cookie) (bytes : List ℕ) (r : ReadReply) → settings' ≡ settings → t.volumes ≡ k.volumes → ReadSays cookie (outcomes_of settings' (volume_at t v) pair) bytes r
+pub says_on : (settings settings' : Settings) (k t : Known) (v : ℕ) (pair : Pair) (cookie : Cookie) (bytes : List ℕ) (r : ReadReply) → settings' ≡ settings → t.volumes ≡ k.volumes
+    → ReadSays cookie (outcomes_of settings' (volume_at t v) pair) bytes r
     → ReadSays cookie (outcomes_of settings (volume_at k v) pair) bytes r
 says_on settings settings' k t v pair cookie bytes r same volumes says =
     subst (λ (s : Settings). ReadSays cookie (outcomes_of s (volume_at k v) pair) bytes r) same
@@ -855,7 +907,8 @@ found_says cookie outcomes bytes (read.WrongCookie j) f is h = subst (λ (x : Fo
 found_says cookie outcomes bytes (read.Unreadable causes) f is h = subst (λ (x : Found). FoundSays cookie outcomes bytes x) (sym is) tt
 found_says cookie outcomes bytes (read.Unseen j causes) f is h = absurd is
 
-pub found_passes : (W : Cause → Type 0) (settings : Settings) (lane v start : ℕ) (before after : Counts) (Had : ℕ → Cause → Type 0) (r : ReadReply) (f : Found) → IsFoundAs r f → ReadPasses W settings lane v start before after Had [] r → FoundPasses W settings lane v start before after Had f
+pub found_passes : (W : Cause → Type 0) (settings : Settings) (lane v start : ℕ) (before after : Counts) (Had : ℕ → Cause → Type 0) (r : ReadReply) (f : Found) → IsFoundAs r f
+    → ReadPasses W settings lane v start before after Had [] r → FoundPasses W settings lane v start before after Had f
 found_passes W settings lane v start before after Had (read.Photo j) f is h = subst (λ (x : Found). FoundPasses W settings lane v start before after Had x) (sym is) h
 found_passes W settings lane v start before after Had (read.Gone j) f is h = subst (λ (x : Found). FoundPasses W settings lane v start before after Had x) (sym is) h
 found_passes W settings lane v start before after Had (read.WrongCookie j) f is h = subst (λ (x : Found). FoundPasses W settings lane v start before after Had x) (sym is) h
@@ -871,7 +924,8 @@ found_bytes bytes (read.Unreadable causes) f is has j here = let both : found.Un
 found_bytes bytes (read.Unseen i causes) f is has j here = absurd is
 
 -- what is legal to show to a reader of a URL is legal for its command
-pub get_command : (settings : Settings) (k t : Known) (tag : CoreTag) (url : Url) (start v : ℕ) (answer : Reply) → replica_on settings url.volume url.machine ≡ Some start → home_of k url.pair ≡ Some v → v ≡ url.volume
+pub get_command : (settings : Settings) (k t : Known) (tag : CoreTag) (url : Url) (start v : ℕ) (answer : Reply) → replica_on settings url.volume url.machine ≡ Some start
+    → home_of k url.pair ≡ Some v → v ≡ url.volume
     → LegalShow settings k tag start url.pair url.cookie answer t → ShowsOf settings v answer ⊎ (answer ≡ reply.NoMem) → LegalCommand settings k tag (command.Get url) answer t
 get_command settings k t tag url start v answer there home same legal shows =
     go shows
@@ -883,7 +937,8 @@ get_command settings k t tag url start v answer there home same legal shows =
     at r h = subst (λ (o : Option ℕ). LegalGetAt settings k tag url o r t) (sym there) h
 
     so : (r : Reply) → answer ≡ r → (LegalShow settings k tag start url.pair url.cookie r t → LegalGetAt settings k tag url (Some start) r t) → LegalCommand settings k tag (command.Get url) answer t
-    so r is gets = subst (λ (a : Reply). LegalCommand settings k tag (command.Get url) a t) (sym is) (at r (gets (subst (λ (a : Reply). LegalShow settings k tag start url.pair url.cookie a t) is legal)))
+    so r is gets =
+        subst (λ (a : Reply). LegalCommand settings k tag (command.Get url) a t) (sym is) (at r (gets (subst (λ (a : Reply). LegalShow settings k tag start url.pair url.cookie a t) is legal)))
 
     go : ShowsOf settings v answer ⊎ (answer ≡ reply.NoMem) → LegalCommand settings k tag (command.Get url) answer t
     go (inl (inl (m, p, d, bytes, on, few, is))) = so (reply.Photo v m p d bytes) is (λ h. (h, same, elsewhere))

@@ -24,7 +24,8 @@ use Rattle.hay_logical.specs.Steps.{KeepsRuns}
 use Rattle.hay_physical.specs.Copies.{Copy}
 use Rattle.hay_logical.specs.Volumes.{Volume}
 use Rattle.hay_logical.proofs.Lists.{at_set_other}
-use Rattle.hay_logical.specs.Sights.{AwaitsLook, BecomesSeen, DeleteRefusedSights, FindsPhoto, IsLiveSight, IsSeenOn, KeepsSights, Looks, LooksAtPair, LooksInVain, Sight, Sights, StoresSights, sights_of}
+use Rattle.hay_logical.specs.Sights.{AwaitsLook, BecomesSeen, DeleteRefusedSights, FindsPhoto, IsLiveSight, IsSeenOn, KeepsSights, Looks, LooksAtPair, LooksInVain, Sight, Sights}
+use Rattle.hay_logical.specs.Sights.{StoresSights, sights_of}
 use Rattle.hay_logical.specs.Sights.Sight.{Gone, Live, Never, Unseen}
 use Rattle.hay_cluster.specs.declared.maintenance.Maintenance.{Maintenance}
 use Rattle.hay_cluster.specs.declared.maintenance.Maintenance.TheVariants.{Flush, Begin, Step, Finish, Compact}
@@ -160,12 +161,14 @@ at_mapped f (x ∷ xs) zero y at = let same : f x ≡ y = cc in (x, refl, sym sa
 at_mapped f (x ∷ xs) (suc i) y at = at_mapped f xs i y at
 
 -- a replica that is seen so
-seen_copy : {D P : Type 0} (volume : Volume D P) (w : VolumeSeen) (j : ℕ) (Is : ReplicaSeen → Type 0) → w ≡ volume_seen volume → SeesAt j Is w → (r : Copy D) × At volume.replicas j r × Is (replica_seen r)
+seen_copy : {D P : Type 0} (volume : Volume D P) (w : VolumeSeen) (j : ℕ) (Is : ReplicaSeen → Type 0) → w ≡ volume_seen volume → SeesAt j Is w
+    → (r : Copy D) × At volume.replicas j r × Is (replica_seen r)
 seen_copy volume w j Is same sees =
     let there = at_mapped replica_seen volume.replicas j sees.0 (subst (λ (v : VolumeSeen). At v.replicas j sees.0) same sees.1) in
     (there.0, there.1, subst Is there.2 sees.2)
 
-module _ {D P A : Type 0} (faults fuses : D → ℕ) (old store : Open D P A) (v : ℕ) (before after : Volume D P) (is : store ≡ old) (shape : IsShaped store) (called : Called faults fuses store v before after) where
+module _ {D P A : Type 0} (faults fuses : D → ℕ) (old store : Open D P A) (v : ℕ) (before after : Volume D P) (is : store ≡ old) (shape : IsShaped store)
+    (called : Called faults fuses store v before after) where
   pub runs_end : KeepsRuns faults before.replicas after.replicas
       → EndsByFaults old.settings v (store_seen old) (store_seen (with_one store v after)) (map faults (disks_of old)) (map faults (disks_of (with_one store v after)))
   runs_end runs = λ j goal had none.
@@ -177,7 +180,8 @@ module _ {D P A : Type 0} (faults fuses : D → ℕ) (old store : Open D P A) (v
       elim (runs j r.0 r'.0 r.1 r'.1) [
         | inl same ↦ let both : None ≡ Some goal = sym r'.2 ∙ same ∙ r.2 in absurd cc
         | inr ended ↦
-            subst (λ (st : Open D P A). Rose (slice_index (map faults (disks_of st)) (slot_of st.settings v j)) (slice_index (map faults (disks_of (with_one store v after))) (slot_of st.settings v j))) is
+            subst (λ (st : Open D P A). Rose (slice_index (map faults (disks_of st)) (slot_of st.settings v j))
+            (slice_index (map faults (disks_of (with_one store v after))) (slot_of st.settings v j))) is
             (subst (λ n. Rose n (slice_index (map faults (disks_of (with_one store v after))) (slot_of store.settings v j))) (sym (count_at faults store v j before r.0 shape called.at r.1))
             (subst (λ n. Rose (faults (r.0).disk) n)
             (sym (count_at faults (with_one store v after) v j after r'.0 (called_shape faults fuses store v before after shape called) (slice_get-set store.volumes v before after called.at) r'.1))
@@ -210,7 +214,8 @@ module _ (settings : Settings) (pair : Pair) (old new : StoreSeen) (kept : Keeps
   unstored_sights v (refusal.Damaged m place) said told breaks = absurd breaks
 
 -- behind a row that was added
-pub put_from : (pair : Pair) (old mid new : StoreSeen) (settings : Settings) (told : Told) → mid.volumes ≡ old.volumes → mid.places ≡ old.places → PutSights settings pair told mid new → PutSights settings pair told old new
+pub put_from : (pair : Pair) (old mid new : StoreSeen) (settings : Settings) (told : Told) → mid.volumes ≡ old.volumes → mid.places ≡ old.places
+    → PutSights settings pair told mid new → PutSights settings pair told old new
 put_from pair old mid new settings (Stored v) volumes same stored =
     (stored.0, subst (λ (all : List VolumeSeen). At all v stored.0) volumes stored.1, photos_from v old mid new (StoresSights pair (stored.0).replicas) same stored.2)
 put_from pair old mid new settings (Failed v m) volumes same kept = kept_from old mid new same kept
@@ -232,7 +237,8 @@ module _ (settings : Settings) (pair : Pair) (v : ℕ) (old new : StoreSeen) whe
   closed_sights m said (inr none) kept = subst (λ (r : Reply). DeleteSights settings pair (told_by r) old new) (sym none) (kept_home pair (home_seen old pair) old new kept)
 
   module _ (rows : ℕ) (said : Reply) (home : home_seen old pair ≡ Some v) (volume : VolumeSeen) (at : At new.volumes v volume) where
-    failed_sights : (m count : ℕ) → ChangesPhotos v (λ before after. DeleteRefusedSights settings v pair volume.frozen before after (refusal.Failed m count)) old new → DeleteSights settings pair (Failed v m) old new
+    failed_sights : (m count : ℕ) → ChangesPhotos v (λ before after. DeleteRefusedSights settings v pair volume.frozen before after (refusal.Failed m count)) old new
+        → DeleteSights settings pair (Failed v m) old new
     failed_sights m count c = by c.changes
       where
         by : ((volume.frozen ≡ Some m) × FindsPhoto pair settings.replicas (old.places v) (new.places v) × IsSeenOn settings v pair m IsLiveSight (new.places v))
@@ -255,7 +261,8 @@ module _ (settings : Settings) (pair : Pair) (v : ℕ) (old new : StoreSeen) whe
 -- REPLIES OF WORK
 
 module _ (settings : Settings) (v m : ℕ) (old new : StoreSeen) where
-  pub worked_sights : (work : Maintenance) (at number : ℕ) (said : Reply) → said ≡ done_as v m work number → replica_on settings v m ≡ Some at → VolumeAt v (λ volume. ChangesPhotos v (DoneSights work at volume) old new) new
+  pub worked_sights : (work : Maintenance) (at number : ℕ) (said : Reply) → said ≡ done_as v m work number → replica_on settings v m ≡ Some at
+      → VolumeAt v (λ volume. ChangesPhotos v (DoneSights work at volume) old new) new
       → WorkSights settings (told_by said) old new
   worked_sights Flush at number said is there c = subst (λ (r : Reply). WorkSights settings (told_by r) old new) (sym is) (photos_still v old new c.2)
   worked_sights Begin at number said is there c = subst (λ (r : Reply). WorkSights settings (told_by r) old new) (sym is) (photos_still v old new c.2)
@@ -295,7 +302,8 @@ refused_not_deleted w rows (refusal.Busy m goal) said told v p d is = told
 refused_not_deleted w rows (refusal.Worn m) said told v p d is = told
 refused_not_deleted w rows refusal.Idle said told v p d is = told
 
-pub drained_not_deleted : (m : ℕ) (to : Bool) (done said : Reply) (old new : StoreSeen) → ((v p d : ℕ) → done ≢ reply.Deleted v p d) → AnswersDrain m to done said old new → (v p d : ℕ) → said ≢ reply.Deleted v p d
+pub drained_not_deleted : (m : ℕ) (to : Bool) (done said : Reply) (old new : StoreSeen) → ((v p d : ℕ) → done ≢ reply.Deleted v p d) → AnswersDrain m to done said old new
+    → (v p d : ℕ) → said ≢ reply.Deleted v p d
 drained_not_deleted m to done said old new other (inl (same, moves)) v p d is = other v p d (sym same ∙ is)
 drained_not_deleted m to done said old new other (inr (none, keeps)) v p d is = cc
 

@@ -108,9 +108,11 @@ refusal_suits settings pair refused (reply.ReadOnly closed) by told = inr (inr (
 refusal_suits settings pair refused reply.NoMem by told = inr (inr (inr (inr (inr (inr refl)))))
 refusal_suits settings pair refused _ by told = absurd told
 
-pub put_refusal_suits : (settings : Settings) (pair : Pair) (v : ℕ) (before after : List ℕ) (fault : LogicalFault) (said : Reply) → v < settings.volumes → IsPutCause settings v before after fault → IsPutReply v fault said
+pub put_refusal_suits : (settings : Settings) (pair : Pair) (v : ℕ) (before after : List ℕ) (fault : LogicalFault) (said : Reply) → v < settings.volumes
+    → IsPutCause settings v before after fault → IsPutReply v fault said
     → SuitsPut settings pair said
-put_refusal_suits settings pair v before after (refusal.ReadOnly m) said volume cause told = refusal_suits settings pair (Closed v m ∷ []) said (one_refuses settings pair v (Closed v m) volume (refl, cause.2)) told
+put_refusal_suits settings pair v before after (refusal.ReadOnly m) said volume cause told =
+    refusal_suits settings pair (Closed v m ∷ []) said (one_refuses settings pair v (Closed v m) volume (refl, cause.2)) told
 put_refusal_suits settings pair v before after (refusal.Full m end need capacity) said volume cause told =
     refusal_suits settings pair (NoRoom v m end need ∷ []) said (one_refuses settings pair v (NoRoom v m end need) volume (refl, cause.2)) told
 put_refusal_suits settings pair v before after (refusal.Failed m count) said volume cause told = let rose = cause.1 in inr (inr (inr (inr (inl (v, m, count, (rose.replica, rose.there), told)))))
@@ -128,7 +130,8 @@ pub closed_suits_del : (settings : Settings) (v by : ℕ) (said : Reply) → IsO
 closed_suits_del settings v by said on (inl is) = inr (inr (inr (inl (record { volume = v; machine = by }, on, is))))
 closed_suits_del settings v by said on (inr is) = inr (inr (inr (inr (inr (inr is)))))
 
-pub del_refusal_suits : (settings : Settings) (v rows : ℕ) (before after : List ℕ) (fault : LogicalFault) (said : Reply) → v < settings.volumes → IsDeleteCause settings v before after fault → IsDeleteReply v rows fault said
+pub del_refusal_suits : (settings : Settings) (v rows : ℕ) (before after : List ℕ) (fault : LogicalFault) (said : Reply) → v < settings.volumes
+    → IsDeleteCause settings v before after fault → IsDeleteReply v rows fault said
     → SuitsDel settings said
 del_refusal_suits settings v rows before after (refusal.Gone front) said volume cause told = inr (inl (v, front, rows, volume, told))
 del_refusal_suits settings v rows before after (refusal.Failed m count) said volume cause told = let rose = cause.1 in inr (inr (inr (inr (inl (v, m, count, (rose.replica, rose.there), told)))))
@@ -185,7 +188,8 @@ module _ (settings : Settings) (v m : ℕ) where
   begin_refused refusal.NoMemory said is there told = inr told
   begin_refused _ said is there told = absurd is
 
-  run_refused : (did : ℕ → Reply) (fault : LogicalFault) (said : Reply) → RefusesRun m fault → IsThere settings v fault → IsRefusedAs v m fault said → SuitsRun settings did v m said ⊎ (said ≡ reply.NoMem)
+  run_refused : (did : ℕ → Reply) (fault : LogicalFault) (said : Reply) → RefusesRun m fault → IsThere settings v fault → IsRefusedAs v m fault said
+      → SuitsRun settings did v m said ⊎ (said ≡ reply.NoMem)
   run_refused did (refusal.ReadOnly by) said is there told = elim (read_only by said there told) [ inl h ↦ inl (inr (inl h)) | inr h ↦ inr h ]
   run_refused did refusal.Idle said is there told = inl (inr (inr (inl told)))
   run_refused did (refusal.Failed by count) said is there told = inl (inr (inr (inr (inl (count, told ∙ ap (λ n. reply.Failed v n count) is)))))
@@ -202,7 +206,8 @@ module _ (settings : Settings) (v m : ℕ) where
   compact_refused refusal.NoMemory said is there told = inr told
   compact_refused _ said is there told = absurd is
 
-  pub undone_suits : (work : Maintenance) (fault : LogicalFault) (said : Reply) → RefusesOn work m fault → IsThere settings v fault → IsRefusedAs v m fault said → SuitsWork work said ⊎ (said ≡ reply.NoMem)
+  pub undone_suits : (work : Maintenance) (fault : LogicalFault) (said : Reply) → RefusesOn work m fault → IsThere settings v fault → IsRefusedAs v m fault said
+      → SuitsWork work said ⊎ (said ≡ reply.NoMem)
   undone_suits Flush fault said is there told = flush_refused fault said is there told
   undone_suits Begin fault said is there told = begin_refused fault said is there told
   undone_suits (Step cells) fault said is there told = run_refused (reply.Stepped v m) fault said is there told

@@ -194,7 +194,8 @@ RefusesDirectory DiskTells files faults old new NoMemory = Unit {0}
 -- ALL PARTS
 
 -- the Directory was opened and each volume, and the notes of the Directory are the last
-pub record OpensParts {D P : Type 0} (DiskTells : Type 0) (files : D → Files) (Tells : Type 0) (faults fuses : D → ℕ) (old new : State D) (olds news : List (Volume D P)) (notes : List Note) : Type 0 where
+pub record OpensParts {D P : Type 0} (DiskTells : Type 0) (files : D → Files) (Tells : Type 0) (faults fuses : D → ℕ) (old new : State D) (olds news : List (Volume D P))
+    (notes : List Note) : Type 0 where
   pub of_volumes : List Note
   pub of_directory : List Note
   pub told : notes ≡ of_volumes ++ of_directory

@@ -19,7 +19,8 @@ pub record Comes {D P A : Type 0} (files : D → Files) (Tells : Type 0) (faults
   pub stands : Stands files Tells faults fuses arm_faults store known
 
 -- Volume v was called, which did this: whatever it now stands for, the store stands for besides what was known.
-pub record InVolume {D P A : Type 0} (files : D → Files) (Tells : Type 0) (faults fuses : D → ℕ) (arm_faults : A → ℕ) (k : Known) (v : ℕ) (old new : Open D P A) (Does : Volume D P → Volume D P → Type 0) : Type 0 where
+pub record InVolume {D P A : Type 0} (files : D → Files) (Tells : Type 0) (faults fuses : D → ℕ) (arm_faults : A → ℕ) (k : Known) (v : ℕ) (old new : Open D P A)
+    (Does : Volume D P → Volume D P → Type 0) : Type 0 where
   pub before : Volume D P
   pub after : Volume D P
   pub at : At old.volumes v before

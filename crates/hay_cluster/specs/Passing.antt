@@ -48,7 +48,8 @@ IsOfPlace Tells settings contents seen v pair j cause = StandsFor cause (seen.pl
 
 -- These replicas of volume v were passed over, in this order and each for its cause. Of two failures of the arm the later one has the
 -- greater count. Each cause is of the replica's place, as it is seen behind the read, and damage is where no needle is.
-pub record PassesOver (Tells : Type 0) (settings : Settings) (Sure : Type 0) (contents : ℕ → Contents) (lane v : ℕ) (pair : Pair) (before after : Counts) (seen : StoreSeen) (replicas : List ℕ) (causes : List Passed) : Type 0 where
+pub record PassesOver (Tells : Type 0) (settings : Settings) (Sure : Type 0) (contents : ℕ → Contents) (lane v : ℕ) (pair : Pair) (before after : Counts) (seen : StoreSeen)
+    (replicas : List ℕ) (causes : List Passed) : Type 0 where
   pub order : map (λ passed. passed.machine) causes ≡ map (machine_of settings v) replicas
   pub each : AllByRecursion (λ passed. CauseCameUp settings Sure lane v before after passed.machine passed.cause) causes
   pub rises : EachPair (λ a b. ArmRises a.cause b.cause) causes

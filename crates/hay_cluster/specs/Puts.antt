@@ -73,7 +73,8 @@ Stores settings k tag pair bytes v NoMem t =
     Leaves k k t ⊎ Leaves k (change_volume k v (frozen_with (first_machine settings v) tag (put_entry settings pair bytes) false)) t
 Stores settings k tag pair bytes v _ t = ⊥
 
-pub record StoredAs {D P A : Type 0} (files : D → Files) (Tells : Type 0) (faults fuses : D → ℕ) (arm_faults : A → ℕ) (settings : Settings) (k : Known) (tag : CoreTag) (pair : Pair) (bytes : List ℕ) (v : ℕ) (reply : Reply) (store : Open D P A) : Type 0 where
+pub record StoredAs {D P A : Type 0} (files : D → Files) (Tells : Type 0) (faults fuses : D → ℕ) (arm_faults : A → ℕ) (settings : Settings) (k : Known) (tag : CoreTag)
+    (pair : Pair) (bytes : List ℕ) (v : ℕ) (reply : Reply) (store : Open D P A) : Type 0 where
   pub known : Known
   pub stores : Stores settings k tag pair bytes v reply known
   pub stands : Stands files Tells faults fuses arm_faults store known

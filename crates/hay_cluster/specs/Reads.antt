@@ -44,7 +44,8 @@ abbrev pub passed_at : Settings → ℕ → PassedReplica → Passed
 passed_at settings v over = record { machine = machine_of settings v over.replica; cause = over.cause }
 
 -- A reader that starts at this replica is answered so.
-pub record ShownAs {D P A : Type 0} (files : D → Files) (Tells : Type 0) (faults fuses : D → ℕ) (arm_faults : A → ℕ) (settings : Settings) (k : Known) (tag : CoreTag) (start : ℕ) (pair : Pair) (cookie : Cookie) (reply : Reply) (store : Open D P A) : Type 0 where
+pub record ShownAs {D P A : Type 0} (files : D → Files) (Tells : Type 0) (faults fuses : D → ℕ) (arm_faults : A → ℕ) (settings : Settings) (k : Known) (tag : CoreTag) (start : ℕ)
+    (pair : Pair) (cookie : Cookie) (reply : Reply) (store : Open D P A) : Type 0 where
   pub known : Known
   pub legal : LegalShow settings k tag start pair cookie reply known
   pub stands : Stands files Tells faults fuses arm_faults store known
@@ -76,7 +77,8 @@ IsPassedFor Never slot arm arm' disks disks' (Damage at) = Never (Damage at) →
 pub record PassesFrom (Never : Cause → Type 0) (settings : Settings) (lane v start : ℕ) (before after : Counts) (passed causes : List PassedReplica) : Type 0 where
   pub begins : take (length passed) causes ≡ passed
   pub order : ComeFirst start settings.replicas causes
-  pub each : AllByRecursion (λ over. IsPassedFor Never (slot_of settings v over.replica) (slice_index before.arms lane) (slice_index after.arms lane) before.disks after.disks over.cause) (passed_now passed causes)
+  pub each : AllByRecursion (λ over. IsPassedFor Never (slot_of settings v over.replica) (slice_index before.arms lane) (slice_index after.arms lane) before.disks after.disks
+      over.cause) (passed_now passed causes)
   pub rises : EachPair (λ a b. ArmRises a.cause b.cause) (passed_now passed causes)
 
 -- each replica was passed over for a cause that it may have had

@@ -28,7 +28,9 @@ use Rattle.hay_logical.specs.declared.fault.LogicalFault.{LogicalFault}
 use Rattle.hay_logical.specs.declared.unsure.Change.TheVariants.{Delete}
 use Rattle.hay_logical.specs.Fits.{At, super_of}
 use Rattle.hay_logical.specs.Notes.{NotesTell}
-use Rattle.hay_logical.specs.Seen.{BeginRefusedSeen, BeginSeen, BreaksPutSeen, CompactRefusedSeen, CompactSeen, FinishRefusedSeen, FinishSeen, FlushRefusedSeen, FlushSeen, FreezesSeen, FullSeen, HideSeen, IsFoundAs, OpenSeen, RoomSeen, SeesAt, StepRefusedSeen, StepSeen, PutSeen, ReplicaSeen, VolumeSeen, volume_seen}
+use Rattle.hay_logical.specs.Seen.{BeginRefusedSeen, BeginSeen, BreaksPutSeen, CompactRefusedSeen, CompactSeen, FinishRefusedSeen, FinishSeen, FlushRefusedSeen, FlushSeen}
+use Rattle.hay_logical.specs.Seen.{FreezesSeen, FullSeen, HideSeen, IsFoundAs, OpenSeen, RoomSeen, SeesAt, StepRefusedSeen, StepSeen, PutSeen, ReplicaSeen, VolumeSeen}
+use Rattle.hay_logical.specs.Seen.{volume_seen}
 use Rattle.hay_logical.specs.Sights.{LiesWithinEach, Sights, sights_of}
 use Rattle.hay_logical.specs.Sights.Sight.{Never}
 use Rattle.hay_logical.specs.Volumes.{Volume}

@@ -9,7 +9,8 @@ use Rattle.hay_reply.specs.declared.Reply.{Reply}
 use Rattle.hay_reply.specs.declared.Reply.TheVariants as reply
 use Rattle.hay_legal.specs.Known.{replica_on}
 use Rattle.hay_logical.specs.Seen.{VolumeSeen}
-use Rattle.hay_logical.specs.Sights.{AwaitsLook, AwaitsLookAt, DeletesSights, FindsNone, FindsPhoto, IsLiveSight, IsSeenOn, KeepsSights, LooksAtPair, LooksInVain, Sight, Sights, StoresSights, SwapsSights}
+use Rattle.hay_logical.specs.Sights.{AwaitsLook, AwaitsLookAt, DeletesSights, FindsNone, FindsPhoto, IsLiveSight, IsSeenOn, KeepsSights, LooksAtPair, LooksInVain, Sight, Sights}
+use Rattle.hay_logical.specs.Sights.{StoresSights, SwapsSights}
 use Rattle.hay_logical.specs.Sights.Sight.{Gone, Live, Never, Unseen}
 use Rattle.hay_cluster.specs.declared.maintenance.Maintenance.{Maintenance}
 use Rattle.hay_cluster.specs.declared.maintenance.Maintenance.TheVariants as work

@@ -34,7 +34,8 @@ unfoldable pub Stands : {D P A : Type 0} → (D → Files) → Type 0 → (D →
 Stands files Tells faults fuses arm_faults store k = StandsFor files Tells faults fuses arm_faults store k
 
 -- What an answer leaves: a state to which it is legal.
-pub record Answered {D P A : Type 0} (files : D → Files) (Tells : Type 0) (faults fuses : D → ℕ) (arm_faults : A → ℕ) (k : Known) (tag : CoreTag) (command : Command) (reply : Reply) (store : Open D P A) : Type 0 where
+pub record Answered {D P A : Type 0} (files : D → Files) (Tells : Type 0) (faults fuses : D → ℕ) (arm_faults : A → ℕ) (k : Known) (tag : CoreTag) (command : Command)
+    (reply : Reply) (store : Open D P A) : Type 0 where
   pub known : Known
   pub legal : LegalCommand store.settings k tag command reply known
   pub stands : Stands files Tells faults fuses arm_faults store known

@@ -59,7 +59,8 @@ fn give_volumes<H: Shelf>(shelf: &mut H, mut volumes: Vec<Logical<H::Disk>>, rep
     requires most { replicas ≤ 4 }
     requires all { AllByRecursion (λ volume. length (volume_disks volume) ≡ replicas) volumes.items }
     requires out { AreOut (1 + length volumes.items * replicas) (H.disks shelf.old) }
-    ensures given { InOrder (λ slot disk. IsGivenDisk H.Disk.Tells H.Disk.files H.Disk.drawn H.Disk.fault_count H.Disk.fuse_count (H.disks shelf.new slot) disk) 1 (flat_map volume_disks volumes.items) }
+    ensures given { InOrder (λ slot disk. IsGivenDisk H.Disk.Tells H.Disk.files H.Disk.drawn H.Disk.fault_count H.Disk.fuse_count (H.disks shelf.new slot) disk) 1
+        (flat_map volume_disks volumes.items) }
     ensures below { H.disks shelf.new 0 ≡ H.disks shelf.old 0 }
     ensures others { SameFrom (1 + length volumes.items * replicas) (H.disks shelf.old) (H.disks shelf.new) }
     ensures lanes { H.arms shelf.new ≡ H.arms shelf.old }

@@ -78,7 +78,8 @@ impl<D: Disk, A: Arm<D::Piece>> Cluster<D, A> {
         // A fuse is set by its command alone, on the disk that it names.
         ensures fuses { LeavesFuses self.old.settings command.now (map D.fuse_count (disks_of self.old)) (map D.fuse_count (disks_of self.new)) }
         // What reads give of the disks is changed as the reply tells, and by work on a replica on its disk alone.
-        ensures contents { D.Tells → LeavesContents self.old.settings command.now result (store_seen self.old).volumes (store_seen self.new).volumes (contents_in D.files self.old) (contents_in D.files self.new) }
+        ensures contents { D.Tells → LeavesContents self.old.settings command.now result (store_seen self.old).volumes (store_seen self.new).volumes (contents_in D.files self.old)
+            (contents_in D.files self.new) }
         ensures arm_counts { NoneFalls (map A.fault_count self.old.arms) (map A.fault_count self.new.arms) }
         // What it tells of what is seen in memory is so, whatever the disks tell, and what is seen is changed as it tells.
         ensures seen { Answers self.old.settings tag command.now result (store_seen self.old) (store_seen self.new) }

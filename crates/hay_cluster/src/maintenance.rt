@@ -104,7 +104,8 @@ pub(crate) fn maintain<D: Disk>(
     ensures refused_sights { OnErr result (KeepsSights (sights_of volume.old.rows) (sights_of volume.new.rows)) }
     // Where the disk tells, heads lead to where damage is told, and no cell is there; and so far as work that was done came, or wanted memory,
     // or froze the volume.
-    ensures damaged { D.Tells → (m place : ℕ) → result ≡ Err (LogicalFault.Damaged m place) → IsDamagedCell D.files volume.old.replicas replica (LacksWork (sights_of volume.old.rows) replica work place) }
+    ensures damaged { D.Tells → (m place : ℕ) → result ≡ Err (LogicalFault.Damaged m place)
+        → IsDamagedCell D.files volume.old.replicas replica (LacksWork (sights_of volume.old.rows) replica work place) }
     ensures lead { D.Tells → (r r' : Copy D) → At volume.old.replicas replica r → At volume.new.replicas replica r' →
         IfOk result (λ number. LeadsWork (sights_of volume.old.rows) replica work number (replica_seen r) (replica_seen r') (volume_bytes D.files r)) }
     ensures part { D.Tells → (r r' : Copy D) → At volume.old.replicas replica r → At volume.new.replicas replica r' →

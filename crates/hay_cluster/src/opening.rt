@@ -18,7 +18,8 @@ ghost use Rattle.hay_logical.specs.Volumes.{IsClosed};
 ghost use Rattle.hay_cluster.specs.Causes.{HasFaultCause, HasFile};
 ghost use Rattle.hay_cluster.specs.Draws.{DrawsVolume, EachDrewLittle, FlushedDrewLittle, StopsDrawing, drawn_in, looked_in, no_look, none_drawn};
 ghost use Rattle.hay_cluster.specs.Outside.{AreSoundBelow, CountsOn, FormatsVoid, IsDamagedDisk, IsKept, IsUndamaged, IsUndamagedBelow, IsVoid, KeepsContents, outside_of, read_of};
-ghost use Rattle.hay_cluster.specs.Opening.{FillsVolume, Gathers, IsResting, IsEmptyVolume, LeavesDirectory, LeavesVolume, OpensDirectory, OpensParts, OpensVolume, RefusesDirectory, RefusesParts, RefusesVolume, RefusesVolumes, StopsDirectory, StopsVolume};
+ghost use Rattle.hay_cluster.specs.Opening.{FillsVolume, Gathers, IsResting, IsEmptyVolume, LeavesDirectory, LeavesVolume, OpensDirectory, OpensParts, OpensVolume};
+ghost use Rattle.hay_cluster.specs.Opening.{RefusesDirectory, RefusesParts, RefusesVolume, RefusesVolumes, StopsDirectory, StopsVolume};
 ghost use Rattle.hay_cluster.specs.Needles.{PendingTold};
 ghost use Rattle.hay_cluster.specs.Seen.{OpensSeen, ReadsSeen, TellsSeen, store_seen};
 ghost use Rattle.hay_cluster.specs.State.{LeftAt, Stands};
@@ -213,7 +214,8 @@ fn take_parts<H: Shelf>(
 ) -> Result<(Vec<H::Disk>, Vec<LaneSeat<H::Arm>>), ClusterFault>
     requires disks_in { AreIn slots (H.disks shelf.old) }
     requires arms_in { AreArmsIn 8 (H.arms shelf.old) }
-    ensures disks { IfOk result (λ parts. InOrder (λ slot disk. IsMountedDisk H.Disk.Tells H.Disk.files H.Disk.drawn H.Disk.fault_count H.Disk.fuse_count (H.disks shelf.old slot) disk) 0 parts.0.items) }
+    ensures disks { IfOk result (λ parts. InOrder (λ slot disk. IsMountedDisk H.Disk.Tells H.Disk.files H.Disk.drawn H.Disk.fault_count H.Disk.fuse_count (H.disks shelf.old slot)
+        disk) 0 parts.0.items) }
     ensures arms { IfOk result (λ parts. InOrder (λ lane arm. IsMountedArm H.Arm.fault_count H.Arm.is_sure (H.arms shelf.old lane) arm) 0 parts.1.items) }
     ensures disk_count { IfOk result (λ parts. length parts.0.items ≡ slots) }
     ensures arm_count { IfOk result (λ parts. length parts.1.items ≡ 8) }

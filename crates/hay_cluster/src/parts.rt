@@ -53,7 +53,8 @@ impl<D: Disk, A: Arm<D::Piece>> Cluster<D, A> {
         ensures counts { NoneFalls (map D.fault_count (disks_of self.old)) (map D.fault_count (disks_of self.new)) }
         ensures fuses { map D.fuse_count (disks_of self.new) ≡ map D.fuse_count (disks_of self.old) }
         ensures beside { LeavesIn (IsBeside self.old.settings volume) (disks_of self.old) (disks_of self.new) }
-        ensures kept { D.Tells → IfErr result (PutKeeps self.old.settings volume (store_seen self.old).volumes (store_seen self.new).volumes (contents_in D.files self.old) (contents_in D.files self.new)) }
+        ensures kept { D.Tells → IfErr result (PutKeeps self.old.settings volume (store_seen self.old).volumes (store_seen self.new).volumes (contents_in D.files self.old)
+            (contents_in D.files self.new)) }
         ensures takes { TakesPhoto self.old volume (length bytes.now) → IfErr result BreaksPutOff }
         ensures arms { self.new.arms ≡ self.old.arms }
         ensures seen { IfOk result (λ position. MovesVolume volume (PutSeen (length bytes.now) position) (store_seen self.old) (store_seen self.new)) }
@@ -86,7 +87,8 @@ impl<D: Disk, A: Arm<D::Piece>> Cluster<D, A> {
         ensures counts { NoneFalls (map D.fault_count (disks_of self.old)) (map D.fault_count (disks_of self.new)) }
         ensures fuses { map D.fuse_count (disks_of self.new) ≡ map D.fuse_count (disks_of self.old) }
         ensures beside { LeavesIn (IsBeside self.old.settings volume) (disks_of self.old) (disks_of self.new) }
-        ensures kept { D.Tells → IfErr result (DeleteKeeps self.old.settings volume (store_seen self.old).volumes (store_seen self.new).volumes (contents_in D.files self.old) (contents_in D.files self.new)) }
+        ensures kept { D.Tells → IfErr result (DeleteKeeps self.old.settings volume (store_seen self.old).volumes (store_seen self.new).volumes (contents_in D.files self.old)
+            (contents_in D.files self.new)) }
         ensures arms { self.new.arms ≡ self.old.arms }
         ensures seen { IfOk result (λ position. MovesVolume volume (HideSeen position) (store_seen self.old) (store_seen self.new)) }
         ensures refused_seen { IfErr result (λ fault. MovesVolume volume (λ before after. DeleteRefusedSeen tag pair before after fault) (store_seen self.old) (store_seen self.new)) }
@@ -96,8 +98,10 @@ impl<D: Disk, A: Arm<D::Piece>> Cluster<D, A> {
         ensures told { D.Tells → OnOk result (DeletesAsTold self.old.settings (contents_in D.files self.old) (store_seen self.old) volume pair ((store_seen self.new).places volume)) }
         ensures refused_told { D.Tells → OnErr result (AreToldAs self.old.settings (contents_in D.files self.old) (store_seen self.old) volume pair ((store_seen self.new).places volume)) }
         ensures refused_sights { IfErr result (λ fault. VolumeAt volume
-            (λ seen. ChangesPhotos volume (λ before after. DeleteRefusedSights self.old.settings volume pair seen.frozen before after fault) (store_seen self.old) (store_seen self.new)) (store_seen self.new)) }
-        ensures ended { OnOk result (EndsByFaults self.old.settings volume (store_seen self.old) (store_seen self.new) (map D.fault_count (disks_of self.old)) (map D.fault_count (disks_of self.new))) }
+            (λ seen. ChangesPhotos volume (λ before after. DeleteRefusedSights self.old.settings volume pair seen.frozen before after fault) (store_seen self.old)
+            (store_seen self.new)) (store_seen self.new)) }
+        ensures ended { OnOk result (EndsByFaults self.old.settings volume (store_seen self.old) (store_seen self.new) (map D.fault_count (disks_of self.old))
+            (map D.fault_count (disks_of self.new))) }
         ensures settings { self.new.settings ≡ self.old.settings }
         ensures up { IsUp self.new }
     {
@@ -180,7 +184,8 @@ impl<D: Disk, A: Arm<D::Piece>> Cluster<D, A> {
         ensures pending { D.Tells → (k : Known) (faults : ℕ) → Stands D.files D.Piece.Tells D.fault_count D.fuse_count A.fault_count self.old k →
             result ≡ Err (DirFault.Failed faults) → Comes D.files D.Piece.Tells D.fault_count D.fuse_count A.fault_count k (row_pending k tag pair volume) self.new }
         ensures thawed { D.Tells → (k : Known) → Stands D.files D.Piece.Tells D.fault_count D.fuse_count A.fault_count self.old k → (IsErrOf result DirFault.Frozen → ⊥) → k.directory.frozen ≡ false }
-        ensures frozen { D.Tells → (k : Known) → Stands D.files D.Piece.Tells D.fault_count D.fuse_count A.fault_count self.old k → IsErrOf result DirFault.Frozen → (k.directory.frozen ≡ true) × (self.new ≡ self.old) }
+        ensures frozen { D.Tells → (k : Known) → Stands D.files D.Piece.Tells D.fault_count D.fuse_count A.fault_count self.old k → IsErrOf result DirFault.Frozen
+            → (k.directory.frozen ≡ true) × (self.new ≡ self.old) }
         ensures causes { (faults : ℕ) → result ≡ Err (DirFault.Failed faults) → RoseIn 0 (map D.fault_count (disks_of self.old)) (map D.fault_count (disks_of self.new)) faults }
         ensures counts { NoneFalls (map D.fault_count (disks_of self.old)) (map D.fault_count (disks_of self.new)) }
         ensures fuses { map D.fuse_count (disks_of self.new) ≡ map D.fuse_count (disks_of self.old) }
@@ -201,7 +206,8 @@ impl<D: Disk, A: Arm<D::Piece>> Cluster<D, A> {
     pub(crate) fn set_drained(&mut self, machine: u32, is_drained: bool)
         requires machine { machine < self.old.settings.machines }
         requires up { IsUp self.old }
-        ensures set { D.Tells → (k : Known) → Stands D.files D.Piece.Tells D.fault_count D.fuse_count A.fault_count self.old k → Comes D.files D.Piece.Tells D.fault_count D.fuse_count A.fault_count k (with_drain k machine is_drained) self.new }
+        ensures set { D.Tells → (k : Known) → Stands D.files D.Piece.Tells D.fault_count D.fuse_count A.fault_count self.old k
+            → Comes D.files D.Piece.Tells D.fault_count D.fuse_count A.fault_count k (with_drain k machine is_drained) self.new }
         ensures counts { NoneFalls (map D.fault_count (disks_of self.old)) (map D.fault_count (disks_of self.new)) }
         ensures fuses { map D.fuse_count (disks_of self.new) ≡ map D.fuse_count (disks_of self.old) }
         ensures disks { disks_of self.new ≡ disks_of self.old }

@@ -49,7 +49,8 @@ impl<D: Disk, A: Arm<D::Piece>> Cluster<D, A> {
         ensures fits { FitsReply result }
         ensures counts { NoneFalls (map D.fault_count (disks_of self.old)) (map D.fault_count (disks_of self.new)) }
         ensures fuses { map D.fuse_count (disks_of self.new) ≡ map D.fuse_count (disks_of self.old) }
-        ensures contents { D.Tells → LeavesByPut self.old.settings pair result (store_seen self.old).volumes (store_seen self.new).volumes (contents_in D.files self.old) (contents_in D.files self.new) }
+        ensures contents { D.Tells → LeavesByPut self.old.settings pair result (store_seen self.old).volumes (store_seen self.new).volumes (contents_in D.files self.old)
+            (contents_in D.files self.new) }
         ensures arms { self.new.arms ≡ self.old.arms }
         ensures seen { AnswersPut self.old.settings tag pair (length bytes.now) result (store_seen self.old) (store_seen self.new) }
         ensures sights { PutSights self.old.settings pair (told_by result) (store_seen self.old) (store_seen self.new) }
@@ -119,7 +120,8 @@ impl<D: Disk, A: Arm<D::Piece>> Cluster<D, A> {
         ensures fits { FitsReply result }
         ensures counts { NoneFalls (map D.fault_count (disks_of self.old)) (map D.fault_count (disks_of self.new)) }
         ensures fuses { map D.fuse_count (disks_of self.new) ≡ map D.fuse_count (disks_of self.old) }
-        ensures contents { D.Tells → LeavesByPut self.old.settings pair result (store_seen self.old).volumes (store_seen self.new).volumes (contents_in D.files self.old) (contents_in D.files self.new) }
+        ensures contents { D.Tells → LeavesByPut self.old.settings pair result (store_seen self.old).volumes (store_seen self.new).volumes (contents_in D.files self.old)
+            (contents_in D.files self.new) }
         ensures arms { self.new.arms ≡ self.old.arms }
         ensures seen { AnswersPut self.old.settings tag pair (length bytes.now) result (store_seen self.old) (store_seen self.new) }
         ensures sights { PutSights self.old.settings pair (told_by result) (store_seen self.old) (store_seen self.new) }
@@ -148,13 +150,15 @@ impl<D: Disk, A: Arm<D::Piece>> Cluster<D, A> {
         requires homeless { directory.home_of self.old.directory pair ≡ None }
         requires up { IsUp self.old }
         ensures legal { D.Tells → (k : Known) → Stands D.files D.Piece.Tells D.fault_count D.fuse_count A.fault_count self.old k →
-            home_of k pair ≡ None → taker_of self.old.settings k pair (length bytes.now) ≡ Some volume → Answered D.files D.Piece.Tells D.fault_count D.fuse_count A.fault_count k tag (asks.Put pair bytes.now) result self.new }
+            home_of k pair ≡ None → taker_of self.old.settings k pair (length bytes.now) ≡ Some volume
+            → Answered D.files D.Piece.Tells D.fault_count D.fuse_count A.fault_count k tag (asks.Put pair bytes.now) result self.new }
         ensures causes { IsCaused self.old.settings (map D.fault_count (disks_of self.old)) (map D.fault_count (disks_of self.new)) result }
         ensures suits { Suits self.old.settings tag.line (asks.Put pair bytes.now) result }
         ensures fits { FitsReply result }
         ensures counts { NoneFalls (map D.fault_count (disks_of self.old)) (map D.fault_count (disks_of self.new)) }
         ensures fuses { map D.fuse_count (disks_of self.new) ≡ map D.fuse_count (disks_of self.old) }
-        ensures contents { D.Tells → LeavesByPut self.old.settings pair result (store_seen self.old).volumes (store_seen self.new).volumes (contents_in D.files self.old) (contents_in D.files self.new) }
+        ensures contents { D.Tells → LeavesByPut self.old.settings pair result (store_seen self.old).volumes (store_seen self.new).volumes (contents_in D.files self.old)
+            (contents_in D.files self.new) }
         ensures arms { self.new.arms ≡ self.old.arms }
         ensures seen { AnswersPut self.old.settings tag pair (length bytes.now) result (store_seen self.old) (store_seen self.new) }
         ensures sights { PutSights self.old.settings pair (told_by result) (store_seen self.old) (store_seen self.new) }

@@ -15,7 +15,8 @@ ghost use Rattle.hay_legal.specs.Suiting.{ShowsOf, Suits, start_at};
 ghost use Rattle.hay_cluster.specs.Causes.{IsCaused, StaySure};
 ghost use Rattle.hay_cluster.specs.Needles.{AreToldAs, FileAt, LooksTold};
 ghost use Rattle.hay_cluster.specs.Passing.{IsOfPlace, IsSureArm, TriesBefore};
-ghost use Rattle.hay_cluster.specs.Reads.{AwaitsFor, CannotSee, FoundPasses, FoundSays, FoundSees, IsFoundAs, IsSeenAt, IsSeenByAt, IsSightCause, IsSightFault, IsWhole, MayHave, NeverIn, PassesFrom, ReadPasses, ReadSays, ReadSees, ShownAs, StopsUnseen, counts_of, outcomes_of, passed_at};
+ghost use Rattle.hay_cluster.specs.Reads.{AwaitsFor, CannotSee, FoundPasses, FoundSays, FoundSees, IsFoundAs, IsSeenAt, IsSeenByAt, IsSightCause, IsSightFault, IsWhole, MayHave};
+ghost use Rattle.hay_cluster.specs.Reads.{NeverIn, PassesFrom, ReadPasses, ReadSays, ReadSees, ShownAs, StopsUnseen, counts_of, outcomes_of, passed_at};
 ghost use Rattle.hay_cluster.specs.Leaving.{AnySlot, KeepsIn};
 ghost use Rattle.hay_cluster.specs.Parts.{Comes};
 ghost use Rattle.hay_cluster.specs.Seen.{Keeps, Shows, VolumeAt, home_seen, store_seen};
@@ -106,7 +107,8 @@ impl<D: Disk, A: Arm<D::Piece>> Cluster<D, A> {
         ensures seen { Keeps (store_seen self.old) (store_seen self.new) }
         ensures sights { ReadSights self.old.settings url.now.pair (told_by result) (store_seen self.old) (store_seen self.new) }
         ensures told { D.Tells → LooksTold self.old.settings (contents_in D.files self.old) (store_seen self.old) (store_seen self.new) url.now.pair (told_by result) }
-        ensures passes { (start : ℕ) → known.replica_on self.old.settings url.now.volume url.now.machine ≡ Some start → TriesBefore D.Tells self.old.settings (IsSureArm A.is_sure self.old.arms tag.lane) (contents_in D.files self.new) tag.lane start url.now.pair
+        ensures passes { (start : ℕ) → known.replica_on self.old.settings url.now.volume url.now.machine ≡ Some start
+            → TriesBefore D.Tells self.old.settings (IsSureArm A.is_sure self.old.arms tag.lane) (contents_in D.files self.new) tag.lane start url.now.pair
             (counts_of D.fault_count A.fault_count self.old) (counts_of D.fault_count A.fault_count self.new) (store_seen self.new) (told_by result) }
         ensures shows { Shows (store_seen self.old) url.now.pair result }
         ensures settings { self.new.settings ≡ self.old.settings }
@@ -224,7 +226,8 @@ impl<D: Disk, A: Arm<D::Piece>> Cluster<D, A> {
             × FoundSays cookie (outcomes_of self.old.settings (volume_at k volume) pair) photo.new.items result.1
             × Comes D.files D.Piece.Tells D.fault_count D.fuse_count A.fault_count k k self.new }
         ensures passes { FoundPasses (NeverIn D.Tells D.files D.Piece.Tells D.fault_count D.fuse_count A.fault_count A.is_sure self.old lane) self.old.settings lane volume start
-            (counts_of D.fault_count A.fault_count self.old) (counts_of D.fault_count A.fault_count self.new) (IsOfPlace D.Tells self.old.settings (contents_in D.files self.new) (store_seen self.new) volume pair) result.1 }
+            (counts_of D.fault_count A.fault_count self.old) (counts_of D.fault_count A.fault_count self.new)
+            (IsOfPlace D.Tells self.old.settings (contents_in D.files self.new) (store_seen self.new) volume pair) result.1 }
         ensures bytes { (replica : ℕ) → result.1 ≡ Found.Photo replica → length photo.new.items ≤ MAX_PHOTO }
         ensures sure_arms { StaySure A.is_sure A.fault_count self.old.arms self.new.arms }
         ensures counts { NoneFalls (map D.fault_count (disks_of self.old)) (map D.fault_count (disks_of self.new)) }
@@ -273,7 +276,8 @@ impl<D: Disk, A: Arm<D::Piece>> Cluster<D, A> {
             × ReadSays cookie (outcomes_of self.old.settings (volume_at k volume) pair) photo.new.items result.1
             × Comes D.files D.Piece.Tells D.fault_count D.fuse_count A.fault_count k k self.new }
         ensures passes { ReadPasses (NeverIn D.Tells D.files D.Piece.Tells D.fault_count D.fuse_count A.fault_count A.is_sure self.old lane) self.old.settings lane volume start
-            (counts_of D.fault_count A.fault_count self.old) (counts_of D.fault_count A.fault_count self.new) (IsOfPlace D.Tells self.old.settings (contents_in D.files self.new) (store_seen self.new) volume pair) [] result.1 }
+            (counts_of D.fault_count A.fault_count self.old) (counts_of D.fault_count A.fault_count self.new)
+            (IsOfPlace D.Tells self.old.settings (contents_in D.files self.new) (store_seen self.new) volume pair) [] result.1 }
         ensures stops { StopsUnseen self.old volume pair result.1 }
         ensures sees { ReadSees ((store_seen self.new).places volume pair) result.1 }
         ensures bytes { HasBytes photo.new.items result.1 }
@@ -324,7 +328,8 @@ impl<D: Disk, A: Arm<D::Piece>> Cluster<D, A> {
             ReadSays cookie (outcomes_of self.old.settings (volume_at k volume) pair) photo.new.items result
             × Comes D.files D.Piece.Tells D.fault_count D.fuse_count A.fault_count k k self.new }
         ensures passes { ReadPasses (NeverIn D.Tells D.files D.Piece.Tells D.fault_count D.fuse_count A.fault_count A.is_sure self.old lane) self.old.settings lane volume start
-            (counts_of D.fault_count A.fault_count self.old) (counts_of D.fault_count A.fault_count self.new) (IsOfPlace D.Tells self.old.settings (contents_in D.files self.new) (store_seen self.new) volume pair) passed result }
+            (counts_of D.fault_count A.fault_count self.old) (counts_of D.fault_count A.fault_count self.new)
+            (IsOfPlace D.Tells self.old.settings (contents_in D.files self.new) (store_seen self.new) volume pair) passed result }
         ensures stops { StopsUnseen self.old volume pair result }
         ensures sees { ReadSees ((store_seen self.new).places volume pair) result }
         ensures most { (slice_index (map A.fault_count self.new.arms) lane ≡ slice_index (map A.fault_count self.old.arms) lane)
@@ -406,7 +411,8 @@ impl<D: Disk, A: Arm<D::Piece>> Cluster<D, A> {
             ReadSays cookie (outcomes_of self.old.settings (volume_at k volume) pair) photo.new.items result
             × Comes D.files D.Piece.Tells D.fault_count D.fuse_count A.fault_count k k self.new }
         ensures passes { ReadPasses (NeverIn D.Tells D.files D.Piece.Tells D.fault_count D.fuse_count A.fault_count A.is_sure self.old lane) self.old.settings lane volume start
-            (counts_of D.fault_count A.fault_count self.old) (counts_of D.fault_count A.fault_count self.new) (IsOfPlace D.Tells self.old.settings (contents_in D.files self.new) (store_seen self.new) volume pair) passed result }
+            (counts_of D.fault_count A.fault_count self.old) (counts_of D.fault_count A.fault_count self.new)
+            (IsOfPlace D.Tells self.old.settings (contents_in D.files self.new) (store_seen self.new) volume pair) passed result }
         ensures stops { StopsUnseen self.old volume pair result }
         ensures sees { ReadSees ((store_seen self.new).places volume pair) result }
         ensures most { (slice_index (map A.fault_count self.new.arms) lane ≡ slice_index (map A.fault_count self.old.arms) lane)

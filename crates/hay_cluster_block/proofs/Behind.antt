@@ -37,12 +37,14 @@ use Rattle.hay_cluster_block.specs.Notes.{AreBlockNotes, block_notes, entered_no
 use Rattle.hay_cluster_block.specs.Rows.{all_jobs, rows_at}
 
 -- the homes are those of the rows
-homes_are : {D : Type 0} (files : D → Files) (directory : State D) (known : DirKnown) (drained : List Bool) → Stands files directory known drained → (pair : Pair) → home_of directory pair ≡ home_in known.rows pair
+homes_are : {D : Type 0} (files : D → Files) (directory : State D) (known : DirKnown) (drained : List Bool) → Stands files directory known drained → (pair : Pair)
+    → home_of directory pair ≡ home_in known.rows pair
 unfolding Stands
 homes_are files directory known drained stands pair = stands.homes pair
 
 -- the notes that are written tell of what was entered
-pub notes_tell : (home : Pair → Option ℕ) (jobs : List (Vec Job Global)) (logs : List LogNote) (rows : RowNote) → rows_at home (all_jobs jobs) (map (λ (row : LineVolume). row.line) rows.rows) ≡ rows.rows
+pub notes_tell : (home : Pair → Option ℕ) (jobs : List (Vec Job Global)) (logs : List LogNote) (rows : RowNote)
+    → rows_at home (all_jobs jobs) (map (λ (row : LineVolume). row.line) rows.rows) ≡ rows.rows
     → (entered : Result BlockNotes NoMemory) (told : Result (Vec Note Global) NoMemory) → IfOk entered (NotesTell logs rows)
     → IfOk entered (λ e. IfOk told (λ notes. notes.items ≡ entered_notes home jobs e)) → OnErr entered (IsErr told) → IfOk told (λ notes. notes.items ≡ block_notes logs rows)
 notes_tell home jobs logs rows found (Ok e) (Ok notes) tells are wanted =
@@ -62,7 +64,8 @@ text_of logs rows (Ok notes) are = ap (flat_map note_line) are ∙ notes_text lo
 text_of logs rows (Err error) are = tt
 
 -- whatever the disks tell, they are notes of a block
-pub notes_of_block : (volumes : ℕ) (home : Pair → Option ℕ) (jobs : List (Vec Job Global)) (entered : Result BlockNotes NoMemory) (told : Result (Vec Note Global) NoMemory) → IfOk entered (λ e. AreUpwards volumes e.logs.items)
+pub notes_of_block : (volumes : ℕ) (home : Pair → Option ℕ) (jobs : List (Vec Job Global)) (entered : Result BlockNotes NoMemory) (told : Result (Vec Note Global) NoMemory)
+    → IfOk entered (λ e. AreUpwards volumes e.logs.items)
     → IfOk entered (λ e. IfOk told (λ notes. notes.items ≡ entered_notes home jobs e)) → OnErr entered (IsErr told) → IfOk told (λ notes. AllByRecursion FitsNote notes.items)
     → IfOk told (λ notes. AreBlockNotes volumes notes.items × AllByRecursion FitsNote notes.items)
 notes_of_block volumes home jobs (Ok e) (Ok notes) upwards are wanted fit = (

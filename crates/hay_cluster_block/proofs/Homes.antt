@@ -38,7 +38,8 @@ module _ (home : Pair → Option ℕ) where
   home_at-one job line = or_none (home_if home job line)
 
   -- a line more
-  pub one_more : (before : Option ℕ) (jobs : List Job) (job : Job) (line : ℕ) → option_or (option_or before (home_at home jobs line)) (home_if home job line) ≡ option_or before (home_at home (jobs ++ job ∷ []) line)
+  pub one_more : (before : Option ℕ) (jobs : List Job) (job : Job) (line : ℕ) → option_or (option_or before (home_at home jobs line)) (home_if home job line)
+      ≡ option_or before (home_at home (jobs ++ job ∷ []) line)
   one_more before jobs job line =
       sym (or_more before (home_at home jobs line) (home_if home job line))
       ∙ ap (option_or before) (ap (option_or (home_at home jobs line)) (sym (home_at-one job line)) ∙ sym (home_at-append jobs (job ∷ []) line))
@@ -65,7 +66,8 @@ new_homes (row ∷ rows) distinct = (
       (λ other differs is. apart other differs is (cases_Bool (pair_eq row.pair other.pair))) rows distinct.0 (new_homes rows distinct.1),
 )
   where
-    apart : (other : HomeRow) → row.pair ≢ other.pair → home_in rows other.pair ≡ Some other.volume → (pair_eq row.pair other.pair ≡ true) ⊎ (pair_eq row.pair other.pair ≡ false) → home_in (row ∷ rows) other.pair ≡ Some other.volume
+    apart : (other : HomeRow) → row.pair ≢ other.pair → home_in rows other.pair ≡ Some other.volume → (pair_eq row.pair other.pair ≡ true) ⊎ (pair_eq row.pair other.pair ≡ false)
+        → home_in (row ∷ rows) other.pair ≡ Some other.volume
     apart other differs is (inl e) = absurd (differs (pair_same row.pair other.pair e))
     apart other differs is (inr e) = cond-false (pair_eq row.pair other.pair) (Some row.volume) (home_in rows other.pair) e ∙ is
 

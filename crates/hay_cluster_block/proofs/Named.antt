@@ -64,7 +64,8 @@ line_in lane (first ∷ js) (reply ∷ rs) job long among = elim (first_or_rest 
 ]
 
 -- the lines of a lane are among all, and each is of a lane
-in_all : (jobs : List (Vec Job Global)) (lane : ℕ) (js : List Job) (job : Job) → slice_get (map (λ (own : Vec Job Global). own.items) jobs) lane ≡ Some js → Contains js job → Contains (all_jobs jobs) job
+in_all : (jobs : List (Vec Job Global)) (lane : ℕ) (js : List Job) (job : Job) → slice_get (map (λ (own : Vec Job Global). own.items) jobs) lane ≡ Some js → Contains js job
+    → Contains (all_jobs jobs) job
 in_all [] lane js job at among = absurd cc
 in_all (own ∷ jobs) zero js job at among =
     let same : own.items ≡ js = cc at in Contains-append_left own.items (all_jobs jobs) job (subst (λ z. Contains z job) (sym same) among)
@@ -84,7 +85,8 @@ of_lane (own ∷ jobs) job among = elim (Contains-append_cases own.items (all_jo
 ]
 
 as_long : (jobs : List (Vec Job Global)) (replies : List (Vec Reply Global)) → AllZip (λ (js : Vec Job Global) (rs : Vec Reply Global). length js.items ≡ length rs.items) jobs replies
-    → (lane : ℕ) (js : List Job) (rs : List Reply) → slice_get (map (λ (own : Vec Job Global). own.items) jobs) lane ≡ Some js → slice_get (map (λ (own : Vec Reply Global). own.items) replies) lane ≡ Some rs
+    → (lane : ℕ) (js : List Job) (rs : List Reply) → slice_get (map (λ (own : Vec Job Global). own.items) jobs) lane ≡ Some js
+    → slice_get (map (λ (own : Vec Reply Global). own.items) replies) lane ≡ Some rs
     → length js ≡ length rs
 as_long [] [] all lane js rs at_js at_rs = absurd cc
 as_long [] (r ∷ replies) all lane js rs at_js at_rs = absurd all

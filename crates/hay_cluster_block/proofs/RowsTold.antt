@@ -51,7 +51,8 @@ module _ (home : Pair → Option ℕ) where
       (λ same. by_first job jobs row (home_by home job.item) (home_at home jobs row.line) same refl (λ rest. row_of jobs row rest) (rw (eq-eqb job.line row.line same) at is))
       (λ differs. later job jobs row (row_of jobs row (rw (ne_eqb job.line row.line differs) at is)))
 
-  one_row : (jobs : List Job) (line : ℕ) (found : Option ℕ) (rows : List LineVolume) → home_at home jobs line ≡ found → Each (IsRowOf home jobs) rows → Each (IsRowOf home jobs) (cons_option (row_by line found) rows)
+  one_row : (jobs : List Job) (line : ℕ) (found : Option ℕ) (rows : List LineVolume) → home_at home jobs line ≡ found → Each (IsRowOf home jobs) rows
+      → Each (IsRowOf home jobs) (cons_option (row_by line found) rows)
   one_row jobs line None rows is others = others
   one_row jobs line (Some v) rows is others = (row_of jobs (record { line = line; volume = v }) is, others)
 

@@ -78,7 +78,8 @@ module _ {W : Type 0} (R : ℕ → ℕ → Type 0) (counts : W → ℕ → ℕ) 
   rows_zip (a ∷ old) [] many by = absurd (omega (arith, many))
   rows_zip (a ∷ old) (b ∷ new) many by =
       let less : length new ≡ length old = omega (arith, many) in
-      zip_append R (map (counts a) (range_with_len 0 n)) (map (counts b) (range_with_len 0 n)) (flat_map (λ w. map (counts w) (range_with_len 0 n)) old) (flat_map (λ w. map (counts w) (range_with_len 0 n)) new)
+      zip_append R (map (counts a) (range_with_len 0 n)) (map (counts b) (range_with_len 0 n)) (flat_map (λ w. map (counts w) (range_with_len 0 n)) old)
+      (flat_map (λ w. map (counts w) (range_with_len 0 n)) new)
       (zip_range R (counts a) (counts b) 0 n (λ j below. by 0 j a b refl refl (omega (arith, below))))
       (rows_zip old new less (λ v j x y at_x at_y below. by (suc v) j x y at_x at_y below))
 

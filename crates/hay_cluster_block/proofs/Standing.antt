@@ -162,7 +162,8 @@ module _ {D P : Type 0} (settings : Settings) where
 module _ {D P A : Type 0} (DiskTells : Type 0) (files : D → Files) (Tells : Type 0) (faults fuses : D → ℕ) (arm_faults : A → ℕ) (settings : Settings) where
   abbrev pub AllStand : List (Volume D P) → State D → List A → List ℕ → Known → Type 0
   AllStand volumes directory arms others k =
-      StoreStands (VolumeStands DiskTells files Tells) (count_of faults) (count_of fuses) (DirectoryStands DiskTells files) (rows_count_of faults) (rows_count_of fuses) arm_faults settings volumes directory arms others k
+      StoreStands (VolumeStands DiskTells files Tells) (count_of faults) (count_of fuses) (DirectoryStands DiskTells files) (rows_count_of faults) (rows_count_of fuses) arm_faults
+      settings volumes directory arms others k
 
   -- the parts of a store stand for what the store stands for
   pub parts_stand : DiskTells → (directory : State D) (volumes : List (Volume D P)) (arms first others : List A) → AreVolumes locks.IsVolumeOf settings volumes → arms ≡ first ++ others → (k : Known)
@@ -200,9 +201,11 @@ module _ {D P A : Type 0} (DiskTells : Type 0) (files : D → Files) (Tells : Ty
       let inside : v < length after = within after v b at in
       let many = still.many in
       let a = there before v (omega (arith, inside, many)) in
-      ((still.each v a.0 b a.1 at).stands_for (slice_index_or known v empty_volume) (record { tells = tells; stands = zip_index (logical.Stands files Tells) before known empty_volume stand v a.0 a.1 })).stands)
+      ((still.each v a.0 b a.1 at).stands_for (slice_index_or known v empty_volume) (record
+      { tells = tells; stands = zip_index (logical.Stands files Tells) before known empty_volume stand v a.0 a.1 })).stands)
 
-  pub stays_as : (old new : State D) (before after : List (Volume D P)) (arms last : List A) → IsShaped (made settings new after last) → AreVolumes locks.IsVolumeOf settings before → AreVolumes locks.IsVolumeOf settings after
+  pub stays_as : (old new : State D) (before after : List (Volume D P)) (arms last : List A) → IsShaped (made settings new after last) → AreVolumes locks.IsVolumeOf settings before
+      → AreVolumes locks.IsVolumeOf settings after
       → new ≡ old → last ≡ arms → AreStill (VolumeStands DiskTells files Tells) (count_of faults) (count_of fuses) settings before after
       → StaysAs DiskTells files Tells faults fuses arm_faults (made settings old before arms) (made settings new after last)
   unfolding Stands

@@ -32,7 +32,8 @@ use Rattle.hay_cluster_block.proofs.Standing.{AllStand, given_directory, given_v
 use Rattle.hay_cluster_block.specs.Blocks.{RanBlock, StaysAs}
 use Rattle.hay_cluster_block.specs.Notes.{entered_notes}
 
-pub stays_self : {D P A : Type 0} (DiskTells : Type 0) (files : D → Files) (Tells : Type 0) (faults fuses : D → ℕ) (arm_faults : A → ℕ) (store : Open D P A) → StaysAs DiskTells files Tells faults fuses arm_faults store store
+pub stays_self : {D P A : Type 0} (DiskTells : Type 0) (files : D → Files) (Tells : Type 0) (faults fuses : D → ℕ) (arm_faults : A → ℕ) (store : Open D P A)
+    → StaysAs DiskTells files Tells faults fuses arm_faults store store
 stays_self DiskTells files Tells faults fuses arm_faults store = record { stands = λ tells k stood. stood; directory_is = refl; faults_are = refl; fuses_are = refl; arms_are = refl }
 
 module _ {D P A : Type 0} {settings : Settings} {directory : State D} {before : List (Volume D P)} {arms : List A} {cluster : Open D P A}
@@ -54,28 +55,33 @@ module _ {D P A : Type 0} {settings : Settings} {directory : State D} {before : 
   many_behind n first others last first_are others_are few many =
       let lanes : length arms ≡ 8 = shape_was.lanes in (all_many n arms first others last first_are others_are (omega (arith, lanes, few)) many).0 ∙ lanes
 
-  pub room_again : (capacity n : ℕ) (first others last : List A) → first ≡ take n arms → others ≡ reverse (drop n arms) → n ≤ 8 → length last ≡ n → length arms ≤ capacity → length last + length others ≤ capacity
+  pub room_again : (capacity n : ℕ) (first others last : List A) → first ≡ take n arms → others ≡ reverse (drop n arms) → n ≤ 8 → length last ≡ n → length arms ≤ capacity
+      → length last + length others ≤ capacity
   room_again capacity n first others last first_are others_are few many wide =
       let lanes : length arms ≡ 8 = shape_was.lanes in
       let all = (all_many n arms first others last first_are others_are (omega (arith, lanes, few)) many).1 in
       omega (arith, all, wide)
 
-  pub shape_again : (new : State D) (after : List (Volume D P)) (n : ℕ) (first others last : List A) → first ≡ take n arms → others ≡ reverse (drop n arms) → n ≤ 8 → length last ≡ n → AreVolumes locks.IsVolumeOf settings after → IsDirectoryOf new settings
+  pub shape_again : (new : State D) (after : List (Volume D P)) (n : ℕ) (first others last : List A) → first ≡ take n arms → others ≡ reverse (drop n arms) → n ≤ 8
+      → length last ≡ n → AreVolumes locks.IsVolumeOf settings after → IsDirectoryOf new settings
       → IsShaped (made settings new after (last ++ reverse others))
   shape_again new after n first others last first_are others_are few many are of =
       shape_behind settings new after (last ++ reverse others) are of shape_was.built (many_behind n first others last first_are others_are few many)
 
-  module _ {new : State D} {after : List (Volume D P)} {whole : List A} {store : Open D P A} (is : store ≡ made settings new after whole) (are : AreVolumes locks.IsVolumeOf settings after) (of : IsDirectoryOf new settings) where
+  module _ {new : State D} {after : List (Volume D P)} {whole : List A} {store : Open D P A} (is : store ≡ made settings new after whole)
+      (are : AreVolumes locks.IsVolumeOf settings after) (of : IsDirectoryOf new settings) where
     pub is_up : IsUp store
     is_up = subst IsUp (sym is) (up_behind settings new after whole are of)
 
-    pub counts_rise : (faults : D → ℕ) → CountsRise settings (count_of faults) (rows_count_of faults) before directory after new → NoneFalls (map faults (disks_of cluster)) (map faults (disks_of store))
+    pub counts_rise : (faults : D → ℕ) → CountsRise settings (count_of faults) (rows_count_of faults) before directory after new
+        → NoneFalls (map faults (disks_of cluster)) (map faults (disks_of store))
     counts_rise faults rise =
         subst (λ (z : Open D P A). NoneFalls (map faults (disks_of z)) (map faults (disks_of store))) (sym was)
         (subst (λ (z : Open D P A). NoneFalls (map faults (disks_of (made settings directory before arms))) (map faults (disks_of z))) (sym is)
         (none_falls settings directory new before after were are faults rise))
 
-  module _ {new : State D} {after : List (Volume D P)} {whole : List A} {store : Open D P A} (is : store ≡ made settings new after whole) (is_sure : A → Bool) (arm_faults : A → ℕ) (later : AllZip (IsLaterArm is_sure arm_faults) arms whole) where
+  module _ {new : State D} {after : List (Volume D P)} {whole : List A} {store : Open D P A} (is : store ≡ made settings new after whole) (is_sure : A → Bool) (arm_faults : A → ℕ)
+      (later : AllZip (IsLaterArm is_sure arm_faults) arms whole) where
     pub arms_later : NoneFalls (map arm_faults cluster.arms) (map arm_faults store.arms)
     arms_later =
         subst (λ (z : Open D P A). NoneFalls (map arm_faults z.arms) (map arm_faults store.arms)) (sym was)
@@ -86,7 +92,8 @@ module _ {D P A : Type 0} {settings : Settings} {directory : State D} {before : 
         subst (λ (z : Open D P A). StaySure is_sure arm_faults z.arms store.arms) (sym was)
         (subst (λ (z : Open D P A). StaySure is_sure arm_faults arms z.arms) (sym is) (arms_sure is_sure arm_faults arms whole later))
 
-  module _ {new : State D} {after : List (Volume D P)} {whole : List A} {store : Open D P A} (is : store ≡ made settings new after whole) (are : AreVolumes locks.IsVolumeOf settings after) (of : IsDirectoryOf new settings) (many : length whole ≡ 8)
+  module _ {new : State D} {after : List (Volume D P)} {whole : List A} {store : Open D P A} (is : store ≡ made settings new after whole)
+      (are : AreVolumes locks.IsVolumeOf settings after) (of : IsDirectoryOf new settings) (many : length whole ≡ 8)
       (DiskTells : Type 0) (files : D → Files) (Tells : Type 0) (faults fuses : D → ℕ) (arm_faults : A → ℕ) where
     shape_is : IsShaped (made settings new after whole)
     shape_is = shape_behind settings new after whole are of shape_was.built many
@@ -120,4 +127,5 @@ module _ {D P A : Type 0} {settings : Settings} {directory : State D} {before : 
           (subst (λ (z : Open D P A). Stands files Tells faults fuses arm_faults z k) was stood) in
           let r = legal k stand items are_items distinct in
           subst (λ (z : Open D P A). RanBlock files Tells faults fuses arm_faults k items told z) (sym is)
-          (ran_block DiskTells files Tells faults fuses arm_faults settings jobs replies new after whole last others shape_is are rest replied entered told tells_are wanted k items are_items distinct r.0 r.1 r.2 r.3)
+          (ran_block DiskTells files Tells faults fuses arm_faults settings jobs replies new after whole last others shape_is are rest replied entered told tells_are wanted k items
+          are_items distinct r.0 r.1 r.2 r.3)

@@ -17,7 +17,8 @@ use Rattle.hay_cluster_block.specs.Notes.{block_notes}
 
 -- The lines are a legal block of what was known, with these notes, whose text is that of such a block, and the store stands for what is known
 -- behind it.
-pub record RanBlock {D P A : Type 0} (files : D → Files) (Tells : Type 0) (faults fuses : D → ℕ) (arm_faults : A → ℕ) (k : Known) (items : List LaneItem) (notes : Result (Vec Note Global) NoMemory) (store : Open D P A) : Type 0 where
+pub record RanBlock {D P A : Type 0} (files : D → Files) (Tells : Type 0) (faults fuses : D → ℕ) (arm_faults : A → ℕ) (k : Known) (items : List LaneItem)
+    (notes : Result (Vec Note Global) NoMemory) (store : Open D P A) : Type 0 where
   pub logs : List LogNote
   pub rows : RowNote
   pub known : Known

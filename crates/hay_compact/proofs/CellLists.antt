@@ -1,5 +1,6 @@
 -- Cells of a volume file: parts of them, the last one of a pair, and its flag.
-use Rattle.std.proofs.Common.{◌≡◌, ◌≢◌, ◌⊎◌, inl, inr, ◌≤◌, ◌<◌, ◌+◌, ℕ, Bool, true, false, not, ◌&&◌, cond, eqb, List, [], ◌∷◌, ◌++◌, length, Option, Some, None, refl, sym, ap, ◌∙◌, subst, arith, append_assoc}
+use Rattle.std.proofs.Common.{◌≡◌, ◌≢◌, ◌⊎◌, inl, inr, ◌≤◌, ◌<◌, ◌+◌, ℕ, Bool, true, false, not, ◌&&◌, cond, eqb, List, [], ◌∷◌, ◌++◌, length, Option, Some, None, refl, sym, ap}
+use Rattle.std.proofs.Common.{◌∙◌, subst, arith, append_assoc}
 use Rattle.std.specs.Prelude.{sum_by, map}
 use Rattle.std.specs.Option.{option_or}
 use Rattle.std.proofs.lemmas.Bool.{cases_Bool, cond-true, cond-false, and_parts, and_from, not-true, true≢false, eq-eqb, ne_eqb}
@@ -41,7 +42,8 @@ long_total cell = omega arith
 -- THE LAST CELL OF A PAIR
 
 -- the last cell of a pair among more cells
-last_of : (later : Option Cell) (cell : Cell) (here : Bool) (last : Cell) → option_or later (cond here (Some cell) None) ≡ Some last → (later ≡ Some last) ⊎ ((later ≡ None) × (here ≡ true) × (cell ≡ last))
+last_of : (later : Option Cell) (cell : Cell) (here : Bool) (last : Cell) → option_or later (cond here (Some cell) None) ≡ Some last
+    → (later ≡ Some last) ⊎ ((later ≡ None) × (here ≡ true) × (cell ≡ last))
 last_of (Some other) cell here last is = inl is
 last_of None cell true last is = inr (refl, refl, (let e : cell ≡ last = cc in e))
 last_of None cell false last is = absurd cc
@@ -115,10 +117,12 @@ pub later_last : (front behind : List Cell) (pair : Pair) (last : Cell) → last
 later_last front behind pair last is = last_cell-append front behind pair ∙ ap (λ (o : Option Cell). option_or o (last_cell front pair)) is
 
 -- it stands in the file
-pub last_stands : (at end : ℕ) (file : List ℕ) (cells : List Cell) (pair : Pair) (last : Cell) → HasCells at file cells end → last_cell cells pair ≡ Some last → StandsCell last.at file last × ((at ≤ last.at) × (last.at + cell_total last ≤ end))
+pub last_stands : (at end : ℕ) (file : List ℕ) (cells : List Cell) (pair : Pair) (last : Cell) → HasCells at file cells end → last_cell cells pair ≡ Some last
+    → StandsCell last.at file last × ((at ≤ last.at) × (last.at + cell_total last ≤ end))
 last_stands at end file cells pair last has is =
     let h = last_parts cells pair last is in
-    let there : HasCells (at + sum_by cell_total h.front) file (last ∷ h.behind) end = after_front at end file h.front (last ∷ h.behind) (subst (λ (l : List Cell). HasCells at file l end) h.parts has) in
+    let there : HasCells (at + sum_by cell_total h.front) file (last ∷ h.behind) end =
+    after_front at end file h.front (last ∷ h.behind) (subst (λ (l : List Cell). HasCells at file l end) h.parts has) in
     let first = cells_first (at + sum_by cell_total h.front) end file last h.behind there in
     let place : last.at ≡ at + sum_by cell_total h.front = first.0.is.place in
     let rest = cells_end (at + sum_by cell_total h.front + cell_total last) end file h.behind first.1 in
@@ -135,7 +139,8 @@ last_place_of (cell ∷ cells) pair last is =
 -- WHICH CELLS ARE LIVE
 
 -- the cell at this place is the last of its pair
-pub latest_live : (end : ℕ) (file : List ℕ) (front behind : List Cell) (cell : Cell) (latest : Option ℕ) → HasCells 64 file (front ++ cell ∷ behind) end → IsLatest (front ++ cell ∷ behind) cell.pair latest → latest ≡ Some cell.at → lacks cell.pair (needles_of behind) ≡ true
+pub latest_live : (end : ℕ) (file : List ℕ) (front behind : List Cell) (cell : Cell) (latest : Option ℕ) → HasCells 64 file (front ++ cell ∷ behind) end
+    → IsLatest (front ++ cell ∷ behind) cell.pair latest → latest ≡ Some cell.at → lacks cell.pair (needles_of behind) ≡ true
 latest_live end file front behind cell latest has is same =
     let there : HasCells (64 + sum_by cell_total front) file (cell ∷ behind) end = after_front 64 end file front (cell ∷ behind) has in
     let first = cells_first (64 + sum_by cell_total front) end file cell behind there in
@@ -161,7 +166,8 @@ latest_live end file front behind cell latest has is same =
     none_or (Some c) = inr (c, refl)
 
 -- another place than this one, or none, is not that of a last cell that is not deleted
-pub other_dead : (front behind : List Cell) (cell : Cell) (latest : Option ℕ) → IsLatest (front ++ cell ∷ behind) cell.pair latest → latest ≢ Some cell.at → cell.deleted ≡ false → lacks cell.pair (needles_of behind) ≡ false
+pub other_dead : (front behind : List Cell) (cell : Cell) (latest : Option ℕ) → IsLatest (front ++ cell ∷ behind) cell.pair latest → latest ≢ Some cell.at → cell.deleted ≡ false
+    → lacks cell.pair (needles_of behind) ≡ false
 other_dead front behind cell latest is other alive =
     elim (cases_Bool (lacks cell.pair (needles_of behind))) [
       | inr has ↦ has
@@ -189,7 +195,8 @@ flags_apart at end place file (cell ∷ cells) deleted has apart =
     rw (ne_eqb cell.at place other) (ap (λ (l : List Cell). cell ∷ l) (flags_apart (at + cell_total cell) end place file cells deleted first.1 still))
 
 -- one cell's flag
-pub one_flag : (at end : ℕ) (file : List ℕ) (front behind : List Cell) (cell : Cell) (deleted : Bool) → HasCells at file (front ++ cell ∷ behind) end → with_flag cell.at deleted (front ++ cell ∷ behind) ≡ front ++ record cell { deleted = deleted } ∷ behind
+pub one_flag : (at end : ℕ) (file : List ℕ) (front behind : List Cell) (cell : Cell) (deleted : Bool) → HasCells at file (front ++ cell ∷ behind) end
+    → with_flag cell.at deleted (front ++ cell ∷ behind) ≡ front ++ record cell { deleted = deleted } ∷ behind
 one_flag at end file [] behind cell deleted has =
     let first = cells_first at end file cell behind has in
     let flagged : Cell = record cell { deleted = deleted } in
@@ -204,10 +211,14 @@ one_flag at end file (x ∷ front) behind cell deleted has =
     rw (ne_eqb x.at cell.at other) (ap (λ (l : List Cell). x ∷ l) (one_flag (at + cell_total x) end file front behind cell deleted first.1))
 
 -- flagging the last cell of a pair
-pub flag_parts : (front behind : List Needle) (needle : Needle) (pair : Pair) → pair_eq needle.pair pair ≡ true → lacks pair behind ≡ true → flag_last pair (front ++ needle ∷ behind) ≡ front ++ record needle { deleted = true } ∷ behind
-flag_parts [] behind needle pair has none = cond-true (pair_eq needle.pair pair && lacks pair behind) (record needle { deleted = true } ∷ behind) (needle ∷ flag_last pair behind) (and_from (pair_eq needle.pair pair) (lacks pair behind) has none)
+pub flag_parts : (front behind : List Needle) (needle : Needle) (pair : Pair) → pair_eq needle.pair pair ≡ true → lacks pair behind ≡ true
+    → flag_last pair (front ++ needle ∷ behind) ≡ front ++ record needle { deleted = true } ∷ behind
+flag_parts [] behind needle pair has none =
+    cond-true (pair_eq needle.pair pair && lacks pair behind) (record needle { deleted = true } ∷ behind) (needle ∷ flag_last pair behind)
+    (and_from (pair_eq needle.pair pair) (lacks pair behind) has none)
 flag_parts (x ∷ front) behind needle pair has none =
-    cond-false (pair_eq x.pair pair && lacks pair (front ++ needle ∷ behind)) (record x { deleted = true } ∷ (front ++ needle ∷ behind)) (x ∷ flag_last pair (front ++ needle ∷ behind)) (not_last (pair_eq x.pair pair))
+    cond-false (pair_eq x.pair pair && lacks pair (front ++ needle ∷ behind)) (record x { deleted = true } ∷ (front ++ needle ∷ behind))
+    (x ∷ flag_last pair (front ++ needle ∷ behind)) (not_last (pair_eq x.pair pair))
     ∙ ap (λ (l : List Needle). x ∷ l) (flag_parts front behind needle pair has none)
   where
     still : (cs : List Needle) → lacks pair (cs ++ needle ∷ behind) ≡ false
@@ -219,12 +230,14 @@ flag_parts (x ∷ front) behind needle pair has none =
     not_last false = refl
 
 -- the cells with that flag
-pub flagged_cells : (end : ℕ) (file : List ℕ) (cells : List Cell) (pair : Pair) (last : Cell) → HasCells 64 file cells end → (h : HasLast cells pair last) → with_flag last.at true cells ≡ h.front ++ record last { deleted = true } ∷ h.behind
+pub flagged_cells : (end : ℕ) (file : List ℕ) (cells : List Cell) (pair : Pair) (last : Cell) → HasCells 64 file cells end → (h : HasLast cells pair last)
+    → with_flag last.at true cells ≡ h.front ++ record last { deleted = true } ∷ h.behind
 flagged_cells end file cells pair last has h =
     ap (λ (l : List Cell). with_flag last.at true l) h.parts ∙ one_flag 64 end file h.front h.behind last true (subst (λ (l : List Cell). HasCells 64 file l end) h.parts has)
 
 -- the cells with the flag of a pair's last cell have the needles with that flag
-pub flagged_needles : (end : ℕ) (file : List ℕ) (cells : List Cell) (pair : Pair) (last : Cell) → HasCells 64 file cells end → last_cell cells pair ≡ Some last → needles_of (with_flag last.at true cells) ≡ flag_last pair (needles_of cells)
+pub flagged_needles : (end : ℕ) (file : List ℕ) (cells : List Cell) (pair : Pair) (last : Cell) → HasCells 64 file cells end → last_cell cells pair ≡ Some last
+    → needles_of (with_flag last.at true cells) ≡ flag_last pair (needles_of cells)
 flagged_needles end file cells pair last has is =
     let h = last_parts cells pair last is in
     let flagged : Cell = record last { deleted = true } in
@@ -250,7 +263,8 @@ flagged_last end file cells pair other last has is =
       | inr apart ↦
           let differ : pair_eq last.pair other ≡ false = ap (λ (p : Pair). pair_eq p other) same ∙ apart in
           let same_last : (c : Cell) → pair_eq c.pair other ≡ false → last_cell (h.front ++ c ∷ h.behind) other ≡ option_or (option_or (last_cell h.behind other) None) (last_cell h.front other) =
-          (λ c ne. last_cell-append h.front (c ∷ h.behind) other ∙ ap (λ (o : Option Cell). option_or (option_or (last_cell h.behind other) o) (last_cell h.front other)) (cond-false (pair_eq c.pair other) (Some c) None ne)) in
+          (λ c ne. last_cell-append h.front (c ∷ h.behind) other ∙ ap (λ (o : Option Cell). option_or (option_or (last_cell h.behind other) o) (last_cell h.front other))
+          (cond-false (pair_eq c.pair other) (Some c) None ne)) in
           ap (λ (l : List Cell). last_cell l other) list
           ∙ same_last flagged differ ∙ sym (same_last last differ) ∙ sym (ap (λ (l : List Cell). last_cell l other) h.parts)
           ∙ sym (cond-false (pair_eq pair other) (Some flagged) (last_cell cells other) apart)

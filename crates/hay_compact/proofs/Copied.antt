@@ -1,5 +1,6 @@
 -- A cell is examined.
-use Rattle.std.proofs.Common.{◌≡◌, ◌≢◌, ◌⊎◌, inl, inr, ◌≤◌, ◌<◌, ◌+◌, ◌-◌, ◌^◌, ℕ, Bool, true, false, not, ◌&&◌, cond, eqb, List, [], ◌∷◌, ◌++◌, length, take, drop, Option, Some, None, Result, Err, refl, sym, ap, ◌∙◌, subst, arith}
+use Rattle.std.proofs.Common.{◌≡◌, ◌≢◌, ◌⊎◌, inl, inr, ◌≤◌, ◌<◌, ◌+◌, ◌-◌, ◌^◌, ℕ, Bool, true, false, not, ◌&&◌, cond, eqb, List, [], ◌∷◌, ◌++◌, length, take, drop, Option, Some}
+use Rattle.std.proofs.Common.{None, Result, Err, refl, sym, ap, ◌∙◌, subst, arith}
 use Rattle.std.specs.Prelude.{All, map, option_map, slice_range}
 use Rattle.std.specs.Option.{option_or, option_eq}
 use Rattle.std.proofs.lemmas.Bool.{cases_Bool, true≢false, and_from, and_parts, not-true, eq-eqb, eqb-true}
@@ -31,7 +32,8 @@ use Rattle.hay_index.specs.Records.{IsIndex}
 use Rattle.hay_open.specs.Stored.{cell_record, index_super, last_cell, volume_super}
 use Rattle.hay_compact.specs.declared.standing.LastCell.{LastCell}
 use Rattle.hay_compact.specs.Standing.{LastCells, last_in}
-use Rattle.hay_compact.specs.Copying.{Copying, HasPeeked, HasRead, IsCopy, IsHeadOf, IsLatest, IsMaking, IsSafe, Making, MovesOn, RowWithin, Stage, cell_total, kept_cell, live_among, renewed, renewed_needle}
+use Rattle.hay_compact.specs.Copying.{Copying, HasPeeked, HasRead, IsCopy, IsHeadOf, IsLatest, IsMaking, IsSafe, Making, MovesOn, RowWithin, Stage, cell_total, kept_cell}
+use Rattle.hay_compact.specs.Copying.{live_among, renewed, renewed_needle}
 use Rattle.hay_compact.proofs.LiveNeedles.{next_among}
 use Rattle.hay_compact.proofs.CellLists.{lacks_more, lacks_parts, last_cell-append, latest_live, other_dead}
 use Rattle.hay_compact.proofs.Copyings.{current_parts, end_next, needles_next, skips, within_next}
@@ -74,20 +76,23 @@ pub photo_seen : (size : ℕ) (seen bytes : List ℕ) → seen ≡ bytes → sli
 photo_seen size seen bytes same = ap (λ k. take k (drop 36 seen)) (let e : 36 + size - 36 ≡ size = omega arith in e) ∙ ap (λ (l : List ℕ). take size (drop 36 l)) same
 
 -- its needle anew, and the end mark behind it
-pub anew_long : (at : ℕ) (bytes photo anew : List ℕ) (head : CellHead) → HasRead at bytes head → photo ≡ take head.size (drop 36 bytes) → IsMarked anew (live head.pair head.cookie photo) → length anew ≡ needle_total head.size + 8
+pub anew_long : (at : ℕ) (bytes photo anew : List ℕ) (head : CellHead) → HasRead at bytes head → photo ≡ take head.size (drop 36 bytes)
+    → IsMarked anew (live head.pair head.cookie photo) → length anew ≡ needle_total head.size + 8
 anew_long at bytes photo anew head h seen marked =
     let size : length photo ≡ head.size = ap length (photo_there at bytes photo head h.cell h.is seen) ∙ sym (ap (λ (x : CellHead). x.size) h.is.head_is) in
     length-marked anew (live head.pair head.cookie photo) marked ∙ ap (λ k. needle_total k + 8) size
 
 -- nothing bounds the new file
-pub anew_fits : (s : Stage) (anew : List ℕ) (head : CellHead) → HasRead s.next s.bytes head → IsSafe s.generation s.volume s.index s.next → length anew ≡ needle_total head.size + 8 → s.volume.end + length anew ≤ s.volume.capacity
+pub anew_fits : (s : Stage) (anew : List ℕ) (head : CellHead) → HasRead s.next s.bytes head → IsSafe s.generation s.volume s.index s.next → length anew ≡ needle_total head.size + 8
+    → s.volume.end + length anew ≤ s.volume.capacity
 anew_fits s anew head h safe long =
     let behind = safe.behind in
     let unbounded = safe.unbounded in
     omega (arith, read_long s.next s.bytes head h, h.inside)
 
 -- with this photo a live needle of version 2 is the cell anew
-pub renewed_is : (at next : ℕ) (bytes photo : List ℕ) (head : CellHead) (cell : Cell) → IsCopy next bytes head cell → head.deleted ≡ false → photo ≡ cell.bytes → live_cell at head.pair head.cookie photo ≡ renewed at cell
+pub renewed_is : (at next : ℕ) (bytes photo : List ℕ) (head : CellHead) (cell : Cell) → IsCopy next bytes head cell → head.deleted ≡ false → photo ≡ cell.bytes
+    → live_cell at head.pair head.cookie photo ≡ renewed at cell
 renewed_is at next bytes photo head cell copy alive is =
     let with : Pair → Cookie → List ℕ → Bool → Cell = λ p k l b. record { at = at; version = Two; pair = p; cookie = k; bytes = l; deleted = b } in
     ap (λ (x : CellHead). with x.pair x.cookie photo false) copy.head_is
@@ -99,9 +104,11 @@ pub read_fits : (at next total : ℕ) (bytes : List ℕ) (head : CellHead) → H
 read_fits at next total bytes head h same is = omega (arith, read_long at bytes head h, h.inside)
 
 -- one more cell in the new file, behind which the current one's next cell stands
-pub stays_safe : (s : Stage) (volume : VolumeFile) (index : IndexFile) (row : Record) (head : CellHead) (total : ℕ) (anew : List ℕ) → HasRead s.next s.bytes head → length anew ≡ needle_total head.size + 8 → IsSafe s.generation s.volume s.index s.next
+pub stays_safe : (s : Stage) (volume : VolumeFile) (index : IndexFile) (row : Record) (head : CellHead) (total : ℕ) (anew : List ℕ) → HasRead s.next s.bytes head
+    → length anew ≡ needle_total head.size + 8 → IsSafe s.generation s.volume s.index s.next
     → volume ≡ record s.volume { end = s.volume.end + (length anew - 8) }
-    → index ≡ record s.index { pending = s.index.pending ++ row ∷ [] } → row.at ≡ s.volume.end → row.size ≡ head.size → total ≡ needle_total head.size → IsSafe s.generation volume index (s.next + total)
+    → index ≡ record s.index { pending = s.index.pending ++ row ∷ [] } → row.at ≡ s.volume.end → row.size ≡ head.size → total ≡ needle_total head.size
+    → IsSafe s.generation volume index (s.next + total)
 stays_safe s volume index row head total anew h long safe grown noted at size is =
     let Small : Record → Type 0 = λ (r : Record). r.size ≤ max_photo Two in
     let end : volume.end ≡ s.volume.end + (length anew - 8) = ap (λ (v : VolumeFile). v.end) grown in
@@ -120,7 +127,8 @@ stays_safe s volume index row head total anew h long safe grown noted at size is
           let old : All (RowWithin volume.end) s.index.pending =
           All-weaker (RowWithin s.volume.end) (RowWithin volume.end) (λ (r : Record) lies. (lies.0, omega (arith, lies.1, end))) s.index.pending safe.within in
           subst (λ (i : IndexFile). All (RowWithin volume.end) i.pending) (sym noted)
-          (All-append (RowWithin volume.end) s.index.pending (row ∷ []) old (All-cons (RowWithin volume.end) row [] (omega (arith, at, from), omega (arith, at, end, long, total_is)) (All-nil (RowWithin volume.end))));
+          (All-append (RowWithin volume.end) s.index.pending (row ∷ []) old (All-cons (RowWithin volume.end) row []
+          (omega (arith, at, from), omega (arith, at, end, long, total_is)) (All-nil (RowWithin volume.end))));
     }
 
 -- A CELL IS SKIPPED
@@ -164,10 +172,12 @@ abbrev pub copied_at : ℕ → LastCell
 copied_at at = record { at = at; deleted = false }
 
 -- what that makes of the new files
-pub copy_makes : (sup : Super) (files later : Files) (s : Stage) (volume : VolumeFile) (index : IndexFile) (standing : LastCells) (fresh : List Cell) (next : ℕ) (cell : Cell) (head : CellHead) (row : Record) (photo : List ℕ)
+pub copy_makes : (sup : Super) (files later : Files) (s : Stage) (volume : VolumeFile) (index : IndexFile) (standing : LastCells) (fresh : List Cell) (next : ℕ) (cell : Cell)
+    (head : CellHead) (row : Record) (photo : List ℕ)
     → Making sup files s fresh → IsCopy s.next s.bytes head cell → head.deleted ≡ false → photo ≡ take head.size (drop 36 s.bytes)
     → volume.file ≡ s.volume.file
-    → ((superblock : List ℕ) (cells : List Cell) → IsVolume superblock (files s.volume.file).now cells s.volume.end → IsVolume superblock (later s.volume.file).now (cells ++ live_cell s.volume.end head.pair head.cookie photo ∷ []) volume.end)
+    → ((superblock : List ℕ) (cells : List Cell) → IsVolume superblock (files s.volume.file).now cells s.volume.end
+    → IsVolume superblock (later s.volume.file).now (cells ++ live_cell s.volume.end head.pair head.cookie photo ∷ []) volume.end)
     → ((k : ℕ) → (files s.volume.file).sealed k ≡ false → (later s.volume.file).sealed k ≡ false) → KeepsOthers s.volume.file files later
     → index ≡ record s.index { pending = s.index.pending ++ row ∷ [] } → row ≡ record { pair = head.pair; at = s.volume.end; size = head.size }
     → ((pair : Pair) → last_in standing pair ≡ cond (pair_eq head.pair pair) (Some (copied_at s.volume.end)) (last_in s.standing pair))
@@ -183,7 +193,9 @@ copy_makes sup files later s volume index standing fresh next cell head row phot
       (subst (λ (f : FileState). IsIndex (super_bytes (index_super sup s.generation)) f.now [] s.index.end) (sym index_stays) h.index_is);
   volume_free = λ k. subst (λ j. (later j).sealed k ≡ false) (sym file) (free k (h.volume_free k));
   index_free = λ k. subst (λ (i : IndexFile). (later i.file).sealed k ≡ false) (sym noted) (ap (λ (f : FileState). f.sealed k) index_stays ∙ h.index_free k);
-  noted = ap (λ (i : IndexFile). i.pending) noted ∙ ap (λ (l : List Record). l ++ row ∷ []) h.noted ∙ ap (λ (r : Record). map cell_record fresh ++ r ∷ []) record_is ∙ sym (map-append cell_record fresh (copied ∷ []));
+  noted =
+      ap (λ (i : IndexFile). i.pending) noted ∙ ap (λ (l : List Record). l ++ row ∷ []) h.noted ∙ ap (λ (r : Record). map cell_record fresh ++ r ∷ []) record_is
+      ∙ sym (map-append cell_record fresh (copied ∷ []));
   anew = All-push IsAnew fresh copied h.anew refl;
   places = λ pair. set pair ∙ placed pair;
   capacity_is = h.capacity_is;
@@ -224,7 +236,8 @@ rows_renewed fresh needle = map-append needle_row fresh (renewed_needle needle �
 
 rows_renewed_before : (fresh behind : List Needle) (needle : Needle) → rows_of ((fresh ++ renewed_needle needle ∷ []) ++ behind) ≡ rows_of ((fresh ++ needle ∷ []) ++ behind)
 rows_renewed_before fresh behind needle =
-    map-append needle_row (fresh ++ renewed_needle needle ∷ []) behind ∙ ap (λ (l : List Row). l ++ rows_of behind) (rows_renewed fresh needle) ∙ sym (map-append needle_row (fresh ++ needle ∷ []) behind)
+    map-append needle_row (fresh ++ renewed_needle needle ∷ []) behind ∙ ap (λ (l : List Row). l ++ rows_of behind) (rows_renewed fresh needle)
+    ∙ sym (map-append needle_row (fresh ++ needle ∷ []) behind)
 
 copies_renewed : (pair : Pair) (fresh current : List Needle) (n : ℕ) (needle : Needle) → CopiesAt pair (fresh ++ needle ∷ []) current n → CopiesAt pair (fresh ++ renewed_needle needle ∷ []) current n
 copies_renewed pair fresh current n needle h = record {
@@ -232,7 +245,8 @@ copies_renewed pair fresh current n needle h = record {
   gone = λ none. ap (λ (l : List Row). look l pair) (rows_renewed fresh needle) ∙ h.gone none;
 }
 
-pub copy_copies : (sup : Super) (files later : Files) (old : VolumeFile) (s : Stage) (volume : VolumeFile) (index : IndexFile) (standing : LastCells) (current fresh : List Cell) (n total : ℕ) (cell : Cell) (head : CellHead) (latest : Option ℕ)
+pub copy_copies : (sup : Super) (files later : Files) (old : VolumeFile) (s : Stage) (volume : VolumeFile) (index : IndexFile) (standing : LastCells) (current fresh : List Cell)
+    (n total : ℕ) (cell : Cell) (head : CellHead) (latest : Option ℕ)
     → Copying sup files old s current fresh n → drop n current ≡ cell ∷ drop (n + 1) current → IsCopy s.next s.bytes head cell → IsLatest current cell.pair latest
     → head.deleted ≡ false → latest ≡ Some s.next → total ≡ needle_total head.size
     → volume.file ≡ s.volume.file → index.file ≡ s.index.file → KeepsOthers s.volume.file files later
@@ -266,7 +280,8 @@ copy_copies sup files later old s volume index standing current fresh n total ce
   exact = λ exact.
       map-append needle_of_cell fresh (copied ∷ []) ∙ ap (λ (l : List Needle). l ++ renewed_needle (needle_of_cell cell) ∷ []) exact
       ∙ sym (map-append renewed_needle (live_among n (needles_of current)) (needle_of_cell cell ∷ []))
-      ∙ ap (map renewed_needle) (sym (next_among n (needles_of current) (needle_of_cell cell) (needles_of (drop (n + 1) current)) (needles_next n current cell is) ∙ ap (λ (b : Bool). live_among n (needles_of current) ++ cond b (needle_of_cell cell ∷ []) []) lives));
+      ∙ ap (map renewed_needle) (sym (next_among n (needles_of current) (needle_of_cell cell) (needles_of (drop (n + 1) current)) (needles_next n current cell is)
+      ∙ ap (λ (b : Bool). live_among n (needles_of current) ++ cond b (needle_of_cell cell ∷ []) []) lives));
 }
   where
     copied : Cell
@@ -286,7 +301,8 @@ copy_copies sup files later old s volume index standing current fresh n total ce
     lives : is_live (needle_of_cell cell) (needles_of (drop (n + 1) current)) ≡ true
     lives = and_from (not cell.deleted) (lacks cell.pair (needles_of (drop (n + 1) current))) (ap not kept)
         (latest_live old.end (files old.file).now (take n current) (drop (n + 1) current) cell latest
-        (subst (λ (l : List Cell). HasCells 64 (files old.file).now l old.end) parts h.current_is.has) (subst (λ (l : List Cell). IsLatest l cell.pair latest) parts last) (here ∙ ap (λ k. Some k) (sym copy.is.place)))
+        (subst (λ (l : List Cell). HasCells 64 (files old.file).now l old.end) parts h.current_is.has) (subst (λ (l : List Cell). IsLatest l cell.pair latest) parts last)
+        (here ∙ ap (λ k. Some k) (sym copy.is.place)))
 
 -- NOTHING WAS COPIED
 
@@ -330,7 +346,8 @@ making_stands sup files later s new standing fresh h same places is =
     }))
 
 -- it stands where it stood
-pub copy_stands : (sup : Super) (files later : Files) (old : VolumeFile) (s new : Stage) (standing : LastCells) (current fresh : List Cell) (n : ℕ) → Copying sup files old s current fresh n → later ≡ files
+pub copy_stands : (sup : Super) (files later : Files) (old : VolumeFile) (s new : Stage) (standing : LastCells) (current fresh : List Cell) (n : ℕ)
+    → Copying sup files old s current fresh n → later ≡ files
     → ((pair : Pair) → last_in standing pair ≡ last_in s.standing pair) → new ≡ record s { standing = standing } → Copying sup later old new current fresh n
 copy_stands sup files later old s new standing current fresh n h same places is =
     subst (λ (f : Files). Copying sup f old new current fresh n) (sym same)

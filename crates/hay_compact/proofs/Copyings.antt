@@ -1,5 +1,6 @@
 -- Steps of a compaction.
-use Rattle.std.proofs.Common.{◌≡◌, ◌≢◌, ◌≤◌, ◌<◌, ◌+◌, ◌-◌, ◌^◌, min, ℕ, zero, suc, Bool, true, false, cond, leb, List, [], ◌∷◌, ◌++◌, length, take, drop, refl, sym, ap, ◌∙◌, subst, arith, append-nil, take-append-drop}
+use Rattle.std.proofs.Common.{◌≡◌, ◌≢◌, ◌≤◌, ◌<◌, ◌+◌, ◌-◌, ◌^◌, min, ℕ, zero, suc, Bool, true, false, cond, leb, List, [], ◌∷◌, ◌++◌, length, take, drop, refl, sym, ap, ◌∙◌}
+use Rattle.std.proofs.Common.{subst, arith, append-nil, take-append-drop}
 use Rattle.std.specs.Prelude.{map, sum_by}
 use Rattle.std.proofs.Math.Seq.{take-add}
 use Rattle.std.proofs.lemmas.Bool.{leb-true, le-leb}
@@ -86,7 +87,8 @@ end_next n cells cell is =
 pub within_next : (n : ℕ) (cells : List Cell) (cell : Cell) → n ≤ length cells → drop n cells ≡ cell ∷ drop (n + 1) cells → n + 1 ≤ length cells
 within_next n cells cell within is = omega (arith, ap length is, length-drop n cells)
 
-pub next_stands : (sup : Super) (files : Files) (old : VolumeFile) (s : Stage) (current fresh : List Cell) (n : ℕ) (cell : Cell) → Copying sup files old s current fresh n → drop n current ≡ cell ∷ drop (n + 1) current
+pub next_stands : (sup : Super) (files : Files) (old : VolumeFile) (s : Stage) (current fresh : List Cell) (n : ℕ) (cell : Cell) → Copying sup files old s current fresh n
+    → drop n current ≡ cell ∷ drop (n + 1) current
     → StandsCell s.next (files old.file).now cell × (s.next + cell_total cell ≤ old.end)
 next_stands sup files old s current fresh n cell h is =
     let file : List ℕ = (files old.file).now in
@@ -114,7 +116,8 @@ some_next n cells within = go n cells within
 
 -- A CELL IS SKIPPED
 
-pub skips : (sup : Super) (files : Files) (old : VolumeFile) (s : Stage) (current fresh : List Cell) (n at next : ℕ) (cell : Cell) → Copying sup files old s current fresh n → drop n current ≡ cell ∷ drop (n + 1) current
+pub skips : (sup : Super) (files : Files) (old : VolumeFile) (s : Stage) (current fresh : List Cell) (n at next : ℕ) (cell : Cell) → Copying sup files old s current fresh n
+    → drop n current ≡ cell ∷ drop (n + 1) current
     → is_live (needle_of_cell cell) (needles_of (drop (n + 1) current)) ≡ false → next ≡ s.next + cell_total cell
     → MovesOn sup files old (record s { next = next }) current fresh n cell at false
 skips sup files old s current fresh n at next cell h is dead moves = record {
@@ -141,7 +144,8 @@ skips sup files old s current fresh n at next cell h is dead moves = record {
   table = λ pair table. copies_pass pair (needles_of fresh) (needles_of current) n (needle_of_cell cell) (needles_of (drop (n + 1) current)) (needles_next n current cell is) dead table;
   exact = λ exact.
       exact
-      ∙ ap (map renewed_needle) (sym (next_among n (needles_of current) (needle_of_cell cell) (needles_of (drop (n + 1) current)) (needles_next n current cell is) ∙ ap (λ (b : Bool). live_among n (needles_of current) ++ cond b (needle_of_cell cell ∷ []) []) dead ∙ append-nil (live_among n (needles_of current))));
+      ∙ ap (map renewed_needle) (sym (next_among n (needles_of current) (needle_of_cell cell) (needles_of (drop (n + 1) current)) (needles_next n current cell is)
+      ∙ ap (λ (b : Bool). live_among n (needles_of current) ++ cond b (needle_of_cell cell ∷ []) []) dead ∙ append-nil (live_among n (needles_of current))));
 }
 
 -- A PEEK
@@ -154,7 +158,8 @@ pub record HasNext (next : ℕ) (file : List ℕ) (end : ℕ) (current : List Ce
   pub within : next + cell_total cell ≤ end
   pub fits : end + 8 ≤ length file
 
-pub has_next : (sup : Super) (files : Files) (old : VolumeFile) (s : Stage) (current fresh : List Cell) (n next : ℕ) → Copying sup files old s current fresh n → next ≡ s.next → (n ≡ length current → ⊥) → HasNext next (files old.file).now old.end current n
+pub has_next : (sup : Super) (files : Files) (old : VolumeFile) (s : Stage) (current fresh : List Cell) (n next : ℕ) → Copying sup files old s current fresh n → next ≡ s.next
+    → (n ≡ length current → ⊥) → HasNext next (files old.file).now old.end current n
 has_next sup files old s current fresh n next h same more =
     let low : n < length current = (let le = h.within in let ne : n ≢ length current = more in omega arith) in
     let one = some_next n current low in
@@ -176,7 +181,8 @@ pub no_damage : (next end n : ℕ) (file : List ℕ) (current : List Cell) → H
 no_damage next end n file current h none = none (head_of_needle (needle_of_cell h.cell)) (head_begins next file h.cell h.stands)
 
 -- the head that was read
-pub read_head : (next : ℕ) (file : List ℕ) (cell : Cell) (head : CellHead) → StandsCell next file cell → head.at ≡ next → HeadBytes (take 36 (drop next file)) (head_of_cell head) → head ≡ cell_head cell
+pub read_head : (next : ℕ) (file : List ℕ) (cell : Cell) (head : CellHead) → StandsCell next file cell → head.at ≡ next → HeadBytes (take 36 (drop next file)) (head_of_cell head)
+    → head ≡ cell_head cell
 read_head next file cell head stands at is =
     let with : ℕ → Head → CellHead = λ k h. record { at = k; version = h.version; pair = h.pair; cookie = h.cookie; size = h.size; deleted = h.deleted } in
     ap (λ k. with k (head_of_cell head)) (at ∙ sym stands.is.place)
@@ -196,7 +202,8 @@ has_room next end n room most file current head h heads fits all left short =
     let room_is = h.fits in
     omega arith
 
-pub peeked_of : (at end room most : ℕ) (head : CellHead) → head.size ≤ 16777216 → most ≡ min (end + 8) 18446744073709551615 → room ≡ most - at → needle_total head.size + 8 ≤ room → HasPeeked end at head
+pub peeked_of : (at end room most : ℕ) (head : CellHead) → head.size ≤ 16777216 → most ≡ min (end + 8) 18446744073709551615 → room ≡ most - at → needle_total head.size + 8 ≤ room
+    → HasPeeked end at head
 peeked_of at end room most head small all left enough = record { small = small; within = omega arith; inside = omega arith }
 
 -- NEEDLES, WHATEVER ELSE THE FILE HAS
@@ -220,7 +227,8 @@ pub no_needle : (at end : ℕ) (file : List ℕ) → ((head : Head) → HeadByte
 no_needle at end file none n begins within = none (head_of_needle n) (head_first (drop at file) n begins)
 
 -- a head whose needle goes behind the end
-pub long_needle : (at end room more : ℕ) (file : List ℕ) (head : CellHead) → HeadStands at head file → end + 8 < 2 ^ 64 → more ≡ min (end + 8) 18446744073709551615 → room ≡ more - at → room < needle_total head.size + 8
+pub long_needle : (at end room more : ℕ) (file : List ℕ) (head : CellHead) → HeadStands at head file → end + 8 < 2 ^ 64 → more ≡ min (end + 8) 18446744073709551615
+    → room ≡ more - at → room < needle_total head.size + 8
     → LacksNeedleWithin end at file
 long_needle at end room more file head stands fits added left short n begins within =
     let size : needle_total head.size ≡ needle_total (length n.photo.bytes) = ap (λ (h : CellHead). needle_total h.size) (needle_head at file head n stands begins) in

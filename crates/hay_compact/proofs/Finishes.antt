@@ -29,12 +29,15 @@ all_free file [] free = tt
 all_free file (cell ∷ cells) free = (free (cell.at + 28), all_free file cells free)
 
 -- once the new volume file is on the disk, its needles can be sealed
-pub ready_to_seal : (sup : Super) (files middle later : Files) (s : Stage) (fresh : List Cell) (file : ℕ) → Making sup files s fresh → file ≡ s.volume.file → middle file ≡ files file → Keeps (middle file) (later file) → IsSolid (later file)
+pub ready_to_seal : (sup : Super) (files middle later : Files) (s : Stage) (fresh : List Cell) (file : ℕ) → Making sup files s fresh → file ≡ s.volume.file
+    → middle file ≡ files file → Keeps (middle file) (later file) → IsSolid (later file)
     → CanSeal sup (later file) s.standing (stored_of s fresh)
 ready_to_seal sup files middle later s fresh file h same stays keeps solid =
-    let was : IsVolume (super_bytes (volume_super sup s.generation)) (files file).now fresh s.volume.end = subst (λ k. IsVolume (super_bytes (volume_super sup s.generation)) (files k).now fresh s.volume.end) (sym same) h.volume_is in
+    let was : IsVolume (super_bytes (volume_super sup s.generation)) (files file).now fresh s.volume.end =
+    subst (λ k. IsVolume (super_bytes (volume_super sup s.generation)) (files k).now fresh s.volume.end) (sym same) h.volume_is in
     let now : (later file).now ≡ (files file).now = keeps.now ∙ ap (λ (f : FileState). f.now) stays in
-    let is : IsVolume (super_bytes (volume_super sup s.generation)) (later file).now fresh s.volume.end = subst (λ (l : List ℕ). IsVolume (super_bytes (volume_super sup s.generation)) l fresh s.volume.end) (sym now) was in
+    let is : IsVolume (super_bytes (volume_super sup s.generation)) (later file).now fresh s.volume.end =
+    subst (λ (l : List ℕ). IsVolume (super_bytes (volume_super sup s.generation)) l fresh s.volume.end) (sym now) was in
     let free : IsFree (later file) = (λ k. keeps.free k (ap (λ (f : FileState). f.sealed k) stays ∙ subst (λ j. (files j).sealed k ≡ false) (sym same) (h.volume_free k))) in
     record {
       rests = record {
@@ -47,7 +50,8 @@ ready_to_seal sup files middle later s fresh file h same stays keeps solid =
     }
 
 -- whatever cells are read there, each is of version 2
-pub all_anew : (superblock other file : List ℕ) (cells fresh : List Cell) (end last : ℕ) → IsVolume superblock file cells end → IsVolume other file fresh last → AreOfVersionTwo fresh → AreOfVersionTwo cells
+pub all_anew : (superblock other file : List ℕ) (cells fresh : List Cell) (end last : ℕ) → IsVolume superblock file cells end → IsVolume other file fresh last
+    → AreOfVersionTwo fresh → AreOfVersionTwo cells
 all_anew superblock other file cells fresh end last is own anew =
     subst AreOfVersionTwo (sym (one_reading 64 end last file cells fresh is.has is.closed own.has own.closed).0) anew
 
@@ -59,7 +63,8 @@ pub finished_of : {P : Type 0} (Tells : Type 0) (sup : Super) (f0 f1 f2 f4 : Fil
     → Making sup f0 s fresh → s.index.frozen ≡ false
     → finished.volume ≡ record { file = s.volume.file; end = s.volume.end; capacity = s.capacity }
     → finished.index ≡ record s.index { end = finished.index.end; pending = [] }
-    → ((superblock : List ℕ) (records : List Record) → IsIndex superblock (f0 s.index.file).now records s.index.end → AreInRow 64 (records ++ s.index.pending) → IsIndex superblock (f1 s.index.file).now (records ++ s.index.pending) finished.index.end)
+    → ((superblock : List ℕ) (records : List Record) → IsIndex superblock (f0 s.index.file).now records s.index.end → AreInRow 64 (records ++ s.index.pending)
+    → IsIndex superblock (f1 s.index.file).now (records ++ s.index.pending) finished.index.end)
     → ((k : ℕ) → (f0 s.index.file).sealed k ≡ false → (f1 s.index.file).sealed k ≡ false)
     → Keeps (f1 finished.index.file) (f2 finished.index.file) → IsSolid (f2 finished.index.file) → f4 s.index.file ≡ f2 s.index.file
     → VolumeRests sup (f4 s.volume.file) (stored_of s fresh) → AreThePlaces Tells fresh finished.places.items
@@ -94,7 +99,9 @@ finished_of {P = P} Tells sup f0 f1 f2 f4 s fresh finished h thawed volume index
         (added sb [] h.index_is (subst (λ (l : List Record). AreInRow 64 l) (sym h.noted) (records_row 64 s.volume.end (f0 s.volume.file).now fresh h.volume_is.has)))
 
     has : IsIndex sb (f2 finished.index.file).now (map cell_record fresh) finished.index.end
-    has = subst (λ (l : List ℕ). IsIndex sb l (map cell_record fresh) finished.index.end) (sym keeps.now) (subst (λ k. IsIndex sb (f1 k).now (map cell_record fresh) finished.index.end) (sym file) flushed)
+    has =
+        subst (λ (l : List ℕ). IsIndex sb l (map cell_record fresh) finished.index.end) (sym keeps.now)
+        (subst (λ k. IsIndex sb (f1 k).now (map cell_record fresh) finished.index.end) (sym file) flushed)
 
     whole : recorded (stored_of s fresh) ≡ map cell_record fresh
     whole = take_all (length fresh) (map cell_record fresh) (omega (arith, length-map fresh cell_record))

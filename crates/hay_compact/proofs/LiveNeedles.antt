@@ -9,7 +9,8 @@ by_test true x xs ys = refl
 by_test false x xs ys = refl
 
 -- one needle more
-more_among : (n : ℕ) (needles : List Needle) (needle : Needle) (behind : List Needle) → drop n needles ≡ needle ∷ behind → live_among (suc n) needles ≡ live_among n needles ++ cond (is_live needle behind) (needle ∷ []) []
+more_among : (n : ℕ) (needles : List Needle) (needle : Needle) (behind : List Needle) → drop n needles ≡ needle ∷ behind
+    → live_among (suc n) needles ≡ live_among n needles ++ cond (is_live needle behind) (needle ∷ []) []
 more_among zero [] needle behind is = absurd cc
 more_among (suc n) [] needle behind is = absurd cc
 more_among zero (x ∷ needles) needle behind is =
@@ -20,7 +21,8 @@ more_among (suc n) (x ∷ needles) needle behind is =
     ap (λ (l : List Needle). cond (is_live x needles) (x ∷ l) l) (more_among n needles needle behind is)
     ∙ by_test (is_live x needles) x (live_among n needles) (cond (is_live needle behind) (needle ∷ []) [])
 
-pub next_among : (n : ℕ) (needles : List Needle) (needle : Needle) (behind : List Needle) → drop n needles ≡ needle ∷ behind → live_among (n + 1) needles ≡ live_among n needles ++ cond (is_live needle behind) (needle ∷ []) []
+pub next_among : (n : ℕ) (needles : List Needle) (needle : Needle) (behind : List Needle) → drop n needles ≡ needle ∷ behind
+    → live_among (n + 1) needles ≡ live_among n needles ++ cond (is_live needle behind) (needle ∷ []) []
 next_among n needles needle behind is = ap (λ k. live_among k needles) (let e : n + 1 ≡ suc n = omega arith in e) ∙ more_among n needles needle behind is
 
 -- all of them

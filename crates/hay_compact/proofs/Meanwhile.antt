@@ -23,7 +23,8 @@ use Rattle.hay_compact.specs.Copying.{Copies, Copying, Stage, cell_total, end_of
 use Rattle.hay_compact.proofs.CellLists.{flag_lacks, lacks_none, lacks_parts, none_lacks}
 
 -- The current file changed, and the new ones did not. The cells that were examined take up as much as before.
-pub copying_current : (sup : Super) (files later : Files) (old next : VolumeFile) (s : Stage) (current changed fresh : List Cell) (n : ℕ) (superblock : List ℕ) → Copying sup files old s current fresh n
+pub copying_current : (sup : Super) (files later : Files) (old next : VolumeFile) (s : Stage) (current changed fresh : List Cell) (n : ℕ) (superblock : List ℕ)
+    → Copying sup files old s current fresh n
     → later s.volume.file ≡ files s.volume.file → later s.index.file ≡ files s.index.file → next.file ≡ old.file
     → IsVolume superblock (later next.file).now changed next.end → n ≤ length changed → end_of (take n changed) ≡ end_of (take n current)
     → ((pair : Pair) → lacks pair (needles_of changed) ≡ true → lacks pair (needles_of current) ≡ true) → Copying sup later next s changed fresh n
@@ -48,12 +49,14 @@ copying_current sup files later old next s current changed fresh n superblock h 
 }
 
 -- a photo was put
-pub copying_put : (sup : Super) (files later : Files) (old next : VolumeFile) (s : Stage) (current fresh : List Cell) (cell : Cell) (n : ℕ) (superblock : List ℕ) → Copying sup files old s current fresh n
+pub copying_put : (sup : Super) (files later : Files) (old next : VolumeFile) (s : Stage) (current fresh : List Cell) (cell : Cell) (n : ℕ) (superblock : List ℕ)
+    → Copying sup files old s current fresh n
     → later s.volume.file ≡ files s.volume.file → later s.index.file ≡ files s.index.file → next.file ≡ old.file
     → IsVolume superblock (later next.file).now (current ++ cell ∷ []) next.end → Copying sup later next s (current ++ cell ∷ []) fresh n
 copying_put sup files later old next s current fresh cell n superblock h volume index file is =
     let within = h.within in
-    copying_current sup files later old next s current (current ++ cell ∷ []) fresh n superblock h volume index file is (omega (arith, length-append current (cell ∷ []))) (ap end_of (take-append-le n current (cell ∷ []) within)) (λ pair none. (lacks_parts pair current (cell ∷ []) none).0)
+    copying_current sup files later old next s current (current ++ cell ∷ []) fresh n superblock h volume index file is (omega (arith, length-append current (cell ∷ [])))
+    (ap end_of (take-append-le n current (cell ∷ []) within)) (λ pair none. (lacks_parts pair current (cell ∷ []) none).0)
 
 pub copies_put : (fresh current : List Cell) (cell : Cell) (n : ℕ) → n ≤ length current → cell.deleted ≡ false → Copies fresh current n → Copies fresh (current ++ cell ∷ []) n
 copies_put fresh current cell n within alive h = λ pair.
@@ -66,26 +69,31 @@ flag_totals zero at deleted cells = refl
 flag_totals (suc n) at deleted [] = refl
 flag_totals (suc n) at deleted (cell ∷ cells) =
     elim (eqb cell.at at) as (λ b. sum_by cell_total (cond b (record cell { deleted = deleted }) cell ∷ take n (with_flag at deleted cells)) ≡ sum_by cell_total (cell ∷ take n cells)) [
-      | true ↦ sum_by-cons cell_total (record cell { deleted = deleted }) (take n (with_flag at deleted cells)) ∙ ap (λ k. cell_total cell + k) (flag_totals n at deleted cells) ∙ sym (sum_by-cons cell_total cell (take n cells))
+      | true ↦ sum_by-cons cell_total (record cell { deleted = deleted }) (take n (with_flag at deleted cells)) ∙ ap (λ k. cell_total cell + k) (flag_totals n at deleted cells)
+          ∙ sym (sum_by-cons cell_total cell (take n cells))
       | false ↦ sum_by-cons cell_total cell (take n (with_flag at deleted cells)) ∙ ap (λ k. cell_total cell + k) (flag_totals n at deleted cells) ∙ sym (sum_by-cons cell_total cell (take n cells))
     ]
 
 -- a photo was deleted in the current file
-pub copying_delete : (sup : Super) (files later : Files) (old : VolumeFile) (s : Stage) (current fresh : List Cell) (n at : ℕ) (deleted : Bool) (superblock : List ℕ) → Copying sup files old s current fresh n
+pub copying_delete : (sup : Super) (files later : Files) (old : VolumeFile) (s : Stage) (current fresh : List Cell) (n at : ℕ) (deleted : Bool) (superblock : List ℕ)
+    → Copying sup files old s current fresh n
     → later s.volume.file ≡ files s.volume.file → later s.index.file ≡ files s.index.file
     → IsVolume superblock (later old.file).now (with_flag at deleted current) old.end → Copying sup later old s (with_flag at deleted current) fresh n
 copying_delete sup files later old s current fresh n at deleted superblock h volume index is =
     let within = h.within in
     let long : length (with_flag at deleted current) ≡ length current = length-map current (λ (cell : Cell). cond (eqb cell.at at) (record cell { deleted = deleted }) cell) in
-    copying_current sup files later old old s current (with_flag at deleted current) fresh n superblock h volume index refl is (omega arith) (ap (λ k. 64 + k) (flag_totals n at deleted current)) (λ pair none. sym (flag_lacks pair at deleted current) ∙ none)
+    copying_current sup files later old old s current (with_flag at deleted current) fresh n superblock h volume index refl is (omega arith)
+    (ap (λ k. 64 + k) (flag_totals n at deleted current)) (λ pair none. sym (flag_lacks pair at deleted current) ∙ none)
 
 -- then what holds of each other pair holds of it still
-pub copies_deleted : (fresh current flagged : List Cell) (n : ℕ) (pair other : Pair) → needles_of flagged ≡ flag_last pair (needles_of current) → pair_eq pair other ≡ false → CopiesAt other (needles_of fresh) (needles_of current) n → CopiesAt other (needles_of fresh) (needles_of flagged) n
+pub copies_deleted : (fresh current flagged : List Cell) (n : ℕ) (pair other : Pair) → needles_of flagged ≡ flag_last pair (needles_of current) → pair_eq pair other ≡ false
+    → CopiesAt other (needles_of fresh) (needles_of current) n → CopiesAt other (needles_of fresh) (needles_of flagged) n
 copies_deleted fresh current flagged n pair other is apart h =
     subst (λ (l : List Needle). CopiesAt other (needles_of fresh) l n) (sym is) (copies_flag_other other pair (needles_of fresh) (needles_of current) n apart h)
 
 -- and of every pair once the delete is repeated
-pub copies_repeated : (fresh current flagged repeated : List Cell) (n : ℕ) (pair : Pair) → needles_of flagged ≡ flag_last pair (needles_of current) → needles_of repeated ≡ flag_last pair (needles_of fresh)
+pub copies_repeated : (fresh current flagged repeated : List Cell) (n : ℕ) (pair : Pair) → needles_of flagged ≡ flag_last pair (needles_of current)
+    → needles_of repeated ≡ flag_last pair (needles_of fresh)
     → ((other : Pair) → pair_eq pair other ≡ false → CopiesAt other (needles_of fresh) (needles_of flagged) n) → Copies repeated flagged n
 copies_repeated fresh current flagged repeated n pair is again h = λ other.
     subst (λ (l : List Needle). CopiesAt other l (needles_of flagged) n) (sym again)
@@ -100,12 +108,14 @@ copies_repeated fresh current flagged repeated n pair is again h = λ other.
 -- once all is examined the new file has the current one's table
 pub copies_table : (fresh current : List Cell) (n : ℕ) → length current ≤ n → Copies fresh current n → table_of (needles_of fresh) ≡ table_of (needles_of current)
 copies_table fresh current n all h =
-    table_of-same (needles_of fresh) (needles_of current) (λ pair. copies_done pair (needles_of fresh) (needles_of current) n (drop_all n (needles_of current) (omega (arith, length-map current needle_of_cell))) (h pair))
+    table_of-same (needles_of fresh) (needles_of current) (λ pair. copies_done pair (needles_of fresh) (needles_of current) n
+    (drop_all n (needles_of current) (omega (arith, length-map current needle_of_cell))) (h pair))
 
 -- at the beginning
 pub copies_none : (current : List Cell) → Copies [] current 0
 copies_none current = λ pair. copies_begin pair (needles_of current)
 
 -- a pair that has no cell in the current file has none in the new one
-pub known_cells : (sup : Super) (files : Files) (old : VolumeFile) (s : Stage) (current fresh : List Cell) (n : ℕ) (pair : Pair) → Copying sup files old s current fresh n → last_cell current pair ≡ None → last_cell fresh pair ≡ None
+pub known_cells : (sup : Super) (files : Files) (old : VolumeFile) (s : Stage) (current fresh : List Cell) (n : ℕ) (pair : Pair) → Copying sup files old s current fresh n
+    → last_cell current pair ≡ None → last_cell fresh pair ≡ None
 known_cells sup files old s current fresh n pair h none = none_lacks fresh pair (h.known pair (lacks_none current pair none))

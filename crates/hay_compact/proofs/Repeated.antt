@@ -45,7 +45,8 @@ photo_some (Some cell) at is =
     ]
 
 -- where the pair has no cell a flag changes nothing
-pub repeats_nothing : (sup : Super) (files : Files) (old : VolumeFile) (s : Stage) (current fresh : List Cell) (n : ℕ) (pair : Pair) → Copying sup files old s current fresh n → last_in s.standing pair ≡ None → Repeats sup files old s current fresh n pair
+pub repeats_nothing : (sup : Super) (files : Files) (old : VolumeFile) (s : Stage) (current fresh : List Cell) (n : ℕ) (pair : Pair) → Copying sup files old s current fresh n
+    → last_in s.standing pair ≡ None → Repeats sup files old s current fresh n pair
 repeats_nothing sup files old s current fresh n pair h none = record {
   flagged = fresh;
   copying = h;
@@ -60,7 +61,8 @@ flag_stands sup files s fresh last pair h is =
     let stands = last_stands 64 s.volume.end (files s.volume.file).now fresh pair cell.0 h.volume_is.has cell.1 in
     (needle_of_cell cell.0, subst (λ k. BeginsWithNeedle (drop k (files s.volume.file).now) (needle_of_cell cell.0)) cell.2 (cell_begins cell.0.at (files s.volume.file).now cell.0 stands.0))
 
-pub making_flag_stands : (files : Files) (s : Stage) (last : LastCell) (pair : Pair) → IsMaking files s → last_in s.standing pair ≡ Some last → (needle : Needle) × BeginsWithNeedle (drop last.at (files s.volume.file).now) needle
+pub making_flag_stands : (files : Files) (s : Stage) (last : LastCell) (pair : Pair) → IsMaking files s → last_in s.standing pair ≡ Some last
+    → (needle : Needle) × BeginsWithNeedle (drop last.at (files s.volume.file).now) needle
 making_flag_stands files s last pair h is = flag_stands h.sup files s h.fresh last pair h.making is
 
 -- a flag leaves each version
@@ -75,8 +77,10 @@ flagged_anew at deleted cells are =
     All-map IsAnew flag cells (All-weaker IsAnew (λ (cell : Cell). IsAnew (flag cell)) (λ (cell : Cell) is. version_stays (eqb cell.at at) deleted cell ∙ is) cells are)
 
 -- what the flag makes of the new files
-pub flag_makes : (sup : Super) (files later : Files) (s : Stage) (standing : LastCells) (fresh : List Cell) (last : LastCell) (pair : Pair) → Making sup files s fresh → last_in s.standing pair ≡ Some last
-    → ((superblock : List ℕ) (cells : List Cell) (end : ℕ) → IsVolume superblock (files s.volume.file).now cells end → HasPlace last.at cells → IsVolume superblock (later s.volume.file).now (with_flag last.at true cells) end)
+pub flag_makes : (sup : Super) (files later : Files) (s : Stage) (standing : LastCells) (fresh : List Cell) (last : LastCell) (pair : Pair) → Making sup files s fresh
+    → last_in s.standing pair ≡ Some last
+    → ((superblock : List ℕ) (cells : List Cell) (end : ℕ) → IsVolume superblock (files s.volume.file).now cells end → HasPlace last.at cells
+    → IsVolume superblock (later s.volume.file).now (with_flag last.at true cells) end)
     → ((k : ℕ) → (files s.volume.file).sealed k ≡ false → (later s.volume.file).sealed k ≡ false) → KeepsOthers s.volume.file files later
     → ((other : Pair) → last_in standing other ≡ cond (pair_eq pair other) (Some (record last { deleted = true })) (last_in s.standing other))
     → Making sup later (record s { standing = standing }) (with_flag last.at true fresh)
@@ -110,7 +114,8 @@ flag_makes sup files later s standing fresh last pair h is flagged free others s
     index_stays : later s.index.file ≡ files s.index.file
     index_stays = others s.index.file (λ same. let a = h.names_volume in let b = h.names_index in absurd (omega arith))
 
-pub repeats_flag : (sup : Super) (files later : Files) (old : VolumeFile) (s : Stage) (standing : LastCells) (current fresh : List Cell) (n : ℕ) (last : LastCell) (pair : Pair) → Copying sup files old s current fresh n → last_in s.standing pair ≡ Some last
+pub repeats_flag : (sup : Super) (files later : Files) (old : VolumeFile) (s : Stage) (standing : LastCells) (current fresh : List Cell) (n : ℕ) (last : LastCell) (pair : Pair)
+    → Copying sup files old s current fresh n → last_in s.standing pair ≡ Some last
     → KeepsOthers s.volume.file files later → Making sup later (record s { standing = standing }) (with_flag last.at true fresh)
     → Repeats sup later old (record s { standing = standing }) current fresh n pair
 repeats_flag sup files later old s standing current fresh n last pair h is others made = record {

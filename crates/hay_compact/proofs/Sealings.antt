@@ -1,5 +1,6 @@
 -- Needles of the new file are sealed.
-use Rattle.std.proofs.Common.{◌≡◌, ◌≢◌, ◌⊎◌, inl, inr, ◌≤◌, ◌<◌, ◌+◌, ℕ, Bool, true, false, not, ◌&&◌, cond, List, [], ◌∷◌, ◌++◌, length, get_or, take, drop, take-append-drop, Option, Some, None, refl, sym, ap, ◌∙◌, subst, arith, append_assoc}
+use Rattle.std.proofs.Common.{◌≡◌, ◌≢◌, ◌⊎◌, inl, inr, ◌≤◌, ◌<◌, ◌+◌, ℕ, Bool, true, false, not, ◌&&◌, cond, List, [], ◌∷◌, ◌++◌, length, get_or, take, drop, take-append-drop}
+use Rattle.std.proofs.Common.{Option, Some, None, refl, sym, ap, ◌∙◌, subst, arith, append_assoc}
 use Rattle.std.specs.Prelude.{sum_by, map}
 use Rattle.std.proofs.lemmas.Bool.{cases_Bool, cond-true, cond-false, true≢false}
 use Rattle.std.proofs.lemmas.List.{length-map, drop-map, drop-drop, drop_all, drop_more}
@@ -59,7 +60,8 @@ pub due_of : (sup : Super) (file : FileState) (s : Stored) (row : Record) (rest 
 due_of sup file s row rest rests d = due file.now s.end d.front d.behind d.cell (subst (λ (l : List Cell). HasCells 64 file.now l s.end) d.cells rests.is.has)
 
 -- the part that is sealed lies in the file
-pub due_inside : (sup : Super) (file : FileState) (s : Stored) (row : Record) (rest : List Cell) (total : ℕ) → VolumeRests sup file s → IsDue s row rest → total ≡ needle_total row.size → row.at + total ≤ s.end
+pub due_inside : (sup : Super) (file : FileState) (s : Stored) (row : Record) (rest : List Cell) (total : ℕ) → VolumeRests sup file s → IsDue s row rest
+    → total ≡ needle_total row.size → row.at + total ≤ s.end
 due_inside sup file s row rest total rests d is =
     let there = due_of sup file s row rest rests d in
     let at : row.at ≡ d.cell.at = ap (λ (r : Record). r.at) d.is in
@@ -68,7 +70,8 @@ due_inside sup file s row rest total rests d is =
 -- FLAGS
 
 -- pieces before cells leave their flags
-flags_behind : (at end place n hole : ℕ) (file : List ℕ) (cells : List Cell) (a b : FileState) → HasCells at file cells end → place + n ≤ at → Seals place n hole a b → FlagsFree a cells → FlagsFree b cells
+flags_behind : (at end place n hole : ℕ) (file : List ℕ) (cells : List Cell) (a b : FileState) → HasCells at file cells end → place + n ≤ at → Seals place n hole a b
+    → FlagsFree a cells → FlagsFree b cells
 flags_behind at end place n hole file [] a b has low seals free = tt
 flags_behind at end place n hole file (cell ∷ cells) a b has low seals free =
     let first = cells_first at end file cell cells has in
@@ -76,7 +79,8 @@ flags_behind at end place n hole file (cell ∷ cells) a b has low seals free =
     (seals.free (cell.at + 28) free.0 (inl (inr (omega arith))), flags_behind (at + cell_total cell) end place n hole file cells a b first.1 (omega arith) seals free.1)
 
 -- the hole of a cell's own piece is its flags
-flags_sealed : (at end : ℕ) (file : List ℕ) (front behind : List Cell) (cell : Cell) (a b : FileState) → HasCells at file (front ++ cell ∷ behind) end → Seals cell.at (cell_total cell) 28 a b → FlagsFree a (front ++ cell ∷ behind) → FlagsFree b (front ++ cell ∷ behind)
+flags_sealed : (at end : ℕ) (file : List ℕ) (front behind : List Cell) (cell : Cell) (a b : FileState) → HasCells at file (front ++ cell ∷ behind) end
+    → Seals cell.at (cell_total cell) 28 a b → FlagsFree a (front ++ cell ∷ behind) → FlagsFree b (front ++ cell ∷ behind)
 flags_sealed at end file [] behind cell a b has seals free =
     let first = cells_first at end file cell behind has in
     let here : cell.at ≡ at = first.0.is.place in
@@ -90,7 +94,8 @@ flags_sealed at end file (x ∷ front) behind cell a b has seals free =
 
 -- THE FILE AFTER A SEAL
 
-pub rests_sealed : (sup : Super) (a b : FileState) (s : Stored) (row : Record) (rest : List Cell) (total : ℕ) → VolumeRests sup a s → IsDue s row rest → total ≡ needle_total row.size → Seals row.at total 28 a b → VolumeRests sup b s
+pub rests_sealed : (sup : Super) (a b : FileState) (s : Stored) (row : Record) (rest : List Cell) (total : ℕ) → VolumeRests sup a s → IsDue s row rest
+    → total ≡ needle_total row.size → Seals row.at total 28 a b → VolumeRests sup b s
 rests_sealed sup a b s row rest total rests d is seals =
     let at : row.at ≡ d.cell.at = ap (λ (r : Record). r.at) d.is in
     let long : total ≡ cell_total d.cell = is ∙ ap (λ (r : Record). needle_total r.size) d.is in
@@ -114,7 +119,8 @@ none_or None = inl refl
 none_or (Some c) = inr (c, refl)
 
 -- a cell whose place is its pair's is the last one of the pair, and not deleted
-pub due_last : (sup : Super) (file : FileState) (standing : LastCells) (s : Stored) (row : Record) (rest : List Cell) → CanSeal sup file standing s → (d : IsDue s row rest) → place_in standing row.pair ≡ Some row.at → (last_cell s.cells d.cell.pair ≡ Some d.cell) × (d.cell.deleted ≡ false)
+pub due_last : (sup : Super) (file : FileState) (standing : LastCells) (s : Stored) (row : Record) (rest : List Cell) → CanSeal sup file standing s → (d : IsDue s row rest)
+    → place_in standing row.pair ≡ Some row.at → (last_cell s.cells d.cell.pair ≡ Some d.cell) × (d.cell.deleted ≡ false)
 due_last sup file standing s row rest can d is =
     let there = due_of sup file s row rest can.rests d in
     let pair : row.pair ≡ d.cell.pair = ap (λ (r : Record). r.pair) d.is in
@@ -124,7 +130,8 @@ due_last sup file standing s row rest can d is =
     let last = photo_some (last_cell s.cells d.cell.pair) d.cell.at found in
     elim (cases_Bool (lacks d.cell.pair (needles_of d.behind))) [
       | inl none ↦
-          let one : last_cell s.cells d.cell.pair ≡ Some d.cell = ap (λ (l : List Cell). last_cell l d.cell.pair) d.cells ∙ parts_last d.front d.behind d.cell d.cell.pair (pair_refl d.cell.pair) none in
+          let one : last_cell s.cells d.cell.pair ≡ Some d.cell =
+          ap (λ (l : List Cell). last_cell l d.cell.pair) d.cells ∙ parts_last d.front d.behind d.cell d.cell.pair (pair_refl d.cell.pair) none in
           let same : last.0 ≡ d.cell = (let both : Some last.0 ≡ Some d.cell = sym last.1 ∙ one in cc) in
           (one, sym (ap (λ (c : Cell). c.deleted) same) ∙ last.3)
       | inr has ↦
@@ -132,7 +139,8 @@ due_last sup file standing s row rest can d is =
             | inl absent ↦ absurd (true≢false (sym (lacks_none d.behind d.cell.pair absent) ∙ has))
             | inr later ↦
                 let whole : last_cell s.cells d.cell.pair ≡ Some later.0 =
-                ap (λ (l : List Cell). last_cell l d.cell.pair) (d.cells ∙ sym (append_assoc d.front (d.cell ∷ []) d.behind)) ∙ later_last (d.front ++ d.cell ∷ []) d.behind d.cell.pair later.0 later.1 in
+                ap (λ (l : List Cell). last_cell l d.cell.pair) (d.cells ∙ sym (append_assoc d.front (d.cell ∷ []) d.behind))
+                ∙ later_last (d.front ++ d.cell ∷ []) d.behind d.cell.pair later.0 later.1 in
                 let same : later.0 ≡ last.0 = (let both : Some later.0 ≡ Some last.0 = sym whole ∙ last.1 in cc) in
                 let at_later : later.0.at ≡ last.0.at = ap (λ (c : Cell). c.at) same in
                 let at_last : last.0.at ≡ d.cell.at = last.2 in
@@ -142,7 +150,8 @@ due_last sup file standing s row rest can d is =
     ]
 
 -- where it is not, the last one is deleted or comes later
-pub due_other : (sup : Super) (file : FileState) (standing : LastCells) (s : Stored) (row : Record) (rest : List Cell) (last : Cell) → CanSeal sup file standing s → (d : IsDue s row rest) → place_in standing row.pair ≢ Some row.at → last_cell s.cells d.cell.pair ≡ Some last
+pub due_other : (sup : Super) (file : FileState) (standing : LastCells) (s : Stored) (row : Record) (rest : List Cell) (last : Cell) → CanSeal sup file standing s
+    → (d : IsDue s row rest) → place_in standing row.pair ≢ Some row.at → last_cell s.cells d.cell.pair ≡ Some last
     → (last.deleted ≡ true) ⊎ (lacks d.cell.pair (needles_of d.behind) ≡ false)
 due_other sup file standing s row rest last can d other is =
     let pair : row.pair ≡ d.cell.pair = ap (λ (r : Record). r.pair) d.is in
@@ -153,10 +162,12 @@ due_other sup file standing s row rest last can d other is =
           elim (cases_Bool (lacks d.cell.pair (needles_of d.behind))) [
             | inr has ↦ inr has
             | inl none ↦
-                let one : last_cell s.cells d.cell.pair ≡ Some d.cell = ap (λ (l : List Cell). last_cell l d.cell.pair) d.cells ∙ parts_last d.front d.behind d.cell d.cell.pair (pair_refl d.cell.pair) none in
+                let one : last_cell s.cells d.cell.pair ≡ Some d.cell =
+                ap (λ (l : List Cell). last_cell l d.cell.pair) d.cells ∙ parts_last d.front d.behind d.cell d.cell.pair (pair_refl d.cell.pair) none in
                 let same : last ≡ d.cell = (let both : Some last ≡ Some d.cell = sym is ∙ one in cc) in
                 let found : place_in standing row.pair ≡ Some row.at =
-                ap (λ (p : Pair). place_in standing p) pair ∙ can.places d.cell.pair ∙ ap photo_place is ∙ cond-false last.deleted None (Some last.at) alive ∙ ap (λ (c : Cell). Some c.at) same ∙ ap (λ k. Some k) (sym at) in
+                ap (λ (p : Pair). place_in standing p) pair ∙ can.places d.cell.pair ∙ ap photo_place is ∙ cond-false last.deleted None (Some last.at) alive
+                ∙ ap (λ (c : Cell). Some c.at) same ∙ ap (λ k. Some k) (sym at) in
                 absurd (other found)
           ]
     ]
@@ -181,12 +192,14 @@ less_to_see Tells cell behind pair None (place.Live needle) later is = absurd is
 less_to_see Tells cell behind pair (Some l) (place.Unseen at size) later is = absurd is
 less_to_see Tells cell behind pair None (place.Unseen at size) later is = absurd is
 
-pub last_place-push : {P : Type 0} (places : List (OpenCell P)) (one : OpenCell P) (pair : Pair) (before : Place P) → last_place (places ++ one ∷ []) pair before ≡ cond (pair_eq one.pair pair) one.place (last_place places pair before)
+pub last_place-push : {P : Type 0} (places : List (OpenCell P)) (one : OpenCell P) (pair : Pair) (before : Place P)
+    → last_place (places ++ one ∷ []) pair before ≡ cond (pair_eq one.pair pair) one.place (last_place places pair before)
 last_place-push [] one pair before = refl
 last_place-push (x ∷ places) one pair before = last_place-push places one pair (cond (pair_eq x.pair pair) x.place before)
 
 -- nothing is sealed
-pub places_pass : {P : Type 0} (Tells : Type 0) (sup : Super) (file : FileState) (standing : LastCells) (s : Stored) (row : Record) (rest : List Cell) (places : List (OpenCell P)) → CanSeal sup file standing s → IsDue s row rest → place_in standing row.pair ≢ Some row.at
+pub places_pass : {P : Type 0} (Tells : Type 0) (sup : Super) (file : FileState) (standing : LastCells) (s : Stored) (row : Record) (rest : List Cell) (places : List (OpenCell P))
+    → CanSeal sup file standing s → IsDue s row rest → place_in standing row.pair ≢ Some row.at
     → ArePlacesSoFar Tells s.cells rest places → ArePlacesSoFar Tells s.cells (drop 1 rest) places
 places_pass Tells sup file standing s row rest places can d other so_far = λ pair.
     let last = last_cell s.cells pair in
@@ -200,20 +213,29 @@ places_pass Tells sup file standing s row rest places can d other so_far = λ pa
     (subst (λ (l : List Cell). PlaceSoFar Tells l pair last seen) d.now (so_far pair)))
 
 -- the needle that was sealed
-sealed_cell : (Tells : Type 0) (file : FileState) (end : ℕ) (cell : Cell) (behind : List Cell) (needle : SealedNeedle) (total : ℕ) → Tells → Due file.now end cell behind → cell.deleted ≡ false → needle.at ≡ cell.at → needle.size ≡ length cell.bytes
+sealed_cell : (Tells : Type 0) (file : FileState) (end : ℕ) (cell : Cell) (behind : List Cell) (needle : SealedNeedle) (total : ℕ) → Tells → Due file.now end cell behind
+    → cell.deleted ≡ false → needle.at ≡ cell.at → needle.size ≡ length cell.bytes
     → total ≡ cell_total cell → needle.bytes ≡ take total (drop cell.at file.now) → IsSealedCell Tells cell needle
 sealed_cell Tells file end cell behind needle total tells there alive at size long bytes =
     let live : Needle = record { version = cell.version; pair = cell.pair; photo = record { cookie = cell.cookie; bytes = cell.bytes }; deleted = false } in
-    let same : needle_of_cell cell ≡ live = (let with : Bool → Needle = λ b. record { version = cell.version; pair = cell.pair; photo = record { cookie = cell.cookie; bytes = cell.bytes }; deleted = b } in ap with alive) in
+    let same : needle_of_cell cell ≡ live =
+    (let with : Bool → Needle = λ b. record { version = cell.version; pair = cell.pair; photo = record { cookie = cell.cookie; bytes = cell.bytes }; deleted = b } in ap with alive) in
     let all : needle.bytes ≡ there.stands.needle =
     bytes ∙ ap (λ n. take n (drop cell.at file.now)) (long ∙ sym (length-needle there.stands.needle (needle_of_cell cell) there.stands.is.is)) ∙ there.stands.stand in
     record {
       alive = alive;
       at = at;
-      sealed = record { tells = tells; size = size; version = cell.version; is = subst (λ (n : Needle). NeedleBytes needle.bytes n) same (subst (λ (l : List ℕ). NeedleBytes l (needle_of_cell cell)) (sym all) there.stands.is.is) };
+      sealed = record {
+        tells = tells;
+        size = size;
+        version = cell.version;
+        is = subst (λ (n : Needle). NeedleBytes needle.bytes n) same
+            (subst (λ (l : List ℕ). NeedleBytes l (needle_of_cell cell)) (sym all) there.stands.is.is);
+      };
     }
 
-pub places_sealed : {P : Type 0} (Tells : Type 0) (sup : Super) (file : FileState) (standing : LastCells) (s : Stored) (row : Record) (rest : List Cell) (places later : List (OpenCell P)) (needle : SealedNeedle) (total : ℕ) → Tells → CanSeal sup file standing s → IsDue s row rest → place_in standing row.pair ≡ Some row.at
+pub places_sealed : {P : Type 0} (Tells : Type 0) (sup : Super) (file : FileState) (standing : LastCells) (s : Stored) (row : Record) (rest : List Cell)
+    (places later : List (OpenCell P)) (needle : SealedNeedle) (total : ℕ) → Tells → CanSeal sup file standing s → IsDue s row rest → place_in standing row.pair ≡ Some row.at
     → total ≡ needle_total row.size → needle.at ≡ row.at → needle.size ≡ row.size → needle.bytes ≡ take total (drop row.at file.now)
     → later ≡ places ++ record { pair = row.pair; place = place.Live needle } ∷ []
     → ArePlacesSoFar Tells s.cells rest places → ArePlacesSoFar Tells s.cells (drop 1 rest) later
@@ -226,7 +248,8 @@ places_sealed {P = P} Tells sup file standing s row rest places later needle tot
     let seen = last_place places pair place.Gone in
     let live : Place P = place.Live needle in
     let one : OpenCell P = record { pair = row.pair; place = live } in
-    let now : last_place later pair place.Gone ≡ cond (pair_eq row.pair pair) (place.Live needle) seen = ap (λ (l : List (OpenCell P)). last_place l pair place.Gone) grown ∙ last_place-push places one pair place.Gone in
+    let now : last_place later pair place.Gone ≡ cond (pair_eq row.pair pair) (place.Live needle) seen =
+    ap (λ (l : List (OpenCell P)). last_place l pair place.Gone) grown ∙ last_place-push places one pair place.Gone in
     subst (λ (l : List Cell). PlaceSoFar Tells l pair last (last_place later pair place.Gone)) (sym (ap (λ (l : List Cell). drop 1 l) d.now))
     (subst (λ (x : Place P). PlaceSoFar Tells d.behind pair last x) (sym now)
     (elim (cases_Bool (pair_eq row.pair pair)) [
@@ -316,7 +339,8 @@ rose_later before between after low (inr most) = inr most
 -- WHAT IS NOT LISTED
 
 -- a pair is listed or not
-listed_or : {P : Type 0} (places : List (OpenCell P)) (pair : Pair) → ((before : Place P) → last_place places pair before ≡ before) ⊎ ((x : Place P) × ((before : Place P) → last_place places pair before ≡ x))
+listed_or : {P : Type 0} (places : List (OpenCell P)) (pair : Pair) → ((before : Place P) → last_place places pair before ≡ before)
+    ⊎ ((x : Place P) × ((before : Place P) → last_place places pair before ≡ x))
 listed_or [] pair = inl (λ before. refl)
 listed_or (one ∷ places) pair =
     elim (listed_or places pair) [
@@ -328,7 +352,8 @@ listed_or (one ∷ places) pair =
     ]
 
 -- The place of a pair may stand for itself where the pair has no photo: then any place that says so will do.
-pub place_by_default : {P : Type 0} (Tells : Type 0) (last : Option Cell) (places : List (OpenCell P)) (pair : Pair) (before : Place P) → PlaceOf Tells last (last_place places pair place.Gone) → (photo_place last ≡ None → PlaceOf Tells last before) → PlaceOf Tells last (last_place places pair before)
+pub place_by_default : {P : Type 0} (Tells : Type 0) (last : Option Cell) (places : List (OpenCell P)) (pair : Pair) (before : Place P)
+    → PlaceOf Tells last (last_place places pair place.Gone) → (photo_place last ≡ None → PlaceOf Tells last before) → PlaceOf Tells last (last_place places pair before)
 place_by_default {P = P} Tells last places pair before is otherwise =
     elim (listed_or places pair) [
       | inr listed ↦ subst (λ (x : Place P). PlaceOf Tells last x) (listed.1 place.Gone ∙ sym (listed.1 before)) is
@@ -340,7 +365,8 @@ place_by_default {P = P} Tells last places pair before is otherwise =
     none_if_gone (Some cell) is = cond-true cell.deleted None (Some cell.at) is
 
 -- Where the rows had this place for the pair before, and the pair has no cell here that it had not there.
-pub place_after_swap : {P : Type 0} (Tells : Type 0) (was last : Option Cell) (places : List (OpenCell P)) (pair : Pair) (before : Place P) → PlaceOf Tells last (last_place places pair place.Gone) → PlaceOf Tells was before → (was ≡ None → last ≡ None) → PlaceOf Tells last (last_place places pair (gone_place before))
+pub place_after_swap : {P : Type 0} (Tells : Type 0) (was last : Option Cell) (places : List (OpenCell P)) (pair : Pair) (before : Place P)
+    → PlaceOf Tells last (last_place places pair place.Gone) → PlaceOf Tells was before → (was ≡ None → last ≡ None) → PlaceOf Tells last (last_place places pair (gone_place before))
 place_after_swap {P = P} Tells was last places pair before is seen known =
     place_by_default Tells last places pair (gone_place before) is (λ none. stands last before none (λ void. known (no_cell was before seen void)))
   where

@@ -30,7 +30,8 @@ vacant was now true is none = ap (λ (o : Option (Option LastCell)). unwrap_or o
 vacant was now false is none = ap (λ (o : Option (Option LastCell)). unwrap_or o None) is
 
 -- a pair that had no entry gets one without a cell
-pub room_made : (old m n : List (Pair × Option LastCell)) (pair other : Pair) → old ≡ m → is_some (lookup (is_at (pair_cmp pair)) m) ≡ false → lookup (is_at (pair_cmp other)) n ≡ cond (is_eq (pair_cmp pair other)) (Some None) (lookup (is_at (pair_cmp other)) m)
+pub room_made : (old m n : List (Pair × Option LastCell)) (pair other : Pair) → old ≡ m → is_some (lookup (is_at (pair_cmp pair)) m) ≡ false
+    → lookup (is_at (pair_cmp other)) n ≡ cond (is_eq (pair_cmp pair other)) (Some None) (lookup (is_at (pair_cmp other)) m)
     → unwrap_or (lookup (is_at (pair_cmp other)) n) None ≡ unwrap_or (lookup (is_at (pair_cmp other)) old) None
 room_made old m n pair other same absent is =
     vacant (lookup (is_at (pair_cmp other)) m) (lookup (is_at (pair_cmp other)) n) (is_eq (pair_cmp pair other)) is
@@ -38,7 +39,8 @@ room_made old m n pair other same absent is =
     ∙ ap (λ (l : List (Pair × Option LastCell)). unwrap_or (lookup (is_at (pair_cmp other)) l) None) (sym same)
 
 -- what is kept after a last cell was set
-pub last_set : (old m n : List (Pair × Option LastCell)) (pair other : Pair) (last : Option LastCell) → old ≡ m → lookup (is_at (pair_cmp other)) n ≡ cond (is_eq (pair_cmp pair other)) (Some last) (lookup (is_at (pair_cmp other)) m)
+pub last_set : (old m n : List (Pair × Option LastCell)) (pair other : Pair) (last : Option LastCell) → old ≡ m
+    → lookup (is_at (pair_cmp other)) n ≡ cond (is_eq (pair_cmp pair other)) (Some last) (lookup (is_at (pair_cmp other)) m)
     → unwrap_or (lookup (is_at (pair_cmp other)) n) None ≡ cond (pair_eq pair other) last (unwrap_or (lookup (is_at (pair_cmp other)) old) None)
 last_set old m n pair other last same is =
     ap (λ (o : Option (Option LastCell)). unwrap_or o None) is

@@ -1,5 +1,6 @@
 -- What a compaction has made so far of a current volume file.
-use Rattle.std.specs.Prelude.{◌≡◌, ◌⊎◌, ◌≢◌, ◌≤◌, ◌<◌, ◌+◌, ◌^◌, ℕ, zero, suc, Bool, true, false, All, List, [], ◌∷◌, ◌++◌, length, map, take, drop, sum_by, Option, Some, None, option_map, if◌then◌else◌}
+use Rattle.std.specs.Prelude.{◌≡◌, ◌⊎◌, ◌≢◌, ◌≤◌, ◌<◌, ◌+◌, ◌^◌, ℕ, zero, suc, Bool, true, false, All, List, [], ◌∷◌, ◌++◌, length, map, take, drop, sum_by, Option, Some, None}
+use Rattle.std.specs.Prelude.{option_map, if◌then◌else◌}
 use Rattle.hay_needle.specs.declared.needle.Cell.{Cell}
 use Rattle.hay_needle.specs.declared.needle.CellHead.{CellHead}
 use Rattle.hay_needle.specs.declared.needle.Needle.{Needle}
@@ -191,7 +192,8 @@ pub record MovesOn (sup : Super) (files : Files) (old : VolumeFile) (stage : Sta
   pub copying : Copying sup files old stage current (with_copy fresh at cell copied) (examined + 1)
   pub live : copied ≡ is_live (needle_of_cell cell) (needles_of (drop (examined + 1) current))
   pub table : (pair : Pair) → CopiesAt pair (needles_of fresh) (needles_of current) examined → CopiesAt pair (needles_of (with_copy fresh at cell copied)) (needles_of current) (examined + 1)
-  pub exact : needles_of fresh ≡ map renewed_needle (live_among examined (needles_of current)) → needles_of (with_copy fresh at cell copied) ≡ map renewed_needle (live_among (examined + 1) (needles_of current))
+  pub exact : needles_of fresh ≡ map renewed_needle (live_among examined (needles_of current))
+      → needles_of (with_copy fresh at cell copied) ≡ map renewed_needle (live_among (examined + 1) (needles_of current))
 
 -- a delete was repeated: the last cell of the pair is deleted
 pub record Repeats (sup : Super) (files : Files) (old : VolumeFile) (stage : Stage) (current fresh : List Cell) (examined : ℕ) (pair : Pair) : Type 0 where

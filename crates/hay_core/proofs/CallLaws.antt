@@ -1,5 +1,6 @@
 -- What a device call and a read, made or failed, keep of a volume.
-use Rattle.std.proofs.Common.{◌≡◌, ℕ, zero, suc, ◌-◌, ◌≤◌, Bool, true, false, not, ◌&&◌, List, [], ◌∷◌, ◌++◌, length, take, drop, map, Option, Some, None, refl, sym, ap, ◌∙◌, length-append, subst, arith}
+use Rattle.std.proofs.Common.{◌≡◌, ℕ, zero, suc, ◌-◌, ◌≤◌, Bool, true, false, not, ◌&&◌, List, [], ◌∷◌, ◌++◌, length, take, drop, map, Option, Some, None, refl, sym, ap, ◌∙◌}
+use Rattle.std.proofs.Common.{length-append, subst, arith}
 use Rattle.std.specs.Prelude.{slice_get, nat_le, is_some}
 use Rattle.std.specs.List.{AllByRecursion}
 use Rattle.std.proofs.lemmas.List.{take-append-le, append-nil}
@@ -26,7 +27,8 @@ use Rattle.hay_core.specs.Sides
 use Rattle.hay_core.specs.Sides.{settle, made, broken, files_of, with_progress, next_progress, after_ok, after_failed, after_harm, no_copy}
 use Rattle.hay_core.specs.Calls.{call_of, call_from, call_at, copy_next}
 use Rattle.hay_core.specs.Steps
-use Rattle.hay_core.specs.Steps.{Stepped, allowed, change, change_in, change_of, at_first, put_first, first_call, first_of_two, device_ok, device_failed, read_failed, publish, end_hold, begin, look_up, stop, open_call, after_event, after_events}
+use Rattle.hay_core.specs.Steps.{Stepped, allowed, change, change_in, change_of, at_first, put_first, first_call, first_of_two, device_ok, device_failed, read_failed, publish}
+use Rattle.hay_core.specs.Steps.{end_hold, begin, look_up, stop, open_call, after_event, after_events}
 use Rattle.hay_core.specs.declared.machine.Reader.{Reader}
 use Rattle.hay_core.specs.declared.machine.Core.{Core}
 use Rattle.hay_core.proofs.HarmLaws.{SideHurt, hurt_of, good_of, hurt_again, side_hurt, not_deleting, harm_copy, on_copy, side_fits_failed, held_on, harm_sure, harm_settles, failed_grows}
@@ -78,7 +80,8 @@ rows_grow p log (s ∷ sides) (t ∷ others) (x ∷ row) g h =
     let P : List Row → Type 0 = λ base. Shows t x (look (rows_after log base) p) in
     (subst P (sym g.0.base) (g.0.shows x (look (rows_after log s.base) p) h.0), rows_grow p log sides others row g.1 h.1)
 
-pub seen_grow : (log more : List Logged) (sides others : List Side) (readers : List Reader) → AllGrow sides others → AllByRecursion (ReaderGood log sides) readers → AllByRecursion (ReaderGood (log ++ more) others) readers
+pub seen_grow : (log more : List Logged) (sides others : List Side) (readers : List Reader) → AllGrow sides others → AllByRecursion (ReaderGood log sides) readers
+    → AllByRecursion (ReaderGood (log ++ more) others) readers
 seen_grow log more sides others [] g h = tt
 seen_grow log more sides others (r ∷ readers) g h =
     let same : take r.front (log ++ more) ≡ take r.front log = take-append-le r.front log more h.0.front in
@@ -87,7 +90,8 @@ seen_grow log more sides others (r ∷ readers) g h =
       seen_grow log more sides others readers g h.1,
     )
 
-pub seen_go_on : (log : List Logged) (sides others : List Side) (readers : List Reader) → AllGrow sides others → AllByRecursion (ReaderGood log sides) readers → AllByRecursion (ReaderGood log others) readers
+pub seen_go_on : (log : List Logged) (sides others : List Side) (readers : List Reader) → AllGrow sides others → AllByRecursion (ReaderGood log sides) readers
+    → AllByRecursion (ReaderGood log others) readers
 seen_go_on log sides others readers g h =
     let P : List Logged → Type 0 = λ log. AllByRecursion (ReaderGood log others) readers in
     subst P (append-nil log) (seen_grow log [] sides others readers g h)
@@ -118,7 +122,16 @@ held c h g e =
     let T : Option Hold → Type 0 = λ o. AllByRecursion (SideFits c.up o) c.sides in
     let U : Option Hold → Type 0 = λ o. c.frozen ≡ false → CalmHold o c.sides in
     let flags = subst F e g.flags in
-    record { up = flags.0; none = flags.1; frozen = flags.2; alone = flags.3; sides = subst S e g.sides; fits = subst T e g.fits; calm = subst U e g.calm; logged = let V : Option Hold → Type 0 = λ o. HoldLogged o c.log in subst V e g.logged }
+    record {
+      up = flags.0;
+      none = flags.1;
+      frozen = flags.2;
+      alone = flags.3;
+      sides = subst S e g.sides;
+      fits = subst T e g.fits;
+      calm = subst U e g.calm;
+      logged = let V : Option Hold → Type 0 = λ o. HoldLogged o c.log in subst V e g.logged;
+    }
 
 pub allowed_good : (b : Bool) (next c : Core) → (b ≡ true → CoreGood next) → CoreGood c → CoreGood (allowed b next c).core
 allowed_good true next c h g = h refl
@@ -127,7 +140,8 @@ allowed_good false next c h g = g
 abbrev some_pair : Pair
 some_pair = record { key = 0; alt = 0 }
 
-not_published : (w : Work) (h : Hold) (up : Bool) (sides : List Side) (x : DeviceCall) → h.failed ≡ false → w ≡ h.work → first_call w sides ≡ Some x → AllByRecursion (SideFits up (Some h)) sides → h.published ≡ false
+not_published : (w : Work) (h : Hold) (up : Bool) (sides : List Side) (x : DeviceCall) → h.failed ≡ false → w ≡ h.work → first_call w sides ≡ Some x
+    → AllByRecursion (SideFits up (Some h)) sides → h.published ≡ false
 not_published w h up [] x ok is e fits = absurd cc
 not_published w h up (s ∷ sides) x ok is e fits = go (call_of w s) refl e (λ e. not_published w h up sides x ok is e fits.1)
   where
@@ -187,7 +201,8 @@ first_harms : (w : Work) (x : DeviceCall) (sides : List Side) → first_call w s
 first_harms w x [] e = absurd cc
 first_harms w x (s ∷ sides) e = go (call_of w s) refl e (λ e. first_harms w x sides e)
   where
-    go : (o : Option DeviceCall) → call_of w s ≡ o → first_of_two o (first_call w sides) ≡ Some x → (first_call w sides ≡ Some x → harm_fits (changes w) x.harm x.effect ≡ true) → harm_fits (changes w) x.harm x.effect ≡ true
+    go : (o : Option DeviceCall) → call_of w s ≡ o → first_of_two o (first_call w sides) ≡ Some x → (first_call w sides ≡ Some x → harm_fits (changes w) x.harm x.effect ≡ true)
+        → harm_fits (changes w) x.harm x.effect ≡ true
     go None is e later = later e
     go (Some c) is e later =
         let same : c ≡ x = cc in
@@ -223,7 +238,8 @@ freezes_good c h sides g v grow hurt fits = record {
   fits = all_map (λ s. SideFits c.up (Steps.failed_hold h) s) (λ s. SideFits c.up (Steps.failed_hold h) s) no_copy (fits_no_copy c.up h) sides fits;
   sure = λ down. absurd (true≢false (sym v.up ∙ down));
   calm = λ f. absurd (true≢false f);
-  readers = seen_go_on c.log c.sides (map no_copy sides) c.readers (grow_both c.sides sides (map no_copy sides) grow (grow_map no_copy (λ s. record { base = refl; shows = λ x o h. h }) sides)) g.readers;
+  readers =
+      seen_go_on c.log c.sides (map no_copy sides) c.readers (grow_both c.sides sides (map no_copy sides) grow (grow_map no_copy (λ s. record { base = refl; shows = λ x o h. h }) sides)) g.readers;
   logged = v.logged;
 }
 
@@ -264,7 +280,8 @@ device_failed_good c g = by c.hold refl
           flags = (v.up, v.none, (λ t. refl), (λ t f. out ∙ no_change h.tag h.work still));
           readers_up = g.readers_up;
           sides = λ p. subst (N p) (sym out) (on_call h.work (after_failed h.work) (G p) (λ s. SideGood p c.up c.log l (Steps.failed_hold h) s) x c.sides e (goods p) calm
-              (λ s good. good_of p c.up c.log l (Steps.failed_hold h) s (hurt_of p c.up c.log l (Some h) s good) (λ f. good.copied (and_right (not h.failed) (is_deleting h.work p s) (not_deleting h.work p s still))))
+              (λ s good. good_of p c.up c.log l (Steps.failed_hold h) s (hurt_of p c.up c.log l (Some h) s good)
+              (λ f. good.copied (and_right (not h.failed) (is_deleting h.work p s) (not_deleting h.work p s still))))
               (λ s at sure good. good_of p c.up c.log l (Steps.failed_hold h) (after_failed h.work x s) (side_hurt c.up v.up p c.log h s x at good)
               (λ f. harm_copy p h.work x.effect s x.harm (good.copied (and_right (not h.failed) (is_deleting h.work p s) (not_deleting h.work p s still))))));
           fits = tired;
@@ -273,7 +290,8 @@ device_failed_good c g = by c.hold refl
           readers = seen_go_on c.log c.sides S c.readers grow g.readers;
           logged = v.logged;
         } in
-        let go : (y : Harm) → x.harm ≡ y → harm_fits (changes h.work) y x.effect ≡ true → CoreGood (Steps.harmed h y S c) = λ y. elim y as (λ y. x.harm ≡ y → harm_fits (changes h.work) y x.effect ≡ true → CoreGood (Steps.harmed h y S c)) [
+        let go : (y : Harm) → x.harm ≡ y → harm_fits (changes h.work) y x.effect ≡ true → CoreGood (Steps.harmed h y S c) =
+        λ y. elim y as (λ y. x.harm ≡ y → harm_fits (changes h.work) y x.effect ≡ true → CoreGood (Steps.harmed h y S c)) [
           | Freezes ↦ λ y fits. freezes_good c h S g v grow (λ p. subst (Z p) (sym out) (hurt p)) tired
           | Fails ↦ λ y fits. ends (not-true (changes h.work) (and_parts (not (changes h.work)) (is_calm x.effect) fits).0) (λ z. let no : Fails ≡ Freezes = cc in absurd cc)
           | Ends ↦ λ y fits. ends (not-true (changes h.work) (and_parts (not (changes h.work)) (is_calm x.effect) fits).0) (λ z. let no : Ends ≡ Freezes = cc in absurd cc)
@@ -325,7 +343,8 @@ pub step_sure : (side cells : ℕ) (sides : List Side) → Calm (work.Step side 
 step_sure side cells [] h = tt
 step_sure side cells (s ∷ sides) h = go (call_of (work.Step side cells) s) refl h (λ h. step_sure side cells sides h)
   where
-    go : (o : Option DeviceCall) → call_of (work.Step side cells) s ≡ o → CalmAt o s sides (Calm (work.Step side cells) sides) → (Calm (work.Step side cells) sides → AllByRecursion IsSure sides) → IsSure s × AllByRecursion IsSure sides
+    go : (o : Option DeviceCall) → call_of (work.Step side cells) s ≡ o → CalmAt o s sides (Calm (work.Step side cells) sides)
+        → (Calm (work.Step side cells) sides → AllByRecursion IsSure sides) → IsSure s × AllByRecursion IsSure sides
     go None e h later = (h.0, later h.1)
     go (Some c) e h later = (h.0 (step_settles side cells s c e), h.1)
 
@@ -359,12 +378,14 @@ pub finish_sure : (side : ℕ) (sides : List Side) → Steps.first_passes (work.
 finish_sure side [] f h = tt
 finish_sure side (s ∷ sides) f h = go (call_of (work.Finish side) s) refl f h (λ f h. finish_sure side sides f h)
   where
-    go : (o : Option DeviceCall) → call_of (work.Finish side) s ≡ o → Steps.first_side_passes o (Steps.before_head s) (Steps.first_passes (work.Finish side) Steps.before_head sides) ≡ true → CalmAt o s sides (Calm (work.Finish side) sides)
+    go : (o : Option DeviceCall) → call_of (work.Finish side) s ≡ o → Steps.first_side_passes o (Steps.before_head s)
+        (Steps.first_passes (work.Finish side) Steps.before_head sides) ≡ true → CalmAt o s sides (Calm (work.Finish side) sides)
         → (Steps.first_passes (work.Finish side) Steps.before_head sides ≡ true → Calm (work.Finish side) sides → AllByRecursion IsSure sides) → IsSure s × AllByRecursion IsSure sides
     go None e f h later = (h.0, later f h.1)
     go (Some c) e f h later = (h.0 (finish_settles side s s.progress c e f), h.1)
 
-ended_copy_hurt : (p : Pair) (up : Bool) (log : List Logged) (l : Option Logged) (h : Hold) (s : Side) → SideHurt p up log l s → CopyGood p s.fresh s.current s.copy → SideGood p up log l (Steps.failed_hold h) (Steps.ended_copy s)
+ended_copy_hurt : (p : Pair) (up : Bool) (log : List Logged) (l : Option Logged) (h : Hold) (s : Side) → SideHurt p up log l s → CopyGood p s.fresh s.current s.copy
+    → SideGood p up log l (Steps.failed_hold h) (Steps.ended_copy s)
 ended_copy_hurt p up log l h s g copied =
     cond_both (Sides.has_part s) (no_copy s) s (λ (t : Side). SideGood p up log l (Steps.failed_hold h) t)
     (λ b. frozen_good p up log l h s g) (λ b. good_of p up log l (Steps.failed_hold h) s g (λ f. copied))
@@ -375,9 +396,11 @@ read_ends c h g v still sure = record {
   flags = (v.up, v.none, (λ t. refl), (λ t f. cond_both h.published None (change_of h.tag h.work) (λ (o : Option Logged). o ≡ None) (λ b. refl) (λ b. no_change h.tag h.work still)));
   readers_up = g.readers_up;
   sides = λ p. all_map (λ s. SideGood p c.up c.log (change_in (Some h) c.pending) (Some h) s) (λ s. SideGood p c.up c.log (change_in (Some h) c.pending) (Steps.failed_hold h) s) Steps.ended_copy
-      (λ s good. ended_copy_hurt p c.up c.log (change_in (Some h) c.pending) h s (hurt_of p c.up c.log (change_in (Some h) c.pending) (Some h) s good) (good.copied (and_right (not h.failed) (is_deleting h.work p s) (not_deleting h.work p s still)))) c.sides (v.sides p);
+      (λ s good. ended_copy_hurt p c.up c.log (change_in (Some h) c.pending) h s (hurt_of p c.up c.log (change_in (Some h) c.pending) (Some h) s good)
+      (good.copied (and_right (not h.failed) (is_deleting h.work p s) (not_deleting h.work p s still)))) c.sides (v.sides p);
   fits = all_map (λ s. SideFits c.up (Some h) s) (λ s. SideFits c.up (Steps.failed_hold h) s) Steps.ended_copy
-      (λ s f. cond_both (Sides.has_part s) (no_copy s) s (λ (t : Side). SideFits c.up (Steps.failed_hold h) t) (λ b. fits_no_copy c.up h s (fits_failed c.up h (Some h) s f)) (λ b. fits_failed c.up h (Some h) s f)) c.sides v.fits;
+      (λ s f. cond_both (Sides.has_part s) (no_copy s) s (λ (t : Side). SideFits c.up (Steps.failed_hold h) t) (λ b. fits_no_copy c.up h s (fits_failed c.up h (Some h) s f))
+      (λ b. fits_failed c.up h (Some h) s f)) c.sides v.fits;
   sure = λ down. absurd (true≢false (sym v.up ∙ down));
   calm = λ f. all_map IsSure IsSure Steps.ended_copy (λ s h. cond_both (Sides.has_part s) (no_copy s) s (λ (t : Side). IsSure t) (λ b. h) (λ b. h)) c.sides sure;
   readers = seen_go_on c.log c.sides (map Steps.ended_copy c.sides) c.readers
@@ -388,7 +411,8 @@ read_ends c h g v still sure = record {
 read_good : (c : Core) (h : Hold) → CoreGood c → Held c h → Calm h.work c.sides → (w : Work) → h.work ≡ w → Steps.may_read w c.sides ≡ true → CoreGood (Steps.read_harmed h w c)
 read_good c h g v calm (work.Put pair photo) is f =
     freezes_good c h c.sides g v (grow_same c.sides)
-    (λ p. keep (λ s. SideGood p c.up c.log (change_in (Some h) c.pending) (Some h) s) (SideHurt p c.up c.log (change_in (Some h) c.pending)) (λ s good. hurt_of p c.up c.log (change_in (Some h) c.pending) (Some h) s good) c.sides (v.sides p))
+    (λ p. keep (λ s. SideGood p c.up c.log (change_in (Some h) c.pending) (Some h) s) (SideHurt p c.up c.log (change_in (Some h) c.pending))
+    (λ s good. hurt_of p c.up c.log (change_in (Some h) c.pending) (Some h) s good) c.sides (v.sides p))
     (keep (λ s. SideFits c.up (Some h) s) (λ s. SideFits c.up (Steps.failed_hold h) s) (λ s f. fits_failed c.up h (Some h) s f) c.sides v.fits)
   where
     keep : (P Q : Side → Type 0) → ((s : Side) → P s → Q s) → (sides : List Side) → AllByRecursion P sides → AllByRecursion Q sides

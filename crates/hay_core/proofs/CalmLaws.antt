@@ -59,7 +59,8 @@ closing_paired : (copied : List Needle) (rest : List DeviceCall) → Paired rest
 closing_paired [] rest h = ((λ f. no f), ((λ f. no f), h))
 closing_paired (c ∷ cells) rest h = ((λ f. no f), ((λ f. no f), ((λ f. no f), h)))
 
-finish_next : (s u : Side) (t : ℕ) (c : DeviceCall) → u.fresh ≡ s.fresh → u.current ≡ s.current → (o : Option ℕ) → Calls.finish_call o t s ≡ Some c → is_doubts c.effect ≡ true → settles_next (Calls.finish_call o (t + 1) u) ≡ true
+finish_next : (s u : Side) (t : ℕ) (c : DeviceCall) → u.fresh ≡ s.fresh → u.current ≡ s.current → (o : Option ℕ) → Calls.finish_call o t s ≡ Some c → is_doubts c.effect ≡ true
+    → settles_next (Calls.finish_call o (t + 1) u) ≡ true
 finish_next s u t c fresh current None e d =
     let quiet : is_doubts c.effect ≡ false = slice_all (λ (c : DeviceCall). is_doubts c.effect ≡ false) Calls.removals t c (refl, (refl, tt)) e in
     no (sym quiet ∙ d)
@@ -89,7 +90,8 @@ finish_doubts side s t c Makes is e d = no d
 finish_doubts side s t c (Copies x) is e d = no d
 
 -- behind a call that sets a doubt, the one that makes it sure is next
-doubts_same : (w : Work) (s : Side) (t : Option ℕ) (c : DeviceCall) → call_from w t s ≡ Some c → is_doubts c.effect ≡ true → settles_next (call_from w (next_progress w c.effect t) (after_ok w c s)) ≡ true
+doubts_same : (w : Work) (s : Side) (t : Option ℕ) (c : DeviceCall) → call_from w t s ≡ Some c → is_doubts c.effect ≡ true
+    → settles_next (call_from w (next_progress w c.effect t) (after_ok w c s)) ≡ true
 doubts_same w s None c e d = absurd cc
 doubts_same (work.Put pair photo) s (Some t) c e d =
     let cell : Needle = Calls.live_needle pair photo in
@@ -99,25 +101,30 @@ doubts_same (work.Del q) s (Some (suc t)) c e d =
     let again : List DeviceCall = Calls.call GoesOn (Repeats q) ∷ [] in
     let b : Bool = is_some s.copy && not (lacks q s.fresh) in
     let P : DeviceCall → Type 0 = λ c. is_doubts c.effect ≡ false in
-    let all : AllByRecursion P (Calls.call Freezes (Settles (doubt.Flag q)) ∷ (cond b again [])) = (refl, cond_both b again [] (λ (cs : List DeviceCall). AllByRecursion P cs) (λ t. (refl, tt)) (λ t. tt)) in
+    let all : AllByRecursion P (Calls.call Freezes (Settles (doubt.Flag q)) ∷ (cond b again [])) =
+    (refl, cond_both b again [] (λ (cs : List DeviceCall). AllByRecursion P cs) (λ t. (refl, tt)) (λ t. tt)) in
     let quiet = slice_all P (Calls.call Freezes (Settles (doubt.Flag q)) ∷ (cond b again [])) t c all e in
     no (sym quiet ∙ d)
 doubts_same (work.Flush side) s (Some t) c e d =
     let P : DeviceCall → Type 0 = λ c. is_doubts c.effect ≡ false in
-    let quiet = slice_all P (Calls.flush_calls s) t c (cond_both (nat_lt s.rows (length s.current)) (Calls.gated Fails MarksRows SettlesRows) [] (λ (cs : List DeviceCall). AllByRecursion P cs) (λ b. (refl, (refl, (refl, (refl, tt))))) (λ b. tt)) e in
+    let quiet =
+    slice_all P (Calls.flush_calls s) t c (cond_both (nat_lt s.rows (length s.current)) (Calls.gated Fails MarksRows SettlesRows) []
+    (λ (cs : List DeviceCall). AllByRecursion P cs) (λ b. (refl, (refl, (refl, (refl, tt))))) (λ b. tt)) e in
     no (sym quiet ∙ d)
 doubts_same (work.Start side) s (Some t) c e d =
     let P : DeviceCall → Type 0 = λ c. is_doubts c.effect ≡ false in
     no (sym (slice_all P Calls.start_calls t c (refl, (refl, (refl, (refl, tt)))) e) ∙ d)
 doubts_same (work.Step side cells) s (Some t) c e d = stepping s.copy e
   where
-    copies : (o : Option Copied) → Calls.copy_call o ≡ Some c → settles_next (call_from (work.Step side cells) (next_progress (work.Step side cells) c.effect (Some t)) (after_ok (work.Step side cells) c s)) ≡ true
+    copies : (o : Option Copied) → Calls.copy_call o ≡ Some c → settles_next (call_from (work.Step side cells) (next_progress (work.Step side cells) c.effect (Some t))
+        (after_ok (work.Step side cells) c s)) ≡ true
     copies None e = absurd cc
     copies (Some x) e =
         let same : c ≡ Calls.call Ends (Copies x) = cc in
         no (sym (ap (λ (y : DeviceCall). is_doubts y.effect) same) ∙ d)
 
-    stepping : (o : Option ℕ) → Calls.step_call o (cells - t) s ≡ Some c → settles_next (call_from (work.Step side cells) (next_progress (work.Step side cells) c.effect (Some t)) (after_ok (work.Step side cells) c s)) ≡ true
+    stepping : (o : Option ℕ) → Calls.step_call o (cells - t) s ≡ Some c → settles_next
+        (call_from (work.Step side cells) (next_progress (work.Step side cells) c.effect (Some t)) (after_ok (work.Step side cells) c s)) ≡ true
     stepping None e = absurd cc
     stepping (Some n) e = copies (copy_next (cells - t) (drop n s.current)) e
 doubts_same (work.Finish side) s (Some t) c e d = finish_doubts side s t c c.effect refl e d
@@ -157,7 +164,8 @@ pub calm_ok : (w : Work) (sides : List Side) → Calm w sides → Calm w (at_fir
 calm_ok w [] h = tt
 calm_ok w (s ∷ sides) h = go (call_of w s) refl h (calm_ok w sides)
   where
-    go : (o : Option DeviceCall) → call_of w s ≡ o → CalmAt o s sides (Calm w sides) → (Calm w sides → Calm w (at_first w (after_ok w) sides)) → Calm w (put_first o (after_ok w) s sides (at_first w (after_ok w) sides))
+    go : (o : Option DeviceCall) → call_of w s ≡ o → CalmAt o s sides (Calm w sides) → (Calm w sides → Calm w (at_first w (after_ok w) sides))
+        → Calm w (put_first o (after_ok w) s sides (at_first w (after_ok w) sides))
     go None e h later =
         let P : Option DeviceCall → Type 0 = λ o. CalmAt o s (at_first w (after_ok w) sides) (Calm w (at_first w (after_ok w) sides)) in
         subst P (sym e) (h.0, later h.1)
@@ -168,7 +176,8 @@ pub none_left : (w : Work) (sides : List Side) → first_call w sides ≡ None �
 none_left w [] e = tt
 none_left w (s ∷ sides) e = go (call_of w s) refl e (none_left w sides)
   where
-    go : (o : Option DeviceCall) → call_of w s ≡ o → first_of_two o (first_call w sides) ≡ None → (first_call w sides ≡ None → AllByRecursion (λ s. call_of w s ≡ None) sides) → (call_of w s ≡ None) × AllByRecursion (λ s. call_of w s ≡ None) sides
+    go : (o : Option DeviceCall) → call_of w s ≡ o → first_of_two o (first_call w sides) ≡ None → (first_call w sides ≡ None → AllByRecursion (λ s. call_of w s ≡ None) sides)
+        → (call_of w s ≡ None) × AllByRecursion (λ s. call_of w s ≡ None) sides
     go None is e later = (is, later e)
     go (Some c) is e later = absurd cc
 
@@ -180,7 +189,8 @@ calm_none w (s ∷ sides) none h =
     (at.0, calm_none w sides none.1 at.1)
 
 -- what the call of the first side that has one left does to all sides
-pub on_call : (w : Work) (f : DeviceCall → Side → Side) (P Q : Side → Type 0) (x : DeviceCall) (sides : List Side) → first_call w sides ≡ Some x → AllByRecursion P sides → Calm w sides → ((s : Side) → P s → Q s)
+pub on_call : (w : Work) (f : DeviceCall → Side → Side) (P Q : Side → Type 0) (x : DeviceCall) (sides : List Side) → first_call w sides ≡ Some x → AllByRecursion P sides
+    → Calm w sides → ((s : Side) → P s → Q s)
     → ((s : Side) → call_of w s ≡ Some x → (settles x.effect ≡ false → IsSure s) → P s → Q (f x s)) → AllByRecursion Q (at_first w f sides)
 on_call w f P Q x [] e all calm keeps makes = tt
 on_call w f P Q x (s ∷ sides) e all calm keeps makes = go (call_of w s) refl e calm (λ e c. on_call w f P Q x sides e all.1 c keeps makes)
@@ -189,7 +199,8 @@ on_call w f P Q x (s ∷ sides) e all calm keeps makes = go (call_of w s) refl e
     keep_all [] h = tt
     keep_all (s ∷ sides) h = (keeps s h.0, keep_all sides h.1)
 
-    go : (o : Option DeviceCall) → call_of w s ≡ o → first_of_two o (first_call w sides) ≡ Some x → CalmAt o s sides (Calm w sides) → (first_call w sides ≡ Some x → Calm w sides → AllByRecursion Q (at_first w f sides)) → AllByRecursion Q (put_first o f s sides (at_first w f sides))
+    go : (o : Option DeviceCall) → call_of w s ≡ o → first_of_two o (first_call w sides) ≡ Some x → CalmAt o s sides (Calm w sides)
+        → (first_call w sides ≡ Some x → Calm w sides → AllByRecursion Q (at_first w f sides)) → AllByRecursion Q (put_first o f s sides (at_first w f sides))
     go None is e h later = (keeps s all.0, later e h.1)
     go (Some c) is e h later =
         let same : c ≡ x = cc in
@@ -201,7 +212,8 @@ pub all_sure : (w : Work) (x : DeviceCall) (sides : List Side) → first_call w 
 all_sure w x [] e f h = tt
 all_sure w x (s ∷ sides) e f h = go (call_of w s) e h (λ e h. all_sure w x sides e f h)
   where
-    go : (o : Option DeviceCall) → first_of_two o (first_call w sides) ≡ Some x → CalmAt o s sides (Calm w sides) → (first_call w sides ≡ Some x → Calm w sides → AllByRecursion IsSure sides) → IsSure s × AllByRecursion IsSure sides
+    go : (o : Option DeviceCall) → first_of_two o (first_call w sides) ≡ Some x → CalmAt o s sides (Calm w sides)
+        → (first_call w sides ≡ Some x → Calm w sides → AllByRecursion IsSure sides) → IsSure s × AllByRecursion IsSure sides
     go None e h later = (h.0, later e h.1)
     go (Some c) e h later = let same : c ≡ x = cc in (h.0 (ap (λ (y : DeviceCall). settles y.effect) same ∙ f), h.1)
 
@@ -263,9 +275,17 @@ harms (work.Put pair photo) s (Some t) c e =
     let cell : Needle = Calls.live_needle pair photo in
     slice_all (HarmFits true) (Calls.gated Freezes (Doubts (doubt.Cell cell)) (Settles (doubt.Cell cell))) t c (refl, (refl, (refl, (refl, tt)))) e
 harms (work.Del q) s (Some t) c e =
-    slice_all (HarmFits true) (Calls.delete_calls q s) t c (refl, (refl, cond_both (is_some s.copy && not (lacks q s.fresh)) (Calls.call GoesOn (Repeats q) ∷ []) [] (λ (cs : List DeviceCall). AllByRecursion (HarmFits true) cs) (λ t. (refl, tt)) (λ t. tt))) e
+    slice_all (HarmFits true) (Calls.delete_calls q s) t c (
+      refl,
+      (
+        refl,
+        cond_both (is_some s.copy && not (lacks q s.fresh)) (Calls.call GoesOn (Repeats q) ∷ []) []
+            (λ (cs : List DeviceCall). AllByRecursion (HarmFits true) cs) (λ t. (refl, tt)) (λ t. tt),
+      ),
+    ) e
 harms (work.Flush side) s (Some t) c e =
-    slice_all (HarmFits false) (Calls.flush_calls s) t c (cond_both (nat_lt s.rows (length s.current)) (Calls.gated Fails MarksRows SettlesRows) [] (λ (cs : List DeviceCall). AllByRecursion (HarmFits false) cs) (λ b. (refl, (refl, (refl, (refl, tt))))) (λ b. tt)) e
+    slice_all (HarmFits false) (Calls.flush_calls s) t c (cond_both (nat_lt s.rows (length s.current)) (Calls.gated Fails MarksRows SettlesRows) []
+    (λ (cs : List DeviceCall). AllByRecursion (HarmFits false) cs) (λ b. (refl, (refl, (refl, (refl, tt))))) (λ b. tt)) e
 harms (work.Start side) s (Some t) c e = slice_all (HarmFits false) Calls.start_calls t c (refl, (refl, (refl, (refl, tt)))) e
 harms (work.Step side cells) s (Some t) c e = stepping s.copy e
   where
@@ -279,7 +299,8 @@ harms (work.Step side cells) s (Some t) c e = stepping s.copy e
 harms (work.Finish side) s (Some t) c e = finishing s.copy e
   where
     closing : (o : Option Copied) → Calls.closing_call o t s ≡ Some c → HarmFits false c
-    closing None e = slice_all (HarmFits false) (Calls.finish_calls s.fresh) t c (closing_fits s.fresh (Calls.gated Freezes (Doubts doubt.Head) (Settles doubt.Head)) (refl, (refl, (refl, (refl, tt))))) e
+    closing None e =
+        slice_all (HarmFits false) (Calls.finish_calls s.fresh) t c (closing_fits s.fresh (Calls.gated Freezes (Doubts doubt.Head) (Settles doubt.Head)) (refl, (refl, (refl, (refl, tt))))) e
     closing (Some x) e = let same : Calls.call Ends (Copies x) ≡ c = cc in subst (HarmFits false) same refl
 
     finishing : (o : Option ℕ) → Calls.finish_call o t s ≡ Some c → HarmFits false c

@@ -21,7 +21,8 @@ later_more : (n : ℕ) (o : Option Copied) → later n (option_map one_more o) �
 later_more n None = refl
 later_more n (Some x) = one_later_by x n
 
-pub pass_on : (budget i : ℕ) (c : Needle) (cs rest : List Needle) → i < budget → cs ≡ c ∷ rest → is_live c rest ≡ false → later i (copy_next (budget - i) cs) ≡ later (i + 1) (copy_next (budget - (i + 1)) rest)
+pub pass_on : (budget i : ℕ) (c : Needle) (cs rest : List Needle) → i < budget → cs ≡ c ∷ rest → is_live c rest ≡ false
+    → later i (copy_next (budget - i) cs) ≡ later (i + 1) (copy_next (budget - (i + 1)) rest)
 pass_on budget i c cs rest h is dead =
     let left : budget - i ≡ suc (budget - (i + 1)) = omega (arith, h) in
     let b : ℕ = budget - (i + 1) in
@@ -31,7 +32,8 @@ pass_on budget i c cs rest h is dead =
     ∙ ap (λ (o : Option Copied). later i o) (cond-false (is_live c rest) (Some first) (option_map one_more (copy_next b rest)) dead)
     ∙ later_more i (copy_next b rest)
 
-pub found : (budget i : ℕ) (c : Needle) (cs rest : List Needle) → i < budget → cs ≡ c ∷ rest → is_live c rest ≡ true → later i (copy_next (budget - i) cs) ≡ Some (record { needle = c; passed = i + 1 })
+pub found : (budget i : ℕ) (c : Needle) (cs rest : List Needle) → i < budget → cs ≡ c ∷ rest → is_live c rest ≡ true
+    → later i (copy_next (budget - i) cs) ≡ Some (record { needle = c; passed = i + 1 })
 found budget i c cs rest h is live =
     let left : budget - i ≡ suc (budget - (i + 1)) = omega (arith, h) in
     let b : ℕ = budget - (i + 1) in

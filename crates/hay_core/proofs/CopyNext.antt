@@ -105,7 +105,8 @@ passed_fits (suc budget) (c ∷ cs) x e =
     ]
 
 -- the copy behind the next needle that is copied
-pub copy_copied : (p : Pair) (fresh current : List Needle) (n budget : ℕ) (x : Copied) → copy_next budget (drop n current) ≡ Some x → CopiesAt p fresh current n → CopiesAt p (fresh ++ x.needle ∷ []) current (n + x.passed)
+pub copy_copied : (p : Pair) (fresh current : List Needle) (n budget : ℕ) (x : Copied) → copy_next budget (drop n current) ≡ Some x → CopiesAt p fresh current n
+    → CopiesAt p (fresh ++ x.needle ∷ []) current (n + x.passed)
 copy_copied p fresh current n budget x e h =
     let next = copied_next budget (drop n current) x p (look (rows_of fresh) p) (look (rows_of current) p) e (follows p fresh current n h) in
     let one = rows_append fresh (x.needle ∷ []) p outcome.Nothing in
@@ -122,7 +123,8 @@ copy_copied p fresh current n budget x e h =
 pub copy_passed : (p : Pair) (fresh current : List Needle) (n budget : ℕ) → copy_next budget (drop n current) ≡ None → CopiesAt p fresh current n → CopiesAt p fresh current (n + budget)
 copy_passed p fresh current n budget e h =
     let F : List Needle → Type 0 = λ cs. Follows p cs (look (rows_of fresh) p) (look (rows_of current) p) in
-    copies_from p fresh current (n + budget) (subst F (drop-drop budget n current) (some_passed budget (drop n current) p (look (rows_of fresh) p) (look (rows_of current) p) e (follows p fresh current n h)))
+    copies_from p fresh current (n + budget) (subst F (drop-drop budget n current) (some_passed budget (drop n current) p (look (rows_of fresh) p) (look (rows_of current) p) e
+    (follows p fresh current n h)))
 
 -- where nothing is left to copy, the next generation has the table
 pub copy_done : (p : Pair) (fresh current : List Needle) (n : ℕ) → copy_next (length current) (drop n current) ≡ None → CopiesAt p fresh current n → look (rows_of fresh) p ≡ look (rows_of current) p

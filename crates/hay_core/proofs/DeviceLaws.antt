@@ -1,5 +1,6 @@
 -- What a device call, made or failed, keeps of a side and of all sides.
-use Rattle.std.proofs.Common.{◌≡◌, ℕ, zero, suc, ◌≤◌, Bool, true, false, not, ◌&&◌, cond, List, [], ◌∷◌, ◌++◌, length, drop, Option, Some, None, refl, sym, ap, ◌∙◌, length-append, length-drop, inl, inr, subst, arith}
+use Rattle.std.proofs.Common.{◌≡◌, ℕ, zero, suc, ◌≤◌, Bool, true, false, not, ◌&&◌, cond, List, [], ◌∷◌, ◌++◌, length, drop, Option, Some, None, refl, sym, ap, ◌∙◌, length-append}
+use Rattle.std.proofs.Common.{length-drop, inl, inr, subst, arith}
 use Rattle.std.specs.Prelude.{slice_get, is_some}
 use Rattle.std.proofs.lemmas.Bool.{cond_both, cond-true, cond-false, cases_Bool, false≢true, true≢false, and_left, and_right, le-leb}
 use Rattle.hay_needle.specs.declared.needle.Pair.{Pair}
@@ -37,11 +38,15 @@ delete_same : (q : Pair) (s : Side) (t : Option ℕ) (c : DeviceCall) → call_f
     → is_some (call_from (work.Del q) (next_progress (work.Del q) c.effect t) (after_ok (work.Del q) c s)) ≡ false → CopyGood q (made c.effect s).fresh (made c.effect s).current (made c.effect s).copy
 delete_same q s None c e h f = absurd cc
 delete_same q s (Some zero) c e h f =
-    let P : DeviceCall → Type 0 = λ c. is_some (call_from (work.Del q) (next_progress (work.Del q) c.effect (Some 0)) (after_ok (work.Del q) c s)) ≡ false → CopyGood q (made c.effect s).fresh (made c.effect s).current (made c.effect s).copy in
+    let P : DeviceCall → Type 0 =
+    λ c. is_some (call_from (work.Del q) (next_progress (work.Del q) c.effect (Some 0)) (after_ok (work.Del q) c s)) ≡ false
+    → CopyGood q (made c.effect s).fresh (made c.effect s).current (made c.effect s).copy in
     let same : Calls.call Freezes (Doubts (doubt.Flag q)) ≡ c = cc in
     subst P same (λ f. absurd (true≢false f)) f
 delete_same q s (Some (suc zero)) c e h f =
-    let P : DeviceCall → Type 0 = λ c. is_some (call_from (work.Del q) (next_progress (work.Del q) c.effect (Some 1)) (after_ok (work.Del q) c s)) ≡ false → CopyGood q (made c.effect s).fresh (made c.effect s).current (made c.effect s).copy in
+    let P : DeviceCall → Type 0 =
+    λ c. is_some (call_from (work.Del q) (next_progress (work.Del q) c.effect (Some 1)) (after_ok (work.Del q) c s)) ≡ false
+    → CopyGood q (made c.effect s).fresh (made c.effect s).current (made c.effect s).copy in
     let same : Calls.call Freezes (Settles (doubt.Flag q)) ≡ c = cc in
     let again : List DeviceCall = Calls.call GoesOn (Repeats q) ∷ [] in
     let b : Bool = is_some s.copy && not (lacks q s.fresh) in
@@ -55,7 +60,8 @@ delete_same q s (Some (suc (suc zero))) c e h f =
     let b : Bool = is_some s.copy && not (lacks q s.fresh) in
     elim (cases_Bool b) [
       | inl t ↦
-          let same : Calls.call GoesOn (Repeats q) ≡ c = let is : Some (Calls.call GoesOn (Repeats q)) ≡ Some c = sym (ap (λ (cs : List DeviceCall). slice_get cs 0) (cond-true b again [] t)) ∙ e in cc in
+          let same : Calls.call GoesOn (Repeats q) ≡ c =
+          let is : Some (Calls.call GoesOn (Repeats q)) ≡ Some c = sym (ap (λ (cs : List DeviceCall). slice_get cs 0) (cond-true b again [] t)) ∙ e in cc in
           subst P same (copy_repeat_same q s.fresh s.current s.copy (h refl))
       | inr none ↦ let is : None ≡ Some c = sym (ap (λ (cs : List DeviceCall). slice_get cs 0) (cond-false b again [] none)) ∙ e in absurd cc
     ]
@@ -88,7 +94,8 @@ copied_ok p tag (work.Del r) s c e fits copied settled gone f =
           subst P same (delete_same r s s.progress c e (λ behind. gone r refl same (settled behind)) over)
       | inr ne ↦
           made_copy p (change_of tag (work.Del r)) s c.effect (call_good p tag (work.Del r) s s.progress c copied e) fits
-          (λ q u is. let one = entry_is (record { tag = tag; entry = entry.Del r }) (record { tag = u; entry = entry.Del q }) is in let same : r ≡ q = cc in ap (λ (x : Pair). pair_eq x p) (sym same) ∙ ne)
+          (λ q u is. let one = entry_is (record { tag = tag; entry = entry.Del r }) (record { tag = u; entry = entry.Del q }) is in let same : r
+          ≡ q = cc in ap (λ (x : Pair). pair_eq x p) (sym same) ∙ ne)
           (copied (and_left (pair_eq r p) (is_some (call_of (work.Del r) s)) ne))
     ]
 copied_ok p tag (work.Flush side) s c e fits copied settled gone f =
@@ -136,7 +143,8 @@ side_ok up is_up p log h s c ok e sure g fits =
       doubted = made_doubt p (change_of h.tag h.work) s c.effect good sure g.doubted;
       copied = λ f.
           let over : is_deleting h.work p (after_ok h.work c s) ≡ false = sym (ap (λ (b : Bool). not b && is_deleting h.work p (after_ok h.work c s)) ok) ∙ f in
-          copied_ok p h.tag h.work s c e fits.copy live (fits.held ok).settled (λ q is same settled. deleted_gone p q (rows_after log s.base) s.current h.tag h.work s.settled is same settled g.tabled) over;
+          copied_ok p h.tag h.work s c e fits.copy live (fits.held ok).settled (λ q is same settled.
+          deleted_gone p q (rows_after log s.base) s.current h.tag h.work s.settled is same settled g.tabled) over;
     }
 
 -- the counts and the progress of one side behind a call that is made
@@ -170,7 +178,8 @@ made_bounds p l s (Copies x) good a b c =
     (a, b, subst P (sym good.1) (omega (arith, examined, passed, length-drop good.0 s.current)))
 
 -- a side that is behind its sync is settled
-pub settled_ok : (w : Work) (s : Side) (t : Option ℕ) (c : DeviceCall) → call_from w t s ≡ Some c → (is_behind w t ≡ true → s.settled ≡ true) → is_behind w (next_progress w c.effect t) ≡ true → (made c.effect s).settled ≡ true
+pub settled_ok : (w : Work) (s : Side) (t : Option ℕ) (c : DeviceCall) → call_from w t s ≡ Some c → (is_behind w t ≡ true → s.settled ≡ true)
+    → is_behind w (next_progress w c.effect t) ≡ true → (made c.effect s).settled ≡ true
 settled_ok w s None c e h f = absurd cc
 settled_ok (work.Put pair photo) s (Some zero) c e h f =
     let same : Calls.call Freezes Quiet ≡ c = cc in

@@ -35,7 +35,8 @@ take_entries (suc n) [] = refl
 take_entries (suc n) (l ∷ log) = ap (λ (es : List Entry). l.entry ∷ es) (take_entries n log)
 
 -- the table after the first n entries, at a pair, where the rows look as the table does
-pub at-after : (log : List Logged) (n : ℕ) (table : Table) (base : List Row) (p : Pair) → outcome_at table p ≡ look base p → outcome_at (after (entries_of log) n table) p ≡ look (rows_after (take n log) base) p
+pub at-after : (log : List Logged) (n : ℕ) (table : Table) (base : List Row) (p : Pair) → outcome_at table p ≡ look base p
+    → outcome_at (after (entries_of log) n table) p ≡ look (rows_after (take n log) base) p
 at-after log n table base p same =
     ap (λ (es : List Entry). outcome_at (fold apply_entry table es) p) (take_entries n log)
     ∙ at-fold table (take n log) p

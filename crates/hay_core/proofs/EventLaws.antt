@@ -20,7 +20,8 @@ use Rattle.hay_core.specs.Entries.{logged_row, rows_after}
 use Rattle.hay_core.specs.Sides
 use Rattle.hay_core.specs.Sides.{settle, made, broken, files_of, with_progress, next_progress, after_ok, after_failed, after_harm, no_copy}
 use Rattle.hay_core.specs.Steps
-use Rattle.hay_core.specs.Steps.{Stepped, allowed, change, change_in, change_of, at_first, put_first, first_call, first_of_two, device_ok, device_failed, read_failed, publish, end_hold, begin, look_up, stop, open_call, after_event, after_events}
+use Rattle.hay_core.specs.Steps.{Stepped, allowed, change, change_in, change_of, at_first, put_first, first_call, first_of_two, device_ok, device_failed, read_failed, publish}
+use Rattle.hay_core.specs.Steps.{end_hold, begin, look_up, stop, open_call, after_event, after_events}
 use Rattle.hay_core.specs.declared.machine.Reader.{Reader}
 use Rattle.hay_core.specs.declared.machine.Core.{Core}
 use Rattle.hay_core.specs.declared.machine.Event.{Event}
@@ -34,14 +35,16 @@ use Rattle.hay_core.proofs.CallLaws.{all_both, allowed_good, device_ok_good, dev
 use Rattle.hay_core.proofs.HoldLaws.{settled_none, begin_good, publish_good, end_hold_good}
 
 -- a look
-row_good : (p : Pair) (up : Bool) → up ≡ true → (log : List Logged) (l : Option Logged) (o : Option Hold) (sides : List Side) → AllByRecursion (SideFits up o) sides → AllByRecursion (SideGood p up log l o) sides
+row_good : (p : Pair) (up : Bool) → up ≡ true → (log : List Logged) (l : Option Logged) (o : Option Hold) (sides : List Side) → AllByRecursion (SideFits up o) sides
+    → AllByRecursion (SideGood p up log l o) sides
     → RowGood p log sides (map (λ s. spot_in s.spots p) sides)
 row_good p up is_up log l o [] fits all = tt
 row_good p up is_up log l o (s ∷ sides) fits all =
     let P : Bool → Type 0 = λ b. Shows s (spot_in s.spots p) (look (rows_after (cond b log []) s.base) p) in
     (subst P is_up (all.0.mapped (fits.0.is_open is_up)), row_good p up is_up log l o sides fits.1 all.1)
 
-put_good : (log : List Logged) (sides : List Side) (r : Reader) (readers : List Reader) → ReaderGood log sides r → AllByRecursion (ReaderGood log sides) readers → AllByRecursion (ReaderGood log sides) (Steps.with_reader r readers)
+put_good : (log : List Logged) (sides : List Side) (r : Reader) (readers : List Reader) → ReaderGood log sides r → AllByRecursion (ReaderGood log sides) readers
+    → AllByRecursion (ReaderGood log sides) (Steps.with_reader r readers)
 put_good log sides r [] good all = (good, tt)
 put_good log sides r (x ∷ readers) good all =
     cond_both (nat_eq x.number r.number) (r ∷ readers) (x ∷ Steps.with_reader r readers) (λ (rs : List Reader). AllByRecursion (ReaderGood log sides) rs)
@@ -57,7 +60,11 @@ look_good reader p c g =
     allowed_good c.up (record c { readers = Steps.with_reader r c.readers }) c
     (λ up.
     let P : List Logged → Type 0 = λ log. RowGood p log c.sides (map (λ s. spot_in s.spots p) c.sides) in
-    let good : ReaderGood c.log c.sides r = record { front = omega arith; row = subst P (sym (take_whole c.log)) (row_good p c.up up c.log (change_in c.hold c.pending) c.hold c.sides g.fits (g.sides p)) } in
+    let good : ReaderGood c.log c.sides r = record {
+      front = omega arith;
+      row = subst P (sym (take_whole c.log))
+          (row_good p c.up up c.log (change_in c.hold c.pending) c.hold c.sides g.fits (g.sides p));
+    } in
     record {
       flags = g.flags;
       readers_up = λ down. absurd (true≢false (sym up ∙ down));
@@ -104,11 +111,13 @@ stopped_good p up log l o false r s g = record {
 
 stopped_fits : (up : Bool) (o : Option Hold) (k r : Bool) (s : Side) → SideFits up o s → SideFits false None (Sides.stopped k r s)
 stopped_fits up o true true s f = let b = settle_bounds s.doubt s f.rows f.most f.copy in record { is_open = λ no. absurd (false≢true no); rows = omega arith; most = b.1; copy = tt; held = tt }
-stopped_fits up o true false s f = let b = settle_bounds s.doubt s f.rows f.most f.copy in record { is_open = λ no. absurd (false≢true no); rows = omega arith; most = omega (arith, b.0, b.1); copy = tt; held = tt }
+stopped_fits up o true false s f =
+    let b = settle_bounds s.doubt s f.rows f.most f.copy in record { is_open = λ no. absurd (false≢true no); rows = omega arith; most = omega (arith, b.0, b.1); copy = tt; held = tt }
 stopped_fits up o false true s f = record { is_open = λ no. absurd (false≢true no); rows = omega arith; most = f.most; copy = tt; held = tt }
 stopped_fits up o false false s f = record { is_open = λ no. absurd (false≢true no); rows = omega arith; most = omega (arith, f.rows, f.most); copy = tt; held = tt }
 
-all_stopped : (P Q : Side → Type 0) → ((k r : Bool) (s : Side) → P s → Q (Sides.stopped k r s)) → (keep rows : List Bool) (sides : List Side) → AllByRecursion P sides → AllByRecursion Q (Steps.stopped_sides keep rows sides)
+all_stopped : (P Q : Side → Type 0) → ((k r : Bool) (s : Side) → P s → Q (Sides.stopped k r s)) → (keep rows : List Bool) (sides : List Side) → AllByRecursion P sides
+    → AllByRecursion Q (Steps.stopped_sides keep rows sides)
 all_stopped P Q h [] rows sides all = tt
 all_stopped P Q h (k ∷ keep) [] sides all = tt
 all_stopped P Q h (k ∷ keep) (r ∷ rows) [] all = tt
@@ -124,7 +133,9 @@ stop_good keep rows c g =
     record {
       flags = λ up f. absurd (false≢true up);
       readers_up = λ down. refl;
-      sides = λ p. all_stopped (λ s. SideGood p c.up c.log (change c) c.hold s) (λ s. SideGood p false c.log (change c) None s) (λ k r s good. stopped_good p c.up c.log (change c) c.hold k r s good) keep rows c.sides (g.sides p);
+      sides =
+          λ p. all_stopped (λ s. SideGood p c.up c.log (change c) c.hold s) (λ s. SideGood p false c.log (change c) None s)
+          (λ k r s good. stopped_good p c.up c.log (change c) c.hold k r s good) keep rows c.sides (g.sides p);
       fits = all_stopped (λ s. SideFits c.up c.hold s) (λ s. SideFits false None s) (λ k r s f. stopped_fits c.up c.hold k r s f) keep rows c.sides g.fits;
       sure = λ down. sure;
       calm = λ f. sure;
@@ -144,7 +155,8 @@ with_rows None rows = sym (append-nil rows)
 with_rows (Some l) rows = refl
 
 -- the whole log and the change, made once more, leave the table
-replayed : (p : Pair) (log : List Logged) (l : Option Logged) (base table : List Row) → look table p ≡ look (with_change l (rows_after log base)) p → look table p ≡ look (with_change l (rows_after log table)) p
+replayed : (p : Pair) (log : List Logged) (l : Option Logged) (base table : List Row) → look table p ≡ look (with_change l (rows_after log base)) p
+    → look table p ≡ look (with_change l (rows_after log table)) p
 replayed p log l base table h =
     let more : List Row = map logged_row log ++ change_rows l in
     let whole : (rows : List Row) → look (with_change l (rows_after log rows)) p ≡ look_after more p (look rows p) = λ rows.
@@ -220,7 +232,8 @@ open_good j c g =
     let fit : AllByRecursion (SideFits false None) S = all_at (λ s. SideFits false None s) Sides.opened
     (λ s f. record { is_open = λ no. absurd (false≢true no); rows = f.rows; most = f.most; copy = f.copy; held = tt }) j c.sides fits in
     let now_sure : AllByRecursion IsSure S = all_at IsSure Sides.opened (λ s h. h) j c.sides sure in
-    let rise : (b : Bool) → Rattle.std.specs.List.list_all (λ s. s.is_open) S ≡ b → CoreGood (Steps.risen b S c) = λ b. elim b as (λ b. Rattle.std.specs.List.list_all (λ s. s.is_open) S ≡ b → CoreGood (Steps.risen b S c)) [
+    let rise : (b : Bool) → Rattle.std.specs.List.list_all (λ s. s.is_open) S ≡ b → CoreGood (Steps.risen b S c) =
+    λ b. elim b as (λ b. Rattle.std.specs.List.list_all (λ s. s.is_open) S ≡ b → CoreGood (Steps.risen b S c)) [
       | true ↦ λ open_all.
           let each = all_open S open_all in
           let F : Option Hold → Type 0 = λ o. HoldFlags o true false None in
@@ -235,7 +248,8 @@ open_good j c g =
                 (weak (λ s. s.is_open ≡ true × (IsSure s × SideGood p false c.log l None s)) (λ s. SideGood p true [] None None s)
                 (λ s all. risen_good p c.log l s all.0 all.1.0 all.1.1) S (all_both (λ s. s.is_open ≡ true) (λ s. IsSure s × SideGood p false c.log l None s) S each (now p)));
             fits = subst Z (sym free) (weak (λ s. s.is_open ≡ true × SideFits false None s) (λ s. SideFits true None s)
-                (λ s all. record { is_open = λ up. all.0; rows = all.1.rows; most = all.1.most; copy = all.1.copy; held = tt }) S (all_both (λ s. s.is_open ≡ true) (λ s. SideFits false None s) S each fit));
+                (λ s all. record { is_open = λ up. all.0; rows = all.1.rows; most = all.1.most; copy = all.1.copy; held = tt }) S
+                (all_both (λ s. s.is_open ≡ true) (λ s. SideFits false None s) S each fit));
             sure = λ no. now_sure;
             calm = λ f. subst C (sym free) now_sure;
             readers = subst R (sym (g.readers_up down)) tt;

@@ -1,5 +1,6 @@
 -- What a call that fails leaves of a side.
-use Rattle.std.proofs.Common.{◌≡◌, ℕ, zero, suc, ◌+◌, ◌-◌, ◌≤◌, Bool, true, false, not, ◌&&◌, cond, List, [], ◌∷◌, ◌++◌, length, take, drop, map, Option, Some, None, refl, sym, ap, ◌∙◌, append_assoc, length-append, length-drop, ◌⊎◌, inl, inr, subst, arith, rules}
+use Rattle.std.proofs.Common.{◌≡◌, ℕ, zero, suc, ◌+◌, ◌-◌, ◌≤◌, Bool, true, false, not, ◌&&◌, cond, List, [], ◌∷◌, ◌++◌, length, take, drop, map, Option, Some, None, refl, sym}
+use Rattle.std.proofs.Common.{ap, ◌∙◌, append_assoc, length-append, length-drop, ◌⊎◌, inl, inr, subst, arith, rules}
 use Rattle.std.proofs.lemmas.Bool.{and_parts, false≢true, true≢false, and_right}
 use Rattle.hay_needle.specs.declared.needle.Pair.{Pair}
 use Rattle.hay_needle.specs.declared.needle.Row.{Row}
@@ -35,7 +36,8 @@ broken_table p rows l s (Repeats q) h = h
 broken_table p rows l s Makes h = h
 broken_table p rows l s (Copies x) h = h
 
-broken_doubt : (p : Pair) (l : Option Logged) (s : Side) (e : Effect) → EffectGood p l s e → DoubtGood p l s.fresh s.current s.doubt → DoubtGood p l (broken e s).fresh (broken e s).current (broken e s).doubt
+broken_doubt : (p : Pair) (l : Option Logged) (s : Side) (e : Effect) → EffectGood p l s e → DoubtGood p l s.fresh s.current s.doubt
+    → DoubtGood p l (broken e s).fresh (broken e s).current (broken e s).doubt
 broken_doubt p l s Quiet good h = h
 broken_doubt p l s (Doubts d) good h = good
 broken_doubt p l s (Settles d) good h = h
@@ -76,14 +78,17 @@ pub record SideHurt (p : Pair) (up : Bool) (log : List Logged) (l : Option Logge
 pub hurt_of : (p : Pair) (up : Bool) (log : List Logged) (l : Option Logged) (o : Option Hold) (s : Side) → SideGood p up log l o s → SideHurt p up log l s
 hurt_of p up log l o s g = record { tabled = g.tabled; mapped = g.mapped; opened = g.opened; doubted = g.doubted }
 
-pub good_of : (p : Pair) (up : Bool) (log : List Logged) (l : Option Logged) (o : Option Hold) (s : Side) → SideHurt p up log l s → (is_deleted o p s ≡ false → CopyGood p s.fresh s.current s.copy) → SideGood p up log l o s
+pub good_of : (p : Pair) (up : Bool) (log : List Logged) (l : Option Logged) (o : Option Hold) (s : Side) → SideHurt p up log l s
+    → (is_deleted o p s ≡ false → CopyGood p s.fresh s.current s.copy) → SideGood p up log l o s
 good_of p up log l o s g copied = record { tabled = g.tabled; mapped = g.mapped; opened = g.opened; doubted = g.doubted; copied = copied }
 
 -- with other values of the copy and the turn
-pub hurt_again : (p : Pair) (up : Bool) (log : List Logged) (l : Option Logged) (s : Side) (copy progress : Option ℕ) → SideHurt p up log l s → SideHurt p up log l (record s { copy = copy; progress = progress })
+pub hurt_again : (p : Pair) (up : Bool) (log : List Logged) (l : Option Logged) (s : Side) (copy progress : Option ℕ) → SideHurt p up log l s
+    → SideHurt p up log l (record s { copy = copy; progress = progress })
 hurt_again p up log l s copy progress g = record { tabled = g.tabled; mapped = g.mapped; opened = g.opened; doubted = g.doubted }
 
-broken_hurt : (up : Bool) → up ≡ true → (p : Pair) (log : List Logged) (l : Option Logged) (o : Option Hold) (s : Side) (e : Effect) → EffectGood p l s e → SideGood p up log l o s → SideHurt p up log l (broken e s)
+broken_hurt : (up : Bool) → up ≡ true → (p : Pair) (log : List Logged) (l : Option Logged) (o : Option Hold) (s : Side) (e : Effect) → EffectGood p l s e → SideGood p up log l o s
+    → SideHurt p up log l (broken e s)
 broken_hurt up is_up p log l o s e good g =
     let stays = broken_stays e s in
     let P : List Row → Type 0 = λ base. look (rows_of (broken e s).current) p ≡ look (with_change (settled_change (broken e s).settled l) (rows_after log base)) p in
@@ -117,7 +122,8 @@ not_deleting (work.Step side cells) p s f = refl
 not_deleting (work.Finish side) p s f = refl
 
 -- the copy of a side where the holding fails alone, and where it goes on
-pub harm_copy : (p : Pair) (w : Work) (e : Effect) (s : Side) (x : Harm) → CopyGood p s.fresh s.current s.copy → CopyGood p (after_harm w x e s).fresh (after_harm w x e s).current (after_harm w x e s).copy
+pub harm_copy : (p : Pair) (w : Work) (e : Effect) (s : Side) (x : Harm) → CopyGood p s.fresh s.current s.copy
+    → CopyGood p (after_harm w x e s).fresh (after_harm w x e s).current (after_harm w x e s).copy
 harm_copy p w e s Freezes h = broken_copy p s e h
 harm_copy p w e s Fails h = broken_copy p s e h
 harm_copy p w e s Ends h = tt
@@ -134,7 +140,8 @@ again_copy p s Makes f = absurd (false≢true f)
 again_copy p s (Copies x) f = absurd (false≢true f)
 
 -- a failed repeat ends the copy, and a failed removal leaves it
-pub on_copy : (p : Pair) (w : Work) (s : Side) (e : Effect) → (b : Bool) → changes w ≡ b → cond b (is_again e) (is_quiet e) ≡ true → (is_deleting w p s ≡ false → CopyGood p s.fresh s.current s.copy) → CopyGood p (broken e s).fresh (broken e s).current (broken e s).copy
+pub on_copy : (p : Pair) (w : Work) (s : Side) (e : Effect) → (b : Bool) → changes w ≡ b → cond b (is_again e) (is_quiet e) ≡ true
+    → (is_deleting w p s ≡ false → CopyGood p s.fresh s.current s.copy) → CopyGood p (broken e s).fresh (broken e s).current (broken e s).copy
 on_copy p w s e true is f h = again_copy p s e f
 on_copy p w s e false is f h = broken_copy p s e (h (not_deleting w p s is))
 
@@ -158,7 +165,8 @@ on_settled false (Copies x) s f h = absurd (false≢true f)
 
 -- the counts behind a call that fails
 harm_bounds : (w : Work) (e : Effect) (s : Side) (x : Harm) → s.rows ≤ s.most → s.most ≤ length s.current → CopyFits (length s.current) s.copy
-    → ((after_harm w x e s).rows ≤ (after_harm w x e s).most) × ((after_harm w x e s).most ≤ length (after_harm w x e s).current) × CopyFits (length (after_harm w x e s).current) (after_harm w x e s).copy
+    → ((after_harm w x e s).rows ≤ (after_harm w x e s).most) × ((after_harm w x e s).most ≤ length (after_harm w x e s).current)
+    × CopyFits (length (after_harm w x e s).current) (after_harm w x e s).copy
 harm_bounds w e s Freezes a b c = broken_bounds s e a b c
 harm_bounds w e s Fails a b c = broken_bounds s e a b c
 harm_bounds w e s Ends a b c = let h = broken_bounds s e a b c in (h.0, h.1, tt)
@@ -170,7 +178,8 @@ harm_open w e s Fails = (broken_stays e s).is_open
 harm_open w e s Ends = (broken_stays e s).is_open
 harm_open w e s GoesOn = (broken_stays e s).is_open
 
-pub side_fits_failed : (up : Bool) (h : Hold) (o : Option Hold) (s : Side) (c : DeviceCall) → call_of h.work s ≡ Some c → SideFits up (Some h) s → HeldGood o (after_failed h.work c s) → SideFits up o (after_failed h.work c s)
+pub side_fits_failed : (up : Bool) (h : Hold) (o : Option Hold) (s : Side) (c : DeviceCall) → call_of h.work s ≡ Some c → SideFits up (Some h) s
+    → HeldGood o (after_failed h.work c s) → SideFits up o (after_failed h.work c s)
 side_fits_failed up h o s c e fits held =
     let bounds = harm_bounds h.work c.effect s c.harm fits.rows fits.most fits.copy in
     record { is_open = λ is. harm_open h.work c.effect s c.harm ∙ fits.is_open is; rows = bounds.0; most = bounds.1; copy = bounds.2; held = held }

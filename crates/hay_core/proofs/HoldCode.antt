@@ -24,13 +24,15 @@ harm_of o = option_map (λ call. call.harm) o
 first_alike : (a b : Side) (xs : List Side) → a ∷ [] ≡ b ∷ [] → a ∷ xs ≡ b ∷ xs
 first_alike a b xs e = ap (λ (ys : List Side). ys ++ xs) e
 
-meets : (w : Work) (f : DeviceCall → Side → Side) (s t : Side) (rest : List Side) (o : Option DeviceCall) → t ∷ [] ≡ put_first o f s [] [] → t ∷ left w f (harm_of o) rest ≡ put_first o f s rest (at_first w f rest)
+meets : (w : Work) (f : DeviceCall → Side → Side) (s t : Side) (rest : List Side) (o : Option DeviceCall) → t ∷ [] ≡ put_first o f s [] []
+    → t ∷ left w f (harm_of o) rest ≡ put_first o f s rest (at_first w f rest)
 meets w f s t rest None e = first_alike t s (at_first w f rest) e
 meets w f s t rest (Some call) e = first_alike t (f call s) rest e
 
 -- no call was met yet
 pub sides_met : (w : Work) (f : DeviceCall → Side → Side) (before list whole : List Side) (i : ℕ) (s t : Side) (harm : Option Harm) → i < length list → s ≡ get_or list i s
-    → t ∷ [] ≡ at_first w f (s ∷ []) → harm ≡ option_map (λ call. call.harm) (call_of w s) → before ++ at_first w f (drop i list) ≡ whole → (before ++ t ∷ []) ++ left w f harm (drop (i + 1) list) ≡ whole
+    → t ∷ [] ≡ at_first w f (s ∷ []) → harm ≡ option_map (λ call. call.harm) (call_of w s) → before ++ at_first w f (drop i list) ≡ whole
+    → (before ++ t ∷ []) ++ left w f harm (drop (i + 1) list) ≡ whole
 sides_met w f before list whole i s t harm h is made harm_is e =
     append_assoc before (t ∷ []) (left w f harm (drop (i + 1) list))
     ∙ ap (λ (o : Option Harm). before ++ t ∷ left w f o (drop (i + 1) list)) harm_is

@@ -1,5 +1,6 @@
 -- What the beginning of a holding keeps of a volume, a publish, and the end.
-use Rattle.std.proofs.Common.{◌≡◌, ℕ, zero, suc, ◌+◌, ◌-◌, ◌≤◌, Bool, true, false, not, ◌&&◌, ◌||◌, cond, min, List, [], ◌∷◌, ◌++◌, length, drop, map, Option, Some, None, refl, sym, ap, ◌∙◌, append_assoc, inl, inr, subst, arith}
+use Rattle.std.proofs.Common.{◌≡◌, ℕ, zero, suc, ◌+◌, ◌-◌, ◌≤◌, Bool, true, false, not, ◌&&◌, ◌||◌, cond, min, List, [], ◌∷◌, ◌++◌, length, drop, map, Option, Some, None, refl}
+use Rattle.std.proofs.Common.{sym, ap, ◌∙◌, append_assoc, inl, inr, subst, arith}
 use Rattle.std.specs.Prelude.{is_some}
 use Rattle.std.specs.List.{AllByRecursion}
 use Rattle.std.proofs.lemmas.List.{append-nil, map-append, drop-drop}
@@ -28,7 +29,8 @@ use Rattle.hay_core.specs.Sides
 use Rattle.hay_core.specs.Sides.{settle, made, broken, files_of, with_progress, next_progress, after_ok, after_failed, after_harm, no_copy}
 use Rattle.hay_core.specs.Calls.{call_of, call_from, call_at, copy_next}
 use Rattle.hay_core.specs.Steps
-use Rattle.hay_core.specs.Steps.{Stepped, allowed, change, change_in, change_of, at_first, put_first, first_call, first_of_two, device_ok, device_failed, read_failed, publish, end_hold, begin, look_up, stop, open_call, after_event, after_events}
+use Rattle.hay_core.specs.Steps.{Stepped, allowed, change, change_in, change_of, at_first, put_first, first_call, first_of_two, device_ok, device_failed, read_failed, publish}
+use Rattle.hay_core.specs.Steps.{end_hold, begin, look_up, stop, open_call, after_event, after_events}
 use Rattle.hay_core.specs.declared.machine.Core.{Core}
 use Rattle.hay_core.proofs.HarmLaws.{SideHurt, hurt_of, good_of, hurt_again}
 use Rattle.hay_core.specs.Goodness.{CoreGood, HoldFlags, CalmIn, CalmHold, Shows, with_change, settled_change, DoubtGood, CopyGood, CopyFits, SideGood, SideFits, is_deleting, is_behind, IsSure}
@@ -67,7 +69,8 @@ left_out p tag (work.Start side) j s rows f h = h p refl
 left_out p tag (work.Step side cells) j s rows f h = h p refl
 left_out p tag (work.Finish side) j s rows f h = h p refl
 
-begun_hurt : (p : Pair) (up : Bool) (log : List Logged) (tag : CoreTag) (w : Work) (j : ℕ) (s : Side) → look (rows_of s.current) p ≡ look (rows_after log s.base) p → DoubtGood p (change_of tag w) s.fresh s.current s.doubt
+begun_hurt : (p : Pair) (up : Bool) (log : List Logged) (tag : CoreTag) (w : Work) (j : ℕ) (s : Side) → look (rows_of s.current) p ≡ look (rows_after log s.base) p
+    → DoubtGood p (change_of tag w) s.fresh s.current s.doubt
     → SideGood p up log None None s → (part : Bool) → Steps.takes_part w j s ≡ part → SideHurt p up log (change_of tag w) (Steps.begun_side part s)
 begun_hurt p up log tag w j s table doubted g true is = record { tabled = table; mapped = g.mapped; opened = g.opened; doubted = doubted }
 begun_hurt p up log tag w j s table doubted g false is = record {
@@ -84,8 +87,15 @@ begun_good p up log tag w h j s sure g part is =
     let D : Doubt → Type 0 = λ d. DoubtGood p (change_of tag w) s.fresh s.current d in
     good_of p up log (change_of tag w) (Some h) (Steps.begun_side part s) (begun_hurt p up log tag w j s table (subst D (sym sure) tt) g part is) (λ f. g.copied refl)
 
-begun_fits : (up : Bool) (w : Work) (tag : CoreTag) (s : Side) → SideFits up None s → (part : Bool) → SideFits up (Some (record { tag = tag; work = w; failed = false; published = false })) (Steps.begun_side part s)
-begun_fits up w tag s f true = record { is_open = f.is_open; rows = f.rows; most = f.most; copy = f.copy; held = λ ok. record { settled = λ b. absurd (false≢true (sym (first w) ∙ b)); all_made = λ out. absurd (false≢true out) } }
+begun_fits : (up : Bool) (w : Work) (tag : CoreTag) (s : Side) → SideFits up None s → (part : Bool)
+    → SideFits up (Some (record { tag = tag; work = w; failed = false; published = false })) (Steps.begun_side part s)
+begun_fits up w tag s f true = record {
+  is_open = f.is_open;
+  rows = f.rows;
+  most = f.most;
+  copy = f.copy;
+  held = λ ok. record { settled = λ b. absurd (false≢true (sym (first w) ∙ b)); all_made = λ out. absurd (false≢true out) };
+}
   where
     first : (w : Work) → is_behind w (Some 0) ≡ false
     first (work.Put pair photo) = refl
@@ -96,12 +106,14 @@ begun_fits up w tag s f true = record { is_open = f.is_open; rows = f.rows; most
     first (work.Finish side) = refl
 begun_fits up w tag s f false = record { is_open = f.is_open; rows = f.rows; most = f.most; copy = f.copy; held = λ ok. record { settled = λ b. refl; all_made = λ out. absurd (false≢true out) } }
 
-begun_goods : (p : Pair) (up : Bool) (log : List Logged) (tag : CoreTag) (w : Work) (h : Hold) (j : ℕ) (sides : List Side) → AllByRecursion IsSure sides → AllByRecursion (SideGood p up log None None) sides
+begun_goods : (p : Pair) (up : Bool) (log : List Logged) (tag : CoreTag) (w : Work) (h : Hold) (j : ℕ) (sides : List Side) → AllByRecursion IsSure sides
+    → AllByRecursion (SideGood p up log None None) sides
     → AllByRecursion (SideGood p up log (change_of tag w) (Some h)) (Steps.begun_sides w j sides)
 begun_goods p up log tag w h j [] sure all = tt
 begun_goods p up log tag w h j (s ∷ sides) sure all = (begun_good p up log tag w h j s sure.0 all.0 (Steps.takes_part w j s) refl, begun_goods p up log tag w h (j + 1) sides sure.1 all.1)
 
-begun_fit : (up : Bool) (w : Work) (tag : CoreTag) (j : ℕ) (sides : List Side) → AllByRecursion (SideFits up None) sides → AllByRecursion (SideFits up (Some (record { tag = tag; work = w; failed = false; published = false }))) (Steps.begun_sides w j sides)
+begun_fit : (up : Bool) (w : Work) (tag : CoreTag) (j : ℕ) (sides : List Side) → AllByRecursion (SideFits up None) sides
+    → AllByRecursion (SideFits up (Some (record { tag = tag; work = w; failed = false; published = false }))) (Steps.begun_sides w j sides)
 begun_fit up w tag j [] all = tt
 begun_fit up w tag j (s ∷ sides) all = (begun_fits up w tag s all.0 (Steps.takes_part w j s), begun_fit up w tag (j + 1) sides all.1)
 
@@ -195,7 +207,8 @@ logged log base None = ap (λ (log : List Logged). rows_after log base) (append-
 logged log base (Some m) =
     ap (λ (rows : List Row). base ++ rows) (map-append logged_row log (m ∷ [])) ∙ sym (append_assoc base (map logged_row log) (logged_row m ∷ []))
 
-told_spots : (p : Pair) (log : List Logged) (tag : CoreTag) (w : Work) (s : Side) → s.is_open ≡ true → look (rows_of s.current) p ≡ look (rows_after (log ++ Steps.entry_list (change_of tag w)) s.base) p
+told_spots : (p : Pair) (log : List Logged) (tag : CoreTag) (w : Work) (s : Side) → s.is_open ≡ true
+    → look (rows_of s.current) p ≡ look (rows_after (log ++ Steps.entry_list (change_of tag w)) s.base) p
     → Shows s (spot_in s.spots p) (look (rows_after log s.base) p) → Shows s (spot_in (Steps.publish_pair w s).spots p) (look (rows_after (log ++ Steps.entry_list (change_of tag w)) s.base) p)
 told_spots p log tag (work.Put pair photo) s is now h =
     let m : Logged = record { tag = tag; entry = entry.Put pair photo.cookie photo.bytes } in
@@ -231,7 +244,8 @@ told_spots p log tag (work.Step side cells) s is now h = let Q : List Logged →
 told_spots p log tag (work.Finish side) s is now h =
     let Q : List Logged → Type 0 = λ log. Shows s (spot_in s.spots p) (look (rows_after log s.base) p) in
     let S : Outcome → Type 0 = λ o. Shows s (spot_in (spots_of (length s.past) 0 s.current) p) o in
-    cond_both (Sides.has_part s) (Sides.map_now s) s (λ (t : Side). Shows s (spot_in t.spots p) (look (rows_after (log ++ []) s.base) p)) (λ b. subst S now (spots_show s.past s.current p)) (λ b. subst Q (sym (append-nil log)) h)
+    cond_both (Sides.has_part s) (Sides.map_now s) s (λ (t : Side). Shows s (spot_in t.spots p) (look (rows_after (log ++ []) s.base) p))
+    (λ b. subst S now (spots_show s.past s.current p)) (λ b. subst Q (sym (append-nil log)) h)
 
 -- what a publish leaves of a side: its map alone
 published_as : (w : Work) (s : Side) → Steps.publish_pair w s ≡ record s { spots = (Steps.publish_pair w s).spots }
@@ -250,7 +264,8 @@ none_deleting (work.Start side) p s e = refl
 none_deleting (work.Step side cells) p s e = refl
 none_deleting (work.Finish side) p s e = refl
 
-published_good : (p : Pair) (up : Bool) → up ≡ true → (log : List Logged) (h k : Hold) → h.failed ≡ false → (s : Side) → call_of h.work s ≡ None → IsSure s → SideFits up (Some h) s → SideGood p up log (change_of h.tag h.work) (Some h) s
+published_good : (p : Pair) (up : Bool) → up ≡ true → (log : List Logged) (h k : Hold) → h.failed ≡ false → (s : Side) → call_of h.work s ≡ None → IsSure s → SideFits up (Some h) s
+    → SideGood p up log (change_of h.tag h.work) (Some h) s
     → SideGood p up (log ++ Steps.entry_list (change_of h.tag h.work)) None (Some k) (record s { spots = (Steps.publish_pair h.work s).spots })
 published_good p up is_up log h k ok s none sure fits g =
     let l = change_of h.tag h.work in
@@ -274,7 +289,8 @@ published_good p up is_up log h k ok s none sure fits g =
       copied = λ f. g.copied (and_right (not h.failed) (is_deleting h.work p s) (none_deleting h.work p s none));
     }
 
-published_fits : (up : Bool) (h k : Hold) → k.work ≡ h.work → h.failed ≡ false → (s : Side) → call_of h.work s ≡ None → SideFits up (Some h) s → SideFits up (Some k) (record s { spots = (Steps.publish_pair h.work s).spots })
+published_fits : (up : Bool) (h k : Hold) → k.work ≡ h.work → h.failed ≡ false → (s : Side) → call_of h.work s ≡ None → SideFits up (Some h) s
+    → SideFits up (Some k) (record s { spots = (Steps.publish_pair h.work s).spots })
 published_fits up h k same ok s none f =
     let t : Side = record s { spots = (Steps.publish_pair h.work s).spots } in
     let P : Work → Type 0 = λ w. is_behind w s.progress ≡ true → s.settled ≡ true in
@@ -349,7 +365,8 @@ drop_min a xs =
       | inr large ↦ let e : min a (length xs) ≡ length xs = omega arith in ap (λ k. drop k xs) e ∙ drop_all (length xs) xs (omega arith) ∙ sym (drop_all a xs large)
     ]
 
-step_end : (p : Pair) (fresh current : List Needle) (n budget : ℕ) → copy_next budget (drop n current) ≡ None → CopiesAt p fresh current n → CopiesAt p fresh current (min (n + budget) (length current))
+step_end : (p : Pair) (fresh current : List Needle) (n budget : ℕ) → copy_next budget (drop n current) ≡ None → CopiesAt p fresh current n
+    → CopiesAt p fresh current (min (n + budget) (length current))
 step_end p fresh current n budget e h =
     let follows : Follows p (drop n current) (look (rows_of fresh) p) (look (rows_of current) p) = (sym (rows_append fresh (drop n current) p outcome.Nothing) ∙ h.table, h.gone) in
     let passed = some_passed budget (drop n current) p (look (rows_of fresh) p) (look (rows_of current) p) e follows in
@@ -368,7 +385,8 @@ ended_copied p (work.Start side) s e h = h
 ended_copied p (work.Finish side) s e h = h
 ended_copied p (work.Step side cells) s e h = at s.progress s.copy e h
   where
-    at : (t o : Option ℕ) → Calls.call_from (work.Step side cells) t (record s { copy = o }) ≡ None → CopyGood p s.fresh s.current o → CopyGood p s.fresh s.current (Sides.passed_by t o cells (length s.current))
+    at : (t o : Option ℕ) → Calls.call_from (work.Step side cells) t (record s { copy = o }) ≡ None → CopyGood p s.fresh s.current o
+        → CopyGood p s.fresh s.current (Sides.passed_by t o cells (length s.current))
     at None o e h = h
     at (Some t) None e h = tt
     at (Some t) (Some n) e h = step_end p s.fresh s.current n (cells - t) (copy_none (copy_next (cells - t) (drop n s.current)) e) h

@@ -135,7 +135,14 @@ goes_on event.ReadFailed c g = inl (read_on c c.hold)
 goes_on event.Publish c g = inl (publish_on c c.hold)
 goes_on event.EndHold c g = inl (end_on c c.hold)
 goes_on (event.Look number pair) c g =
-    let next : Core = record c { readers = Steps.with_reader (record { number = number; pair = pair; front = length c.log; row = map (λ s. Rattle.hay_core.specs.Spots.spot_in s.spots pair) c.sides }) c.readers } in
+    let next : Core = record c {
+      readers = Steps.with_reader (record {
+        number = number;
+        pair = pair;
+        front = length c.log;
+        row = map (λ s. Rattle.hay_core.specs.Spots.spot_in s.spots pair) c.sides;
+      }) c.readers;
+    } in
     inl (by_allowed (λ d. GoesOnFrom c d) c.up next c (same_log c next refl refl) (still c))
 goes_on (event.Fetch number replica) c g = inl (by (Steps.reader_by number c.readers))
   where
@@ -161,7 +168,8 @@ shown_by false next c o e = absurd cc
 
 pub shows_by_fetch : (e : Event) (c : Core) (o : Outcome) → (after_event c e).reply ≡ Shown o → (number : ℕ) × (replica : ℕ) × (e ≡ event.Fetch number replica)
 shows_by_fetch (event.Begin tag w) c o e =
-    absurd (shown_by (c.up && (not (is_some c.hold) && (not c.frozen && Steps.can_begin w c.sides))) (record c { hold = Some (record { tag = tag; work = w; failed = false; published = false }); sides = Steps.begun_sides w 0 c.sides }) c o e)
+    absurd (shown_by (c.up && (not (is_some c.hold) && (not c.frozen && Steps.can_begin w c.sides)))
+    (record c { hold = Some (record { tag = tag; work = w; failed = false; published = false }); sides = Steps.begun_sides w 0 c.sides }) c o e)
 shows_by_fetch event.DeviceOk c o e = absurd (by c.hold e)
   where
     go : (h : Hold) (x : Option DeviceCall) → (device_ok_by h x c).reply ≡ Shown o → ⊥
@@ -198,10 +206,18 @@ shows_by_fetch event.EndHold c o e = absurd (by c.hold e)
     by (Some h) e = shown_by (h.failed || (not (is_some (Steps.first_call h.work c.sides)) && (h.published || not (Steps.publishes h.work))))
         (record c { sides = map (Sides.ended h.work h.failed) c.sides; hold = None; pending = Steps.change_in (Some h) c.pending }) c o e
 shows_by_fetch (event.Look number pair) c o e =
-    absurd (shown_by c.up (record c { readers = Steps.with_reader (record { number = number; pair = pair; front = length c.log; row = map (λ s. Rattle.hay_core.specs.Spots.spot_in s.spots pair) c.sides }) c.readers }) c o e)
+    absurd (shown_by c.up (record c {
+      readers = Steps.with_reader (record {
+        number = number;
+        pair = pair;
+        front = length c.log;
+        row = map (λ s. Rattle.hay_core.specs.Spots.spot_in s.spots pair) c.sides;
+      }) c.readers;
+    }) c o e)
 shows_by_fetch (event.Fetch number replica) c o e = (number, replica, refl)
 shows_by_fetch (event.Stop keep rows) c o e =
-    absurd (shown_by (nat_eq (length keep) (length c.sides) && nat_eq (length rows) (length c.sides)) (record c { sides = Steps.stopped_sides keep rows c.sides; hold = None; readers = []; pending = Steps.change c; up = false }) c o e)
+    absurd (shown_by (nat_eq (length keep) (length c.sides) && nat_eq (length rows) (length c.sides))
+    (record c { sides = Steps.stopped_sides keep rows c.sides; hold = None; readers = []; pending = Steps.change c; up = false }) c o e)
 shows_by_fetch (event.OpenCall j) c o e =
     let sides : List Side = Steps.at_side j Sides.opened c.sides in
     absurd (shown_by (Steps.side_passes j (λ s. not s.is_open) c.sides) (risen (list_all (λ s. s.is_open) sides) sides c) c o e)

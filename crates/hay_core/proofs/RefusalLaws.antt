@@ -175,7 +175,8 @@ start_sure : (side : ℕ) (sides : List Side) → Calm (work.Start side) sides �
 start_sure side [] h = tt
 start_sure side (s ∷ sides) h = go (call_of (work.Start side) s) refl h (λ h. start_sure side sides h)
   where
-    go : (o : Option DeviceCall) → call_of (work.Start side) s ≡ o → CalmAt o s sides (Calm (work.Start side) sides) → (Calm (work.Start side) sides → AllByRecursion IsSure sides) → IsSure s × AllByRecursion IsSure sides
+    go : (o : Option DeviceCall) → call_of (work.Start side) s ≡ o → CalmAt o s sides (Calm (work.Start side) sides) → (Calm (work.Start side) sides → AllByRecursion IsSure sides)
+        → IsSure s × AllByRecursion IsSure sides
     go None e h later = (h.0, later h.1)
     go (Some c) e h later = (h.0 (start_settles side s c s.progress e), h.1)
 

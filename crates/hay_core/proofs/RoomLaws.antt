@@ -91,9 +91,11 @@ copied_is (Some x) c e = let same : Calls.call Ends (Copies x) ≡ c = cc in (x,
 pub early : (w : Work) (s : Side) (t : ℕ) (c : DeviceCall) → call_from w (Some t) s ≡ Some c → (may_copy w && is_copies c.effect) ≡ false → t < 8
 early (work.Put pair photo) s t c e f = short (Calls.put_calls (Calls.live_needle pair photo)) t c (omega arith) e
 early (work.Del q) s t c e f =
-    short (Calls.delete_calls q s) t c (cond_both (is_some s.copy && not (lacks q s.fresh)) (Calls.call GoesOn (Repeats q) ∷ []) [] (λ (cs : List DeviceCall). suc (suc (length cs)) ≤ 8) (λ t. omega arith) (λ t. omega arith)) e
+    short (Calls.delete_calls q s) t c (cond_both (is_some s.copy && not (lacks q s.fresh)) (Calls.call GoesOn (Repeats q) ∷ []) []
+    (λ (cs : List DeviceCall). suc (suc (length cs)) ≤ 8) (λ t. omega arith) (λ t. omega arith)) e
 early (work.Flush side) s t c e f =
-    short (Calls.flush_calls s) t c (cond_both (nat_lt s.rows (length s.current)) (Calls.gated Fails MarksRows SettlesRows) [] (λ (cs : List DeviceCall). length cs ≤ 8) (λ t. omega arith) (λ t. omega arith)) e
+    short (Calls.flush_calls s) t c (cond_both (nat_lt s.rows (length s.current)) (Calls.gated Fails MarksRows SettlesRows) [] (λ (cs : List DeviceCall). length cs ≤ 8)
+    (λ t. omega arith) (λ t. omega arith)) e
 early (work.Start side) s t c e f = short Calls.start_calls t c (omega arith) e
 early (work.Step side cells) s t c e f = by s.copy e
   where
@@ -161,11 +163,18 @@ examined_fits w s (Some t) c n x e copy is = by w e
     by : (w : Work) → call_from w (Some t) s ≡ Some c → n + x.passed ≤ length s.current
     by (work.Put pair photo) e = apart (slice_all (λ d. is_copies d.effect ≡ false) (Calls.put_calls (Calls.live_needle pair photo)) t c (refl, (refl, (refl, (refl, tt)))) e)
     by (work.Del q) e =
-        apart (slice_all (λ d. is_copies d.effect ≡ false) (Calls.delete_calls q s) t c
-        (refl, (refl, cond_both (is_some s.copy && not (lacks q s.fresh)) (Calls.call GoesOn (Repeats q) ∷ []) [] (λ (cs : List DeviceCall). AllByRecursion (λ d. is_copies d.effect ≡ false) cs) (λ t. (refl, tt)) (λ t. tt))) e)
+        apart (slice_all (λ d. is_copies d.effect ≡ false) (Calls.delete_calls q s) t c (
+          refl,
+          (
+            refl,
+            cond_both (is_some s.copy && not (lacks q s.fresh)) (Calls.call GoesOn (Repeats q) ∷ []) []
+                (λ (cs : List DeviceCall). AllByRecursion (λ d. is_copies d.effect ≡ false) cs) (λ t. (refl, tt)) (λ t. tt),
+          ),
+        ) e)
     by (work.Flush side) e =
         apart (slice_all (λ d. is_copies d.effect ≡ false) (Calls.flush_calls s) t c
-        (cond_both (nat_lt s.rows (length s.current)) (Calls.gated Fails MarksRows SettlesRows) [] (λ (cs : List DeviceCall). AllByRecursion (λ d. is_copies d.effect ≡ false) cs) (λ t. (refl, (refl, (refl, (refl, tt))))) (λ t. tt)) e)
+        (cond_both (nat_lt s.rows (length s.current)) (Calls.gated Fails MarksRows SettlesRows) [] (λ (cs : List DeviceCall). AllByRecursion (λ d. is_copies d.effect ≡ false) cs)
+        (λ t. (refl, (refl, (refl, (refl, tt))))) (λ t. tt)) e)
     by (work.Start side) e = apart (slice_all (λ d. is_copies d.effect ≡ false) Calls.start_calls t c (refl, (refl, (refl, (refl, tt)))) e)
     by (work.Step side cells) e = stepping (cells - t) s.copy refl e
     by (work.Finish side) e = finishing s.copy refl e

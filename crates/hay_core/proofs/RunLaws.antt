@@ -36,11 +36,13 @@ pub events_push : (c : Core) (es : List Event) (e : Event) → after_events c (e
 events_push c [] e = refl
 events_push c (x ∷ es) e = events_push (after_event c x).core es e
 
-pub going_on : (start now next : Core) (es : List Event) (i : ℕ) (e : Event) → i < length es → e ≡ get_or es i e → next ≡ (after_event now e).core → after_events now (drop i es) ≡ after_events start es → after_events next (drop (i + 1) es) ≡ after_events start es
+pub going_on : (start now next : Core) (es : List Event) (i : ℕ) (e : Event) → i < length es → e ≡ get_or es i e → next ≡ (after_event now e).core
+    → after_events now (drop i es) ≡ after_events start es → after_events next (drop (i + 1) es) ≡ after_events start es
 going_on start now next es i e h is step left =
     ap (λ (c : Core). after_events c (drop (i + 1) es)) step ∙ ap (λ (xs : List Event). after_events now xs) (sym (next_left es i e h is)) ∙ left
 
-pub replied : (start now next : Core) (es : List Event) (i : ℕ) (e : Event) (before : List CoreReply) (r : CoreReply) → i < length es → e ≡ get_or es i e → next ≡ (after_event now e).core → r ≡ (after_event now e).reply
+pub replied : (start now next : Core) (es : List Event) (i : ℕ) (e : Event) (before : List CoreReply) (r : CoreReply) → i < length es → e ≡ get_or es i e
+    → next ≡ (after_event now e).core → r ≡ (after_event now e).reply
     → before ++ replies_to now (drop i es) ≡ replies_to start es → (before ++ r ∷ []) ++ replies_to next (drop (i + 1) es) ≡ replies_to start es
 replied start now next es i e before r h is step reply left =
     append_assoc before (r ∷ []) (replies_to next (drop (i + 1) es))
@@ -48,7 +50,8 @@ replied start now next es i e before r h is step reply left =
     ∙ ap (λ (x : CoreReply). before ++ x ∷ replies_to (after_event now e).core (drop (i + 1) es)) reply
     ∙ ap (λ (xs : List Event). before ++ replies_to now xs) (sym (next_left es i e h is)) ∙ left
 
-pub so_far : (start now next : Core) (es : List Event) (i : ℕ) (e : Event) → i < length es → e ≡ get_or es i e → next ≡ (after_event now e).core → now ≡ after_events start (take i es) → next ≡ after_events start (take (i + 1) es)
+pub so_far : (start now next : Core) (es : List Event) (i : ℕ) (e : Event) → i < length es → e ≡ get_or es i e → next ≡ (after_event now e).core
+    → now ≡ after_events start (take i es) → next ≡ after_events start (take (i + 1) es)
 so_far start now next es i e h is step so =
     step ∙ ap (λ (c : Core). (after_event c e).core) so ∙ sym (events_push start (take i es) e) ∙ ap (λ (xs : List Event). after_events start xs) (sym (next_done es i e h is))
 
@@ -111,7 +114,8 @@ opened_at c j done = go (Steps.side_passes j (λ s. not s.is_open) c.sides) refl
     sides : List Side
     sides = Steps.at_side j Sides.opened c.sides
 
-    found : (j : ℕ) (sides : List Side) → Steps.side_passes j (λ s. not s.is_open) sides ≡ true → (s : Side) × (slice_get sides j ≡ Some s) × (slice_get (Steps.at_side j Sides.opened sides) j ≡ Some (Sides.opened s))
+    found : (j : ℕ) (sides : List Side) → Steps.side_passes j (λ s. not s.is_open) sides ≡ true
+        → (s : Side) × (slice_get sides j ≡ Some s) × (slice_get (Steps.at_side j Sides.opened sides) j ≡ Some (Sides.opened s))
     found j [] e = absurd (true≢false (sym e))
     found zero (s ∷ sides) e = (s, refl, refl)
     found (suc j) (s ∷ sides) e = found j sides e
@@ -120,8 +124,10 @@ opened_at c j done = go (Steps.side_passes j (λ s. not s.is_open) c.sides) refl
     risen_sides true sides = refl
     risen_sides false sides = refl
 
-    go : (b : Bool) → Steps.side_passes j (λ s. not s.is_open) c.sides ≡ b → (Steps.allowed b (Steps.risen (list_all (λ s. s.is_open) (Steps.at_side j Sides.opened c.sides)) (Steps.at_side j Sides.opened c.sides) c) c).reply ≡ Done
-        → (s : Side) × (slice_get c.sides j ≡ Some s) × (slice_get (Steps.allowed b (Steps.risen (list_all (λ s. s.is_open) (Steps.at_side j Sides.opened c.sides)) (Steps.at_side j Sides.opened c.sides) c) c).core.sides j ≡ Some (Sides.opened s))
+    go : (b : Bool) → Steps.side_passes j (λ s. not s.is_open) c.sides ≡ b → (Steps.allowed b
+        (Steps.risen (list_all (λ s. s.is_open) (Steps.at_side j Sides.opened c.sides)) (Steps.at_side j Sides.opened c.sides) c) c).reply ≡ Done
+        → (s : Side) × (slice_get c.sides j ≡ Some s) × (slice_get (Steps.allowed b (Steps.risen (list_all (λ s. s.is_open) (Steps.at_side j Sides.opened c.sides))
+        (Steps.at_side j Sides.opened c.sides) c) c).core.sides j ≡ Some (Sides.opened s))
     go false e done = absurd cc
     go true e done =
         let at = found j c.sides e in

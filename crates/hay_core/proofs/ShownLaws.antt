@@ -22,7 +22,8 @@ use Rattle.hay_core.specs.Goodness.{CoreGood, HoldLogged, ReaderGood, RowGood, S
 use Rattle.hay_core.specs.Runs.{ShowsFront}
 use Rattle.hay_core.proofs.EventLaws.{shows_is}
 
-row_at : (p : Pair) (log : List Logged) (sides : List Side) (row : List Spot) (j : ℕ) (s : Side) (x : Spot) → RowGood p log sides row → slice_get sides j ≡ Some s → slice_get row j ≡ Some x → Shows s x (look (rows_after log s.base) p)
+row_at : (p : Pair) (log : List Logged) (sides : List Side) (row : List Spot) (j : ℕ) (s : Side) (x : Spot) → RowGood p log sides row → slice_get sides j ≡ Some s
+    → slice_get row j ≡ Some x → Shows s x (look (rows_after log s.base) p)
 row_at p log [] row j s x h a b = absurd cc
 row_at p log (t ∷ sides) [] j s x h a b = absurd h
 row_at p log (t ∷ sides) (y ∷ row) zero s x h a b =
@@ -47,13 +48,21 @@ seen_at P reader (x ∷ readers) r all e =
 pub fetch_shows : (reader replica : ℕ) (c : Core) (o : Outcome) → CoreGood c → (after_event c (event.Fetch reader replica)).reply ≡ Shown o → ShowsFront c reader replica o
 fetch_shows reader replica c o g e = by (reader_by reader c.readers) refl e
   where
-    at : (r : Reader) → reader_by reader c.readers ≡ Some r → (s : Option Side) → slice_get c.sides replica ≡ s → (x : Option Spot) → slice_get r.row replica ≡ x → (Steps.fetch_at s x c).reply ≡ Shown o → ShowsFront c reader replica o
+    at : (r : Reader) → reader_by reader c.readers ≡ Some r → (s : Option Side) → slice_get c.sides replica ≡ s → (x : Option Spot) → slice_get r.row replica ≡ x
+        → (Steps.fetch_at s x c).reply ≡ Shown o → ShowsFront c reader replica o
     at r is None a x b e = absurd cc
     at r is (Some s) a None b e = absurd cc
     at r is (Some s) a (Some x) b e =
         let good = seen_at (ReaderGood c.log c.sides) reader c.readers r g.readers is in
         let same : Sides.shown s x ≡ o = cc in
-        record { reader = r; side = s; by_number = is; of_side = a; shown = sym same ∙ shows_is s x (look (rows_after (take r.front c.log) s.base) r.pair) (row_at r.pair (take r.front c.log) c.sides r.row replica s x good.row a b) }
+        record {
+          reader = r;
+          side = s;
+          by_number = is;
+          of_side = a;
+          shown = sym same ∙ shows_is s x (look (rows_after (take r.front c.log) s.base) r.pair)
+              (row_at r.pair (take r.front c.log) c.sides r.row replica s x good.row a b);
+        }
 
     by : (r : Option Reader) → reader_by reader c.readers ≡ r → (Steps.fetch_by replica r c).reply ≡ Shown o → ShowsFront c reader replica o
     by None is e = absurd cc
@@ -65,7 +74,8 @@ side_at P (t ∷ sides) zero s all e = let same : t ≡ s = cc in subst P same a
 side_at P (t ∷ sides) (suc j) s all e = side_at P sides j s all.1 e
 
 -- an opened side's table is that of the whole log, with the change under way where it is settled
-pub opens : (c : Core) (j : ℕ) (s : Side) (p : Pair) → CoreGood c → slice_get c.sides j ≡ Some s → look (Sides.opened s).base p ≡ look (with_change (settled_change s.settled (Steps.change c)) (rows_after c.log s.base)) p
+pub opens : (c : Core) (j : ℕ) (s : Side) (p : Pair) → CoreGood c → slice_get c.sides j ≡ Some s
+    → look (Sides.opened s).base p ≡ look (with_change (settled_change s.settled (Steps.change c)) (rows_after c.log s.base)) p
 opens c j s p g e = (side_at (λ s. SideGood p c.up c.log (Steps.change c) c.hold s) c.sides j s (g.sides p) e).tabled
 
 -- a holding that made a change and ends unfailed leaves it at the end of the log
@@ -74,13 +84,15 @@ pub ended_logged : (c : Core) (h : Hold) → CoreGood c → c.hold ≡ Some h �
 ended_logged c h g is ok pub_work e =
     let K : Option Hold → Type 0 = λ o. HoldLogged o c.log in
     let L : Option Hold → Type 0 = λ o. (Steps.end_hold o c).reply ≡ Done in
-    let out : (b : Bool) (next : Core) → (Steps.allowed b next c).reply ≡ Done → b ≡ true = λ b next. elim b as (λ b. (Steps.allowed b next c).reply ≡ Done → b ≡ true) [ true ↦ λ e. refl | false ↦ λ e. absurd cc ] in
+    let out : (b : Bool) (next : Core) → (Steps.allowed b next c).reply ≡ Done → b ≡ true =
+    λ b next. elim b as (λ b. (Steps.allowed b next c).reply ≡ Done → b ≡ true) [ true ↦ λ e. refl | false ↦ λ e. absurd cc ] in
     let test = h.failed || (not (is_some (Steps.first_call h.work c.sides)) && (h.published || not (Steps.publishes h.work))) in
     let next : Core = record c { sides = map (Sides.ended h.work h.failed) c.sides; hold = None; pending = Steps.change_in (Some h) c.pending } in
     let told : test ≡ true = out test next (subst L is e) in
     let rest = sym (ap (λ (b : Bool). b || (not (is_some (Steps.first_call h.work c.sides)) && (h.published || not (Steps.publishes h.work)))) ok) ∙ told in
     let either = (and_parts (not (is_some (Steps.first_call h.work c.sides))) (h.published || not (Steps.publishes h.work)) rest).1 in
-    let published : h.published ≡ true = elim (or_cases h.published (not (Steps.publishes h.work)) either) [ inl t ↦ t | inr n ↦ absurd (true≢false (sym pub_work ∙ not-true (Steps.publishes h.work) n)) ] in
+    let published : h.published ≡ true =
+    elim (or_cases h.published (not (Steps.publishes h.work)) either) [ inl t ↦ t | inr n ↦ absurd (true≢false (sym pub_work ∙ not-true (Steps.publishes h.work) n)) ] in
     let entry = (subst K is g.logged) published in
     let same : (b : Bool) → (Steps.allowed b next c).core.log ≡ c.log = λ b. elim b as (λ b. (Steps.allowed b next c).core.log ≡ c.log) [ true ↦ refl | false ↦ refl ] in
     let M : Option Hold → Type 0 = λ o. (Steps.end_hold o c).core.log ≡ c.log in

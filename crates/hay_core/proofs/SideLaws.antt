@@ -51,8 +51,20 @@ same_stays s t b f m u = record { grows = record { base = b; shows = λ x o h. l
 
 pub settle_stays : (d : Doubt) (s : Side) → Stays s (settle d s)
 settle_stays doubt.Sure s = same_stays s (settle doubt.Sure s) refl refl refl refl
-settle_stays (doubt.Cell c) s = record { grows = record { base = refl; shows = λ x o h. shows_more s.past s.current (s.current ++ c ∷ []) x o (extends_append s.current (c ∷ [])) h }; spots = refl; is_open = refl }
-settle_stays (doubt.Flag q) s = record { grows = record { base = refl; shows = λ x o h. shows_more s.past s.current (flag_last q s.current) x o (extends_flag q s.current) h }; spots = refl; is_open = refl }
+settle_stays (doubt.Cell c) s = record {
+  grows = record {
+    base = refl;
+    shows = λ x o h.
+        shows_more s.past s.current (s.current ++ c ∷ []) x o (extends_append s.current (c ∷ [])) h;
+  };
+  spots = refl;
+  is_open = refl;
+}
+settle_stays (doubt.Flag q) s = record {
+  grows = record { base = refl; shows = λ x o h. shows_more s.past s.current (flag_last q s.current) x o (extends_flag q s.current) h };
+  spots = refl;
+  is_open = refl;
+}
 settle_stays doubt.Head s = record { grows = record { base = refl; shows = λ x o h. shows_next (s.past ++ s.current ∷ []) s.fresh x o h }; spots = refl; is_open = refl }
 
 pub made_stays : (e : Effect) (s : Side) → Stays s (made e s)
@@ -127,7 +139,8 @@ settle_table p rows l (doubt.Flag q) s good h =
 settle_table p rows l doubt.Head s good h = good ∙ h
 
 -- the copy, where one stands, behind a put and behind a flag of another pair
-pub copy_append : (p : Pair) (fresh current : List Needle) (c : Needle) (copy : Option ℕ) → CopyFits (length current) copy → c.deleted ≡ false → CopyGood p fresh current copy → CopyGood p fresh (current ++ c ∷ []) copy
+pub copy_append : (p : Pair) (fresh current : List Needle) (c : Needle) (copy : Option ℕ) → CopyFits (length current) copy → c.deleted ≡ false → CopyGood p fresh current copy
+    → CopyGood p fresh (current ++ c ∷ []) copy
 copy_append p fresh current c None fits live h = tt
 copy_append p fresh current c (Some n) fits live h = copies_append p fresh current c n fits live h
 
@@ -167,7 +180,8 @@ slice_all P [] n x h e = absurd cc
 slice_all P (y ∷ xs) zero x h e = let same : y ≡ x = cc in subst P same h.0
 slice_all P (y ∷ xs) (suc n) x h e = slice_all P xs n x h.1 e
 
-pub closing_quiet : (p : Pair) (l : Option Logged) (s : Side) (copied : List Needle) (rest : List DeviceCall) → AllByRecursion (CallGood p l s) rest → AllByRecursion (CallGood p l s) (Calls.closing_calls copied ++ rest)
+pub closing_quiet : (p : Pair) (l : Option Logged) (s : Side) (copied : List Needle) (rest : List DeviceCall) → AllByRecursion (CallGood p l s) rest
+    → AllByRecursion (CallGood p l s) (Calls.closing_calls copied ++ rest)
 closing_quiet p l s [] rest h = (tt, (tt, h))
 closing_quiet p l s (c ∷ cells) rest h = (tt, (tt, (tt, h)))
 
@@ -177,14 +191,22 @@ pub call_good : (p : Pair) (tag : CoreTag) (w : Work) (s : Side) (t : Option ℕ
 call_good p tag w s None c copied e = absurd cc
 call_good p tag (work.Put pair photo) s (Some t) c copied e =
     let cell : Needle = Calls.live_needle pair photo in
-    slice_all (CallGood p (change_of tag (work.Put pair photo)) s) (Calls.gated Freezes (Doubts (doubt.Cell cell)) (Settles (doubt.Cell cell))) t c (tt, (tt, ((tag, refl, refl), ((tag, refl, refl), tt)))) e
+    slice_all (CallGood p (change_of tag (work.Put pair photo)) s) (Calls.gated Freezes (Doubts (doubt.Cell cell)) (Settles (doubt.Cell cell))) t c
+    (tt, (tt, ((tag, refl, refl), ((tag, refl, refl), tt)))) e
 call_good p tag (work.Del pair) s (Some t) c copied e =
     let G : DeviceCall → Type 0 = CallGood p (change_of tag (work.Del pair)) s in
-    slice_all G (Calls.delete_calls pair s) t c
-    ((tag, refl), ((tag, refl), cond_both (is_some s.copy && not (lacks pair s.fresh)) (Calls.call GoesOn (Repeats pair) ∷ []) [] (λ (cs : List DeviceCall). AllByRecursion G cs) (λ b. ((tag, refl), tt)) (λ b. tt))) e
+    slice_all G (Calls.delete_calls pair s) t c (
+      (tag, refl),
+      (
+        (tag, refl),
+        cond_both (is_some s.copy && not (lacks pair s.fresh)) (Calls.call GoesOn (Repeats pair) ∷ []) [] (λ (cs : List DeviceCall). AllByRecursion G cs)
+            (λ b. ((tag, refl), tt)) (λ b. tt),
+      ),
+    ) e
 call_good p tag (work.Flush side) s (Some t) c copied e =
     let G : DeviceCall → Type 0 = CallGood p None s in
-    slice_all G (Calls.flush_calls s) t c (cond_both (nat_lt s.rows (length s.current)) (Calls.gated Fails MarksRows SettlesRows) [] (λ (cs : List DeviceCall). AllByRecursion G cs) (λ b. (tt, (tt, (tt, (tt, tt))))) (λ b. tt)) e
+    slice_all G (Calls.flush_calls s) t c (cond_both (nat_lt s.rows (length s.current)) (Calls.gated Fails MarksRows SettlesRows) [] (λ (cs : List DeviceCall). AllByRecursion G cs)
+    (λ b. (tt, (tt, (tt, (tt, tt))))) (λ b. tt)) e
 call_good p tag (work.Start side) s (Some t) c copied e = slice_all (CallGood p None s) Calls.start_calls t c (tt, (tt, (tt, (tt, tt)))) e
 call_good p tag (work.Step side cells) s (Some t) c copied e = stepping s.copy refl e
   where
@@ -200,7 +222,8 @@ call_good p tag (work.Step side cells) s (Some t) c copied e = stepping s.copy r
     stepping (Some n) is e = copies n is (copy_next (cells - t) (drop n s.current)) refl e
 call_good p tag (work.Finish side) s (Some t) c copied e = finishing s.copy refl (copied refl) e
   where
-    closing : (n : ℕ) → s.copy ≡ Some n → CopiesAt p s.fresh s.current n → (o : Option Copied) → copy_next (length s.current) (drop n s.current) ≡ o → Calls.closing_call o t s ≡ Some c → CallGood p None s c
+    closing : (n : ℕ) → s.copy ≡ Some n → CopiesAt p s.fresh s.current n → (o : Option Copied) → copy_next (length s.current) (drop n s.current) ≡ o
+        → Calls.closing_call o t s ≡ Some c → CallGood p None s c
     closing n is good None next e =
         let same = copy_done p s.fresh s.current n next good in
         slice_all (CallGood p None s) (Calls.finish_calls s.fresh) t c (closing_quiet p None s s.fresh (Calls.gated Freezes (Doubts doubt.Head) (Settles doubt.Head)) (tt, (tt, (same, (same, tt))))) e
@@ -214,7 +237,8 @@ call_good p tag (work.Finish side) s (Some t) c copied e = finishing s.copy refl
     finishing (Some n) is good e = closing n is good (copy_next (length s.current) (drop n s.current)) refl e
 
 -- what an effect keeps
-pub made_table : (p : Pair) (rows : List Row) (l : Option Logged) (s : Side) (e : Effect) → EffectGood p l s e → TableIs p rows s.current s.settled l → TableIs p rows (made e s).current (made e s).settled l
+pub made_table : (p : Pair) (rows : List Row) (l : Option Logged) (s : Side) (e : Effect) → EffectGood p l s e → TableIs p rows s.current s.settled l
+    → TableIs p rows (made e s).current (made e s).settled l
 made_table p rows l s Quiet good h = h
 made_table p rows l s (Doubts d) good h = h
 made_table p rows l s (Settles d) good h = settle_table p rows l d s good h
@@ -233,7 +257,8 @@ settle_doubt p l (doubt.Cell c) s h = tt
 settle_doubt p l (doubt.Flag q) s h = tt
 settle_doubt p l doubt.Head s h = tt
 
-pub made_doubt : (p : Pair) (l : Option Logged) (s : Side) (e : Effect) → EffectGood p l s e → (settles e ≡ false → s.doubt ≡ doubt.Sure) → DoubtGood p l s.fresh s.current s.doubt → DoubtGood p l (made e s).fresh (made e s).current (made e s).doubt
+pub made_doubt : (p : Pair) (l : Option Logged) (s : Side) (e : Effect) → EffectGood p l s e → (settles e ≡ false → s.doubt ≡ doubt.Sure) → DoubtGood p l s.fresh s.current s.doubt
+    → DoubtGood p l (made e s).fresh (made e s).current (made e s).doubt
 made_doubt p l s Quiet good sure h = h
 made_doubt p l s (Doubts d) good sure h = good
 made_doubt p l s (Settles d) good sure h = settle_doubt p l d s h

@@ -61,10 +61,13 @@ spots_from past pre (c ∷ cs) n p x o e s =
     let at : needle_at files (length past) n ≡ Some c = last_file past (pre ++ c ∷ cs) n ∙ ap (λ k. slice_get (pre ++ c ∷ cs) k) e ∙ seam pre cs c in
     let now = spot_step files (length past) n c x o at s (pair_eq c.pair p) c.deleted in
     let same : (pre ++ c ∷ []) ++ cs ≡ pre ++ c ∷ cs = append_assoc pre (c ∷ []) cs in
-    let P : List Needle → Type 0 = λ whole. ShowsIn (past ++ whole ∷ []) (spot_after (spots_of (length past) (n + 1) cs) p (cond (pair_eq c.pair p) (cond c.deleted Gone (Live (length past) n)) x)) (look_after (rows_of cs) p (cond (pair_eq c.pair p) (needle_row c).outcome o)) in
+    let P : List Needle → Type 0 =
+    λ whole. ShowsIn (past ++ whole ∷ []) (spot_after (spots_of (length past) (n + 1) cs) p (cond (pair_eq c.pair p) (cond c.deleted Gone (Live (length past) n)) x))
+    (look_after (rows_of cs) p (cond (pair_eq c.pair p) (needle_row c).outcome o)) in
     let Q : List Needle → Type 0 = λ whole. ShowsIn (past ++ whole ∷ []) (cond (pair_eq c.pair p) (cond c.deleted Gone (Live (length past) n)) x) (cond (pair_eq c.pair p) (needle_row c).outcome o) in
     let long : n + 1 ≡ length (pre ++ c ∷ []) = omega (arith, e, length-append pre (c ∷ [])) in
-    subst P same (spots_from past (pre ++ c ∷ []) cs (n + 1) p (cond (pair_eq c.pair p) (cond c.deleted Gone (Live (length past) n)) x) (cond (pair_eq c.pair p) (needle_row c).outcome o) long (subst Q (sym same) now))
+    subst P same (spots_from past (pre ++ c ∷ []) cs (n + 1) p (cond (pair_eq c.pair p) (cond c.deleted Gone (Live (length past) n)) x)
+    (cond (pair_eq c.pair p) (needle_row c).outcome o) long (subst Q (sym same) now))
 
 pub spots_show : (past : List (List Needle)) (cs : List Needle) (p : Pair) → ShowsIn (past ++ cs ∷ []) (spot_after (spots_of (length past) 0 cs) p Absent) (look (rows_of cs) p)
 spots_show past cs p = spots_from past [] cs 0 p Absent outcome.Nothing refl refl
@@ -74,7 +77,8 @@ spot_append [] ys p x = refl
 spot_append (m ∷ xs) ys p x = spot_append xs ys p (cond (pair_eq m.pair p) m.spot x)
 
 -- where a file lies among the files
-pub needle_in_past : (past : List (List Needle)) (current : List Needle) (g n : ℕ) (file : List Needle) → g < length past → file ≡ get_or past g file → needle_at (past ++ current ∷ []) g n ≡ slice_get file n
+pub needle_in_past : (past : List (List Needle)) (current : List Needle) (g n : ℕ) (file : List Needle) → g < length past → file ≡ get_or past g file
+    → needle_at (past ++ current ∷ []) g n ≡ slice_get file n
 needle_in_past [] current g n file h is = absurd (omega arith)
 needle_in_past (f ∷ past) current zero n file h is = ap (λ (ns : List Needle). slice_get ns n) (sym is)
 needle_in_past (f ∷ past) current (suc g) n file h is = needle_in_past past current g n file (omega arith) is

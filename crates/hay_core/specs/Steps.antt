@@ -1,5 +1,6 @@
 -- One logical volume: what each event makes of it, and its reply.
-use Rattle.std.specs.Prelude.{ℕ, zero, suc, ◌+◌, List, [], ◌∷◌, ◌++◌, length, map, replicate, not, Bool, true, false, nat_eq, nat_lt, nat_le, ◌&&◌, ◌||◌, if◌then◌else◌, Option, Some, None, slice_get, is_some}
+use Rattle.std.specs.Prelude.{ℕ, zero, suc, ◌+◌, List, [], ◌∷◌, ◌++◌, length, map, replicate, not, Bool, true, false, nat_eq, nat_lt, nat_le, ◌&&◌, ◌||◌, if◌then◌else◌, Option}
+use Rattle.std.specs.Prelude.{Some, None, slice_get, is_some}
 use Rattle.std.specs.List.{list_any, list_all}
 use Rattle.hay_needle.specs.declared.needle.Pair.{Pair}
 use Rattle.hay_core.specs.declared.entry.CoreTag.{CoreTag}

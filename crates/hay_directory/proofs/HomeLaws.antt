@@ -33,10 +33,12 @@ or_none None = refl
 or_none (Some v) = refl
 
 -- a row of a pair without a home gives it one
-pub home_in-settled : (rows : List HomeRow) (row : HomeRow) (other : Pair) → home_in rows row.pair ≡ None → home_in (rows ++ row ∷ []) other ≡ cond (pair_eq row.pair other) (Some row.volume) (home_in rows other)
+pub home_in-settled : (rows : List HomeRow) (row : HomeRow) (other : Pair) → home_in rows row.pair ≡ None
+    → home_in (rows ++ row ∷ []) other ≡ cond (pair_eq row.pair other) (Some row.volume) (home_in rows other)
 home_in-settled rows row other homeless = home_in-append rows (row ∷ []) other ∙ last (pair_eq row.pair other) refl
   where
-    last : (b : Bool) → pair_eq row.pair other ≡ b → option_or (home_in rows other) (cond (pair_eq row.pair other) (Some row.volume) None) ≡ cond (pair_eq row.pair other) (Some row.volume) (home_in rows other)
+    last : (b : Bool) → pair_eq row.pair other ≡ b → option_or (home_in rows other) (cond (pair_eq row.pair other) (Some row.volume) None)
+        ≡ cond (pair_eq row.pair other) (Some row.volume) (home_in rows other)
     last true e =
         let none : home_in rows other ≡ None = ap (λ (p : Pair). home_in rows p) (sym (pair_same row.pair other e)) ∙ homeless in
         ap (λ (home : Option ℕ). option_or home (cond (pair_eq row.pair other) (Some row.volume) None)) none
@@ -50,7 +52,8 @@ pub record AreHomes (homes : List ((ℕ × ℕ) × ℕ)) (rows : List HomeRow) :
   pub are : (pair : Pair) → home_among homes pair ≡ home_in rows pair
 
 -- a home that was set
-pub homes_settled : (rows : List HomeRow) (row : HomeRow) (old new : List ((ℕ × ℕ) × ℕ)) → AreHomes old rows → home_in rows row.pair ≡ None → SetsHome row.pair (Some row.volume) old new → AreHomes new (rows ++ row ∷ [])
+pub homes_settled : (rows : List HomeRow) (row : HomeRow) (old new : List ((ℕ × ℕ) × ℕ)) → AreHomes old rows → home_in rows row.pair ≡ None
+    → SetsHome row.pair (Some row.volume) old new → AreHomes new (rows ++ row ∷ [])
 homes_settled rows row old new homes homeless set = record {
   are = λ other. set.at other ∙ ap (λ (home : Option ℕ). cond (pair_eq row.pair other) (Some row.volume) home) (homes.are other) ∙ sym (home_in-settled rows row other homeless);
 }
@@ -93,7 +96,8 @@ set_within volumes old new pair volume within set below = record {
 
 kept_home : (rows : List HomeRow) (pending : PendingRow) (kept : Bool) → home_in rows (pending.row).pair ≡ None → is_some (home_in (rows ++ kept_row (Some pending) kept) (pending.row).pair) ≡ kept
 kept_home rows pending true homeless =
-    ap is_some (home_in-settled rows pending.row (pending.row).pair homeless ∙ cond-true (pair_eq (pending.row).pair (pending.row).pair) (Some (pending.row).volume) (home_in rows (pending.row).pair) (pair_refl (pending.row).pair))
+    ap is_some (home_in-settled rows pending.row (pending.row).pair homeless ∙ cond-true (pair_eq (pending.row).pair (pending.row).pair) (Some (pending.row).volume)
+    (home_in rows (pending.row).pair) (pair_refl (pending.row).pair))
 kept_home rows pending false homeless =
     ap is_some (home_in-append rows [] (pending.row).pair ∙ or_none (home_in rows (pending.row).pair) ∙ homeless)
 

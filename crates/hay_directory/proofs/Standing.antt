@@ -22,7 +22,8 @@ use Rattle.hay_directory.specs.declared.mode.Unsure.{Unsure}
 use Rattle.hay_directory.specs.Homes.{HomesWithin, KeepsHomes, SetsHome}
 use Rattle.hay_directory.specs.Notes.{notes_by}
 use Rattle.hay_directory.specs.Rows.{dir_row, HasJournal, OpensRows}
-use Rattle.hay_directory.specs.State.{State, StandsFor, StoppedFor, HoldsFor, WrittenFor, Stands, Stopped, Holds, HoldsRows, IsSettled, IsUnsure, IsDue, FindsRows, IsKept, IsSound, mode_of, unsure_of, unsure_row, home_of, is_closed, is_frozen}
+use Rattle.hay_directory.specs.State.{State, StandsFor, StoppedFor, HoldsFor, WrittenFor, Stands, Stopped, Holds, HoldsRows, IsSettled, IsUnsure, IsDue, FindsRows, IsKept}
+use Rattle.hay_directory.specs.State.{IsSound, mode_of, unsure_of, unsure_row, home_of, is_closed, is_frozen}
 use Rattle.hay_directory.proofs.HomeLaws.{AreHomes, homes_settled, kept_within, notes_are}
 use Rattle.hay_directory.proofs.RowLaws.{Adds, Leaves, journal_left, not_void, opens_journal, row_added, row_left}
 
@@ -76,7 +77,8 @@ pub record Takes {D : Type 0} (d : State D) (row : HomeRow) : Type 0 where
   pub below : row.volume < d.settings.volumes
   pub homeless : home_of d row.pair ≡ None
 
-pub takes : {D : Type 0} (d now : State D) (row : HomeRow) → d ≡ now → is_closed now.mode ≡ false → is_frozen now.mode ≡ false → row.volume < now.settings.volumes → home_of now row.pair ≡ None → Takes d row
+pub takes : {D : Type 0} (d now : State D) (row : HomeRow) → d ≡ now → is_closed now.mode ≡ false → is_frozen now.mode ≡ false → row.volume < now.settings.volumes
+    → home_of now row.pair ≡ None → Takes d row
 takes d now row same up thawed below homeless =
     subst (λ (x : State _). Takes x row) (sym same) (record { serves = serving now.mode up thawed; below = below; homeless = homeless })
 
@@ -89,16 +91,20 @@ abbrev pub with_pending : DirKnown → CoreTag → HomeRow → DirKnown
 with_pending known tag row = record known { frozen = true; pending = Some (record { tag = tag; row = row }) }
 
 -- a row that the disk has
-pub row_written : {D : Type 0} (files : D → Files) (d d' : State D) (known : DirKnown) (drained : List Bool) (row : HomeRow) → StandsFor files d known drained → Takes d row → d'.settings ≡ d.settings → d'.drained ≡ d.drained
+pub row_written : {D : Type 0} (files : D → Files) (d d' : State D) (known : DirKnown) (drained : List Bool) (row : HomeRow) → StandsFor files d known drained → Takes d row
+    → d'.settings ≡ d.settings → d'.drained ≡ d.drained
     → KeepsHomes d.homes d'.homes
-    → Adds (dir_row row) d.journal.end (files d.disk 0).now (files d'.disk 0).now → IsSolid (files d'.disk 0) → IsGate journal_magic d'.journal.end (files d'.disk 0) → d'.journal.end ≡ d.journal.end + 24
+    → Adds (dir_row row) d.journal.end (files d.disk 0).now (files d'.disk 0).now → IsSolid (files d'.disk 0) → IsGate journal_magic d'.journal.end (files d'.disk 0)
+    → d'.journal.end ≡ d.journal.end + 24
     → d'.count ≡ d.count → WrittenFor files d' known drained row
 row_written files d d' known drained row s t settings drains kept adds solid gate ends counts =
     let o = stands_open files d known drained s t.serves in
     record {
       serves = o.none;
       frozen = s.frozen ∙ ap is_some o.none;
-      holds = subst (λ k. IsSettled k (files d'.disk 0) d'.journal.end (known.rows ++ row ∷ [])) (sym settings) (row_added d.settings (files d.disk 0) (files d'.disk 0) d.journal.end d'.journal.end known.rows row o.settled t.below adds solid gate ends);
+      holds =
+          subst (λ k. IsSettled k (files d'.disk 0) d'.journal.end (known.rows ++ row ∷ [])) (sym settings)
+          (row_added d.settings (files d.disk 0) (files d'.disk 0) d.journal.end d'.journal.end known.rows row o.settled t.below adds solid gate ends);
       homeless = sym (s.homes row.pair) ∙ t.homeless;
       homes = λ pair. kept.at pair ∙ s.homes pair;
       count = counts ∙ s.count;
@@ -106,7 +112,8 @@ row_written files d d' known drained row s t settings drains kept adds solid gat
     }
 
 -- and that is shown
-pub stands_shown : {D : Type 0} (files : D → Files) (d d' : State D) (known : DirKnown) (drained : List Bool) (row : HomeRow) → WrittenFor files d known drained row → d'.mode ≡ Open → d'.settings ≡ d.settings → d'.drained ≡ d.drained
+pub stands_shown : {D : Type 0} (files : D → Files) (d d' : State D) (known : DirKnown) (drained : List Bool) (row : HomeRow) → WrittenFor files d known drained row
+    → d'.mode ≡ Open → d'.settings ≡ d.settings → d'.drained ≡ d.drained
     → SetsHome row.pair (Some row.volume) d.homes d'.homes → d'.disk ≡ d.disk → d'.journal ≡ d.journal
     → d'.count ≡ d.count + 1 → StandsFor files d' (with_row known row) drained
 stands_shown files d d' known drained row w serves settings drains set disk journal counts =
@@ -124,7 +131,8 @@ stands_shown files d d' known drained row w serves settings drains set disk jour
     }
 
 -- want of memory
-pub stands_kept : {D : Type 0} (files : D → Files) (d d' : State D) (known : DirKnown) (drained : List Bool) → StandsFor files d known drained → d'.mode ≡ d.mode → d'.settings ≡ d.settings → d'.drained ≡ d.drained
+pub stands_kept : {D : Type 0} (files : D → Files) (d d' : State D) (known : DirKnown) (drained : List Bool) → StandsFor files d known drained → d'.mode ≡ d.mode
+    → d'.settings ≡ d.settings → d'.drained ≡ d.drained
     → KeepsHomes d.homes d'.homes → files d'.disk ≡ files d.disk → d'.journal ≡ d.journal → d'.count ≡ d.count → StandsFor files d' known drained
 stands_kept files d d' known drained s modes settings drains kept same ends counts =
     let here = subst (λ f. HoldsRows d.settings (f 0) d.journal.end known.rows known.pending) (sym same) s.holds in
@@ -149,7 +157,8 @@ stands_failed files d d' known drained tag row s t frozen settings drains kept l
     record {
       mode = frozen;
       frozen = refl;
-      holds = subst (λ k. IsUnsure k (files d'.disk 0) known.rows row) (sym settings) (row_left d.settings (files d.disk 0) (files d'.disk 0) d.journal.end known.rows row o.settled t.below leaves free);
+      holds =
+          subst (λ k. IsUnsure k (files d'.disk 0) known.rows row) (sym settings) (row_left d.settings (files d.disk 0) (files d'.disk 0) d.journal.end known.rows row o.settled t.below leaves free);
       homes = λ pair. kept.at pair ∙ s.homes pair;
       count = counts ∙ s.count;
       drained_is = s.drained_is ∙ sym drains;
@@ -160,7 +169,8 @@ pub stands_now : {D : Type 0} (files : D → Files) (d : State D) (known : DirKn
 stands_now files d known drained s = subst (λ l. StandsFor files d known l) s.drained_is s
 
 -- what is kept in memory where a row is pending whose pair has no home
-pub kept_failed : {D : Type 0} (d d' : State D) (unsure : Unsure) → IsKept d → home_of d (unsure.row).pair ≡ None → d'.mode ≡ Frozen unsure → KeepsHomes d.homes d'.homes → length d'.homes ≡ length d.homes → d'.count ≡ d.count → IsKept d'
+pub kept_failed : {D : Type 0} (d d' : State D) (unsure : Unsure) → IsKept d → home_of d (unsure.row).pair ≡ None → d'.mode ≡ Frozen unsure → KeepsHomes d.homes d'.homes
+    → length d'.homes ≡ length d.homes → d'.count ≡ d.count → IsKept d'
 kept_failed d d' unsure is homeless frozen homes same counts = record {
   few = omega (arith, is.few, same, counts);
   homeless = subst (λ (m : Mode). IfSome (unsure_of m) (λ u. home_of d' u.row.pair ≡ None)) (sym frozen) (homes.at (unsure.row).pair ∙ homeless);
@@ -198,7 +208,8 @@ sound_failed Tells files d d' tag row is t frozen settings drains homes same lea
 }
 
 -- something is known of a directory that is up
-pub stood_now : {D : Type 0} (Tells : Type 0) (files : D → Files) (d old : State D) → IsSound Tells files d → d ≡ old → is_closed old.mode ≡ false → Tells → (known : DirKnown) × Stands files old known old.drained
+pub stood_now : {D : Type 0} (Tells : Type 0) (files : D → Files) (d old : State D) → IsSound Tells files d → d ≡ old → is_closed old.mode ≡ false → Tells
+    → (known : DirKnown) × Stands files old known old.drained
 unfolding Stands
 stood_now {D} Tells files d old sound is up tells =
     subst (λ (x : State D). (known : DirKnown) × StandsFor files x known x.drained) is (sound.stands tells (ap (λ (x : State D). is_closed x.mode) is ∙ up))
@@ -206,7 +217,8 @@ stood_now {D} Tells files d old sound is up tells =
 -- BEHIND A FUSE OR A DRAIN
 
 -- another disk with the same files, and other drains
-pub stands_moved : {D : Type 0} (files : D → Files) (d : State D) (disk : D) (known : DirKnown) (drained more drains : List Bool) → StandsFor files d known drained → files disk ≡ files d.disk → drains ≡ more
+pub stands_moved : {D : Type 0} (files : D → Files) (d : State D) (disk : D) (known : DirKnown) (drained more drains : List Bool) → StandsFor files d known drained
+    → files disk ≡ files d.disk → drains ≡ more
     → StandsFor files (record d { disk = disk; drained = more }) known drains
 stands_moved files d disk known drained more drains s same is = record {
   mode = s.mode;
@@ -218,7 +230,8 @@ stands_moved files d disk known drained more drains s same is = record {
 }
 
 -- other drains
-pub stands_drained : {D : Type 0} (files : D → Files) (d d' : State D) (known : DirKnown) (drained : List Bool) (machine : ℕ) (is_drained : Bool) → StandsFor files d known drained → d' ≡ record d { drained = slice_set d.drained machine is_drained }
+pub stands_drained : {D : Type 0} (files : D → Files) (d d' : State D) (known : DirKnown) (drained : List Bool) (machine : ℕ) (is_drained : Bool) → StandsFor files d known drained
+    → d' ≡ record d { drained = slice_set d.drained machine is_drained }
     → StandsFor files d' known (slice_set drained machine is_drained)
 stands_drained files d d' known drained machine is_drained s is =
     let set : List Bool → List Bool = λ l. slice_set l machine is_drained in
@@ -280,7 +293,8 @@ holds_behind files d d' known h stops = record {
 
 -- BEHIND AN OPENING
 
-pub stands_opened : {D : Type 0} (files : D → Files) (settings : Settings) (old : FileState) (d' : State D) (drained : List Bool) (rows : List HomeRow) (found : FindsRows settings old (files d'.disk 0) d'.journal.end d'.homes d'.count rows) → d'.settings ≡ settings → d'.mode ≡ Open → d'.drained ≡ drained
+pub stands_opened : {D : Type 0} (files : D → Files) (settings : Settings) (old : FileState) (d' : State D) (drained : List Bool) (rows : List HomeRow)
+    (found : FindsRows settings old (files d'.disk 0) d'.journal.end d'.homes d'.count rows) → d'.settings ≡ settings → d'.mode ≡ Open → d'.drained ≡ drained
     → StandsFor files d' (directory_with rows) drained
 stands_opened files settings old d' drained rows found same mode drains = record {
   mode = mode;
@@ -292,9 +306,11 @@ stands_opened files settings old d' drained rows found same mode drains = record
 }
 
 -- and behind a stop
-pub reopened : {D : Type 0} (files : D → Files) (d d' : State D) (drained : List Bool) (known : DirKnown) (notes : List Note) (rows : List HomeRow) (found : FindsRows d.settings (files d.disk 0) (files d'.disk 0) d'.journal.end d'.homes d'.count rows) → StoppedFor files d known
+pub reopened : {D : Type 0} (files : D → Files) (d d' : State D) (drained : List Bool) (known : DirKnown) (notes : List Note) (rows : List HomeRow)
+    (found : FindsRows d.settings (files d.disk 0) (files d'.disk 0) d'.journal.end d'.homes d'.count rows) → StoppedFor files d known
     → d'.settings ≡ d.settings → d'.mode ≡ Open → d'.drained ≡ drained → notes ≡ notes_by (unsure_of d.mode) (home_of d')
-    → (kept : Bool) × (notes ≡ row_notes known.pending kept) × (rows ≡ known.rows ++ kept_row known.pending kept) × StandsFor files d' (directory_with (known.rows ++ kept_row known.pending kept)) drained
+    → (kept : Bool) × (notes ≡ row_notes known.pending kept) × (rows ≡ known.rows ++ kept_row known.pending kept)
+    × StandsFor files d' (directory_with (known.rows ++ kept_row known.pending kept)) drained
 reopened files d d' drained known notes rows found s settings mode drains told =
     let same : rows ≡ known.rows ++ kept_row known.pending s.kept = found.only (known.rows ++ kept_row known.pending s.kept) (inr s.journal) in
     let homes : AreHomes d'.homes (known.rows ++ kept_row known.pending s.kept) = subst (λ l. AreHomes d'.homes l) same (record { are = found.homes_are }) in (
@@ -305,7 +321,8 @@ reopened files d d' drained known notes rows found s settings mode drains told =
     )
 
 -- a refusal keeps what stood
-pub stopped_still : {D : Type 0} (files : D → Files) (d d' : State D) (known : DirKnown) → StoppedFor files d known → d'.settings ≡ d.settings → d'.mode ≡ d.mode → (0 < length (files d.disk 0).now → files d'.disk ≡ files d.disk) → StoppedFor files d' known
+pub stopped_still : {D : Type 0} (files : D → Files) (d d' : State D) (known : DirKnown) → StoppedFor files d known → d'.settings ≡ d.settings → d'.mode ≡ d.mode
+    → (0 < length (files d.disk 0).now → files d'.disk ≡ files d.disk) → StoppedFor files d' known
 stopped_still files d d' known s settings modes keeps =
     let same = keeps (not_void d.settings (files d.disk 0).now (known.rows ++ kept_row known.pending s.kept) s.journal) in
     let here = subst (λ f. HasJournal d.settings (f 0).now (known.rows ++ kept_row known.pending s.kept)) (sym same) s.journal in
@@ -353,6 +370,7 @@ unfolding Holds
 holds_opens files d known image h is = h.images image is
 
 -- a home by what is kept in memory
-pub stands_home : {D : Type 0} (files : D → Files) (directory : State D) (known : DirKnown) (drained : List Bool) (pair : Pair) → Stands files directory known drained → home_of directory pair ≡ home_in known.rows pair
+pub stands_home : {D : Type 0} (files : D → Files) (directory : State D) (known : DirKnown) (drained : List Bool) (pair : Pair) → Stands files directory known drained
+    → home_of directory pair ≡ home_in known.rows pair
 unfolding Stands
 stands_home files d known drained pair s = s.homes pair

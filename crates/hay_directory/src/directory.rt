@@ -1,5 +1,6 @@
 //! The Directory on its disk.
-ghost use Rattle.std.specs.Prelude.{◌≡◌, ◌≤◌, ◌<◌, ℕ, List, Bool, [], ◌∷◌, ◌++◌, None, Some, true, false, length, map, replicate, slice_index_or, slice_set, Err, IfOk, OnOk, OnErr, IfErr, IfSome, IsErrOf, is_some};
+ghost use Rattle.std.specs.Prelude.{◌≡◌, ◌≤◌, ◌<◌, ℕ, List, Bool, [], ◌∷◌, ◌++◌, None, Some, true, false, length, map, replicate, slice_index_or, slice_set, Err, IfOk, OnOk};
+ghost use Rattle.std.specs.Prelude.{OnErr, IfErr, IfSome, IsErrOf, is_some};
 ghost use Rattle.hay_needle.specs.declared.settings.Settings.{Settings};
 ghost use Rattle.hay_disk.specs.Counts.{Rose, IsNext};
 ghost use Rattle.hay_disk.specs.Disk.{IsFree, IsImage, IsSolid, KeepsOthers, MayLeave};

@@ -43,7 +43,8 @@ pub fn load<D: Disk>(
 ) -> Result<Loaded, OpenFault>
     requires solid { D.Tells → IsSolid (D.files disk.old 0) }
     requires free { D.Tells → IsFree (D.files disk.old 0) }
-    ensures found { D.Tells → IfOk result (λ loaded. FindsRows settings.now (D.files disk.old 0) (D.files disk.new 0) loaded.journal.end loaded.homes.volumes loaded.count (map home_row loaded.rows.items)) }
+    ensures found { D.Tells → IfOk result (λ loaded. FindsRows settings.now (D.files disk.old 0) (D.files disk.new 0) loaded.journal.end loaded.homes.volumes loaded.count
+        (map home_row loaded.rows.items)) }
     ensures homes { IfOk result (λ loaded. (pair : Pair) → home_among loaded.homes.volumes pair ≡ home_in (map home_row loaded.rows.items) pair) }
     ensures within { IfOk result (λ loaded. RowsWithin settings.now.volumes (map home_row loaded.rows.items)) }
     ensures count { IfOk result (λ loaded. loaded.count ≡ length loaded.rows.items) }

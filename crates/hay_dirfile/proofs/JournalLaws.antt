@@ -1,5 +1,6 @@
 -- The rows of a journal.
-use Rattle.std.proofs.Common.{◌≡◌, ◌⊎◌, inl, inr, ◌<◌, ◌≤◌, ◌+◌, ◌^◌, ℕ, zero, suc, min, List, [], ◌∷◌, ◌++◌, length, take, drop, refl, sym, ◌∙◌, ap, subst, arith, length-append, append_assoc, append-nil, take-append-drop, length-take, length-drop, lit<}
+use Rattle.std.proofs.Common.{◌≡◌, ◌⊎◌, inl, inr, ◌<◌, ◌≤◌, ◌+◌, ◌^◌, ℕ, zero, suc, min, List, [], ◌∷◌, ◌++◌, length, take, drop, refl, sym, ◌∙◌, ap, subst, arith, length-append}
+use Rattle.std.proofs.Common.{append_assoc, append-nil, take-append-drop, length-take, length-drop, lit<}
 use Rattle.std.specs.List.{All, flat_map}
 use Rattle.std.specs.Int.{bytes_high_first}
 use Rattle.std.specs.Prelude.{true, false, Result, Err}
@@ -76,19 +77,22 @@ same_row volumes r s most first second same =
     ap (λ k. with k r.pair.alt r.volume) key ∙ ap (λ a. with s.pair.key a r.volume) alt ∙ ap (with s.pair.key s.pair.alt) volume
 
 -- bytes with the magic are the row of their fields
-pub row_spelled : (row : DirRow) (bytes : List ℕ) → IsBytes bytes → length bytes ≡ 24 → take 8 bytes ≡ magic_bytes journal_magic → number_at 8 8 bytes ≡ row.pair.key → number_at 4 16 bytes ≡ row.pair.alt → number_at 4 20 bytes ≡ row.volume
+pub row_spelled : (row : DirRow) (bytes : List ℕ) → IsBytes bytes → length bytes ≡ 24 → take 8 bytes ≡ magic_bytes journal_magic → number_at 8 8 bytes ≡ row.pair.key
+    → number_at 4 16 bytes ≡ row.pair.alt → number_at 4 20 bytes ≡ row.volume
     → bytes ≡ journal_row row
 unfolding row_fields
 row_spelled row bytes fits long magic key alt volume =
     let last : drop 20 bytes ≡ bytes_high_first 4 row.volume =
-    field_4 20 bytes (omega arith) fits ∙ ap (λ (l : List ℕ). bytes_high_first 4 (number_at 4 20 bytes) ++ l) (drop_all 24 bytes (omega arith)) ∙ append-nil (bytes_high_first 4 (number_at 4 20 bytes)) ∙ ap (λ n. bytes_high_first 4 n) volume in
+    field_4 20 bytes (omega arith) fits ∙ ap (λ (l : List ℕ). bytes_high_first 4 (number_at 4 20 bytes) ++ l) (drop_all 24 bytes (omega arith))
+    ∙ append-nil (bytes_high_first 4 (number_at 4 20 bytes)) ∙ ap (λ n. bytes_high_first 4 n) volume in
     let second : drop 16 bytes ≡ bytes_high_first 4 row.pair.alt ++ bytes_high_first 4 row.volume =
     field_4 16 bytes (omega arith) fits ∙ ap (λ n. bytes_high_first 4 n ++ drop 20 bytes) alt ∙ ap (λ (l : List ℕ). bytes_high_first 4 row.pair.alt ++ l) last in
     let fields : drop 8 bytes ≡ row_fields row =
     field_8 8 bytes (omega arith) fits ∙ ap (λ n. bytes_high_first 8 n ++ drop 16 bytes) key ∙ ap (λ (l : List ℕ). bytes_high_first 8 row.pair.key ++ l) second in
     sym (take-append-drop 8 bytes) ∙ ap (λ (l : List ℕ). l ++ drop 8 bytes) magic ∙ ap (λ (l : List ℕ). magic_bytes journal_magic ++ l) fields ∙ sym (row_is row)
 
-pub row_read : (volumes key alt volume : ℕ) (bytes : List ℕ) → IsBytes bytes → length bytes ≡ 24 → take 8 bytes ≡ magic_bytes journal_magic → key ≡ number_at 8 8 bytes → alt ≡ number_at 4 16 bytes → volume ≡ number_at 4 20 bytes → volume < volumes
+pub row_read : (volumes key alt volume : ℕ) (bytes : List ℕ) → IsBytes bytes → length bytes ≡ 24 → take 8 bytes ≡ magic_bytes journal_magic → key ≡ number_at 8 8 bytes
+    → alt ≡ number_at 4 16 bytes → volume ≡ number_at 4 20 bytes → volume < volumes
     → IsRowOf volumes (record { pair = record { key = key; alt = alt }; volume = volume }) × (bytes ≡ journal_row (record { pair = record { key = key; alt = alt }; volume = volume }))
 row_read volumes key alt volume bytes fits long magic keys alts vols below = (
   record { key = omega (arith, number_8 8 bytes fits); alt = omega (arith, number_4 16 bytes fits); volume = below },
@@ -123,7 +127,8 @@ cut_row volumes at file (inr cut) =
 
 -- THE NEXT ROW IS APPENDED
 
-more_journal : (superblock : List ℕ) (volumes : ℕ) (file : List ℕ) (rows : List DirRow) (row : DirRow) (next : ℕ) → All (IsRowOf volumes) rows → IsRowOf volumes row → next ≡ journal_end (rows ++ row ∷ [])
+more_journal : (superblock : List ℕ) (volumes : ℕ) (file : List ℕ) (rows : List DirRow) (row : DirRow) (next : ℕ) → All (IsRowOf volumes) rows → IsRowOf volumes row
+    → next ≡ journal_end (rows ++ row ∷ [])
     → HasRows journal_row superblock file (rows ++ row ∷ []) next × IsClosed journal_magic next file → IsJournal superblock volumes file (rows ++ row ∷ [])
 more_journal superblock volumes file rows row next all of nexts is = record {
   lead = record {
@@ -136,34 +141,41 @@ more_journal superblock volumes file rows row next all of nexts is = record {
 next_end : (rows : List DirRow) (row : DirRow) → journal_end rows + 24 ≡ journal_end (rows ++ row ∷ [])
 next_end rows row = omega (arith, length-append rows (row ∷ []))
 
-pub journal_grows : (superblock : List ℕ) (volumes : ℕ) (old new body : List ℕ) (rows : List DirRow) (row : DirRow) (end : ℕ) → IsRowOf volumes row → body ≡ row_fields row ++ end_mark → end ≡ journal_end rows → LogGrows journal_magic end body old new
+pub journal_grows : (superblock : List ℕ) (volumes : ℕ) (old new body : List ℕ) (rows : List DirRow) (row : DirRow) (end : ℕ) → IsRowOf volumes row
+    → body ≡ row_fields row ++ end_mark → end ≡ journal_end rows → LogGrows journal_magic end body old new
     → IsJournal superblock volumes old rows → IsJournal superblock volumes new (rows ++ row ∷ [])
 journal_grows superblock volumes old new body rows row end of body_is ends grows is =
     let here : LogGrows journal_magic (journal_end rows) body old new = subst (λ k. LogGrows journal_magic k body old new) ends grows in
     more_journal superblock volumes new rows row (journal_end rows + 24) is.lead.all of (next_end rows row)
-    (rows_grow journal_magic journal_row superblock old new body (row_fields row) rows (journal_end rows) (journal_end rows + 24) row (row_is row) body_is (ap (λ n. journal_end rows + n) (length-row row)) here is.lead.stand is.closed)
+    (rows_grow journal_magic journal_row superblock old new body (row_fields row) rows (journal_end rows) (journal_end rows + 24) row (row_is row) body_is
+    (ap (λ n. journal_end rows + n) (length-row row)) here is.lead.stand is.closed)
 
-pub journal_stays : (superblock : List ℕ) (volumes : ℕ) (body image : List ℕ) (old new : FileState) (rows : List DirRow) (row : DirRow) (end : ℕ) → IsRowOf volumes row → body ≡ row_fields row ++ end_mark → end ≡ journal_end rows → LogStays journal_magic end body old new
+pub journal_stays : (superblock : List ℕ) (volumes : ℕ) (body image : List ℕ) (old new : FileState) (rows : List DirRow) (row : DirRow) (end : ℕ) → IsRowOf volumes row
+    → body ≡ row_fields row ++ end_mark → end ≡ journal_end rows → LogStays journal_magic end body old new
     → IsJournal superblock volumes old.now rows → IsSolidIn 0 end old → IsImage new image → IsJournal superblock volumes image rows ⊎ IsJournal superblock volumes image (rows ++ row ∷ [])
 journal_stays superblock volumes body image old new rows row end of body_is ends stays is solid leaves =
     let here : LogStays journal_magic (journal_end rows) body old new = subst (λ k. LogStays journal_magic k body old new) ends stays in
     let front : IsSolidIn 0 (journal_end rows) old = subst (λ k. IsSolidIn 0 k old) ends solid in
-    elim (rows_stay journal_magic journal_row superblock body (row_fields row) image old new rows (journal_end rows) (journal_end rows + 24) row (row_is row) body_is (ap (λ n. journal_end rows + n) (length-row row)) here is.lead.stand is.closed front leaves) [
+    elim (rows_stay journal_magic journal_row superblock body (row_fields row) image old new rows (journal_end rows) (journal_end rows + 24) row (row_is row) body_is
+    (ap (λ n. journal_end rows + n) (length-row row)) here is.lead.stand is.closed front leaves) [
       | inl same ↦ inl (record { lead = record { all = is.lead.all; stand = same.0 }; closed = same.1 })
       | inr more ↦ inr (more_journal superblock volumes image rows row (journal_end rows + 24) is.lead.all of (next_end rows row) more)
     ]
 
 -- the place behind the new row is a number of 64 bits
-pub next_place : (end place : ℕ) (body : List ℕ) (row : DirRow) (file : FileState) → body ≡ row_fields row ++ end_mark → IsGate journal_magic (end + length body) file → length file.now < 2 ^ 64 → place ≡ min (end + 24) 18446744073709551615
+pub next_place : (end place : ℕ) (body : List ℕ) (row : DirRow) (file : FileState) → body ≡ row_fields row ++ end_mark → IsGate journal_magic (end + length body) file
+    → length file.now < 2 ^ 64 → place ≡ min (end + 24) 18446744073709551615
     → place ≡ end + 24
 next_place end place body row file body_is gate fits is = omega (arith, gate.closed.room, length-body row body body_is)
 
-pub next_gate : (end place : ℕ) (body : List ℕ) (row : DirRow) (file : FileState) → body ≡ row_fields row ++ end_mark → place ≡ end + 24 → IsGate journal_magic (end + length body) file → IsGate journal_magic place file
+pub next_gate : (end place : ℕ) (body : List ℕ) (row : DirRow) (file : FileState) → body ≡ row_fields row ++ end_mark → place ≡ end + 24
+    → IsGate journal_magic (end + length body) file → IsGate journal_magic place file
 next_gate end place body row file body_is is gate = subst (λ k. IsGate journal_magic k file) (ap (λ n. end + n) (length-body row body body_is) ∙ sym is) gate
 
 -- A JOURNAL WITHOUT ROWS
 
-pub formatted : (superblock : List ℕ) (volumes : ℕ) (bytes old new : List ℕ) → length superblock ≡ 64 → bytes ≡ superblock ++ end_mark → new ≡ overwrite 0 bytes old → IsJournal superblock volumes new []
+pub formatted : (superblock : List ℕ) (volumes : ℕ) (bytes old new : List ℕ) → length superblock ≡ 64 → bytes ≡ superblock ++ end_mark → new ≡ overwrite 0 bytes old
+    → IsJournal superblock volumes new []
 formatted superblock volumes bytes old new long is written =
     let tail = drop (0 + length bytes) old in
     let whole : new ≡ superblock ++ (end_mark ++ tail) = written ∙ ap (λ (l : List ℕ). l ++ tail) is ∙ append_assoc superblock end_mark tail in
@@ -181,14 +193,16 @@ formatted superblock volumes bytes old new long is written =
 -- A FILE THAT WAS EMPTY
 
 -- Whatever a stop leaves of it, formatted or in part, has no room for a row.
-pub no_row_yet : (superblock : List ℕ) (volumes : ℕ) (old new : FileState) (image : List ℕ) (rows : List DirRow) → IsSolid old → old.now ≡ [] → Changes 0 72 old new → IsImage new image → IsJournal superblock volumes image rows → rows ≡ []
+pub no_row_yet : (superblock : List ℕ) (volumes : ℕ) (old new : FileState) (image : List ℕ) (rows : List DirRow) → IsSolid old → old.now ≡ [] → Changes 0 72 old new
+    → IsImage new image → IsJournal superblock volumes image rows → rows ≡ []
 no_row_yet superblock volumes old new image [] solid void changes is journal = refl
 no_row_yet superblock volumes old new image (row ∷ rows) solid void changes is journal =
     let none : old.longest ≤ 0 = omega (arith, solid.longest, ap length void) in
     absurd (omega (arith, none, changes.longest, is.no_longer, journal.closed.room))
 
 -- once it is on the disk, and nothing of it is sealed, a row may be appended
-pub journal_gate : (superblock : List ℕ) (volumes : ℕ) (rows : List DirRow) (end : ℕ) (file : FileState) → end ≡ journal_end rows → IsJournal superblock volumes file.now rows → IsSolid file → IsFree file → IsGate journal_magic end file
+pub journal_gate : (superblock : List ℕ) (volumes : ℕ) (rows : List DirRow) (end : ℕ) (file : FileState) → end ≡ journal_end rows → IsJournal superblock volumes file.now rows
+    → IsSolid file → IsFree file → IsGate journal_magic end file
 journal_gate superblock volumes rows end file ends is solid free = record {
   closed = subst (λ k. IsClosed journal_magic k file.now) (sym ends) is.closed;
   solid = λ k from to. solid.places k;
@@ -201,7 +215,8 @@ pub lead_first : (superblock : List ℕ) (volumes : ℕ) (file : List ℕ) (rows
 lead_first superblock volumes file rows none long begins =
     subst (λ l. LeadsTo superblock volumes file l) (sym none) (record { all = all_none (IsRowOf volumes); stand = no_rows journal_row superblock file long begins })
 
-pub lead_next : (superblock : List ℕ) (volumes : ℕ) (file : List ℕ) (rows more : List DirRow) (row : DirRow) (end : ℕ) → more ≡ rows ++ row ∷ [] → end ≡ journal_end rows → LeadsTo superblock volumes file rows → IsRowOf volumes row → HasBytesAt end (journal_row row) file
+pub lead_next : (superblock : List ℕ) (volumes : ℕ) (file : List ℕ) (rows more : List DirRow) (row : DirRow) (end : ℕ) → more ≡ rows ++ row ∷ [] → end ≡ journal_end rows
+    → LeadsTo superblock volumes file rows → IsRowOf volumes row → HasBytesAt end (journal_row row) file
     → LeadsTo superblock volumes file more
 lead_next superblock volumes file rows more row end mores ends lead of stand =
     let here : HasBytesAt (journal_end rows) (journal_row row) file = subst (λ k. HasBytesAt k (journal_row row) file) ends stand in
@@ -217,7 +232,8 @@ next_count rows more row end next mores ends is = is ∙ ap (λ k. k + 24) ends 
 pub row_within : (end : ℕ) (row : DirRow) (file : List ℕ) → HasBytesAt end (journal_row row) file → length file < 2 ^ 64 → end + 24 < 2 ^ 64
 row_within end row file stand fits = let room = row_room end row file stand in omega arith
 
-pub journal_found : (superblock : List ℕ) (volumes : ℕ) (file : List ℕ) (rows : List DirRow) (end : ℕ) → end ≡ journal_end rows → LeadsTo superblock volumes file rows → IsClosed journal_magic end file → IsJournal superblock volumes file rows
+pub journal_found : (superblock : List ℕ) (volumes : ℕ) (file : List ℕ) (rows : List DirRow) (end : ℕ) → end ≡ journal_end rows → LeadsTo superblock volumes file rows
+    → IsClosed journal_magic end file → IsJournal superblock volumes file rows
 journal_found superblock volumes file rows end ends lead closed = record { lead = lead; closed = subst (λ k. IsClosed journal_magic k file) ends closed }
 
 -- where a row stands there is no end mark, and nothing is broken
@@ -250,7 +266,8 @@ at_once : (at : ℕ) → at + 0 ≡ at
 at_once at = omega arith
 
 one_reading : (volumes at : ℕ) (rows more : List DirRow) (file : List ℕ) → volumes ≤ 2 ^ 32 → All (IsRowOf volumes) rows → All (IsRowOf volumes) more
-    → HasBytesAt at (rows_bytes rows) file → IsClosed journal_magic (at + length (rows_bytes rows)) file → HasBytesAt at (rows_bytes more) file → IsClosed journal_magic (at + length (rows_bytes more)) file → rows ≡ more
+    → HasBytesAt at (rows_bytes rows) file → IsClosed journal_magic (at + length (rows_bytes rows)) file → HasBytesAt at (rows_bytes more) file
+    → IsClosed journal_magic (at + length (rows_bytes more)) file → rows ≡ more
 one_reading volumes at [] [] file most all also stand closed again shut = refl
 one_reading volumes at [] (s ∷ more) file most all also stand closed again shut =
     absurd (row_open at s file (first_row at s more file again) (subst (λ k. IsClosed journal_magic k file) (at_once at) closed))
@@ -266,7 +283,8 @@ one_reading volumes at (r ∷ rows) (s ∷ more) file most all also stand closed
     (other_rows at s more file again) (subst (λ k. IsClosed journal_magic k file) (behind_first at s more) shut) in
     ap (λ x. x ∷ rows) row ∙ ap (λ (l : List DirRow). s ∷ l) rest
 
-no_broken_at : (volumes at : ℕ) (rows more : List DirRow) (file : List ℕ) → All (IsRowOf volumes) rows → HasBytesAt at (rows_bytes rows) file → IsClosed journal_magic (at + length (rows_bytes rows)) file
+no_broken_at : (volumes at : ℕ) (rows more : List DirRow) (file : List ℕ) → All (IsRowOf volumes) rows → HasBytesAt at (rows_bytes rows) file
+    → IsClosed journal_magic (at + length (rows_bytes rows)) file
     → HasBytesAt at (rows_bytes more) file → IsBrokenRow volumes (at + length (rows_bytes more)) file → ⊥
 no_broken_at volumes at [] [] file all stand closed again broken = mark_whole volumes (at + 0) file closed broken
 no_broken_at volumes at [] (s ∷ more) file all stand closed again broken =
@@ -279,7 +297,8 @@ no_broken_at volumes at (r ∷ rows) (s ∷ more) file all stand closed again br
     (other_rows at s more file again) (subst (λ k. IsBrokenRow volumes k file) (behind_first at s more) broken)
 
 -- of two places with rows up to them, at which the file is broken, the first is the second
-same_place : (volumes at : ℕ) (rows more : List DirRow) (file : List ℕ) → All (IsRowOf volumes) rows → All (IsRowOf volumes) more → HasBytesAt at (rows_bytes rows) file → IsBrokenRow volumes (at + length (rows_bytes rows)) file
+same_place : (volumes at : ℕ) (rows more : List DirRow) (file : List ℕ) → All (IsRowOf volumes) rows → All (IsRowOf volumes) more → HasBytesAt at (rows_bytes rows) file
+    → IsBrokenRow volumes (at + length (rows_bytes rows)) file
     → HasBytesAt at (rows_bytes more) file → IsBrokenRow volumes (at + length (rows_bytes more)) file → at + length (rows_bytes rows) ≡ at + length (rows_bytes more)
 same_place volumes at [] [] file all also stand broken again worse = refl
 same_place volumes at [] (s ∷ more) file all also stand broken again worse =
@@ -288,7 +307,8 @@ same_place volumes at (r ∷ rows) [] file all also stand broken again worse =
     absurd (row_whole volumes at r file (all_first (IsRowOf volumes) r rows all) (first_row at r rows file stand) (subst (λ k. IsBrokenRow volumes k file) (at_once at) worse))
 same_place volumes at (r ∷ rows) (s ∷ more) file all also stand broken again worse =
     behind_first at r rows
-    ∙ same_place volumes (at + 24) rows more file (all_rest (IsRowOf volumes) r rows all) (all_rest (IsRowOf volumes) s more also) (other_rows at r rows file stand) (subst (λ k. IsBrokenRow volumes k file) (behind_first at r rows) broken)
+    ∙ same_place volumes (at + 24) rows more file (all_rest (IsRowOf volumes) r rows all) (all_rest (IsRowOf volumes) s more also) (other_rows at r rows file stand)
+    (subst (λ k. IsBrokenRow volumes k file) (behind_first at r rows) broken)
     (other_rows at s more file again) (subst (λ k. IsBrokenRow volumes k file) (behind_first at s more) worse)
     ∙ sym (behind_first at s more)
 
@@ -297,13 +317,15 @@ same_place volumes at (r ∷ rows) (s ∷ more) file all also stand broken again
 rows_here : (superblock : List ℕ) (volumes : ℕ) (file : List ℕ) (rows : List DirRow) → LeadsTo superblock volumes file rows → HasBytesAt 64 (rows_bytes rows) file
 rows_here superblock volumes file rows lead = rows_stand journal_row superblock file rows (journal_end rows) lead.stand
 
-pub one_journal : (superblock : List ℕ) (volumes : ℕ) (file : List ℕ) (rows more : List DirRow) → volumes ≤ 2 ^ 32 → IsJournal superblock volumes file rows → IsJournal superblock volumes file more → rows ≡ more
+pub one_journal : (superblock : List ℕ) (volumes : ℕ) (file : List ℕ) (rows more : List DirRow) → volumes ≤ 2 ^ 32 → IsJournal superblock volumes file rows
+    → IsJournal superblock volumes file more → rows ≡ more
 one_journal superblock volumes file rows more most is also =
     one_reading volumes 64 rows more file most is.lead.all also.lead.all
     (rows_here superblock volumes file rows is.lead) (subst (λ k. IsClosed journal_magic k file) (sym is.lead.stand.ends) is.closed)
     (rows_here superblock volumes file more also.lead) (subst (λ k. IsClosed journal_magic k file) (sym also.lead.stand.ends) also.closed)
 
-pub no_broken_row : (superblock : List ℕ) (volumes : ℕ) (file : List ℕ) (rows more : List DirRow) (at : ℕ) → at ≡ journal_end more → IsJournal superblock volumes file rows → LeadsTo superblock volumes file more → IsBrokenRow volumes at file → ⊥
+pub no_broken_row : (superblock : List ℕ) (volumes : ℕ) (file : List ℕ) (rows more : List DirRow) (at : ℕ) → at ≡ journal_end more → IsJournal superblock volumes file rows
+    → LeadsTo superblock volumes file more → IsBrokenRow volumes at file → ⊥
 no_broken_row superblock volumes file rows more at place is lead broken =
     no_broken_at volumes 64 rows more file is.lead.all (rows_here superblock volumes file rows is.lead) (subst (λ k. IsClosed journal_magic k file) (sym is.lead.stand.ends) is.closed)
     (rows_here superblock volumes file more lead) (subst (λ k. IsBrokenRow volumes k file) (place ∙ sym lead.stand.ends) broken)
@@ -322,7 +344,8 @@ pub sound : (sup : Super) (file : List ℕ) (rows : List DirRow) (at : ℕ) → 
 sound sup file rows at fits is (inl fault) =
     let stand = is.lead.stand in
     let front : 64 ≤ journal_end rows = omega arith in
-    let begins : take 64 file ≡ super_bytes sup = sym (take-take 64 (journal_end rows) file front) ∙ ap (λ (l : List ℕ). take 64 l) stand.front ∙ take_at (super_bytes sup) (rows_bytes rows) 64 stand.long in
+    let begins : take 64 file ≡ super_bytes sup =
+    sym (take-take 64 (journal_end rows) file front) ∙ ap (λ (l : List ℕ). take 64 l) stand.front ∙ take_at (super_bytes sup) (rows_bytes rows) 64 stand.long in
     front_whole sup file at fits begins fault
 sound sup file rows at fits is (inr broken) = undamaged (super_bytes sup) sup.settings.volumes file rows at is broken
 

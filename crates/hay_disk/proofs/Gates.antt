@@ -1,5 +1,6 @@
 -- What a stop leaves of a gated append, step by step.
-use Rattle.std.proofs.Common.{◌≡◌, ◌⊎◌, inl, inr, ◌≢◌, ◌<◌, ◌≤◌, ◌+◌, ◌-◌, ◌^◌, ℕ, min, List, [], ◌∷◌, ◌++◌, length, take, drop, refl, sym, ◌∙◌, ap, subst, arith, length-take, length-drop, length-append, append_assoc, take-append-drop}
+use Rattle.std.proofs.Common.{◌≡◌, ◌⊎◌, inl, inr, ◌≢◌, ◌<◌, ◌≤◌, ◌+◌, ◌-◌, ◌^◌, ℕ, min, List, [], ◌∷◌, ◌++◌, length, take, drop, refl, sym, ◌∙◌, ap, subst, arith, length-take}
+use Rattle.std.proofs.Common.{length-drop, length-append, append_assoc, take-append-drop}
 use Rattle.std.proofs.lemmas.List.{drop-drop, drop-take, take_at, drop_at, length-take-le}
 use Rattle.std.proofs.lemmas.Bool.{cases_eq}
 use Rattle.hay_disk.specs.Disk.{FileState, IsImage, IsSolid, Changes, overwrite}
@@ -53,7 +54,8 @@ drop-overwrite at bytes old low =
     ∙ drop_at (take at old) (bytes ++ drop (at + length bytes) old) at (length-take-le at old low)
 
 -- once the body is on the disk, a change of the mark alone leaves the whole record or no magic
-pub whole_or_closed : (magic end behind : ℕ) (body mark : List ℕ) (old staged new : FileState) (image : List ℕ) → behind ≡ end + 8 → IsGate magic end old → EndsInMark body → staged.now ≡ overwrite behind body old.now → IsSolid staged → mark ≡ magic_bytes magic → Changes end (length mark) staged new → IsImage new image → IsWholeOrClosed magic end body image
+pub whole_or_closed : (magic end behind : ℕ) (body mark : List ℕ) (old staged new : FileState) (image : List ℕ) → behind ≡ end + 8 → IsGate magic end old → EndsInMark body
+    → staged.now ≡ overwrite behind body old.now → IsSolid staged → mark ≡ magic_bytes magic → Changes end (length mark) staged new → IsImage new image → IsWholeOrClosed magic end body image
 whole_or_closed magic end behind body mark old staged new image place gate ends written solid is_magic_bytes marked is =
     let holds : staged.now ≡ overwrite (end + 8) body old.now = subst (λ (at : ℕ). staged.now ≡ overwrite at body old.now) place written in
     let changes = mark_changes magic end mark staged new is_magic_bytes marked in
@@ -81,12 +83,14 @@ behind_is magic end behind file gate fits is = omega (arith, gate.closed.room)
 pub body_changes : (end behind n : ℕ) (a b : FileState) → behind ≡ end + 8 → Changes behind n a b → Changes end (8 + n) a b
 body_changes end behind n a b place is = changes_wider behind n end (8 + n) a b (omega arith) (omega arith) is
 
-pub magic_changes : (magic end behind n : ℕ) (mark : List ℕ) (a b c : FileState) → behind ≡ end + 8 → mark ≡ magic_bytes magic → Changes behind n a b → Changes end (length mark) b c → Changes end (8 + n) a c
+pub magic_changes : (magic end behind n : ℕ) (mark : List ℕ) (a b c : FileState) → behind ≡ end + 8 → mark ≡ magic_bytes magic → Changes behind n a b
+    → Changes end (length mark) b c → Changes end (8 + n) a c
 magic_changes magic end behind n mark a b c place is first second =
     changes_changes end (8 + n) a b c (body_changes end behind n a b place first) (changes_wider end 8 end (8 + n) b c (omega arith) (omega arith) (mark_changes magic end mark b c is second))
 
 -- a magic before the body that was written behind its place
-pub magic_stands : (magic end behind : ℕ) (body mark old staged new : List ℕ) → behind ≡ end + 8 → end + 8 ≤ length old → staged ≡ overwrite behind body old → mark ≡ magic_bytes magic → new ≡ overwrite end mark staged → new ≡ overwrite end (record_of magic body) old
+pub magic_stands : (magic end behind : ℕ) (body mark old staged new : List ℕ) → behind ≡ end + 8 → end + 8 ≤ length old → staged ≡ overwrite behind body old
+    → mark ≡ magic_bytes magic → new ≡ overwrite end mark staged → new ≡ overwrite end (record_of magic body) old
 magic_stands magic end behind body mark old staged new place room written is_magic marked =
     let bytes = magic_bytes magic in
     let holds : staged ≡ overwrite (end + 8) body old = subst (λ (at : ℕ). staged ≡ overwrite at body old) place written in

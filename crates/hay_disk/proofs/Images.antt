@@ -57,7 +57,8 @@ pub solid_whole : (file : FileState) (image : List ℕ) → IsSolid file → IsI
 solid_whole file image solid is = lists_agree image file.now (λ k. is.same k (solid.places k))
 
 -- one loose place in a solid file: an image has some byte there, and elsewhere what reads gave
-pub image_but_one : (at : ℕ) (old new : FileState) (image : List ℕ) → at < length old.now → IsSolid old → Changes at 1 old new → IsImage new image → (b : ℕ) × (image ≡ take at old.now ++ b ∷ drop (at + 1) old.now)
+pub image_but_one : (at : ℕ) (old new : FileState) (image : List ℕ) → at < length old.now → IsSolid old → Changes at 1 old new → IsImage new image
+    → (b : ℕ) × (image ≡ take at old.now ++ b ∷ drop (at + 1) old.now)
 image_but_one at old new image inside solid changes is =
     let front : take at image ≡ take at old.now =
     solid_part 0 at new image (λ k from to. changes.solid k (solid.places k) (inl (omega arith))) is ∙ changes.before in
@@ -65,7 +66,8 @@ image_but_one at old new image inside solid changes is =
     solid_rest (at + 1) new image (λ k from. changes.solid k (solid.places k) (inr from)) is ∙ changes.after in
     let long : at < length image = omega (arith, is.no_shorter, changes.shortest, solid.shortest) in (
       get_or image at 0,
-      sym (take-append-drop at image) ∙ ap (λ (l : List ℕ). l ++ drop at image) front ∙ ap (λ (l : List ℕ). take at old.now ++ l) (drop_more image at 0 long ∙ ap (λ (l : List ℕ). get_or image at 0 ∷ l) rest),
+      sym (take-append-drop at image) ∙ ap (λ (l : List ℕ). l ++ drop at image) front ∙ ap (λ (l : List ℕ). take at old.now ++ l)
+          (drop_more image at 0 long ∙ ap (λ (l : List ℕ). get_or image at 0 ∷ l) rest),
     )
 
 get_front : (at k : ℕ) (xs : List ℕ) → k < at → slice_get (take at xs) k ≡ slice_get xs k

@@ -1,5 +1,6 @@
 -- A gated append makes a log one record longer, or leaves it.
-use Rattle.std.proofs.Common.{◌≡◌, ◌⊎◌, inl, inr, ◌≢◌, ◌<◌, ◌≤◌, ◌+◌, ◌^◌, ℕ, List, ◌++◌, length, take, drop, refl, sym, ◌∙◌, ap, subst, arith, length-take, length-drop, length-append, append_assoc, take-append-drop}
+use Rattle.std.proofs.Common.{◌≡◌, ◌⊎◌, inl, inr, ◌≢◌, ◌<◌, ◌≤◌, ◌+◌, ◌^◌, ℕ, List, ◌++◌, length, take, drop, refl, sym, ◌∙◌, ap, subst, arith, length-take, length-drop}
+use Rattle.std.proofs.Common.{length-append, append_assoc, take-append-drop}
 use Rattle.std.proofs.lemmas.List.{take_at, drop_at, length-take-le}
 use Rattle.std.proofs.lemmas.Nat.{from_be_bytes-to_be_bytes_8}
 use Rattle.std.specs.Int.{from_be_bytes, w64}
@@ -23,7 +24,8 @@ log_from magic front mark rest file is eight other =
     }
 
 -- a whole record behind the front of a log
-pub whole_log : (magic end : ℕ) (front rest file : List ℕ) → length front ≡ end → end_mark ≢ magic_bytes magic → take end file ≡ front → HasBytesAt end (record_of magic (rest ++ end_mark)) file → IsLog magic (front ++ record_of magic rest) file
+pub whole_log : (magic end : ℕ) (front rest file : List ℕ) → length front ≡ end → end_mark ≢ magic_bytes magic → take end file ≡ front
+    → HasBytesAt end (record_of magic (rest ++ end_mark)) file → IsLog magic (front ++ record_of magic rest) file
 whole_log magic end front rest file ends other begins stands =
     let bytes = record_of magic (rest ++ end_mark) in
     let tail = drop (length bytes) (drop end file) in
@@ -35,7 +37,8 @@ whole_log magic end front rest file ends other begins stands =
     log_from magic (front ++ record_of magic rest) end_mark tail file (split ∙ regroup) refl other
 
 -- after Ok the log is one record longer
-pub log_appended : (magic end : ℕ) (front rest old new : List ℕ) → length front ≡ end → end_mark ≢ magic_bytes magic → IsLog magic front old → new ≡ overwrite end (record_of magic (rest ++ end_mark)) old → IsLog magic (front ++ record_of magic rest) new
+pub log_appended : (magic end : ℕ) (front rest old new : List ℕ) → length front ≡ end → end_mark ≢ magic_bytes magic → IsLog magic front old
+    → new ≡ overwrite end (record_of magic (rest ++ end_mark)) old → IsLog magic (front ++ record_of magic rest) new
 log_appended magic end front rest old new ends other log is =
     let bytes = record_of magic (rest ++ end_mark) in
     let tail = drop (end + length bytes) old in
@@ -48,7 +51,8 @@ log_appended magic end front rest old new ends other log is =
     whole_log magic end front rest new ends other begins stands
 
 -- whatever a stop leaves, the log is as it was or one record longer
-pub log_left : (magic end n : ℕ) (front rest : List ℕ) (old new : FileState) (image : List ℕ) → length front ≡ end → end_mark ≢ magic_bytes magic → IsLog magic front old.now → IsSolidIn 0 end old → Changes end n old new → IsImage new image → IsWholeOrClosed magic end (rest ++ end_mark) image → IsLog magic front image ⊎ IsLog magic (front ++ record_of magic rest) image
+pub log_left : (magic end n : ℕ) (front rest : List ℕ) (old new : FileState) (image : List ℕ) → length front ≡ end → end_mark ≢ magic_bytes magic → IsLog magic front old.now
+    → IsSolidIn 0 end old → Changes end n old new → IsImage new image → IsWholeOrClosed magic end (rest ++ end_mark) image → IsLog magic front image ⊎ IsLog magic (front ++ record_of magic rest) image
 log_left magic end n front rest old new image ends other log solid changes is left =
     let begins_old : take end old.now ≡ front = subst (λ k. take k old.now ≡ front) ends log.begins in
     let in_image : take end image ≡ take end new.now = solid_part 0 end new image (λ k from to. changes.solid k (solid k from to) (inl (omega arith))) is in
@@ -62,7 +66,8 @@ log_left magic end n front rest old new image ends other log solid changes is le
     ]
 
 -- where the front and the mark are solid, a stop leaves the log
-pub log_kept : (magic end : ℕ) (front : List ℕ) (file : FileState) (image : List ℕ) → length front ≡ end → IsLog magic front file.now → IsSolidIn 0 end file → IsSolidIn end 8 file → IsImage file image → IsLog magic front image
+pub log_kept : (magic end : ℕ) (front : List ℕ) (file : FileState) (image : List ℕ) → length front ≡ end → IsLog magic front file.now → IsSolidIn 0 end file → IsSolidIn end 8 file
+    → IsImage file image → IsLog magic front image
 log_kept magic end front file image ends log solid mark is =
     let same_front : take end image ≡ take end file.now = solid_part 0 end file image solid is in
     let same_mark : take 8 (drop end image) ≡ take 8 (drop end file.now) = solid_part end 8 file image mark is in
@@ -77,7 +82,8 @@ log_kept magic end front file image ends log solid mark is =
     }
 
 -- after Ok the next record may be appended
-pub gate_next : (magic end n : ℕ) (body : List ℕ) (old new : FileState) → IsGate magic end old → end_mark ≢ magic_bytes magic → EndsInMark body → new.now ≡ overwrite end (record_of magic body) old.now → IsSolid new → Changes end n old new → IsGate magic (end + length body) new
+pub gate_next : (magic end n : ℕ) (body : List ℕ) (old new : FileState) → IsGate magic end old → end_mark ≢ magic_bytes magic → EndsInMark body
+    → new.now ≡ overwrite end (record_of magic body) old.now → IsSolid new → Changes end n old new → IsGate magic (end + length body) new
 gate_next magic end n body old new gate other (rest, ends) is solid changes =
     let front = take end old.now in
     let room : end ≤ length old.now = omega (arith, gate.closed.room) in
@@ -88,7 +94,8 @@ gate_next magic end n body old new gate other (rest, ends) is solid changes =
     } in
     let is_rest : new.now ≡ overwrite end (record_of magic (rest ++ end_mark)) old.now = subst (λ (l : List ℕ). new.now ≡ overwrite end (record_of magic l) old.now) ends is in
     let longer = log_appended magic end front rest old.now new.now at_end other log is_rest in
-    let here : length (front ++ record_of magic rest) ≡ end + length body = omega (arith, at_end, simp length-append at (ap length ends), length-append front (record_of magic rest), length-append (magic_bytes magic) rest) in
+    let here : length (front ++ record_of magic rest) ≡ end + length body =
+    omega (arith, at_end, simp length-append at (ap length ends), length-append front (record_of magic rest), length-append (magic_bytes magic) rest) in
     record {
       closed = subst (λ k. IsClosed magic k new.now) here longer.closed;
       solid = λ k from to. solid.places k;
@@ -108,7 +115,8 @@ log_grows magic end body old new fits some is = record {
       log_appended magic end front bytes old new ends (not_mark magic fits some) log (subst (λ (l : List ℕ). new ≡ overwrite end (record_of magic l) old) body_is is);
 }
 
-pub log_stays : (magic end n : ℕ) (body : List ℕ) (old new : FileState) → magic < 2 ^ 64 → 0 < magic → Changes end n old new → ((image : List ℕ) → IsImage new image → IsWholeOrClosed magic end body image) → LogStays magic end body old new
+pub log_stays : (magic end n : ℕ) (body : List ℕ) (old new : FileState) → magic < 2 ^ 64 → 0 < magic → Changes end n old new
+    → ((image : List ℕ) → IsImage new image → IsWholeOrClosed magic end body image) → LogStays magic end body old new
 log_stays magic end n body old new fits some changes whole = record {
   image = λ front bytes image ends body_is log solid is.
       log_left magic end n front bytes old new image ends (not_mark magic fits some) log solid changes is (subst (λ (l : List ℕ). IsWholeOrClosed magic end l image) body_is (whole image is));

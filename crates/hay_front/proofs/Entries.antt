@@ -33,7 +33,8 @@ module _ {D : Type 0} where
   filter_snoc counts ds d true is = filter-append counts ds (d ∷ []) ∙ rw is refl
   filter_snoc counts ds d false is = filter-append counts ds (d ∷ []) ∙ rw is (append-nil (filter counts ds))
 
-  entries_logged : (ts : List Tag) (ds : List D) (t : Tag) (d : D) (b : Bool) → length ts ≡ length ds → entries (logged b ts t) (logged b ds d) ≡ logged b (entries ts ds) (record { tag = t; deed = d })
+  entries_logged : (ts : List Tag) (ds : List D) (t : Tag) (d : D) (b : Bool) → length ts ≡ length ds
+      → entries (logged b ts t) (logged b ds d) ≡ logged b (entries ts ds) (record { tag = t; deed = d })
   entries_logged ts ds t d true e = entries_snoc ts ds t d e
   entries_logged ts ds t d false e = refl
 

@@ -117,7 +117,8 @@ impl<T: View> Front<T> {
         requires same { T.means second ≡ T.means first }
         requires some { 0 < seats }
         requires fact { (b : T.Start) × T.fact b (T.means first) [] }
-        ensures { IfOk result (λ r. (b : T.Start) × T.fact b (T.means first) [] × (r.0.shown.base ≡ Some (T.means first, b)) × (r.0.shown.deeds ≡ []) × (r.0.closed ≡ false) × (r.0.log ≡ []) × (r.1.items ≡ replicate seats r.0.shown)) }
+        ensures { IfOk result (λ r. (b : T.Start) × T.fact b (T.means first) [] × (r.0.shown.base ≡ Some (T.means first, b)) × (r.0.shown.deeds ≡ []) × (r.0.closed ≡ false)
+            × (r.0.log ≡ []) × (r.1.items ≡ replicate seats r.0.shown)) }
     {
         let history = History::begin(&first)?;
         let room = Vec::with_capacity(alloc, seats as usize)?;
@@ -205,7 +206,11 @@ impl<T: View> Front<T> {
         requires open { self.old.closed ≡ false }
         requires fact { MayPublish T.fact self.old.shown (T.deed op) }
         ensures seen { IsBehind seat.old self.old.shown × (seat.new ≡ self.new.shown) }
-        ensures done { IfOk result (λ r. (self.new ≡ record { shown = with_deed self.old.shown (T.deed op); log = logged (T.is_counted (T.deed op)) self.old.log (record { tag = tag; deed = T.deed op }); closed = false }) × (r ≡ self.new.shown)) }
+        ensures done { IfOk result (λ r. (self.new ≡ record {
+          shown = with_deed self.old.shown (T.deed op);
+          log = logged (T.is_counted (T.deed op)) self.old.log (record { tag = tag; deed = T.deed op });
+          closed = false;
+        }) × (r ≡ self.new.shown)) }
         ensures refused { IfErr result (λ _. self.new ≡ record { shown = self.old.shown; log = self.old.log; closed = true }) }
     {
         self.show_all(rt, seat);

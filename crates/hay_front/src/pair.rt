@@ -98,7 +98,8 @@ impl<S: Absorb<O> + Drop, O: Drop, Q, P: Protocol<S, Option<Q>>> Pair<S, O, Q, P
         rt: &R,
     ) -> Result<Pair<S, O, Q, P>, Pair<S, O, Q, P>>
         requires { (id : ℕ) (next : S) → S.state next ≡ fold S.applied (S.state self.shown) self.pending → TurnsAt P.holds id self.known self.shown next M.then }
-        ensures { MatchResult result (λ p. (S.state p.shown ≡ fold S.applied (S.state self.shown) self.pending) × (p.pending ≡ []) × M.then self.known self.shown p.shown p.known) (λ p. (p.shown ≡ self.shown) × (p.pending ≡ self.pending) × (p.known ≡ self.known)) }
+        ensures { MatchResult result (λ p. (S.state p.shown ≡ fold S.applied (S.state self.shown) self.pending) × (p.pending ≡ []) × M.then self.known self.shown p.shown p.known)
+            (λ p. (p.shown ≡ self.shown) × (p.pending ≡ self.pending) × (p.known ≡ self.known)) }
     {
         let Self { writer } = self;
         let (writer, result) = writer.publish_as::<M, R>(rt);

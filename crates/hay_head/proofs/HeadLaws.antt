@@ -1,5 +1,6 @@
 -- The rows of a head file.
-use Rattle.std.proofs.Common.{◌≡◌, ◌≢◌, ◌⊎◌, inl, inr, ◌<◌, ◌≤◌, ◌+◌, ℕ, zero, suc, false, List, [], ◌∷◌, ◌++◌, length, get_or, take, drop, refl, sym, ◌∙◌, ap, subst, arith, length-append, length-take, length-drop, append_assoc, append-nil, take-append-drop, lit<}
+use Rattle.std.proofs.Common.{◌≡◌, ◌≢◌, ◌⊎◌, inl, inr, ◌<◌, ◌≤◌, ◌+◌, ℕ, zero, suc, false, List, [], ◌∷◌, ◌++◌, length, get_or, take, drop, refl, sym, ◌∙◌, ap, subst, arith}
+use Rattle.std.proofs.Common.{length-append, length-take, length-drop, append_assoc, append-nil, take-append-drop, lit<}
 use borrow.Rule.Slice.PartMut.{put_mid}
 use Rattle.std.specs.Prelude.{Option, Some, None, IfNone, IsNone}
 use Rattle.std.specs.List.{range_with_len}
@@ -35,7 +36,8 @@ next_range n =
 
 -- THE NEXT ROW IS APPENDED
 
-more_head : (superblock file : List ℕ) (next : ℕ) → next ≤ 65535 → HasRows head_row superblock file (range_with_len 0 next ++ next ∷ []) (row_place (next + 1)) × IsClosed head_magic (row_place (next + 1)) file
+more_head : (superblock file : List ℕ) (next : ℕ) → next ≤ 65535 → HasRows head_row superblock file (range_with_len 0 next ++ next ∷ []) (row_place (next + 1))
+    × IsClosed head_magic (row_place (next + 1)) file
     → IsHead superblock file next
 more_head superblock file next most is = record {
   most = most;
@@ -43,20 +45,24 @@ more_head superblock file next most is = record {
   closed = is.1;
 }
 
-pub head_grows : (superblock old new body : List ℕ) (g next : ℕ) → next ≡ g + 1 → next ≤ 65535 → body ≡ bytes_high_first 8 next ++ end_mark → LogGrows head_magic (row_place next) body old new → IsHead superblock old g
+pub head_grows : (superblock old new body : List ℕ) (g next : ℕ) → next ≡ g + 1 → next ≤ 65535 → body ≡ bytes_high_first 8 next ++ end_mark
+    → LogGrows head_magic (row_place next) body old new → IsHead superblock old g
     → IsHead superblock new next
 head_grows superblock old new body g next nexts most body_is grows is =
     let rows : LeadsTo superblock old next = subst (λ k. LeadsTo superblock old k) (sym nexts) is.rows in
     let closed : IsClosed head_magic (row_place next) old = subst (λ k. IsClosed head_magic (row_place k) old) (sym nexts) is.closed in
     more_head superblock new next most
-    (rows_grow head_magic head_row superblock old new body (bytes_high_first 8 next) (range_with_len 0 next) (row_place next) (row_place (next + 1)) next (head_row_is next) body_is (omega (arith, length-head_row next)) grows rows closed)
+    (rows_grow head_magic head_row superblock old new body (bytes_high_first 8 next) (range_with_len 0 next) (row_place next) (row_place (next + 1)) next (head_row_is next) body_is
+    (omega (arith, length-head_row next)) grows rows closed)
 
-pub head_stays : (superblock body image : List ℕ) (old new : FileState) (g next : ℕ) → next ≡ g + 1 → next ≤ 65535 → body ≡ bytes_high_first 8 next ++ end_mark → LogStays head_magic (row_place next) body old new
+pub head_stays : (superblock body image : List ℕ) (old new : FileState) (g next : ℕ) → next ≡ g + 1 → next ≤ 65535 → body ≡ bytes_high_first 8 next ++ end_mark
+    → LogStays head_magic (row_place next) body old new
     → IsHead superblock old.now g → IsSolidIn 0 (row_place next) old → IsImage new image → IsHead superblock image g ⊎ IsHead superblock image next
 head_stays superblock body image old new g next nexts most body_is stays is solid leaves =
     let rows : LeadsTo superblock old.now next = subst (λ k. LeadsTo superblock old.now k) (sym nexts) is.rows in
     let closed : IsClosed head_magic (row_place next) old.now = subst (λ k. IsClosed head_magic (row_place k) old.now) (sym nexts) is.closed in
-    elim (rows_stay head_magic head_row superblock body (bytes_high_first 8 next) image old new (range_with_len 0 next) (row_place next) (row_place (next + 1)) next (head_row_is next) body_is (omega (arith, length-head_row next)) stays rows closed solid leaves) [
+    elim (rows_stay head_magic head_row superblock body (bytes_high_first 8 next) image old new (range_with_len 0 next) (row_place next) (row_place (next + 1)) next
+    (head_row_is next) body_is (omega (arith, length-head_row next)) stays rows closed solid leaves) [
       | inl same ↦ inl (record {
         most = is.most;
         rows = subst (λ k. LeadsTo superblock image k) nexts same.0;
@@ -89,7 +95,8 @@ formatted superblock bytes old new long is written =
     }
 
 -- once it is on the disk, and no piece stands behind its end, the next row may be appended
-pub head_gate : (superblock : List ℕ) (g next : ℕ) (file : FileState) → next ≡ g + 1 → IsHead superblock file.now g → IsSolid file → ((k : ℕ) → row_place next ≤ k → file.sealed k ≡ false) → IsGate head_magic (row_place next) file
+pub head_gate : (superblock : List ℕ) (g next : ℕ) (file : FileState) → next ≡ g + 1 → IsHead superblock file.now g → IsSolid file
+    → ((k : ℕ) → row_place next ≤ k → file.sealed k ≡ false) → IsGate head_magic (row_place next) file
 head_gate superblock g next file nexts is solid free = record {
   closed = subst (λ k. IsClosed head_magic (row_place k) file.now) (sym nexts) is.closed;
   solid = λ k from to. solid.places k;
@@ -108,7 +115,8 @@ row_number : (g : ℕ) (row : List ℕ) → row ≡ head_row g → take 8 (drop 
 unfolding head_row
 row_number g row is = ap (λ (l : List ℕ). take 8 (drop 8 l)) is
 
-pub row_found : (g at : ℕ) (row file : List ℕ) → length row ≡ 16 → take 8 row ≡ magic_bytes head_magic → take 8 (drop 8 row) ≡ bytes_high_first 8 g → at ≡ row_place g → HasBytesAt at row file → HasBytesAt (row_place g) (head_row g) file
+pub row_found : (g at : ℕ) (row file : List ℕ) → length row ≡ 16 → take 8 row ≡ magic_bytes head_magic → take 8 (drop 8 row) ≡ bytes_high_first 8 g → at ≡ row_place g
+    → HasBytesAt at row file → HasBytesAt (row_place g) (head_row g) file
 row_found g at row file long magic number place stand =
     let is : row ≡ head_row g = row_is g row long magic number in
     subst (λ k. HasBytesAt k (head_row g) file) place (subst (λ (l : List ℕ). HasBytesAt at l file) is stand)
@@ -118,7 +126,8 @@ stands_magic at row file long magic stand =
     sym (take-take 8 (length row) (drop at file) long) ∙ ap (λ (l : List ℕ). take 8 l) stand ∙ magic
 
 -- another generation than the next
-pub other_row : (g at : ℕ) (row file : List ℕ) → length row ≡ 16 → take 8 row ≡ magic_bytes head_magic → take 8 (drop 8 row) ≢ bytes_high_first 8 g → at ≡ row_place g → HasBytesAt at row file → IsBrokenRow g file
+pub other_row : (g at : ℕ) (row file : List ℕ) → length row ≡ 16 → take 8 row ≡ magic_bytes head_magic → take 8 (drop 8 row) ≢ bytes_high_first 8 g → at ≡ row_place g
+    → HasBytesAt at row file → IsBrokenRow g file
 other_row g at row file long magic number place stand =
     let here : HasBytesAt (row_place g) row file = subst (λ k. HasBytesAt k row file) place stand in
     let other : HasBytesAt (row_place g) (head_row g) file → ⊥ = λ this.
@@ -230,4 +239,5 @@ some_is_none (Some b) at e holds = absurd cc
 pub pasted : (front zeros row : List ℕ) → length front ≡ 64 → length zeros ≡ 24 → put_mid 64 24 (front ++ zeros) row ≡ front ++ row
 pasted front zeros row long rest =
     let all : length (front ++ zeros) ≡ 88 = omega (arith, length-append front zeros) in
-    ap (λ (l : List ℕ). l ++ (row ++ drop 24 (drop 64 (front ++ zeros)))) (take_at front zeros 64 long) ∙ ap (λ (l : List ℕ). front ++ (row ++ l)) (drop-drop 24 64 (front ++ zeros) ∙ drop_all 88 (front ++ zeros) (omega arith)) ∙ ap (λ (l : List ℕ). front ++ l) (append-nil row)
+    ap (λ (l : List ℕ). l ++ (row ++ drop 24 (drop 64 (front ++ zeros)))) (take_at front zeros 64 long)
+    ∙ ap (λ (l : List ℕ). front ++ (row ++ l)) (drop-drop 24 64 (front ++ zeros) ∙ drop_all 88 (front ++ zeros) (omega arith)) ∙ ap (λ (l : List ℕ). front ++ l) (append-nil row)

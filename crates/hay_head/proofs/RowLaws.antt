@@ -57,11 +57,13 @@ same_rows magic row superblock file rows end long ends log =
       subst (λ k. IsClosed magic k file) whole log.closed,
     )
 
-pub rows_stay : {R : Type 0} (magic : ℕ) (row : R → List ℕ) (superblock body bytes image : List ℕ) (old new : FileState) (rows : List R) (end next : ℕ) (r : R) → row r ≡ record_of magic bytes → body ≡ bytes ++ end_mark
+pub rows_stay : {R : Type 0} (magic : ℕ) (row : R → List ℕ) (superblock body bytes image : List ℕ) (old new : FileState) (rows : List R) (end next : ℕ) (r : R)
+    → row r ≡ record_of magic bytes → body ≡ bytes ++ end_mark
     → end + length (row r) ≡ next → LogStays magic end body old new → HasRows row superblock old.now rows end → IsClosed magic end old.now → IsSolidIn 0 end old → IsImage new image
     → (HasRows row superblock image rows end × IsClosed magic end image) ⊎ (HasRows row superblock image (rows ++ r ∷ []) next × IsClosed magic next image)
 rows_stay magic row superblock body bytes image old new rows end next r is body_is nexts stays has closed solid leaves =
-    elim (stays.image (superblock ++ flat_map row rows) bytes image (rows_length row superblock old.now rows end has) body_is (rows_log magic row superblock old.now rows end has closed) solid leaves) [
+    elim (stays.image (superblock ++ flat_map row rows) bytes image (rows_length row superblock old.now rows end has) body_is
+    (rows_log magic row superblock old.now rows end has closed) solid leaves) [
       | inl log ↦ inl (same_rows magic row superblock image rows end has.long has.ends log)
       | inr log ↦ inr (one_more magic row superblock image bytes rows end next r has.long has.ends is nexts log)
     ]
@@ -100,12 +102,14 @@ rows_stand row superblock file rows end has =
     sym (drop-take 64 count file) ∙ ap (λ k. drop 64 (take k file)) has.ends ∙ ap (λ (l : List ℕ). drop 64 l) has.front ∙ drop_at superblock (flat_map row rows) 64 has.long
 
 -- the row of this number stands at its place
-pub numbered_row : {R : Type 0} (row : R → List ℕ) (w i : ℕ) (superblock file : List ℕ) (rows : List R) (end : ℕ) (d : R) → ((r : R) → length (row r) ≡ w) → HasRows row superblock file rows end → i < length rows
+pub numbered_row : {R : Type 0} (row : R → List ℕ) (w i : ℕ) (superblock file : List ℕ) (rows : List R) (end : ℕ) (d : R) → ((r : R) → length (row r) ≡ w)
+    → HasRows row superblock file rows end → i < length rows
     → HasBytesAt (64 + i * w) (row (get_or rows i d)) file
 numbered_row row w i superblock file rows end d wide has below = row_at row w 64 i rows d file wide below (rows_stand row superblock file rows end has)
 
 -- they end behind the last of them
-pub rows_end : {R : Type 0} (row : R → List ℕ) (w : ℕ) (superblock file : List ℕ) (rows : List R) (end : ℕ) → ((r : R) → length (row r) ≡ w) → HasRows row superblock file rows end → end ≡ 64 + length rows * w
+pub rows_end : {R : Type 0} (row : R → List ℕ) (w : ℕ) (superblock file : List ℕ) (rows : List R) (end : ℕ) → ((r : R) → length (row r) ≡ w) → HasRows row superblock file rows end
+    → end ≡ 64 + length rows * w
 rows_end row w superblock file rows end wide has = omega (arith, has.ends, length-rows row w rows wide)
 
 -- where a row stands its magic does
@@ -120,13 +124,23 @@ front_is row superblock file rows end has =
     sym (take-take 64 end file (omega (arith, has.ends))) ∙ ap (λ (l : List ℕ). take 64 l) has.front ∙ take_at superblock (flat_map row rows) 64 has.long
 
 -- one row more that stands
-pub rows_lead : {R : Type 0} (row : R → List ℕ) (superblock file : List ℕ) (rows : List R) (end next : ℕ) (r : R) → HasRows row superblock file rows end → HasBytesAt end (row r) file → end + length (row r) ≡ next
+pub rows_lead : {R : Type 0} (row : R → List ℕ) (superblock file : List ℕ) (rows : List R) (end next : ℕ) (r : R) → HasRows row superblock file rows end
+    → HasBytesAt end (row r) file → end + length (row r) ≡ next
     → HasRows row superblock file (rows ++ r ∷ []) next
 rows_lead row superblock file rows end next r has stand nexts = record {
   long = has.long;
   front = ap (λ k. take k file) (sym nexts) ∙ take-add end (length (row r)) file ∙ ap (λ (l : List ℕ). l ++ take (length (row r)) (drop end file)) has.front
       ∙ ap (λ (l : List ℕ). (superblock ++ flat_map row rows) ++ l) stand ∙ flat_map_more row superblock rows r;
-  ends = omega (arith, has.ends, has.long, ap length (flat_map_more row superblock rows r), length-append (superblock ++ flat_map row rows) (row r), length-append superblock (flat_map row rows), length-append superblock (flat_map row (rows ++ r ∷ [])));
+  ends =
+      omega (
+        arith,
+        has.ends,
+        has.long,
+        ap length (flat_map_more row superblock rows r),
+        length-append (superblock ++ flat_map row rows) (row r),
+        length-append superblock (flat_map row rows),
+        length-append superblock (flat_map row (rows ++ r ∷ [])),
+      );
 }
 
 -- the superblock alone

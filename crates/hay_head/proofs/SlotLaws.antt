@@ -46,7 +46,8 @@ front_seen got blank out file long count bytes = read_part got 0 got blank out f
 pub same_front : (seen file : List ℕ) → seen ≡ take 64 file → take 64 seen ≡ take 64 file
 same_front seen file is = ap (λ (l : List ℕ). take 64 l) is ∙ take-take 64 64 file (omega arith)
 
-pub fault_here : (sup : Super) (seen file : List ℕ) (fault : SuperFault) (at : ℕ) → seen ≡ take 64 file → Some fault ≡ first_fault (super_tests seen sup) → at ≡ fault_place fault → IsSuperFaultAt sup file at
+pub fault_here : (sup : Super) (seen file : List ℕ) (fault : SuperFault) (at : ℕ) → seen ≡ take 64 file → Some fault ≡ first_fault (super_tests seen sup) → at ≡ fault_place fault
+    → IsSuperFaultAt sup file at
 fault_here sup seen file fault at is first place = record {
   fault = fault;
   first = ap (λ (l : List ℕ). first_fault (super_tests l sup)) (sym is) ∙ sym first;

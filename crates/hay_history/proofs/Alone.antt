@@ -19,7 +19,8 @@ use Rattle.hay_legal.specs.Blocks.{tag_of}
 use Rattle.hay_history.specs.Steps.{Did, Leads, LeadsRows, NoneFall, RowDid, RowsStanding, RowStep, Standing, Step}
 use Rattle.hay_history.specs.Steps.Did.{Tries}
 use Rattle.hay_history.specs.Steps.RowDid.{TriesRow}
-use Rattle.hay_history.specs.Histories.{Course, History, NoRows, NoSteps, OneRowStep, OneStep, OneTry, OnlyOn, behind, changes, first_of, first_rows, own, own_rows, rows_behind, rows_standing, standing, volume_then}
+use Rattle.hay_history.specs.Histories.{Course, History, NoRows, NoSteps, OneRowStep, OneStep, OneTry, OnlyOn, behind, changes, first_of, first_rows, own, own_rows, rows_behind}
+use Rattle.hay_history.specs.Histories.{rows_standing, standing, volume_then}
 use Rattle.hay_history.specs.Commands.{CameBy, IsFrozen, IsLast, IsLastRow, MetBusy, MetWorn, RoseIn}
 use Rattle.hay_history.proofs.Histories.{along, along_rows, behind_past, rows_behind_past}
 use Rattle.hay_history.proofs.Lines.{course_of, one_leads, owner, own_at, own_leads, own_leads_rows, own_row_at, row_owner}

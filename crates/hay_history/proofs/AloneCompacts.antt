@@ -15,7 +15,8 @@ use Rattle.hay_legal.specs.declared.known.Run.{Run}
 use Rattle.hay_legal.specs.declared.known.VolumeKnown.{VolumeKnown}
 use Rattle.hay_legal.specs.declared.turn.LaneItem.{LaneItem}
 use Rattle.hay_legal.specs.Known.{EachPair, Leaves, empty_replica, empty_volume, now, replica_at, replica_on, volume_at, with_volume}
-use Rattle.hay_legal.specs.Plain.{IsAtRest, IsFrozenBy, IsOpen, IsTight, LegalCompact, OnReplica, RoseTo, SwapFailed, SwapNoMem, Swaps as LegalSwaps, as_it_is, change_volume, first_machine, frozen_by, poised, poised_by, stepped, swapped, with_run, without_run}
+use Rattle.hay_legal.specs.Plain.{IsAtRest, IsFrozenBy, IsOpen, IsTight, LegalCompact, OnReplica, RoseTo, SwapFailed, SwapNoMem, Swaps as LegalSwaps, as_it_is, change_volume}
+use Rattle.hay_legal.specs.Plain.{first_machine, frozen_by, poised, poised_by, stepped, swapped, with_run, without_run}
 use Rattle.hay_legal.specs.Blocks.{tag_of}
 use Rattle.hay_history.specs.Steps.{Did, Leads, Standing, Step, change_at, swap_at}
 use Rattle.hay_history.specs.Steps.Did.{Begins, Ends, Examines, Poises, Swaps, Tries}

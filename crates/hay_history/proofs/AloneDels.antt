@@ -16,7 +16,8 @@ use Rattle.hay_legal.specs.declared.known.ReplicaKnown.{ReplicaKnown}
 use Rattle.hay_legal.specs.declared.known.VolumeKnown.{VolumeKnown}
 use Rattle.hay_legal.specs.declared.turn.LaneItem.{LaneItem}
 use Rattle.hay_legal.specs.Known.{CameUp, Leaves, closed, closed_by, drained_of, empty_replica, fault_count, now, replica_at, replica_on, slot_of, stands, volume_at}
-use Rattle.hay_legal.specs.Plain.{DelFailed as LegalFailed, DelNoMem, HasPair, IsAbsent, IsClosedHome, IsDeleted, IsStuckOn, LegalDel, LegalFlush, OnReplica, change_volume, ended_where, first_machine, frozen_with, has_pair, with_bare, with_del, with_stuck, without_run}
+use Rattle.hay_legal.specs.Plain.{DelFailed as LegalFailed, DelNoMem, HasPair, IsAbsent, IsClosedHome, IsDeleted, IsStuckOn, LegalDel, LegalFlush, OnReplica, change_volume}
+use Rattle.hay_legal.specs.Plain.{ended_where, first_machine, frozen_with, has_pair, with_bare, with_del, with_stuck, without_run}
 use Rattle.hay_legal.specs.Blocks.{tag_of}
 use Rattle.hay_history.specs.Steps.{Did, change_at}
 use Rattle.hay_history.specs.Steps.Did.{Entered, Flushes, Pends, Sticks}

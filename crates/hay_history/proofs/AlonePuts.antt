@@ -1,5 +1,6 @@
 -- A line alone that puts a photo is legal as a plain turn.
-use Rattle.std.proofs.Common.{◌≡◌, inl, inr, ℕ, suc, ◌+◌, ◌<◌, Bool, true, false, cond, List, [], ◌∷◌, ◌++◌, length, map, take, Contains, Option, Some, None, is_none, refl, sym, ap, ap₂, subst, ◌∙◌, arith}
+use Rattle.std.proofs.Common.{◌≡◌, inl, inr, ℕ, suc, ◌+◌, ◌<◌, Bool, true, false, cond, List, [], ◌∷◌, ◌++◌, length, map, take, Contains, Option, Some, None, is_none, refl, sym}
+use Rattle.std.proofs.Common.{ap, ap₂, subst, ◌∙◌, arith}
 use Rattle.std.specs.Prelude.{◌≢◌, ◌==◌, find, not, take_while}
 use Rattle.std.specs.List.{AllByRecursion as Each, AllZip, prefix_len}
 use Rattle.std.proofs.lemmas.Bool.{cases_eq, cases_lt, ne_eqb}
@@ -17,7 +18,8 @@ use Rattle.hay_legal.specs.declared.known.Known.{Known}
 use Rattle.hay_legal.specs.declared.known.VolumeKnown.{VolumeKnown}
 use Rattle.hay_legal.specs.declared.turn.LaneItem.{LaneItem}
 use Rattle.hay_legal.specs.Known.{Leaves, all_tries, closed_by, drained_of, home_in, home_of, refusal_by, refusal_of, room_refusal_of, settled_by, taker_of, tries_by, volume_at, with_home}
-use Rattle.hay_legal.specs.Plain.{DirectoryOpen, IsStored, LegalPut, PutFailed as LegalFailed, PutNoMem, RefusedBy, RowFailed, as_closed, change_volume, first_machine, frozen_with, put_entry, put_frozen, row_pending, with_put}
+use Rattle.hay_legal.specs.Plain.{DirectoryOpen, IsStored, LegalPut, PutFailed as LegalFailed, PutNoMem, RefusedBy, RowFailed, as_closed, change_volume, first_machine}
+use Rattle.hay_legal.specs.Plain.{frozen_with, put_entry, put_frozen, row_pending, with_put}
 use Rattle.hay_legal.specs.Blocks.{tag_of}
 use Rattle.hay_legal.proofs.Subject.Effects.{each_try, home_added}
 use Rattle.hay_history.specs.Steps.{Did, IsMissing}
@@ -25,7 +27,8 @@ use Rattle.hay_history.specs.Steps.Did.{Entered, Pends}
 use Rattle.hay_history.specs.Steps.RowDid.{AddsRow, PendsRow}
 use Rattle.hay_history.specs.Histories.{History, NoRows, NoSteps, OneStep, OnlyOn, SeesHome, SeesRefusal, SeesTaker, changes, refusal_then, rows_standing, volume_then}
 use Rattle.hay_history.specs.Commands.{AddedRow, CameInLanes, HomeRefuses, MayAddRow, PutDid, PutFailed, PutRefused, PutRowFailed, PutStored, PutWanting, RowPends, SeesRefusals}
-use Rattle.hay_history.proofs.Alone.{leaves_as, left_one, left_still, many_changed, one_led, one_row_led, rose_to, row_rose_to, rows_left_one, rows_left_still, rows_still, rows_still_before, rows_still_behind, still, still_before, volumes_changed}
+use Rattle.hay_history.proofs.Alone.{leaves_as, left_one, left_still, many_changed, one_led, one_row_led, rose_to, row_rose_to, rows_left_one, rows_left_still, rows_still}
+use Rattle.hay_history.proofs.Alone.{rows_still_before, rows_still_behind, still, still_before, volumes_changed}
 use Rattle.hay_history.proofs.AloneReads.{home_seen, nothing_left}
 use Rattle.hay_history.proofs.Beside.{block_drains, block_fuses}
 use Rattle.hay_history.proofs.Lines.{course_of}

@@ -1,5 +1,6 @@
 -- A line alone that reads, or that asks for a URL, is legal as a plain turn.
-use Rattle.std.proofs.Common.{◌≡◌, ◌⊎◌, inl, inr, ℕ, ◌+◌, ◌-◌, ◌^◌, ◌<◌, ◌≤◌, Bool, true, false, cond, List, [], ◌∷◌, length, filter, count_by, take, Option, Some, None, refl, sym, ap, subst, ◌∙◌, arith}
+use Rattle.std.proofs.Common.{◌≡◌, ◌⊎◌, inl, inr, ℕ, ◌+◌, ◌-◌, ◌^◌, ◌<◌, ◌≤◌, Bool, true, false, cond, List, [], ◌∷◌, length, filter, count_by, take, Option, Some, None, refl}
+use Rattle.std.proofs.Common.{sym, ap, subst, ◌∙◌, arith}
 use Rattle.std.specs.Prelude.{◌==◌, ltb, not, take_while}
 use Rattle.std.specs.List.{AllByRecursion as Each, prefix_len}
 use Rattle.std.proofs.Math.Bool.{or-true}
@@ -23,7 +24,8 @@ use Rattle.hay_legal.specs.declared.known.Known.{Known}
 use Rattle.hay_legal.specs.declared.known.VolumeKnown.{VolumeKnown}
 use Rattle.hay_legal.specs.declared.turn.LaneItem.{LaneItem}
 use Rattle.hay_legal.specs.Known.{CameUp, Leaves, arm_count, fault_count, home_in, home_of, machine_of, now, replica_at, replica_on, slot_of, volume_at}
-use Rattle.hay_legal.specs.Plain.{HasCause, IsOpen, IsShown, IsUnreadable, LeavesElsewhere, LegalGetAt, LegalShow, LegalUrl, PassedReplicas, change_volume, disk_rose, first_machine, frozen_by, order_from}
+use Rattle.hay_legal.specs.Plain.{HasCause, IsOpen, IsShown, IsUnreadable, LeavesElsewhere, LegalGetAt, LegalShow, LegalUrl, PassedReplicas, change_volume, disk_rose}
+use Rattle.hay_legal.specs.Plain.{first_machine, frozen_by, order_from}
 use Rattle.hay_legal.specs.Blocks.{tag_of}
 use Rattle.hay_history.specs.Steps.{Did, IsThawed, Leads, Standing, Step}
 use Rattle.hay_history.specs.Steps.Did.{Freezes, Tries}

@@ -1,5 +1,6 @@
 -- A line alone that marks a machine, or sets a fuse, is legal as a plain turn.
-use Rattle.std.proofs.Common.{◌≡◌, ◌⊎◌, inl, inr, ℕ, ◌+◌, ◌-◌, ◌<◌, ◌≤◌, Bool, true, false, List, [], ◌∷◌, length, slice_get, Option, Some, None, ◌*◌, add-mul, one-mul, mul-le-mul_right, refl, sym, ap, subst, ◌∙◌, arith}
+use Rattle.std.proofs.Common.{◌≡◌, ◌⊎◌, inl, inr, ℕ, ◌+◌, ◌-◌, ◌<◌, ◌≤◌, Bool, true, false, List, [], ◌∷◌, length, slice_get, Option, Some, None, ◌*◌, add-mul, one-mul}
+use Rattle.std.proofs.Common.{mul-le-mul_right, refl, sym, ap, subst, ◌∙◌, arith}
 use Rattle.std.specs.Prelude.{◌≢◌, slice_index, slice_set}
 use Rattle.std.proofs.lemmas.Bool.{cases_eq}
 use Rattle.std.proofs.lemmas.List.{get_or-set_other, get_or-set_same, length-set}
@@ -16,7 +17,8 @@ use Rattle.hay_history.specs.Steps.Did.{Fuses, Tries}
 use Rattle.hay_history.specs.Steps.RowDid.{Drains, FusesRow, TriesRow}
 use Rattle.hay_history.specs.Histories.{Course, History, NoRows, NoSteps, OneRowStep, OneStep, first_of, first_rows, rows_standing, standing}
 use Rattle.hay_history.specs.Commands.{CameBy, DrainDid, FuseDid, FuseDirDid, OnlyDid, OnlyDidRow, UndrainDid}
-use Rattle.hay_history.proofs.Alone.{between, leaves_as, left_one, left_still, one_led, one_row_led, place_within, row_place_within, rows_between, rows_left_one, rows_left_still, rows_still_before, rows_try_all, rows_try_but, still_before, tries_all, tries_but}
+use Rattle.hay_history.proofs.Alone.{between, leaves_as, left_one, left_still, one_led, one_row_led, place_within, row_place_within, rows_between, rows_left_one, rows_left_still}
+use Rattle.hay_history.proofs.Alone.{rows_still_before, rows_try_all, rows_try_but, still_before, tries_all, tries_but}
 use Rattle.hay_history.proofs.AloneRuns.{nothing_leaves}
 use Rattle.hay_history.proofs.Beside.{drains_same, fuses_at, fuses_same, fuses_stay, row_beside_at, row_fuses_stay, slots_same}
 use Rattle.hay_history.proofs.Histories.{behind_step, rows_behind_step}

@@ -1,5 +1,6 @@
 -- A stuck index is loose only behind a swap of its replica, which is that of a line that may stand there.
-use Rattle.std.proofs.Common.{◌≡◌, ◌≢◌, ◌⊎◌, inl, inr, ℕ, zero, suc, ◌<◌, ◌≤◌, ◌+◌, ◌-◌, ◌==◌, ◌&&◌, Bool, true, false, cond, List, [], ◌∷◌, length, slice_get, sum_by, Contains, Option, Some, None, refl, sym, ap, subst, ◌∙◌, arith, eq-eqb, eqb-true, ne_eqb}
+use Rattle.std.proofs.Common.{◌≡◌, ◌≢◌, ◌⊎◌, inl, inr, ℕ, zero, suc, ◌<◌, ◌≤◌, ◌+◌, ◌-◌, ◌==◌, ◌&&◌, Bool, true, false, cond, List, [], ◌∷◌, length, slice_get, sum_by, Contains}
+use Rattle.std.proofs.Common.{Option, Some, None, refl, sym, ap, subst, ◌∙◌, arith, eq-eqb, eqb-true, ne_eqb}
 use Rattle.std.proofs.lemmas.Bool.{cases_Bool, cases_eq, cases_lt, cond_both}
 use Rattle.std.proofs.lemmas.List.Sums.{sum_by-cons}
 use Rattle.std.proofs.lemmas.Option.{none-some}
@@ -258,7 +259,17 @@ module _ {settings : Settings} {k : Known} {items : List LaneItem} {history : Hi
           | inr swap ↦
               let low = swap.low in
               let high = swap.high in
-              record { place = swap.place; low = omega (arith, low); high = omega (arith, high); step = swap.step; at = swap.at; end = swap.end; cells = swap.cells; freezes = swap.freezes; is = swap.is }
+              record {
+                place = swap.place;
+                low = omega (arith, low);
+                high = omega (arith, high);
+                step = swap.step;
+                at = swap.at;
+                end = swap.end;
+                cells = swap.cells;
+                freezes = swap.freezes;
+                is = swap.is;
+              }
         ]
         | inr was ↦
             let swap = loosened_in n d stuck was in

@@ -129,7 +129,9 @@ none_to_arm j = false
 over_laid : (c : Course) (v : ℕ) (passed : List ℕ) (over : PassedOver c v passed) → OnlyLooks c v → LaidOver c v over.to_arm passed
 over_laid c v passed over looks = record {
   arm = over.arm;
-  disks = each_weaker (λ j. (over.to_arm j ≡ true) ⊎ ((f : ℕ) × LookFailed c v j f)) (λ j. (over.to_arm j ≡ true) ⊎ ((f : ℕ) × Charge c v j f)) (λ j h. elim h [ inl arm ↦ inl arm | inr disk ↦ inr (disk.0, look_charge c v j disk.0 looks disk.1) ])
+  disks =
+      each_weaker (λ j. (over.to_arm j ≡ true) ⊎ ((f : ℕ) × LookFailed c v j f)) (λ j. (over.to_arm j ≡ true) ⊎ ((f : ℕ) × Charge c v j f))
+      (λ j h. elim h [ inl arm ↦ inl arm | inr disk ↦ inr (disk.0, look_charge c v j disk.0 looks disk.1) ])
       passed over.disks;
 }
 
@@ -138,7 +140,8 @@ cause_charged c v j (Arm f) looks h = h
 cause_charged c v j (Disk f) looks h = look_charge c v j f looks h
 cause_charged c v j (Damage at) looks h = h
 
-none_laid : (c : Course) (start : ℕ) (v : ℕ) (causes : List Passed) → AllZip (λ j passed. (passed.machine ≡ machine_of c.settings v j) × PassedFor c v j passed.cause) (order_from c.settings start) causes
+none_laid : (c : Course) (start : ℕ) (v : ℕ) (causes : List Passed) → AllZip (λ j passed. (passed.machine ≡ machine_of c.settings v j) × PassedFor c v j passed.cause)
+    (order_from c.settings start) causes
     → EachPair (λ a b. ArmRises a.cause b.cause) causes → OnlyLooks c v → (to_arm : ℕ → Bool) × LaidAll c start v to_arm causes
 none_laid c start v causes each arms looks =
     let charged = zip_weaker (λ j passed. (passed.machine ≡ machine_of c.settings v j) × PassedFor c v j passed.cause)

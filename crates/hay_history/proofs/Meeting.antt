@@ -27,7 +27,8 @@ use Rattle.hay_legal.specs.Blocks.{MayBeStuck, MetFreeze, MetOpen, RefusedAsStuc
 use Rattle.hay_history.specs.Steps.{Did, IsThawed, Leads, Standing, Step}
 use Rattle.hay_history.specs.Steps.Did.{Ends, Entered, Flushes, Pends, Poises, Sticks, Swaps}
 use Rattle.hay_history.specs.Histories.{Course, History, IsMoment, OneStep, OneTry, SeesFrozen, SeesRefusal, closing_then, own, refusal_then, standing, volume_then}
-use Rattle.hay_history.specs.Commands.{CameInLanes, CommandDid, CompactDid, CompactFailed, CompactRefused, DelDid, FlushDid, GetDid, HomeIsClosed, HomeRefuses, IsFrozen, IsStuck, ItemDid, PutDid, PutRefused, RanAs, ShowDid, UrlDid}
+use Rattle.hay_history.specs.Commands.{CameInLanes, CommandDid, CompactDid, CompactFailed, CompactRefused, DelDid, FlushDid, GetDid, HomeIsClosed, HomeRefuses, IsFrozen, IsStuck}
+use Rattle.hay_history.specs.Commands.{ItemDid, PutDid, PutRefused, RanAs, ShowDid, UrlDid}
 use Rattle.hay_history.proofs.Trying.{one_own}
 use Rattle.hay_history.proofs.Lists.{each_in, first_or_rest, none_in, one_in}
 use Rattle.hay_history.proofs.Lines.{answered, course_of, one_leads, own_leads}

@@ -24,7 +24,8 @@ use Rattle.hay_legal.proofs.Subject.Effects.{each_append}
 use Rattle.hay_history.specs.Steps.{Did, Step}
 use Rattle.hay_history.specs.Steps.Did.{Begins, Ends, Entered, Examines, Flushes, Freezes, Fuses, Pends, Poises, Sticks, Swaps, Tries}
 use Rattle.hay_history.specs.Histories.{Course, NoSteps, OneStep, OneTry, OnlyOn, SeesHome, SeesOpen, changes, changes_it, closing_then, own, refusal_then, volume_then}
-use Rattle.hay_history.specs.Commands.{CommandDid, CompactDid, CompactFailed, CompactRefused, CompactWanting, DelDid, FlushDid, GetDid, ItemDid, LeftPending, LookFroze, LookWanting, OnlyLooks, PutDid, Ran, RanAs, ShowDid, UrlDid, stood_then}
+use Rattle.hay_history.specs.Commands.{CommandDid, CompactDid, CompactFailed, CompactRefused, CompactWanting, DelDid, FlushDid, GetDid, ItemDid, LeftPending, LookFroze}
+use Rattle.hay_history.specs.Commands.{LookWanting, OnlyLooks, PutDid, Ran, RanAs, ShowDid, UrlDid, stood_then}
 use Rattle.hay_history.proofs.Placing.{machine_there}
 use Rattle.hay_history.proofs.Lists.{each_in, first_or_rest, none_in, one_in, pair_kept}
 use Rattle.hay_history.proofs.Trying.{tried_or_changed}
@@ -515,7 +516,8 @@ module _ (c : Course) (v j : ℕ) (r : Reply) where
             last = last;
             ran = ran;
             before = each_in (λ (b : ℕ × Step). ran.place < b.0) (ran.middle ++ last) at
-                (subst (EachPair (λ (a b : ℕ × Step). a.0 < b.0)) ran.steps (pair_kept (λ (a b : ℕ × Step). a.0 < b.0) (λ at. changes_it (at.1).did) (own c v) (own_in_order ((c.history).volumes v) (c.tag).line))).0 rest;
+                (subst (EachPair (λ (a b : ℕ × Step). a.0 < b.0)) ran.steps (pair_kept (λ (a b : ℕ × Step). a.0 < b.0) (λ at. changes_it (at.1).did) (own c v)
+                (own_in_order ((c.history).volumes v) (c.tag).line))).0 rest;
           })
         ]
       ]

@@ -1,5 +1,6 @@
 -- At which fronts a volume lacked room in the block, and why it refused a photo then.
-use Rattle.std.proofs.Common.{◌≡◌, ◌⊎◌, inl, inr, ℕ, zero, suc, ◌<◌, ◌≤◌, ◌+◌, ◌-◌, true, false, List, [], ◌∷◌, ◌++◌, length, Option, Some, None, refl, sym, ap, subst, ◌∙◌, arith, append_assoc, length-append}
+use Rattle.std.proofs.Common.{◌≡◌, ◌⊎◌, inl, inr, ℕ, zero, suc, ◌<◌, ◌≤◌, ◌+◌, ◌-◌, true, false, List, [], ◌∷◌, ◌++◌, length, Option, Some, None, refl, sym, ap, subst, ◌∙◌, arith}
+use Rattle.std.proofs.Common.{append_assoc, length-append}
 use Rattle.std.specs.List.{enumerate_from}
 use Rattle.std.specs.Prelude.{take, sum_by, find, slice_index_or}
 use Rattle.std.proofs.Math.Seq.{take-append_seam}
@@ -22,7 +23,8 @@ use Rattle.hay_history.proofs.Histories.{Found, along, along_or_found}
 use Rattle.hay_history.proofs.Lists.{each_below}
 use Rattle.hay_history.proofs.ReplicaSteps.{effect, other_is, swaps_at}
 use Rattle.hay_history.proofs.Sizes.{Grown, grown_same, grown_step, grown_trans}
-use Rattle.hay_history.proofs.Volumes.{GenerationGrows, SwapsIt, closed_then, end_then, generation_persists, grown_on, moment, new_entries_at, open_before, option_map_some, persists_on, replica_there, replicas_many, table_at_front, volume_at_moment}
+use Rattle.hay_history.proofs.Volumes.{GenerationGrows, SwapsIt, closed_then, end_then, generation_persists, grown_on, moment, new_entries_at, open_before, option_map_some}
+use Rattle.hay_history.proofs.Volumes.{persists_on, replica_there, replicas_many, table_at_front, volume_at_moment}
 
 -- THE FIRST REPLICA WITHOUT ROOM
 
@@ -157,7 +159,8 @@ module _ {settings : Settings} {k : Known} {items : List LaneItem} {history : Hi
       subst (λ (i : ℕ). replica_on settings v (machine_of settings v i) ≡ Some j) (sym same) (replica_there settings v j (h.regular).machines below within)
 
   -- the first replica that lacks room at a moment lacks it at the moment's front
-  lacks_at : (Swapped : ℕ → Type 0) (n size : ℕ) (at : ℕ × ReplicaKnown) → SaysSwapped Swapped n → find (λ at. lacks_room settings size at.1) (enumerate_from 0 (volume_at_moment settings k history v n).replicas) ≡ Some at
+  lacks_at : (Swapped : ℕ → Type 0) (n size : ℕ) (at : ℕ × ReplicaKnown) → SaysSwapped Swapped n
+      → find (λ at. lacks_room settings size at.1) (enumerate_from 0 (volume_at_moment settings k history v n).replicas) ≡ Some at
       → LacksRoom settings k t v Swapped (length (volume_at_moment settings k history v n).log) (machine_of settings v at.0) (at.1).end (needle_total size)
   lacks_at Swapped n size at says found =
       let lacking = lacking_at settings size 0 (volume_at_moment settings k history v n).replicas at found in

@@ -1,5 +1,6 @@
 -- Where a block stored photos, each replica is left with room for the mark at its end.
-use Rattle.std.proofs.Common.{◌≡◌, ◌⊎◌, inl, inr, ℕ, zero, suc, ◌<◌, ◌≤◌, ◌+◌, cond, List, [], ◌++◌, length, slice_get, sum_by, count_by, Some, None, refl, sym, ap, subst, ◌∙◌, arith, append_assoc, append-nil}
+use Rattle.std.proofs.Common.{◌≡◌, ◌⊎◌, inl, inr, ℕ, zero, suc, ◌<◌, ◌≤◌, ◌+◌, cond, List, [], ◌++◌, length, slice_get, sum_by, count_by, Some, None, refl, sym, ap, subst, ◌∙◌}
+use Rattle.std.proofs.Common.{arith, append_assoc, append-nil}
 use Rattle.std.proofs.lemmas.List.Sums.{sum_by-append}
 use Rattle.std.proofs.lemmas.Option.{slice_get_cases}
 use Rattle.hay_needle.specs.declared.needle.Pair.{Pair}

@@ -1,5 +1,6 @@
 -- What holds of the Directory at the moments of a block.
-use Rattle.std.proofs.Common.{◌≢◌, ◌≡◌, ◌⊎◌, ℕ, zero, suc, ◌<◌, ◌≤◌, ◌+◌, Bool, true, false, List, [], ◌∷◌, ◌++◌, length, slice_get, Contains, Option, Some, None, refl, sym, ap, subst, ◌∙◌, inl, inr, arith}
+use Rattle.std.proofs.Common.{◌≢◌, ◌≡◌, ◌⊎◌, ℕ, zero, suc, ◌<◌, ◌≤◌, ◌+◌, Bool, true, false, List, [], ◌∷◌, ◌++◌, length, slice_get, Contains, Option, Some, None, refl, sym, ap}
+use Rattle.std.proofs.Common.{subst, ◌∙◌, inl, inr, arith}
 use Rattle.std.specs.Prelude.{map, take}
 use Rattle.std.specs.List.{AllByRecursion as Each}
 use Rattle.std.proofs.Math.Seq.{take-append_seam}
@@ -31,7 +32,8 @@ use Rattle.hay_history.specs.Steps.{FollowsRows, LeadsRows, RowDid, RowsStanding
 use Rattle.hay_history.specs.Steps.RowDid.{AddsRow, Drains, FusesRow, PendsRow, TriesRow}
 use Rattle.hay_history.proofs.Trying.{tried_or_changed_row}
 use Rattle.hay_history.specs.Histories.{row_changes, Course, History, NoRows, OneRowStep, SeesHome, first_rows, own_rows, rows_behind}
-use Rattle.hay_history.specs.Commands.{AddedRow, CameInLanes, CommandDid, CompactDid, CompactFailed, CompactRefused, CompactWanting, DelDid, FlushDid, GetDid, HomeRefuses, ItemDid, PutDid, PutRefused, RowPends, ShowDid, UrlDid}
+use Rattle.hay_history.specs.Commands.{AddedRow, CameInLanes, CommandDid, CompactDid, CompactFailed, CompactRefused, CompactWanting, DelDid, FlushDid, GetDid, HomeRefuses}
+use Rattle.hay_history.specs.Commands.{ItemDid, PutDid, PutRefused, RowPends, ShowDid, UrlDid}
 use Rattle.hay_history.proofs.Histories.{along_rows, along_rows_last}
 use Rattle.hay_history.proofs.Lists.{one_in}
 use Rattle.hay_history.proofs.Lines.{answered, course_of, row_owner}

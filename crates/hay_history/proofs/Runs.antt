@@ -1,5 +1,6 @@
 -- What a block leaves of a replica's compaction.
-use Rattle.std.proofs.Common.{◌≡◌, ◌≢◌, ◌⊎◌, inl, inr, ℕ, zero, suc, ◌<◌, ◌≤◌, ◌+◌, Bool, true, false, cond, List, [], ◌∷◌, ◌++◌, length, map, drop, slice_get, Contains, count_by, Option, Some, None, option_map, refl, sym, ap, subst, ◌∙◌, arith, append-nil}
+use Rattle.std.proofs.Common.{◌≡◌, ◌≢◌, ◌⊎◌, inl, inr, ℕ, zero, suc, ◌<◌, ◌≤◌, ◌+◌, Bool, true, false, cond, List, [], ◌∷◌, ◌++◌, length, map, drop, slice_get, Contains, count_by}
+use Rattle.std.proofs.Common.{Option, Some, None, option_map, refl, sym, ap, subst, ◌∙◌, arith, append-nil}
 use Rattle.std.specs.Prelude.{slice_index_or}
 use Rattle.std.proofs.lemmas.Bool.{cases_eq}
 use Rattle.std.proofs.lemmas.Option.{none-some, slice_get_cases}
@@ -136,7 +137,8 @@ run_step c v j n item tag did a b h within own = by did h own
     begins i change e none ran (inl same) = inr (inr (inl (subst (λ (x : ℕ). RanFrom c v x n × (run_at a x ≡ None)) same (ran, none))))
     begins i change e none ran (inr other) = other_run i change e other
 
-    runs : (i : ℕ) (change : ReplicaKnown → ReplicaKnown) → b.volume ≡ change_at a.volume i change → (run : Run) → run_at a i ≡ Some run → RanBefore c v i n → (i ≡ j) ⊎ (i ≢ j) → RunStep c v j n item a b
+    runs : (i : ℕ) (change : ReplicaKnown → ReplicaKnown) → b.volume ≡ change_at a.volume i change → (run : Run) → run_at a i ≡ Some run → RanBefore c v i n → (i ≡ j) ⊎ (i ≢ j)
+        → RunStep c v j n item a b
     runs i change e run some ran (inl same) = inr (inr (inr (subst (λ (x : ℕ). RanBefore c v x n × (run : Run) × (run_at a x ≡ Some run)) same (ran, run, some))))
     runs i change e run some ran (inr other) = other_run i change e other
 

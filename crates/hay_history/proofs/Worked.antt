@@ -362,7 +362,12 @@ came_frozen = record {
   order = (((λ e. absurd (omega (arith, e))), ((λ e. absurd (omega (arith, e))), tt)), (((λ e. absurd (omega (arith, e))), tt), (tt, tt)));
   last = (to_last freezes frozen 0 1 1 (lit≤ tt) (lit≤ tt), (to_last freezes frozen 1 1 1 (lit≤ tt) (lit≤ tt), (to_last freezes frozen 2 1 1 (lit≤ tt) (lit≤ tt), tt)));
   volumes = of_first (λ v. EndsAt one v (behind (first_of one (fresh_unharmed one) v) (on_one freezes v) (length (on_one freezes v))) frozen)
-      (record { volume = refl; faults = λ j within. subst (λ (i : ℕ). fault_count frozen (slot_of one 0 i) ≡ (first_of one (fresh_unharmed one) 0).faults i + 1) (sym (below_one j within)) refl; fuses = λ j within. refl });
+      (record {
+        volume = refl;
+        faults = λ j within. subst (λ (i : ℕ). fault_count frozen (slot_of one 0 i) ≡ (first_of one (fresh_unharmed one) 0).faults i + 1)
+            (sym (below_one j within)) refl;
+        fuses = λ j within. refl;
+      });
   directory = record { directory = refl; drained = refl; faults = refl; fuses = refl };
   count = refl;
   slots = refl;

@@ -18,7 +18,9 @@ use Rattle.hay_reply.specs.declared.Cause.{Cause}
 use Rattle.hay_reply.specs.declared.Cause.TheVariants.{Arm, Disk, Damage}
 use Rattle.hay_reply.specs.declared.Passed.{Passed}
 use Rattle.hay_reply.specs.declared.Reply.{Reply}
-use Rattle.hay_reply.specs.declared.Reply.TheVariants.{Stored, Deleted, Photo, Gone, Absent, WrongCookie, Unknown, Moved, Url, Full, ReadOnly, ReadOnlyDir, Failed, FailedDir, Unreadable, Flushed, Begun, Stepped, Compacted, Busy, Idle, Worn, Drained, Undrained, Fused, FusedDir, Nowhere, BadLine, NoMem}
+use Rattle.hay_reply.specs.declared.Reply.TheVariants.{Stored, Deleted, Photo, Gone, Absent, WrongCookie, Unknown, Moved, Url, Full, ReadOnly, ReadOnlyDir, Failed, FailedDir}
+use Rattle.hay_reply.specs.declared.Reply.TheVariants.{Unreadable, Flushed, Begun, Stepped, Compacted, Busy, Idle, Worn, Drained, Undrained, Fused, FusedDir, Nowhere, BadLine}
+use Rattle.hay_reply.specs.declared.Reply.TheVariants.{NoMem}
 use Rattle.hay_core.specs.declared.entry.Entry.{Entry}
 use Rattle.hay_core.specs.declared.entry.Entry.TheVariants as entry
 use Rattle.hay_core.specs.declared.entry.CoreTag.{CoreTag}
@@ -28,14 +30,17 @@ use Rattle.hay_legal.specs.declared.known.Run.{Run}
 use Rattle.hay_legal.specs.declared.turn.Item.{Item}
 use Rattle.hay_legal.specs.declared.turn.Item.TheVariants as asks
 use Rattle.hay_legal.specs.declared.turn.LaneItem.{LaneItem}
-use Rattle.hay_legal.specs.Known.{CameUp, EachPair, NoneFalls, all_tries, arm_count, disk_count, fault_count, fuse_count, machine_of, now, replica_at, replica_on, replicas_of, slot_of, stands, volume_at}
+use Rattle.hay_legal.specs.Known.{CameUp, EachPair, NoneFalls, all_tries, arm_count, disk_count, fault_count, fuse_count, machine_of, now, replica_at, replica_on, replicas_of}
+use Rattle.hay_legal.specs.Known.{slot_of, stands, volume_at}
 use Rattle.hay_legal.specs.Plain.{ArmRises, GetShows, Names, as_closed, first_machine, wants_room, order_from, put_entry, start_of}
 use Rattle.hay_legal.specs.Blocks.{tag_of}
 use Rattle.hay_legal.specs.Subject.{IsOf}
 use Rattle.hay_history.specs.Steps.{Did, Follows, FollowsRows, RowDid, RowsStanding, Standing, Step}
 use Rattle.hay_history.specs.Steps.Did.{Begins, Ends, Entered, Examines, Flushes, Freezes, Fuses, Pends, Poises, Sticks, Swaps, Tries}
 use Rattle.hay_history.specs.Steps.RowDid.{AddsRow, Drains, FusesRow, PendsRow}
-use Rattle.hay_history.specs.Histories.{Course, HasRunOf, History, IsLater, IsMoment, IsRowMoment, NoRows, NoSteps, OneRowStep, OneStep, OneTry, OnlyOn, Seen, SeesClosed, SeesFrozen, SeesHome, SeesOpen, SeesRefusal, SeesTaker, behind, changes, closing_then, first_of, first_rows, own, own_rows, refusal_then, rows_behind, rows_standing, standing, volume_then}
+use Rattle.hay_history.specs.Histories.{Course, HasRunOf, History, IsLater, IsMoment, IsRowMoment, NoRows, NoSteps, OneRowStep, OneStep, OneTry, OnlyOn, Seen, SeesClosed}
+use Rattle.hay_history.specs.Histories.{SeesFrozen, SeesHome, SeesOpen, SeesRefusal, SeesTaker, behind, changes, closing_then, first_of, first_rows, own, own_rows, refusal_then}
+use Rattle.hay_history.specs.Histories.{rows_behind, rows_standing, standing, volume_then}
 
 -- COUNTS
 

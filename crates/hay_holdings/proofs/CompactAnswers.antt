@@ -1,5 +1,6 @@
 -- The answer of a whole compaction, from its calls.
-use Rattle.std.proofs.Common.{◌≡◌, inl, inr, ℕ, zero, suc, ◌<◌, ◌≤◌, Bool, true, false, List, [], ◌∷◌, ◌++◌, length, map, refl, sym, ap, subst, ◌∙◌, arith, append-nil, length-append, Option, Some, None}
+use Rattle.std.proofs.Common.{◌≡◌, inl, inr, ℕ, zero, suc, ◌<◌, ◌≤◌, Bool, true, false, List, [], ◌∷◌, ◌++◌, length, map, refl, sym, ap, subst, ◌∙◌, arith, append-nil}
+use Rattle.std.proofs.Common.{length-append, Option, Some, None}
 use Rattle.std.specs.Prelude.{slice_index_or, slice_set}
 use Rattle.std.specs.List.{AllByRecursion as Each}
 use Rattle.std.proofs.lemmas.Option.{none-some}
@@ -107,7 +108,8 @@ module _ (settings : Settings) (start : Start) (v j : ℕ) where
   past_volume : (doing : Doing VolumeAct) → volume_stood start v (past doing) ≡ known_by (doing.act).tag (doing.act).did (volume_stood start v doing.held)
   past_volume doing = ap (λ (s : Standing). s.volume) (left_append volume_lock (start.volumes v) doing.held (doing.act ∷ []))
 
-  ends_there : {who : CoreTag} (doing : Doing VolumeAct) → HasRunOf settings start v j who doing.held → EndsRun (did_of (doing.act).did) j → (replica_at (volume_stood start v (past doing)) j).run ≡ None
+  ends_there : {who : CoreTag} (doing : Doing VolumeAct) → HasRunOf settings start v j who doing.held → EndsRun (did_of (doing.act).did) j
+      → (replica_at (volume_stood start v (past doing)) j).run ≡ None
   ends_there doing has ends =
       ap (λ (z : VolumeKnown). (replica_at z j).run) (past_volume doing)
       ∙ none_behind (doing.act).tag (volume_stood start v doing.held) j has.run has.stands (doing.act).did ends
@@ -264,7 +266,9 @@ module _ (settings : Settings) (start : Start) (drained : List Bool) (tag : Core
       until_between : IsDoing volume_lock (a.volumes v) (b.volumes v) until
       until_between = record {
         from = prefix_trans (a.volumes v).seen (c.first).held until.held (lie.0).from first_before;
-        shown_from = prefix_trans (a.volumes v).shown (entries volume_lock (c.first).held) (entries volume_lock until.held) (lie.0).shown_from (entries_prefix volume_lock (c.first).held until.held first_before);
+        shown_from =
+            prefix_trans (a.volumes v).shown (entries volume_lock (c.first).held) (entries volume_lock until.held) (lie.0).shown_from
+            (entries_prefix volume_lock (c.first).held until.held first_before);
         to = prefix_trans (past until) held (b.volumes v).seen ended.within found.to;
         shown_to = prefix_trans (entries volume_lock (past until)) (entries volume_lock held) (b.volumes v).shown (entries_prefix volume_lock (past until) held ended.within) found.shown_to;
       }

@@ -90,7 +90,8 @@ module _ (settings : Settings) (start : Start) (drained : List Bool) (tag : Core
         → IsAnswered settings start drained tag (command.Del pair) (ReadOnly (record { volume = v; machine = machine } ∷ [])) a b
     del_closed {b} {machine} x =
         let idle : Idle tag m b = quiet_went x ((x.is).is).0 in
-        let found : Found settings start drained m b v (λ acts. closed_by (volume_stood start v acts).frozen (drained_in settings drained v) ≡ Some machine) = found_at below x ((x.is).is).1 in record {
+        let found : Found settings start drained m b v (λ acts. closed_by (volume_stood start v acts).frozen (drained_in settings drained v) ≡ Some machine) =
+        found_at below x ((x.is).is).1 in record {
           doings = no_doings;
           work = work_of (went_idle home.idle idle);
           did = (((d, home_at (went_later idle)), found_wider (went_later home.idle) (same_sight b) found), ((λ u. refl), refl));

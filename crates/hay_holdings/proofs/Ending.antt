@@ -86,7 +86,9 @@ module _ (settings : Settings) (start : Start) (v j end cells : ℕ) (held : Lis
       let before : IsPrefix begins.held held = prefix_trans begins.held (past begins) held (begins.act ∷ [], refl) there in
       let last_before : IsPrefix last.held held = prefix_trans last.held (past last) held (last.act ∷ [], refl) within in
       let first : IsPrefix begins.held last.held = prefix_by_length begins.held last.held held before last_before (latest begins there is) in
-      let last_follows = follows_first settings v (start.volumes v) last.held last_before.0 (subst (λ acts. Follows settings v (start.volumes v) (replayed volume_lock (start.volumes v) acts)) (sym last_before.1) follows) in
+      let last_follows =
+      follows_first settings v (start.volumes v) last.held last_before.0 (subst (λ acts. Follows settings v (start.volumes v) (replayed volume_lock (start.volumes v) acts))
+      (sym last_before.1) follows) in
       let less = prefix_length (volume_stood start v begins.held).log (volume_stood start v last.held).log (log_grows settings start v begins.held last.held last_follows first) in
       let more = prefix_length (volume_stood start v last.held).log (volume_stood start v held).log (log_grows settings start v last.held held follows last_before) in
       let all : length (volume_stood start v held).log ≡ length (volume_stood start v begins.held).log = ap length same in

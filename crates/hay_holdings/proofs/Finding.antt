@@ -80,7 +80,8 @@ one_try v doing is = record {
 }
 
 -- a count that rose in it
-pub rose_at : {settings : Settings} {start : Start} {drained : List Bool} {a b : Sight} {v j f : ℕ} {doing : Doing VolumeAct} → RoseTo settings start v j f doing → RoseAt settings start drained a b v doing j f
+pub rose_at : {settings : Settings} {start : Start} {drained : List Bool} {a b : Sight} {v j f : ℕ} {doing : Doing VolumeAct} → RoseTo settings start v j f doing
+    → RoseAt settings start drained a b v doing j f
 rose_at x = record { within = x.0; rose = x.1; printed = x.2 }
 
 -- WHAT WAS FOUND

@@ -112,7 +112,8 @@ module _ (settings : Settings) (start : Start) (drained : List Bool) (tag : Core
 
   module _ {pair : Pair} {size : ℕ} {a m b : Sight} where
     -- it goes on without an act
-    pub tried_on : {tries : List ℕ} {refused : List Refused} → Tried settings start drained tag pair size tries refused a m → Idle tag m b → Tried settings start drained tag pair size tries refused a b
+    pub tried_on : {tries : List ℕ} {refused : List Refused} → Tried settings start drained tag pair size tries refused a m → Idle tag m b
+        → Tried settings start drained tag pair size tries refused a b
     tried_on {tries} {refused} tried idle =
         let later : IsLaterSight m b = went_later idle in record {
           idle = went_idle tried.idle idle;

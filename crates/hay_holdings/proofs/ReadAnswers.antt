@@ -1,5 +1,6 @@
 -- The answer of a read and of a get, from its calls.
-use Rattle.std.proofs.Common.{◌≡◌, ◌≢◌, ◌⊎◌, inl, inr, ℕ, ◌+◌, ◌-◌, ◌^◌, ◌<◌, ◌≤◌, Bool, true, false, cond, not, List, [], ◌∷◌, ◌++◌, length, map, refl, sym, ap, subst, ◌∙◌, arith, append-nil, append_assoc, count_by, Contains, take_while, Option, Some, None}
+use Rattle.std.proofs.Common.{◌≡◌, ◌≢◌, ◌⊎◌, inl, inr, ℕ, ◌+◌, ◌-◌, ◌^◌, ◌<◌, ◌≤◌, Bool, true, false, cond, not, List, [], ◌∷◌, ◌++◌, length, map, refl, sym, ap, subst, ◌∙◌}
+use Rattle.std.proofs.Common.{arith, append-nil, append_assoc, count_by, Contains, take_while, Option, Some, None}
 use Rattle.std.specs.Prelude.{◌==◌}
 use Rattle.std.specs.List.{AllZip, AllByRecursion as Each}
 use Rattle.std.proofs.lemmas.Bool.{eq-eqb, ne_eqb}
@@ -121,7 +122,8 @@ module _ (settings : Settings) (start : Start) (drained : List Bool) (tag : Core
       read_sees x = goes_on (doings_in (x.is).held (x.is).made) (call_went x) (only_tries (x.is).held (x.is).made (x.is).is) (inl x.arm)
 
     -- one more replica was passed over
-    with_one : {js : List ℕ} {causes : List Cause} {a m : Sight} (over : Over js causes a m) (j : ℕ) (cause : Cause) (to_arm : ℕ → Bool) → PassedFor settings start drained tag v over.doings a m j cause → Each (λ c. ArmRises c cause) causes
+    with_one : {js : List ℕ} {causes : List Cause} {a m : Sight} (over : Over js causes a m) (j : ℕ) (cause : Cause) (to_arm : ℕ → Bool)
+        → PassedFor settings start drained tag v over.doings a m j cause → Each (λ c. ArmRises c cause) causes
         → (a.arm + count_by to_arm (js ++ j ∷ []) ≤ m.arm) ⊎ (m.arm ≡ 2 ^ 64 - 1) → ((i : ℕ) → (to_arm i ≡ true) ⊎ ((f : ℕ) × LookFailed settings start drained tag v over.doings i f))
         → Over (js ++ j ∷ []) (causes ++ cause ∷ []) a m
     with_one {js} {causes} {a} {m} over j cause to_arm has rises arm disks = record {
@@ -141,7 +143,9 @@ module _ (settings : Settings) (start : Start) (drained : List Bool) (tag : Core
         → Over (js ++ j ∷ []) (causes ++ Disk f ∷ []) a b
     disk_failed {js} {causes} {a} {b} {j} {f} over failed =
         let to_arm : ℕ → Bool = λ i. cond (i == j) false (over.to_arm i) in
-        let fewer = count_fewer to_arm over.to_arm (λ i. elim (i == j) as (λ (e : Bool). (cond e false (over.to_arm i) ≡ over.to_arm i) ⊎ (cond e false (over.to_arm i) ≡ false)) [ true ↦ inr refl | false ↦ inl refl ]) js in
+        let fewer =
+        count_fewer to_arm over.to_arm (λ i. elim (i == j) as (λ (e : Bool). (cond e false (over.to_arm i) ≡ over.to_arm i) ⊎ (cond e false (over.to_arm i) ≡ false))
+        [ true ↦ inr refl | false ↦ inl refl ]) js in
         let last = count_same to_arm js j (ap (λ (e : Bool). cond e false (over.to_arm j)) (eq-eqb j j refl)) in
         with_one over j (Disk f) to_arm failed (each_from (λ c. ArmRises c (Disk f)) causes (λ c among. disk_behind f c))
         (elim over.arm [ inl le ↦ inl (omega (arith, le, fewer, last)) | inr end ↦ inr end ])
@@ -161,7 +165,8 @@ module _ (settings : Settings) (start : Start) (drained : List Bool) (tag : Core
         (doing, Contains-append_right over.doings (doing ∷ []) doing (is_first doing []), (acts.is).1)
 
     -- a fetch failed, of which the arm's count came up to f
-    came_behind : (js : List ℕ) (causes : List Cause) (ds : List (Doing VolumeAct)) (a m : Sight) (f : ℕ) → (m.arm < f) ⊎ (f ≡ 2 ^ 64 - 1) → AllZip (PassedFor settings start drained tag v ds a m) js causes
+    came_behind : (js : List ℕ) (causes : List Cause) (ds : List (Doing VolumeAct)) (a m : Sight) (f : ℕ) → (m.arm < f) ⊎ (f ≡ 2 ^ 64 - 1)
+        → AllZip (PassedFor settings start drained tag v ds a m) js causes
         → Each (λ c. ArmRises c (Arm f)) causes
     came_behind [] [] ds a m f came each = tt
     came_behind [] (c ∷ causes) ds a m f came each = absurd each
@@ -256,7 +261,8 @@ module _ (settings : Settings) (start : Start) (drained : List Bool) (tag : Core
       abbrev here : Doings
       here = doings_at v over.doings []
 
-      look_failed : {j f : ℕ} → LookFailed settings start drained tag v over.doings j f → (doing : Doing VolumeAct) × Contains (on_volume v over.doings v) doing × RoseAt settings start drained a b v doing j f
+      look_failed : {j f : ℕ} → LookFailed settings start drained tag v over.doings j f
+          → (doing : Doing VolumeAct) × Contains (on_volume v over.doings v) doing × RoseAt settings start drained a b v doing j f
       look_failed failed = (failed.0, subst (λ ds. Contains ds failed.0) (sym (on_here v over.doings)) failed.1, rose_at failed.2)
 
       only_looks : (changed_rows [] ≡ []) × ((u : ℕ) → u ≢ v → changed (on_volume v over.doings u) ≡ [])
@@ -331,7 +337,9 @@ module _ (settings : Settings) (start : Start) (drained : List Bool) (tag : Core
         home = (look.passed).home;
         below = below;
         front = record { sight = (look.shows).sight; from = (look.shows).from; to = (look.shows).to; front = (look.shows).front };
-        each = subst (λ (replicas : List ℕ). AllZip (λ j passed. (passed.machine ≡ machine_of settings v j) × PassedForHere settings start drained item a b (here look.passed) v j passed.cause) replicas passed) (sym order)
+        each =
+            subst (λ (replicas : List ℕ). AllZip (λ j passed. (passed.machine ≡ machine_of settings v j)
+            × PassedForHere settings start drained item a b (here look.passed) v j passed.cause) replicas passed) (sym order)
             (all_passed look.passed item js passed machines (look.passed).each);
         arms = pair_unmap (λ (p : Passed). p.cause) ArmRises passed (look.passed).rises;
         looks = only_looks look.passed;
@@ -376,7 +384,8 @@ module _ (settings : Settings) (start : Start) (drained : List Bool) (tag : Core
             doings = doings;
             work = work_of went_all;
             did = subst (λ o. GetDidHere settings start drained item a b doings url o NoMem) (sym there)
-                (subst (λ (q : Pair). (changed_rows [] ≡ []) × (NothingOn settings start drained a b doings ⊎ ((froze : LookFrozeHere settings start drained item a b doings q) × (froze.v ≡ url.volume)))) (sym own)
+                (subst (λ (q : Pair). (changed_rows [] ≡ []) × (NothingOn settings start drained a b doings
+                ⊎ ((froze : LookFrozeHere settings start drained item a b doings q) × (froze.v ≡ url.volume)))) (sym own)
                 (refl, inr (look_froze, sym at)));
           }
 

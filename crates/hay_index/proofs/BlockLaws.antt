@@ -26,7 +26,8 @@ block_found bytes piece count records fits long magic counted some seen are many
       rest = drop (32 * count) (drop 16 bytes);
       parts =
           sym (take-append-drop 8 bytes) ∙ ap (λ (l : List ℕ). l ++ drop 8 bytes) magic ∙ ap (λ (l : List ℕ). magic_bytes index_magic ++ l)
-          (number ∙ ap (λ (l : List ℕ). big_bytes 8 (length records) ++ l) behind ∙ sym (append_assoc (big_bytes 8 (length records)) (flat_map record_bytes records) (drop (32 * count) (drop 16 bytes))))
+          (number ∙ ap (λ (l : List ℕ). big_bytes 8 (length records) ++ l) behind ∙ sym (append_assoc (big_bytes 8 (length records)) (flat_map record_bytes records)
+          (drop (32 * count) (drop 16 bytes))))
           ∙ sym (append_assoc (magic_bytes index_magic) (block_rest records) (drop (32 * count) (drop 16 bytes)));
       is = record { some = omega arith; fit = fit };
     }
@@ -58,7 +59,8 @@ no_block bytes piece count fits counted seen none records begins =
     none records (seen ∙ ap (λ n. take (32 * n) (drop 16 bytes)) same ∙ block_records bytes records begins)
 
 -- facts on what was found
-pub if_some : {V E : Type 0} (r : Result (Option V) E) (P Q R S : V → Type 0) → IfOk r (λ o. IfSome o P) → IfOk r (λ o. IfSome o Q) → IfOk r (λ o. IfSome o R) → ((v : V) → P v → Q v → R v → S v) → IfOk r (λ o. IfSome o S)
+pub if_some : {V E : Type 0} (r : Result (Option V) E) (P Q R S : V → Type 0) → IfOk r (λ o. IfSome o P) → IfOk r (λ o. IfSome o Q) → IfOk r (λ o. IfSome o R)
+    → ((v : V) → P v → Q v → R v → S v) → IfOk r (λ o. IfSome o S)
 if_some (Ok (Some v)) P Q R S p q r f = f v p q r
 if_some (Ok None) P Q R S p q r f = tt
 if_some (Err e) P Q R S p q r f = tt

@@ -1,5 +1,6 @@
 -- One more block in an index file.
-use Rattle.std.proofs.Common.{◌≡◌, ◌⊎◌, inl, inr, ⊎_elim, ℕ, Bool, true, false, ◌+◌, ◌*◌, ◌<◌, ◌≤◌, List, [], ◌∷◌, ◌++◌, length, take, drop, refl, sym, ap, ◌∙◌, subst, arith, append_assoc, append-nil, length-append, lit<}
+use Rattle.std.proofs.Common.{◌≡◌, ◌⊎◌, inl, inr, ⊎_elim, ℕ, Bool, true, false, ◌+◌, ◌*◌, ◌<◌, ◌≤◌, List, [], ◌∷◌, ◌++◌, length, take, drop, refl, sym, ap, ◌∙◌, subst, arith}
+use Rattle.std.proofs.Common.{append_assoc, append-nil, length-append, lit<}
 use Rattle.std.specs.Prelude.{All, IsTrue, ◌↔◌}
 use Rattle.std.specs.List.{flat_map}
 use Rattle.std.proofs.lemmas.List.{take_at, drop_at, length-take-le}
@@ -20,7 +21,8 @@ index_log superblock file records end is = record {
   closed = subst (λ n. IsClosed index_magic n file) (sym is.has.ends) is.closed;
 }
 
-pub log_index : (superblock file : List ℕ) (records : List Record) (blocks : List (List Record)) (end : ℕ) → length superblock ≡ 64 → All IsBlock blocks → flat_map (λ block. block) blocks ≡ records → AreInRow 64 records
+pub log_index : (superblock file : List ℕ) (records : List Record) (blocks : List (List Record)) (end : ℕ) → length superblock ≡ 64 → All IsBlock blocks
+    → flat_map (λ block. block) blocks ≡ records → AreInRow 64 records
     → length (superblock ++ flat_map block_bytes blocks) ≡ end → IsLog index_magic (superblock ++ flat_map block_bytes blocks) file → IsIndex superblock file records end
 log_index superblock file records blocks end sized whole are row ends log = record {
   has = record { blocks = blocks; sized = sized; begins = ap (λ n. take n file) (sym ends) ∙ log.begins; ends = ends; whole = whole; are = are };
@@ -40,7 +42,8 @@ pub whole_more : (blocks : List (List Record)) (block : List Record) → All IsB
 whole_more blocks block all one = All-append IsBlock blocks (block ∷ []) all (All-cons IsBlock block [] one (All-nil IsBlock))
 
 with_block : (superblock file image : List ℕ) (records block : List Record) (end : ℕ) (is : IsIndex superblock file records end) → IsBlock block → AreInRow 64 (records ++ block)
-    → IsLog index_magic ((superblock ++ flat_map block_bytes is.has.blocks) ++ record_of index_magic (block_rest block)) image → IsIndex superblock image (records ++ block) (end + 16 + 32 * length block)
+    → IsLog index_magic ((superblock ++ flat_map block_bytes is.has.blocks) ++ record_of index_magic (block_rest block)) image
+    → IsIndex superblock image (records ++ block) (end + 16 + 32 * length block)
 with_block superblock file image records block end is one row log =
     let blocks = is.has.blocks in
     let front : (superblock ++ flat_map block_bytes blocks) ++ block_bytes block ≡ superblock ++ flat_map block_bytes (blocks ++ block ∷ []) =
@@ -50,18 +53,21 @@ with_block superblock file image records block end is one row log =
     (omega (arith, ap length front, length-append (superblock ++ flat_map block_bytes blocks) (block_bytes block), length-block block, is.has.ends))
     (subst (λ (l : List ℕ). IsLog index_magic l image) front log)
 
-pub index_grows : (superblock old new body : List ℕ) (records block : List Record) (end next : ℕ) → body ≡ block_rest block ++ end_mark → next ≡ end + 16 + 32 * length block → IsBlock block → LogGrows index_magic end body old new
+pub index_grows : (superblock old new body : List ℕ) (records block : List Record) (end next : ℕ) → body ≡ block_rest block ++ end_mark → next ≡ end + 16 + 32 * length block
+    → IsBlock block → LogGrows index_magic end body old new
     → IsIndex superblock old records end → AreInRow 64 (records ++ block) → IsIndex superblock new (records ++ block) next
 index_grows superblock old new body records block end next made further one grows is row =
     subst (λ n. IsIndex superblock new (records ++ block) n) (sym further)
     (with_block superblock old new records block end is one row
     (grows.longer (superblock ++ flat_map block_bytes is.has.blocks) (block_rest block) is.has.ends made (index_log superblock old records end is)))
 
-without_block : (superblock file image : List ℕ) (records : List Record) (end : ℕ) (is : IsIndex superblock file records end) → IsLog index_magic (superblock ++ flat_map block_bytes is.has.blocks) image → IsIndex superblock image records end
+without_block : (superblock file image : List ℕ) (records : List Record) (end : ℕ) (is : IsIndex superblock file records end)
+    → IsLog index_magic (superblock ++ flat_map block_bytes is.has.blocks) image → IsIndex superblock image records end
 without_block superblock file image records end is log =
     log_index superblock image records is.has.blocks end is.has.sized is.has.whole is.has.are is.row is.has.ends log
 
-pub index_stays : (superblock : List ℕ) (old new : FileState) (image body : List ℕ) (records block : List Record) (end : ℕ) → body ≡ block_rest block ++ end_mark → IsBlock block → LogStays index_magic end body old new
+pub index_stays : (superblock : List ℕ) (old new : FileState) (image body : List ℕ) (records block : List Record) (end : ℕ) → body ≡ block_rest block ++ end_mark → IsBlock block
+    → LogStays index_magic end body old new
     → IsIndex superblock old.now records end → AreInRow 64 (records ++ block) → IsSolidIn 0 end old → IsImage new image
     → IsIndex superblock image records end ⊎ IsIndex superblock image (records ++ block) (end + 16 + 32 * length block)
 index_stays superblock old new image body records block end made one stays is row solid leaves =
@@ -71,7 +77,8 @@ index_stays superblock old new image body records block end made one stays is ro
     (stays.image (superblock ++ flat_map block_bytes is.has.blocks) (block_rest block) image is.has.ends made (index_log superblock old.now records end is) solid leaves)
 
 -- where nothing was changed, a stop leaves the records
-pub index_kept : (superblock : List ℕ) (file : FileState) (image : List ℕ) (records : List Record) (end : ℕ) → IsGate index_magic end file → IsIndex superblock file.now records end → IsSolidIn 0 end file → IsImage file image
+pub index_kept : (superblock : List ℕ) (file : FileState) (image : List ℕ) (records : List Record) (end : ℕ) → IsGate index_magic end file → IsIndex superblock file.now records end
+    → IsSolidIn 0 end file → IsImage file image
     → IsIndex superblock image records end
 index_kept superblock file image records end gate is solid leaves =
     without_block superblock file.now image records end is
@@ -118,15 +125,35 @@ pub as_far : (end next : ℕ) (file : FileState) → end ≡ next → IsGate ind
 as_far end next file same gate = subst (λ k. IsGate index_magic k file) same gate
 
 -- once such a file is on the disk, and no piece stands behind its end, a block may be appended
-pub index_gate : (superblock : List ℕ) (records : List Record) (end : ℕ) (file : FileState) → IsIndex superblock file.now records end → IsSolid file → ((k : ℕ) → end ≤ k → file.sealed k ≡ false) → IsGate index_magic end file
+pub index_gate : (superblock : List ℕ) (records : List Record) (end : ℕ) (file : FileState) → IsIndex superblock file.now records end → IsSolid file
+    → ((k : ℕ) → end ≤ k → file.sealed k ≡ false) → IsGate index_magic end file
 index_gate superblock records end file is solid free = record { closed = is.closed; solid = λ k from to. solid.places k; free = free }
 
 -- a block that was written whole
 pub length-whole : (block : List Record) (bytes : List ℕ) → bytes ≡ record_of index_magic (block_rest block ++ end_mark) → length bytes ≡ 24 + 32 * length block
-length-whole block bytes made = omega (arith, ap length made, length-append (block_bytes block) end_mark, length-append (magic_bytes index_magic) (block_rest block ++ end_mark), length-append (block_rest block) end_mark, length-append (magic_bytes index_magic) (block_rest block), length-block block)
+length-whole block bytes made =
+    omega (
+      arith,
+      ap length made,
+      length-append (block_bytes block) end_mark,
+      length-append (magic_bytes index_magic) (block_rest block ++ end_mark),
+      length-append (block_rest block) end_mark,
+      length-append (magic_bytes index_magic) (block_rest block),
+      length-block block,
+    )
 
-pub whole_grows : (end : ℕ) (bytes old new : List ℕ) (block : List Record) → bytes ≡ record_of index_magic (block_rest block ++ end_mark) → new ≡ overwrite end bytes old → LogGrows index_magic end (block_rest block ++ end_mark) old new
+pub whole_grows : (end : ℕ) (bytes old new : List ℕ) (block : List Record) → bytes ≡ record_of index_magic (block_rest block ++ end_mark) → new ≡ overwrite end bytes old
+    → LogGrows index_magic end (block_rest block ++ end_mark) old new
 whole_grows end bytes old new block made written = log_grows index_magic end (block_rest block ++ end_mark) old new (lit< tt) (lit< tt) (written ∙ ap (λ (l : List ℕ). overwrite end l old) made)
 
 pub written_long : (end : ℕ) (bytes old new : List ℕ) → end ≤ length old → new ≡ overwrite end bytes old → end + length bytes ≤ length new
-written_long end bytes old new inside written = omega (arith, ap length written, length-append (take end old ++ bytes) (drop (end + length bytes) old), length-append (take end old) bytes, length-take-le end old inside, length-append (take end old) (bytes ++ drop (end + length bytes) old), length-append bytes (drop (end + length bytes) old))
+written_long end bytes old new inside written =
+    omega (
+      arith,
+      ap length written,
+      length-append (take end old ++ bytes) (drop (end + length bytes) old),
+      length-append (take end old) bytes,
+      length-take-le end old inside,
+      length-append (take end old) (bytes ++ drop (end + length bytes) old),
+      length-append bytes (drop (end + length bytes) old),
+    )

@@ -1,5 +1,6 @@
 -- Blocks that are read one after another.
-use Rattle.std.proofs.Common.{◌≡◌, ◌≢◌, inl, inr, ℕ, suc, Bool, true, false, ◌+◌, ◌-◌, ◌*◌, ◌<◌, ◌≤◌, List, [], ◌∷◌, ◌++◌, length, get_or, take, drop, refl, sym, ap, ◌∙◌, subst, arith, append_assoc, append-nil, length-append, length-drop, take-append-drop, drop-cons, lit<, eqb}
+use Rattle.std.proofs.Common.{◌≡◌, ◌≢◌, inl, inr, ℕ, suc, Bool, true, false, ◌+◌, ◌-◌, ◌*◌, ◌<◌, ◌≤◌, List, [], ◌∷◌, ◌++◌, length, get_or, take, drop, refl, sym, ap, ◌∙◌, subst}
+use Rattle.std.proofs.Common.{arith, append_assoc, append-nil, length-append, length-drop, take-append-drop, drop-cons, lit<, eqb}
 use Rattle.std.specs.Prelude.{Option, Some, None, IfSome, IfNone, Result, Err}
 use Rattle.std.specs.Bool.{OnTrue, OnFalse}
 use Rattle.std.specs.List.{flat_map}
@@ -32,7 +33,8 @@ number_there at bytes is =
     ap (λ (l : List ℕ). big_number 8 l) (sym (take-append-drop 8 (drop at bytes)) ∙ ap (λ (l : List ℕ). l ++ drop 8 (drop at bytes)) is)
     ∙ big_number-reads_back 8 index_magic (drop 8 (drop at bytes)) (lit< tt)
 
-pub magic_read : (at number : ℕ) (bytes : List ℕ) (b : Bool) → eqb number index_magic ≡ b → IsBytes bytes → at + 8 ≤ length bytes → number ≡ number_at 8 at bytes → OnTrue b (take 8 (drop at bytes) ≡ magic_bytes index_magic)
+pub magic_read : (at number : ℕ) (bytes : List ℕ) (b : Bool) → eqb number index_magic ≡ b → IsBytes bytes → at + 8 ≤ length bytes → number ≡ number_at 8 at bytes
+    → OnTrue b (take 8 (drop at bytes) ≡ magic_bytes index_magic)
 magic_read at number bytes true test fits long is = magic_there at bytes fits long (sym is ∙ eqb-true number index_magic test)
 magic_read at number bytes false test fits long is = tt
 
@@ -81,7 +83,8 @@ stray_here records now block i first at k due d within noted row place here othe
   stands = omega (arith, length-take-le i block (omega arith));
 }
 
-pub added_more : (records now next block : List Record) (i : ℕ) (d : Record) → i < length block → now ≡ records ++ take i block → next ≡ now ++ get_or block i d ∷ [] → next ≡ records ++ take (i + 1) block
+pub added_more : (records now next block : List Record) (i : ℕ) (d : Record) → i < length block → now ≡ records ++ take i block → next ≡ now ++ get_or block i d ∷ []
+    → next ≡ records ++ take (i + 1) block
 added_more records now next block i d within noted pushed =
     pushed ∙ ap (λ (l : List Record). l ++ get_or block i d ∷ []) noted ∙ append_assoc records (take i block) (get_or block i d ∷ [])
     ∙ ap (λ (l : List Record). records ++ l) (sym (take_more block i d within))
@@ -111,13 +114,15 @@ all_behind at bytes = take_all (length bytes - at) (drop at bytes) (omega (arith
 pub block_there : (at : ℕ) (bytes piece : List ℕ) (block : List Record) → piece ≡ take (length bytes - at) (drop at bytes) → BeginsWithBlock piece block → BeginsWithBlock (drop at bytes) block
 block_there at bytes piece block is begins = subst (λ (l : List ℕ). BeginsWithBlock l block) (is ∙ all_behind at bytes) begins
 
-pub one_more_block : (superblock file : List ℕ) (records block next : List Record) (end further : ℕ) → HasRecords superblock file records end → BeginsWithBlock (drop end file) block → next ≡ records ++ block → further ≡ end + (16 + 32 * length block)
+pub one_more_block : (superblock file : List ℕ) (records block next : List Record) (end further : ℕ) → HasRecords superblock file records end
+    → BeginsWithBlock (drop end file) block → next ≡ records ++ block → further ≡ end + (16 + 32 * length block)
     → HasRecords superblock file next further
 one_more_block superblock file records block next end further has begins added is =
     let blocks = has.blocks in
     let front : superblock ++ flat_map block_bytes (blocks ++ block ∷ []) ≡ (superblock ++ flat_map block_bytes blocks) ++ block_bytes block =
     ap (λ (l : List ℕ). superblock ++ l) (blocks_more blocks block) ∙ sym (append_assoc superblock (flat_map block_bytes blocks) (block_bytes block)) in
-    let there : take (length (block_bytes block)) (drop end file) ≡ block_bytes block = ap (λ (l : List ℕ). take (length (block_bytes block)) l) begins.parts ∙ take_at (block_bytes block) begins.rest (length (block_bytes block)) refl in
+    let there : take (length (block_bytes block)) (drop end file) ≡ block_bytes block =
+    ap (λ (l : List ℕ). take (length (block_bytes block)) l) begins.parts ∙ take_at (block_bytes block) begins.rest (length (block_bytes block)) refl in
     let long : further ≡ end + length (block_bytes block) = omega (arith, length-block block) in
     record {
       blocks = blocks ++ block ∷ [];
@@ -135,10 +140,12 @@ block_within end further file block begins is = omega (arith, block_long (drop e
 
 -- DAMAGE
 
-pub short_here : (superblock file : List ℕ) (records : List Record) (end k : ℕ) → HasRecords superblock file records end → AreInRow 64 records → k ≡ end → length file < end + 8 → IsBrokenBehind superblock file k
+pub short_here : (superblock file : List ℕ) (records : List Record) (end k : ℕ) → HasRecords superblock file records end → AreInRow 64 records → k ≡ end → length file < end + 8
+    → IsBrokenBehind superblock file k
 short_here superblock file records end k lead row is short = record { records = records; at = end; lead = lead; row = row; broken = inl (inl short, is) }
 
-pub broken_here : (superblock file piece : List ℕ) (records : List Record) (end k : ℕ) → HasRecords superblock file records end → AreInRow 64 records → k ≡ end → take 8 (drop end file) ≡ magic_bytes index_magic
+pub broken_here : (superblock file piece : List ℕ) (records : List Record) (end k : ℕ) → HasRecords superblock file records end → AreInRow 64 records → k ≡ end
+    → take 8 (drop end file) ≡ magic_bytes index_magic
     → piece ≡ take (length file - end) (drop end file) → ((block : List Record) → BeginsWithBlock piece block → ⊥) → IsBrokenBehind superblock file k
 broken_here superblock file piece records end k lead row is magic seen none = record {
   records = records;
@@ -148,7 +155,8 @@ broken_here superblock file piece records end k lead row is magic seen none = re
   broken = inl (inr (magic, λ block begins. none block (subst (λ (l : List ℕ). BeginsWithBlock l block) (sym (seen ∙ all_behind end file)) begins)), is);
 }
 
-pub stray_there : (superblock file : List ℕ) (records block : List Record) (end k : ℕ) → HasRecords superblock file records end → AreInRow 64 records → BeginsWithBlock (drop end file) block → HasStray records block (end + 16) k
+pub stray_there : (superblock file : List ℕ) (records block : List Record) (end k : ℕ) → HasRecords superblock file records end → AreInRow 64 records
+    → BeginsWithBlock (drop end file) block → HasStray records block (end + 16) k
     → IsBrokenBehind superblock file k
 stray_there superblock file records block end k lead row begins stray = record {
   records = records;

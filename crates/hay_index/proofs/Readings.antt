@@ -1,5 +1,6 @@
 -- A file has one reading: the blocks from a place on, and either their end or a damage.
-use Rattle.std.proofs.Common.{◌≡◌, ◌⊎◌, inl, inr, ℕ, suc, ◌+◌, ◌*◌, ◌<◌, ◌≤◌, ◌^◌, List, [], ◌∷◌, ◌++◌, length, take, drop, refl, sym, ap, ◌∙◌, subst, arith, append_assoc, length-append, length-drop, take-append-drop}
+use Rattle.std.proofs.Common.{◌≡◌, ◌⊎◌, inl, inr, ℕ, suc, ◌+◌, ◌*◌, ◌<◌, ◌≤◌, ◌^◌, List, [], ◌∷◌, ◌++◌, length, take, drop, refl, sym, ap, ◌∙◌, subst, arith, append_assoc}
+use Rattle.std.proofs.Common.{length-append, length-drop, take-append-drop}
 use Rattle.std.specs.Prelude.{All, Result, Ok, Err, IfOk, OnOk}
 use Rattle.std.specs.List.{flat_map}
 use Rattle.std.proofs.lemmas.List.{take_at, drop_at, take-take, drop-take, drop-drop}
@@ -38,7 +39,8 @@ one_records (r ∷ records) (s ∷ more) long fit fits same =
     let first : r ≡ s =
     sym (record_back r (flat_map record_bytes records) (all_first RecordFits r records fit)) ∙ ap record_at same ∙ record_back s (flat_map record_bytes more) (all_first RecordFits s more fits) in
     let rest : flat_map record_bytes records ≡ flat_map record_bytes more =
-    sym (drop_at (record_bytes r) (flat_map record_bytes records) 32 (length-record r)) ∙ ap (λ (l : List ℕ). drop 32 l) same ∙ drop_at (record_bytes s) (flat_map record_bytes more) 32 (length-record s) in
+    sym (drop_at (record_bytes r) (flat_map record_bytes records) 32 (length-record r)) ∙ ap (λ (l : List ℕ). drop 32 l) same
+    ∙ drop_at (record_bytes s) (flat_map record_bytes more) 32 (length-record s) in
     ap (λ x. x ∷ records) first ∙ ap (λ (l : List Record). s ∷ l) (one_records records more (omega (arith, long)) (all_rest RecordFits r records fit) (all_rest RecordFits s more fits) rest)
 
 -- and so has each block
@@ -68,7 +70,9 @@ first_begins at end file block blocks leads =
     let bytes = flat_map block_bytes (block ∷ blocks) in
     record {
       rest = flat_map block_bytes blocks ++ drop (length bytes) (drop at file);
-      parts = sym (take-append-drop (length bytes) (drop at file)) ∙ ap (λ (l : List ℕ). l ++ drop (length bytes) (drop at file)) leads.stand ∙ append_assoc (block_bytes block) (flat_map block_bytes blocks) (drop (length bytes) (drop at file));
+      parts =
+          sym (take-append-drop (length bytes) (drop at file)) ∙ ap (λ (l : List ℕ). l ++ drop (length bytes) (drop at file)) leads.stand
+          ∙ append_assoc (block_bytes block) (flat_map block_bytes blocks) (drop (length bytes) (drop at file));
       is = all_first IsBlock block blocks leads.whole;
     }
 
@@ -99,7 +103,8 @@ front_more file first blocks more end place front =
       | inr more_there ↦ record { behind = inr (more_there.0, more_there.1, ap (λ (l : List (List Record)). first ∷ l) more_there.2, more_there.3) }
     ]
 
-is_front : (at end place : ℕ) (file : List ℕ) (blocks more : List (List Record)) → length file < 2 ^ 64 → LeadsFrom at file blocks end → IsClosed index_magic end file → LeadsFrom at file more place → IsFront file blocks more end place
+is_front : (at end place : ℕ) (file : List ℕ) (blocks more : List (List Record)) → length file < 2 ^ 64 → LeadsFrom at file blocks end → IsClosed index_magic end file
+    → LeadsFrom at file more place → IsFront file blocks more end place
 is_front at end place file [] [] fits leads closed again = record { behind = inl (omega (arith, leads.ends, again.ends), refl) }
 is_front at end place file [] (b ∷ more) fits leads closed again =
     let here : end ≡ at = omega (arith, leads.ends) in
@@ -110,14 +115,16 @@ is_front at end place file (b ∷ blocks) [] fits leads closed again =
 is_front at end place file (b ∷ blocks) (d ∷ more) fits leads closed again =
     let short : length (drop at file) < 2 ^ 64 = omega (arith, length-drop at file) in
     let same : d ≡ b = one_block (drop at file) d b short (first_begins at place file d more again) (first_begins at end file b blocks leads) in
-    let behind : LeadsFrom (at + length (block_bytes b)) file more place = subst (λ (x : List Record). LeadsFrom (at + length (block_bytes x)) file more place) same (others_lead at place file d more again) in
+    let behind : LeadsFrom (at + length (block_bytes b)) file more place =
+    subst (λ (x : List Record). LeadsFrom (at + length (block_bytes x)) file more place) same (others_lead at place file d more again) in
     let front = is_front (at + length (block_bytes b)) end place file blocks more fits (others_lead at end file b blocks leads) closed behind in
     subst (λ (x : List Record). IsFront file (b ∷ blocks) (x ∷ more) end place) (sym same) (front_more file b blocks more end place front)
 
 -- THE LAWS
 
 -- the records up to an end mark are the only ones
-pub one_reading : (superblock file : List ℕ) (records more : List Record) (end other : ℕ) → length file < 2 ^ 64 → IsIndex superblock file records end → IsIndex superblock file more other → (records ≡ more) × (end ≡ other)
+pub one_reading : (superblock file : List ℕ) (records more : List Record) (end other : ℕ) → length file < 2 ^ 64 → IsIndex superblock file records end
+    → IsIndex superblock file more other → (records ≡ more) × (end ≡ other)
 one_reading superblock file records more end other fits is again =
     let front = is_front 64 end other file is.has.blocks again.has.blocks fits (all_lead superblock file records end is.has) is.closed (all_lead superblock file more other again.has) in
     elim front.behind [
@@ -152,19 +159,22 @@ block_whole at place file all records block tail fits begins are row (inr out) =
     let short : length (drop at file) < 2 ^ 64 = omega (arith, length-drop at file) in
     let same : block ≡ s.before ++ s.stray ∷ s.after = one_block (drop at file) block out.block short begins out.stands ∙ s.parts in
     let whole : all ≡ (records ++ s.before) ++ s.stray ∷ (s.after ++ tail) =
-    are ∙ ap (λ (l : List Record). records ++ (l ++ tail)) same ∙ ap (λ (l : List Record). records ++ l) (append_assoc s.before (s.stray ∷ s.after) tail) ∙ sym (append_assoc records s.before (s.stray ∷ (s.after ++ tail))) in
+    are ∙ ap (λ (l : List Record). records ++ (l ++ tail)) same ∙ ap (λ (l : List Record). records ++ l) (append_assoc s.before (s.stray ∷ s.after) tail)
+    ∙ sym (append_assoc records s.before (s.stray ∷ (s.after ++ tail))) in
     s.other (row_at 64 (records ++ s.before) (s.after ++ tail) s.stray (subst (λ (l : List Record). AreInRow 64 l) whole row))
 
 -- and there is no damage among them
 pub undamaged : (superblock file : List ℕ) (records : List Record) (end place : ℕ) → length file < 2 ^ 64 → IsIndex superblock file records end → IsBrokenBehind superblock file place → ⊥
 undamaged superblock file records end place fits is damage =
-    let front = is_front 64 end damage.at file is.has.blocks damage.lead.blocks fits (all_lead superblock file records end is.has) is.closed (all_lead superblock file damage.records damage.at damage.lead) in
+    let front =
+    is_front 64 end damage.at file is.has.blocks damage.lead.blocks fits (all_lead superblock file records end is.has) is.closed (all_lead superblock file damage.records damage.at damage.lead) in
     elim front.behind [
       | inl same ↦ closed_whole damage.at place file damage.records (subst (λ n. IsClosed index_magic n file) (sym same.0) is.closed) damage.broken
       | inr longer ↦
           let join : List (List Record) → List Record = λ blocks. flat_map (λ (b : List Record). b) blocks in
           let whole : records ≡ damage.records ++ (longer.0 ++ join longer.1) =
-          sym is.has.are ∙ ap join longer.2 ∙ flat_map-append (λ (b : List Record). b) damage.lead.blocks (longer.0 ∷ longer.1) ∙ ap (λ (l : List Record). l ++ (longer.0 ++ join longer.1)) damage.lead.are in
+          sym is.has.are ∙ ap join longer.2 ∙ flat_map-append (λ (b : List Record). b) damage.lead.blocks (longer.0 ∷ longer.1)
+          ∙ ap (λ (l : List Record). l ++ (longer.0 ++ join longer.1)) damage.lead.are in
           block_whole damage.at place file records damage.records longer.0 (join longer.1) fits longer.3 whole is.row damage.broken
     ]
 

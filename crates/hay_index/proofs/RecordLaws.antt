@@ -25,7 +25,8 @@ record_found bytes fits long first last =
     let zero : drop 12 bytes ≡ big_bytes 4 0 ++ drop 16 bytes = field_4 12 bytes (omega arith) fits ∙ ap (λ n. big_bytes 4 n ++ drop 16 bytes) first in
     let at : drop 16 bytes ≡ big_bytes 8 (number_at 8 16 bytes) ++ drop 24 bytes = field_8 16 bytes (omega arith) fits in
     let size : drop 24 bytes ≡ big_bytes 4 (number_at 4 24 bytes) ++ drop 28 bytes = field_4 24 bytes (omega arith) fits in
-    let end : drop 28 bytes ≡ big_bytes 4 0 = field_4 28 bytes (omega arith) fits ∙ ap (λ n. big_bytes 4 n ++ drop 32 bytes) last ∙ ap (λ (l : List ℕ). big_bytes 4 0 ++ l) (drop_all 32 bytes (omega arith)) ∙ append-nil (big_bytes 4 0) in
+    let end : drop 28 bytes ≡ big_bytes 4 0 =
+    field_4 28 bytes (omega arith) fits ∙ ap (λ n. big_bytes 4 n ++ drop 32 bytes) last ∙ ap (λ (l : List ℕ). big_bytes 4 0 ++ l) (drop_all 32 bytes (omega arith)) ∙ append-nil (big_bytes 4 0) in
     key ∙ ap (λ (x : List ℕ). big_bytes 8 (number_at 8 0 bytes) ++ x) (alt
     ∙ ap (λ (x : List ℕ). big_bytes 4 (number_at 4 8 bytes) ++ x) (zero
     ∙ ap (λ (x : List ℕ). big_bytes 4 0 ++ x) (at

@@ -75,10 +75,14 @@ module _ (settings : Settings) (start : Start) (drained : List Bool) (tag : Core
     here = record { settings = settings; start = start; number = v }
 
     pub delete_answered : (answer : Delete) (r : Reply) → AtVolume v (DeleteTells here tag pair answer) m b → IsDeleteReply v d answer r → Answered r
-    delete_answered (delete.Deleted p) r x is = subst Answered (sym is) (del.del_done settings start drained tag home below open_machines (call_as _ (calls.Deleted settings start v tag pair p) x x.is))
-    delete_answered (delete.Absent p) r x is = subst Answered (sym is) (del.del_absent settings start drained tag home below open_machines (call_as _ (calls.MetAbsent settings start v tag pair p) x x.is))
+    delete_answered (delete.Deleted p) r x is =
+        subst Answered (sym is) (del.del_done settings start drained tag home below open_machines (call_as _ (calls.Deleted settings start v tag pair p) x x.is))
+    delete_answered (delete.Absent p) r x is =
+        subst Answered (sym is) (del.del_absent settings start drained tag home below open_machines (call_as _ (calls.MetAbsent settings start v tag pair p) x x.is))
     delete_answered (delete.Frozen by) r x is =
         closed_answered (call_as _ (Closes settings start drained v tag by) x (del.frozen_closes settings start drained v tag x.is)) is
-    delete_answered (delete.Failed by f) r x is = subst Answered (sym is) (del.del_failed settings start drained tag home below open_machines (call_as _ (calls.DeleteFailed settings start v tag pair by f) x x.is))
+    delete_answered (delete.Failed by f) r x is =
+        subst Answered (sym is) (del.del_failed settings start drained tag home below open_machines (call_as _ (calls.DeleteFailed settings start v tag pair by f) x x.is))
     delete_answered (delete.Damaged by at) r x is = absurd x.is
-    delete_answered delete.NoMemory r x is = subst Answered (sym is) (del.del_wanted settings start drained tag home below open_machines (call_as _ (calls.DeleteWanted settings start v tag pair) x x.is))
+    delete_answered delete.NoMemory r x is =
+        subst Answered (sym is) (del.del_wanted settings start drained tag home below open_machines (call_as _ (calls.DeleteWanted settings start v tag pair) x x.is))

@@ -55,7 +55,8 @@ module _ (settings : Settings) (start : Start) (drained : List Bool) (tag : Core
           → IsCompactionReply v m answer r → CompactAnswered a b r
       ended_answered (compaction.Compacted n) r x is =
           let swap = x.is in
-          subst (CompactAnswered a b) (sym is) (work.compact_done settings start drained tag v j m there below run (call_as _ (calls.Swapped settings start v tag j tag n swap.0 swap.1 false) x swap.2))
+          subst (CompactAnswered a b) (sym is) (work.compact_done settings start drained tag v j m there below run
+          (call_as _ (calls.Swapped settings start v tag j tag n swap.0 swap.1 false) x swap.2))
       ended_answered (compaction.Frozen by) r x (inl is) =
           subst (CompactAnswered a b) (sym is) (work.compact_met_frozen settings start drained tag v j m there below run (call_as _ (calls.RunFrozen settings start v tag j tag by) x x.is))
       ended_answered (compaction.Frozen by) r x (inr is) =

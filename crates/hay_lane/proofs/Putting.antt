@@ -141,7 +141,8 @@ module _ (settings : Settings) (start : Start) (drained : List Bool) (tag : Core
       put_closed_answered x is = closed_as (closes_refuses settings start drained v tag (length bytes) x) is
 
       module _ (open_machines : drained_in settings drained v ≡ None) (cookie : Cookie) (own : cookie ≡ cookie_of settings.secret pair.key) where
-        pub put_answered : (answer : Put) (r : Reply) → AtVolume v (PutTells (record { settings = settings; start = start; number = v }) tag pair cookie bytes answer) m b → IsPutReply v d cookie answer r → PutAnswered b r
+        pub put_answered : (answer : Put) (r : Reply) → AtVolume v (PutTells (record { settings = settings; start = start; number = v }) tag pair cookie bytes answer) m b
+            → IsPutReply v d cookie answer r → PutAnswered b r
         put_answered (put.Stored p) r x is = subst (PutAnswered b) (sym is) (puts.put_stored settings start drained tag bytes settled below open_machines own x)
         put_answered (put.Frozen machine) r x is =
             closed_as (call_as (calls.MetFrozen settings start v tag machine) (Refuses settings start drained v tag (length bytes) (Closed v machine)) x

@@ -117,14 +117,17 @@ module _ (settings : Settings) (start : Start) (drained : List Bool) (tag : Core
     order = order;
     looking =
         subst (λ (js : List ℕ). Looking settings start drained tag pair d v p what js (causes_in (passed ++ o ∷ now)) a b) (sym (map-append (λ (q : PassedReplica). q.replica) passed (o ∷ now)))
-        (subst (λ (cs : List Cause). Looking settings start drained tag pair d v p what (replicas_in passed ++ replicas_in (o ∷ now)) cs a b) (sym (map-append (λ (q : PassedReplica). q.cause) passed (o ∷ now)))
+        (subst (λ (cs : List Cause). Looking settings start drained tag pair d v p what (replicas_in passed ++ replicas_in (o ∷ now)) cs a b)
+        (sym (map-append (λ (q : PassedReplica). q.cause) passed (o ∷ now)))
         (reading.look_fetches_fail settings start drained tag pair d v (replicas_in (o ∷ now)) (causes_in (o ∷ now)) (as_many (o ∷ now))
         (each_cause (ArmFailed m.arm b.arm) (o ∷ now)
-        (all_both (λ (q : PassedReplica). HasArmCause m.arm b.arm q.cause) (λ (q : PassedReplica). IsArm q.cause) (λ (q : PassedReplica). ArmFailed m.arm b.arm q.cause) (λ q has arm. arm_failed m.arm b.arm q.cause has arm) (o ∷ now) each arms))
+        (all_both (λ (q : PassedReplica). HasArmCause m.arm b.arm q.cause) (λ (q : PassedReplica). IsArm q.cause) (λ (q : PassedReplica). ArmFailed m.arm b.arm q.cause)
+        (λ q has arm. arm_failed m.arm b.arm q.cause has arm) (o ∷ now) each arms))
         (rises_each (o ∷ now) rises) x (arm_low m.arm b.arm o.cause each.0 arms.0) before.looking));
   }
 
-  module _ {P : Type 0} (Tells : Type 0) (sure : Bool) (row : List (Place P)) (long : length row ≡ settings.replicas) (some : 0 < settings.replicas) (what : ℕ → Outcome) (means : RowMeans Tells settings pair row what)
+  module _ {P : Type 0} (Tells : Type 0) (sure : Bool) (row : List (Place P)) (long : length row ≡ settings.replicas) (some : 0 < settings.replicas) (what : ℕ → Outcome)
+      (means : RowMeans Tells settings pair row what)
       (cookie : Cookie) (p : ℕ) {a m b : Sight} (x : AtArm m b) (passed : List PassedReplica) (before : First p what passed a m) where
     abbrev arm_use : ArmUse
     arm_use = record { sure = sure; before = m.arm; after = b.arm }
@@ -257,13 +260,16 @@ module _ (settings : Settings) (start : Start) (drained : List Bool) (tag : Core
         let over : PassedReplica = record { replica = j; cause = Disk f } in
         let shows = (before.looking).shows in
         let later : IsLaterSight m b = went_later (call_went x) in
-        let passed : PassedOver settings start drained tag pair d v (replicas_in causes ++ j ∷ []) (causes_in causes ++ Disk f ∷ []) a b = reading.sight_fails settings start drained tag pair d v (before.looking).passed x in
+        let passed : PassedOver settings start drained tag pair d v (replicas_in causes ++ j ∷ []) (causes_in causes ++ Disk f ∷ []) a b =
+        reading.sight_fails settings start drained tag pair d v (before.looking).passed x in
         record {
           order = first_more first settings.replicas causes over before.order next.next;
           looking = record {
             passed =
-                subst (λ (js : List ℕ). PassedOver settings start drained tag pair d v js (causes_in (causes ++ over ∷ [])) a b) (sym (map-append (λ (q : PassedReplica). q.replica) causes (over ∷ [])))
-                (subst (λ (cs : List Cause). PassedOver settings start drained tag pair d v (replicas_in causes ++ j ∷ []) cs a b) (sym (map-append (λ (q : PassedReplica). q.cause) causes (over ∷ []))) passed);
+                subst (λ (js : List ℕ). PassedOver settings start drained tag pair d v js (causes_in (causes ++ over ∷ [])) a b)
+                (sym (map-append (λ (q : PassedReplica). q.replica) causes (over ∷ [])))
+                (subst (λ (cs : List Cause). PassedOver settings start drained tag pair d v (replicas_in causes ++ j ∷ []) cs a b)
+                (sym (map-append (λ (q : PassedReplica). q.cause) causes (over ∷ []))) passed);
             shows = record { sight = shows.sight; from = shows.from; to = later_at shows.sight (m.volumes v) (b.volumes v) shows.to (later.volumes v); front = shows.front; is = shows.is };
           };
         }
@@ -273,7 +279,8 @@ module _ (settings : Settings) (start : Start) (drained : List Bool) (tag : Core
     froze_behind x = record { js = replicas_in causes; causes = causes_in causes; m = m; over = (before.looking).passed; wanted = x }
 
     -- so it was passed over, if there was memory to say so
-    pub sight_passed : (P : Type 0) (Tells : Type 0) (bytes : List ℕ) (j : ℕ) (fault : SightFault) (cause : Cause) → IsSightCause {E = NoMemory} fault (Ok cause) → IsNext first settings.replicas causes j
+    pub sight_passed : (P : Type 0) (Tells : Type 0) (bytes : List ℕ) (j : ℕ) (fault : SightFault) (cause : Cause) → IsSightCause {E = NoMemory} fault (Ok cause)
+        → IsNext first settings.replicas causes j
         → AtVolume v (SeeTells {P = P} Tells here pair tag j bytes (Err fault)) m b
         → PassedFirst settings start drained tag pair d v first p what (causes ++ record { replica = j; cause = cause } ∷ []) a b
     sight_passed P Tells bytes j (fault.Failed f) cause is next x =

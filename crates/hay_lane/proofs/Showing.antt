@@ -98,10 +98,12 @@ module _ (settings : Settings) (start : Start) (drained : List Bool) (tag : Core
         → ShowsAs settings start drained tag first pair cookie (reply.Photo v (machine_of settings v j) p d put) a b
     photo_as cookie s = reading.shows_photo settings start drained tag pair d v (s.passed).looking below (later s) (within s) (there s) (in_order s) s.is
 
-    pub gone_as : (cookie : Cookie) {j : ℕ} → ShownBy settings start drained tag pair d v first p what j (λ o. o ≡ outcome.Nothing) a b → ShowsAs settings start drained tag first pair cookie (reply.Gone v (machine_of settings v j) p d) a b
+    pub gone_as : (cookie : Cookie) {j : ℕ} → ShownBy settings start drained tag pair d v first p what j (λ o. o ≡ outcome.Nothing) a b
+        → ShowsAs settings start drained tag first pair cookie (reply.Gone v (machine_of settings v j) p d) a b
     gone_as cookie s = reading.shows_gone settings start drained tag pair d v (s.passed).looking below (later s) (within s) (there s) (in_order s) s.is
 
-    pub wrong_as : (cookie : Cookie) {j : ℕ} → ShownBy settings start drained tag pair d v first p what j (IsOther cookie) a b → ShowsAs settings start drained tag first pair cookie (reply.WrongCookie v (machine_of settings v j) p d) a b
+    pub wrong_as : (cookie : Cookie) {j : ℕ} → ShownBy settings start drained tag pair d v first p what j (IsOther cookie) a b
+        → ShowsAs settings start drained tag first pair cookie (reply.WrongCookie v (machine_of settings v j) p d) a b
     wrong_as cookie s = reading.shows_wrong_cookie settings start drained tag pair d v (s.passed).looking below (later s) (within s) (there s) (in_order s) (s.is).1 (s.is).2
 
     pub unreadable_as : (cookie : Cookie) {causes : List PassedReplica} → AllPassed settings start drained tag pair d v first p what causes a b
@@ -116,7 +118,8 @@ module _ (settings : Settings) (start : Start) (drained : List Bool) (tag : Core
 
 -- A READ
 
-module _ (settings : Settings) (start : Start) (drained : List Bool) (tag : CoreTag) (pair : Pair) (cookie : Cookie) (d v : ℕ) (below : v < settings.volumes) (narrow : settings.replicas ≤ settings.machines) (a b : Sight) where
+module _ (settings : Settings) (start : Start) (drained : List Bool) (tag : CoreTag) (pair : Pair) (cookie : Cookie) (d v : ℕ) (below : v < settings.volumes)
+    (narrow : settings.replicas ≤ settings.machines) (a b : Sight) where
   abbrev Answered : Reply → Type 0
   Answered r = IsAnswered settings start drained tag (command.Read pair cookie) r a b
 
@@ -125,9 +128,12 @@ module _ (settings : Settings) (start : Start) (drained : List Bool) (tag : Core
 
   found_read : (p : ℕ) (what : ℕ → Outcome) (put : List ℕ) (f : Found) (r : Reply) → IsFoundReply settings v p d put f r
       → FoundTells settings start drained tag pair d v (start_of settings tag) cookie p what put f a b → Answered r
-  found_read p what put (found.Photo j) r is s = subst Answered (sym is) (reading.read_answered settings start drained tag (photo_as settings start drained tag pair d v (start_of settings tag) below narrow cookie s))
-  found_read p what put (found.Gone j) r is s = subst Answered (sym is) (reading.read_answered settings start drained tag (gone_as settings start drained tag pair d v (start_of settings tag) below narrow cookie s))
-  found_read p what put (found.WrongCookie j) r is s = subst Answered (sym is) (reading.read_answered settings start drained tag (wrong_as settings start drained tag pair d v (start_of settings tag) below narrow cookie s))
+  found_read p what put (found.Photo j) r is s =
+      subst Answered (sym is) (reading.read_answered settings start drained tag (photo_as settings start drained tag pair d v (start_of settings tag) below narrow cookie s))
+  found_read p what put (found.Gone j) r is s =
+      subst Answered (sym is) (reading.read_answered settings start drained tag (gone_as settings start drained tag pair d v (start_of settings tag) below narrow cookie s))
+  found_read p what put (found.WrongCookie j) r is s =
+      subst Answered (sym is) (reading.read_answered settings start drained tag (wrong_as settings start drained tag pair d v (start_of settings tag) below narrow cookie s))
   found_read p what put (found.Unreadable causes) r (inl is) s =
       subst Answered (sym is) (reading.read_answered settings start drained tag (unreadable_as settings start drained tag pair d v (start_of settings tag) below narrow cookie s))
   found_read p what put (found.Unreadable causes) r (inr is) s = subst Answered (sym is) (unchanged_read (none_changed settings start drained tag pair d v (start_of settings tag) below narrow s))
@@ -141,7 +147,8 @@ module _ (settings : Settings) (start : Start) (drained : List Bool) (tag : Core
 
 -- A GET
 
-module _ (settings : Settings) (start : Start) (drained : List Bool) (tag : CoreTag) (url : UrlParts) (d v first : ℕ) (at : v ≡ url.volume) (on : replica_on settings url.volume url.machine ≡ Some first)
+module _ (settings : Settings) (start : Start) (drained : List Bool) (tag : CoreTag) (url : UrlParts) (d v first : ℕ) (at : v ≡ url.volume)
+    (on : replica_on settings url.volume url.machine ≡ Some first)
     (below : v < settings.volumes) (narrow : settings.replicas ≤ settings.machines) (a b : Sight) where
   abbrev Got : Reply → Type 0
   Got r = IsAnswered settings start drained tag (command.Get url) r a b
@@ -151,9 +158,12 @@ module _ (settings : Settings) (start : Start) (drained : List Bool) (tag : Core
 
   found_get : (p : ℕ) (what : ℕ → Outcome) (put : List ℕ) (f : Found) (r : Reply) → IsFoundReply settings v p d put f r
       → FoundTells settings start drained tag url.pair d v first url.cookie p what put f a b → Got r
-  found_get p what put (found.Photo j) r is s = subst Got (sym is) (reading.get_photo settings start drained tag url on a b at (photo_as settings start drained tag url.pair d v first below narrow url.cookie s))
-  found_get p what put (found.Gone j) r is s = subst Got (sym is) (reading.get_gone settings start drained tag url on a b at (gone_as settings start drained tag url.pair d v first below narrow url.cookie s))
-  found_get p what put (found.WrongCookie j) r is s = subst Got (sym is) (reading.get_wrong_cookie settings start drained tag url on a b at (wrong_as settings start drained tag url.pair d v first below narrow url.cookie s))
+  found_get p what put (found.Photo j) r is s =
+      subst Got (sym is) (reading.get_photo settings start drained tag url on a b at (photo_as settings start drained tag url.pair d v first below narrow url.cookie s))
+  found_get p what put (found.Gone j) r is s =
+      subst Got (sym is) (reading.get_gone settings start drained tag url on a b at (gone_as settings start drained tag url.pair d v first below narrow url.cookie s))
+  found_get p what put (found.WrongCookie j) r is s =
+      subst Got (sym is) (reading.get_wrong_cookie settings start drained tag url on a b at (wrong_as settings start drained tag url.pair d v first below narrow url.cookie s))
   found_get p what put (found.Unreadable causes) r (inl is) s =
       subst Got (sym is) (reading.get_unreadable settings start drained tag url on a b at (unreadable_as settings start drained tag url.pair d v first below narrow url.cookie s))
   found_get p what put (found.Unreadable causes) r (inr is) s = subst Got (sym is) (unchanged_get (none_changed settings start drained tag url.pair d v first below narrow s))

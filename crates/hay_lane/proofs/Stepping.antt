@@ -25,7 +25,8 @@ module _ {V D S T A : Type 0} (fits : ℕ → V → Settings → ℕ → S → T
     (seated : IsSeated fits fits_rows shared number lane) where
   -- AT A VOLUME, by its lock and the seat
 
-  module _ (v : ℕ) (below : v < (shared.settings).volumes) {locks : List V} {seats : List S} (locks_are : locks ≡ (shared.volumes).items) (seats_are : seats ≡ (lane.volumes).items) (lock : V) (seat : S) where
+  module _ (v : ℕ) (below : v < (shared.settings).volumes) {locks : List V} {seats : List S} (locks_are : locks ≡ (shared.volumes).items) (seats_are : seats ≡ (lane.volumes).items)
+      (lock : V) (seat : S) where
     lock_at : slice_get (shared.volumes).items v ≡ Some (slice_index_or locks v lock)
     lock_at = let e = seated.locks in let long = ap length locks_are in
         subst (λ vs. slice_get vs v ≡ Some (slice_index_or locks v lock)) locks_are (get_read locks v lock (omega (arith, below, e, long)))
@@ -85,7 +86,8 @@ module _ {V D S T A : Type 0} (fits : ℕ → V → Settings → ℕ → S → T
               (λ same.
               let seat_is : new ≡ s = same_seat s (subst (λ w. slice_get (moved.volumes).items w ≡ Some s) same has) in
               subst (λ w. is_at s (record { settings = settings; start = start; number = w })) (sym same)
-              (subst (λ x. is_at x (record { settings = settings; start = start; number = v })) seat_is (stays.at_still (record { settings = settings; start = start; number = v }) (of.each v (slice_index_or seats v seat) seat_at))))
+              (subst (λ x. is_at x (record { settings = settings; start = start; number = v })) seat_is
+              (stays.at_still (record { settings = settings; start = start; number = v }) (of.each v (slice_index_or seats v seat) seat_at))))
               (λ differs. of.each u s (sym (still_at u differs) ∙ has));
           rows = of.rows;
         }
@@ -149,7 +151,8 @@ module _ {V D S T A : Type 0} (fits : ℕ → V → Settings → ℕ → S → T
       rows = seated.rows;
     }
 
-    pub still_of_arm : (is_at : S → StoreVolume → Type 0) (is_at_rows : T → Start → Type 0) (settings : Settings) (start : Start) → IsOf is_at is_at_rows settings start lane → IsOf is_at is_at_rows settings start moved_arm
+    pub still_of_arm : (is_at : S → StoreVolume → Type 0) (is_at_rows : T → Start → Type 0) (settings : Settings) (start : Start) → IsOf is_at is_at_rows settings start lane
+        → IsOf is_at is_at_rows settings start moved_arm
     still_of_arm is_at is_at_rows settings start of = record { each = of.each; rows = of.rows }
 
     pub fetched : (of : S → LockSight VolumeAct Entry) (of_rows : T → LockSight DirAct HomeRow) (faults : A → ℕ) → faults lane.arm ≤ faults new → (faults new ≡ faults lane.arm) ⊎ (faults new < 2 ^ 64)

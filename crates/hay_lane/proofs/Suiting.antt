@@ -13,7 +13,8 @@ use Rattle.hay_reply.specs.declared.Refused.TheVariants.{Closed, NoRoom}
 use Rattle.hay_reply.specs.declared.Reply.{Reply}
 use Rattle.hay_reply.specs.declared.Reply.TheVariants as reply
 use Rattle.hay_legal.specs.Known.{all_tries, machine_of, replica_on, try_at}
-use Rattle.hay_legal.specs.Suiting.{AtReplica, IsOn, IsReadOnlyAt, IsRefusedBy, Refuses, ShowsOf, Suits, SuitsBegin, SuitsCompact, SuitsDel, SuitsFlush, SuitsFuse, SuitsGet, SuitsPut, SuitsRead, SuitsRun, SuitsUrl, start_at}
+use Rattle.hay_legal.specs.Suiting.{AtReplica, IsOn, IsReadOnlyAt, IsRefusedBy, Refuses, ShowsOf, Suits, SuitsBegin, SuitsCompact, SuitsDel, SuitsFlush, SuitsFuse, SuitsGet}
+use Rattle.hay_legal.specs.Suiting.{SuitsPut, SuitsRead, SuitsRun, SuitsUrl, start_at}
 use Rattle.hay_map.specs.declared.place.Place.{Place}
 use Rattle.hay_meeting.specs.Facts.{drained_in}
 use Rattle.hay_reader.specs.Causes.{ArmUse}
@@ -74,7 +75,8 @@ one_more_refuses R settings pair n v refused more is refuses others =
     subst (λ vs. AllZip R vs (refused ++ more ∷ [])) (ap (λ u. first_tries settings pair n ++ u ∷ []) is ∙ sym (tries_parts settings pair n 0 (n + 1) e))
     (all_both R (first_tries settings pair n) (v ∷ []) refused (more ∷ []) others (refuses, tt))
 
-pub refusal_suits : (settings : Settings) (pair : Pair) (refused : List Refused) (said : Reply) → AllZip (Refuses settings) (all_tries settings pair) refused → IsRefusal refused said → SuitsPut settings pair said
+pub refusal_suits : (settings : Settings) (pair : Pair) (refused : List Refused) (said : Reply) → AllZip (Refuses settings) (all_tries settings pair) refused
+    → IsRefusal refused said → SuitsPut settings pair said
 refusal_suits settings pair refused said each (inl full) = inr (inl (refused, (all_tries settings pair, inl refl, each), full.1, full.0))
 refusal_suits settings pair refused said each (inr (inl closed)) =
     inr (inr (inl (closed.0, subst (IsRefusedBy settings pair) (sym closed.2) (all_tries settings pair, inl refl, each), closed.1)))
@@ -99,7 +101,8 @@ url_suits settings line pair d v first machine cookie below from on known = inl 
 next_within : (n first passed j : ℕ) → 0 < n → j ≡ (first + passed) % n → j < n
 next_within n first passed j some is = omega (arith, some, is)
 
-pub shown_by_row : {P : Type 0} (Tells : Type 0) (arm : ArmUse) (n first : ℕ) (row : List (Place P)) (cookie : Cookie) (passed : List PassedReplica) (put : List ℕ) (what : ReadReply) → length row ≡ n → 0 < n
+pub shown_by_row : {P : Type 0} (Tells : Type 0) (arm : ArmUse) (n first : ℕ) (row : List (Place P)) (cookie : Cookie) (passed : List PassedReplica) (put : List ℕ)
+    (what : ReadReply) → length row ≡ n → 0 < n
     → ReadsRow Tells arm first row cookie passed put what → ShownWithin n what
 shown_by_row Tells arm n first row cookie passed put (read.Photo j) long some reads = next_within n first (length reads.0) j some (reads.1.next ∙ ap (λ m. (first + length reads.0) % m) long)
 shown_by_row Tells arm n first row cookie passed put (read.Gone j) long some reads = next_within n first (length reads.0) j some (reads.1.next ∙ ap (λ m. (first + length reads.0) % m) long)
@@ -144,7 +147,8 @@ module _ (settings : Settings) (v : ℕ) (fewer : settings.replicas ≤ settings
   closed_put pair by said on (inl is) = inr (inr (inl (record { volume = v; machine = by } ∷ [], one_refuses pair (Closed v by) (refl, on), is)))
   closed_put pair by said on (inr is) = inr (inr (inr (inr (inr (inr is)))))
 
-  pub put_suits : (pair : Pair) (d : ℕ) (cookie : Cookie) (answer : Put) (said : Reply) → cookie ≡ cookie_of settings.secret pair.key → NamesPut settings v answer → IsPutReply v d cookie answer said → SuitsPut settings pair said
+  pub put_suits : (pair : Pair) (d : ℕ) (cookie : Cookie) (answer : Put) (said : Reply) → cookie ≡ cookie_of settings.secret pair.key → NamesPut settings v answer
+      → IsPutReply v d cookie answer said → SuitsPut settings pair said
   put_suits pair d cookie (put.Stored p) said known names is = inl (v, p, d, below, is ∙ ap (reply.Stored v p d) known)
   put_suits pair d cookie (put.Frozen m) said known names is = closed_put pair m said (on_machine m names) is
   put_suits pair d cookie (put.Lacks m end need) said known names (inl is) =
@@ -160,7 +164,8 @@ module _ (settings : Settings) (v : ℕ) (fewer : settings.replicas ≤ settings
 
   -- READS
 
-  pub found_suits : (p d : ℕ) (put : List ℕ) (what : Found) (said : Reply) → FoundWithin settings.replicas put what → IsFoundReply settings v p d put what said → ShowsOf settings v said ⊎ (said ≡ reply.NoMem)
+  pub found_suits : (p d : ℕ) (put : List ℕ) (what : Found) (said : Reply) → FoundWithin settings.replicas put what → IsFoundReply settings v p d put what said
+      → ShowsOf settings v said ⊎ (said ≡ reply.NoMem)
   found_suits p d put (found.Photo j) said within is = inl (inl (machine_of settings v j, p, d, put, on_replica j (machine_of settings v j) within.0 refl, within.1, is))
   found_suits p d put (found.Gone j) said within is = inl (inr (inl (machine_of settings v j, p, d, on_replica j (machine_of settings v j) within refl, is)))
   found_suits p d put (found.WrongCookie j) said within is = inl (inr (inr (inl (machine_of settings v j, p, d, on_replica j (machine_of settings v j) within refl, is))))
@@ -243,7 +248,8 @@ module _ (settings : Settings) (v : ℕ) (fewer : settings.replicas ≤ settings
         at_replica (replica_on settings v m) (λ replica. SuitsRun settings (reply.Compacted v m) v m) j said there (finish_said answer said names is)
 
     -- a whole compaction that was not begun
-    unbegun_said : (answer : Begin) (said : Reply) → ((g : ℕ) → answer ≢ begin.Begun g) → NamesBegin settings v answer → IsBeginReply v m answer said → SuitsCompact settings v m said ⊎ (said ≡ reply.NoMem)
+    unbegun_said : (answer : Begin) (said : Reply) → ((g : ℕ) → answer ≢ begin.Begun g) → NamesBegin settings v answer → IsBeginReply v m answer said
+        → SuitsCompact settings v m said ⊎ (said ≡ reply.NoMem)
     unbegun_said (begin.Begun g) said not names is = absurd (not g refl)
     unbegun_said (begin.Frozen by) said not names is = elim (read_only by said (on_machine by names) is) [ inl h ↦ inl (inr (inl h)) | inr h ↦ inr h ]
     unbegun_said (begin.Busy g) said not names is = inl (inr (inr (inl (g, is))))
@@ -251,12 +257,14 @@ module _ (settings : Settings) (v : ℕ) (fewer : settings.replicas ≤ settings
     unbegun_said (begin.Failed f) said not names is = inl (inr (inr (inr (inr (inl (f, is))))))
     unbegun_said begin.NoMemory said not names is = inr is
 
-    pub unbegun_suits : (line : ℕ) (answer : Begin) (said : Reply) → ((g : ℕ) → answer ≢ begin.Begun g) → NamesBegin settings v answer → IsBeginReply v m answer said → Suits settings line (asks.Compact v m) said
+    pub unbegun_suits : (line : ℕ) (answer : Begin) (said : Reply) → ((g : ℕ) → answer ≢ begin.Begun g) → NamesBegin settings v answer → IsBeginReply v m answer said
+        → Suits settings line (asks.Compact v m) said
     unbegun_suits line answer said not names is =
         at_replica (replica_on settings v m) (λ replica. SuitsCompact settings v m) j said there (unbegun_said answer said not names is)
 
     -- and one that was, and is not lost
-    ended_said : (answer : Compaction) (said : Reply) → answer ≢ compaction.Idle → NamesCompaction settings v answer → IsCompactionReply v m answer said → SuitsCompact settings v m said ⊎ (said ≡ reply.NoMem)
+    ended_said : (answer : Compaction) (said : Reply) → answer ≢ compaction.Idle → NamesCompaction settings v answer → IsCompactionReply v m answer said
+        → SuitsCompact settings v m said ⊎ (said ≡ reply.NoMem)
     ended_said (compaction.Compacted g) said not names is = inl (inl (g, is))
     ended_said (compaction.Frozen by) said not names is = elim (read_only by said (on_machine by names) is) [ inl h ↦ inl (inr (inl h)) | inr h ↦ inr h ]
     ended_said (compaction.Deleted f) said not names is = inl (inr (inr (inr (inr (inl (f, is))))))
@@ -266,6 +274,7 @@ module _ (settings : Settings) (v : ℕ) (fewer : settings.replicas ≤ settings
     ended_said compaction.NoMemory said not names is = inr is
     ended_said compaction.Idle said not names is = absurd (not refl)
 
-    pub ended_suits : (line : ℕ) (answer : Compaction) (said : Reply) → answer ≢ compaction.Idle → NamesCompaction settings v answer → IsCompactionReply v m answer said → Suits settings line (asks.Compact v m) said
+    pub ended_suits : (line : ℕ) (answer : Compaction) (said : Reply) → answer ≢ compaction.Idle → NamesCompaction settings v answer → IsCompactionReply v m answer said
+        → Suits settings line (asks.Compact v m) said
     ended_suits line answer said not names is =
         at_replica (replica_on settings v m) (λ replica. SuitsCompact settings v m) j said there (ended_said answer said not names is)

@@ -37,7 +37,8 @@ impl<D: Disk<Piece = P>, P: Piece, L: DirectoryCalls> Shared<SharedVolume<D, P>,
     ) -> Reply
         requires seated { IsSeated IsSeatOf L.fits self.now tag.lane lane.old }
         ensures seated { IsSeated IsSeatOf L.fits self.now tag.lane lane.new }
-        ensures same { (start : Start) → IsOf (WasAt D.Tells D.files P.Tells D.fault_count D.fuse_count) L.is_at self.now.settings start lane.old → IsOf (WasAt D.Tells D.files P.Tells D.fault_count D.fuse_count) L.is_at self.now.settings start lane.new }
+        ensures same { (start : Start) → IsOf (WasAt D.Tells D.files P.Tells D.fault_count D.fuse_count) L.is_at self.now.settings start lane.old
+            → IsOf (WasAt D.Tells D.files P.Tells D.fault_count D.fuse_count) L.is_at self.now.settings start lane.new }
         ensures arm { lane.new.arm ≡ lane.old.arm }
         ensures answered { (start : Start) → IsOf (WasAt D.Tells D.files P.Tells D.fault_count D.fuse_count) L.is_at self.now.settings start lane.old →
             IsAnswered self.now.settings start self.now.drained.items tag (asks.Url pair) result (sight sight_of L.sight A.fault_count lane.old) (sight sight_of L.sight A.fault_count lane.new) }
@@ -71,7 +72,8 @@ impl<D: Disk<Piece = P>, P: Piece, L: DirectoryCalls> Shared<SharedVolume<D, P>,
     ) -> Reply
         requires seated { IsSeated IsSeatOf L.fits self.now tag.lane lane.old }
         ensures seated { IsSeated IsSeatOf L.fits self.now tag.lane lane.new }
-        ensures same { (start : Start) → IsOf (WasAt D.Tells D.files P.Tells D.fault_count D.fuse_count) L.is_at self.now.settings start lane.old → IsOf (WasAt D.Tells D.files P.Tells D.fault_count D.fuse_count) L.is_at self.now.settings start lane.new }
+        ensures same { (start : Start) → IsOf (WasAt D.Tells D.files P.Tells D.fault_count D.fuse_count) L.is_at self.now.settings start lane.old
+            → IsOf (WasAt D.Tells D.files P.Tells D.fault_count D.fuse_count) L.is_at self.now.settings start lane.new }
         ensures arm { lane.new.arm ≡ lane.old.arm }
         ensures answered { (start : Start) → IsOf (WasAt D.Tells D.files P.Tells D.fault_count D.fuse_count) L.is_at self.now.settings start lane.old →
             IsAnswered self.now.settings start self.now.drained.items tag (asks.Del pair) result (sight sight_of L.sight A.fault_count lane.old) (sight sight_of L.sight A.fault_count lane.new) }
@@ -99,7 +101,8 @@ impl<D: Disk<Piece = P>, P: Piece, L: DirectoryCalls> Shared<SharedVolume<D, P>,
         requires seated { IsSeated IsSeatOf L.fits self.now tag.lane lane.old }
         requires volume { volume < self.now.settings.volumes }
         ensures seated { IsSeated IsSeatOf L.fits self.now tag.lane lane.new }
-        ensures same { (start : Start) → IsOf (WasAt D.Tells D.files P.Tells D.fault_count D.fuse_count) L.is_at self.now.settings start lane.old → IsOf (WasAt D.Tells D.files P.Tells D.fault_count D.fuse_count) L.is_at self.now.settings start lane.new }
+        ensures same { (start : Start) → IsOf (WasAt D.Tells D.files P.Tells D.fault_count D.fuse_count) L.is_at self.now.settings start lane.old
+            → IsOf (WasAt D.Tells D.files P.Tells D.fault_count D.fuse_count) L.is_at self.now.settings start lane.new }
         ensures arm { lane.new.arm ≡ lane.old.arm }
         ensures answered { (start : Start) (a : Sight) → IsOf (WasAt D.Tells D.files P.Tells D.fault_count D.fuse_count) L.is_at self.now.settings start lane.old →
             Sees self.now.settings start self.now.drained.items tag pair rows (Some volume) a (sight sight_of L.sight A.fault_count lane.old) →
@@ -128,7 +131,8 @@ impl<D: Disk<Piece = P>, P: Piece, L: DirectoryCalls> Shared<SharedVolume<D, P>,
         requires volume { volume < self.now.settings.volumes }
         requires drained { drained_in self.now.settings self.now.drained.items volume ≡ Some machine }
         ensures seated { IsSeated IsSeatOf L.fits self.now tag.lane lane.new }
-        ensures same { (start : Start) → IsOf (WasAt D.Tells D.files P.Tells D.fault_count D.fuse_count) L.is_at self.now.settings start lane.old → IsOf (WasAt D.Tells D.files P.Tells D.fault_count D.fuse_count) L.is_at self.now.settings start lane.new }
+        ensures same { (start : Start) → IsOf (WasAt D.Tells D.files P.Tells D.fault_count D.fuse_count) L.is_at self.now.settings start lane.old
+            → IsOf (WasAt D.Tells D.files P.Tells D.fault_count D.fuse_count) L.is_at self.now.settings start lane.new }
         ensures arm { lane.new.arm ≡ lane.old.arm }
         ensures on { IsOn self.now.settings volume result }
         ensures tells { (start : Start) → IsOf (WasAt D.Tells D.files P.Tells D.fault_count D.fuse_count) L.is_at self.now.settings start lane.old →

@@ -56,7 +56,8 @@ impl<D: Disk<Piece = P>, P: Piece, L: DirectoryCalls> Shared<SharedVolume<D, P>,
         requires seated { IsSeated IsSeatOf L.fits self.now tag.lane lane.old }
         requires size { length bytes.now ≤ MAX_PHOTO }
         ensures seated { IsSeated IsSeatOf L.fits self.now tag.lane lane.new }
-        ensures same { (start : Start) → IsOf (WasAt D.Tells D.files P.Tells D.fault_count D.fuse_count) L.is_at self.now.settings start lane.old → IsOf (WasAt D.Tells D.files P.Tells D.fault_count D.fuse_count) L.is_at self.now.settings start lane.new }
+        ensures same { (start : Start) → IsOf (WasAt D.Tells D.files P.Tells D.fault_count D.fuse_count) L.is_at self.now.settings start lane.old
+            → IsOf (WasAt D.Tells D.files P.Tells D.fault_count D.fuse_count) L.is_at self.now.settings start lane.new }
         ensures arm { lane.new.arm ≡ lane.old.arm }
         ensures answered { (start : Start) → IsOf (WasAt D.Tells D.files P.Tells D.fault_count D.fuse_count) L.is_at self.now.settings start lane.old →
             IsAnswered self.now.settings start self.now.drained.items tag (asks.Put pair bytes.now) result
@@ -84,7 +85,8 @@ impl<D: Disk<Piece = P>, P: Piece, L: DirectoryCalls> Shared<SharedVolume<D, P>,
         requires seated { IsSeated IsSeatOf L.fits self.now tag.lane lane.old }
         requires size { length bytes.now ≤ MAX_PHOTO }
         ensures seated { IsSeated IsSeatOf L.fits self.now tag.lane lane.new }
-        ensures same { (start : Start) → IsOf (WasAt D.Tells D.files P.Tells D.fault_count D.fuse_count) L.is_at self.now.settings start lane.old → IsOf (WasAt D.Tells D.files P.Tells D.fault_count D.fuse_count) L.is_at self.now.settings start lane.new }
+        ensures same { (start : Start) → IsOf (WasAt D.Tells D.files P.Tells D.fault_count D.fuse_count) L.is_at self.now.settings start lane.old
+            → IsOf (WasAt D.Tells D.files P.Tells D.fault_count D.fuse_count) L.is_at self.now.settings start lane.new }
         ensures arm { lane.new.arm ≡ lane.old.arm }
         ensures answered { (start : Start) (d : ℕ) (a : Sight) → IsOf (WasAt D.Tells D.files P.Tells D.fault_count D.fuse_count) L.is_at self.now.settings start lane.old →
             Sees self.now.settings start self.now.drained.items tag pair d None a (sight sight_of L.sight A.fault_count lane.old) →
@@ -112,7 +114,8 @@ impl<D: Disk<Piece = P>, P: Piece, L: DirectoryCalls> Shared<SharedVolume<D, P>,
         requires seated { IsSeated IsSeatOf L.fits self.now tag.lane lane.old }
         requires size { size ≤ MAX_PHOTO }
         ensures seated { IsSeated IsSeatOf L.fits self.now tag.lane lane.new }
-        ensures same { (start : Start) → IsOf (WasAt D.Tells D.files P.Tells D.fault_count D.fuse_count) L.is_at self.now.settings start lane.old → IsOf (WasAt D.Tells D.files P.Tells D.fault_count D.fuse_count) L.is_at self.now.settings start lane.new }
+        ensures same { (start : Start) → IsOf (WasAt D.Tells D.files P.Tells D.fault_count D.fuse_count) L.is_at self.now.settings start lane.old
+            → IsOf (WasAt D.Tells D.files P.Tells D.fault_count D.fuse_count) L.is_at self.now.settings start lane.new }
         ensures arm { lane.new.arm ≡ lane.old.arm }
         ensures within { (volume : ℕ) → result ≡ Tries.Taker volume → volume < self.now.settings.volumes }
         ensures refuse { (refused : List Refused) → result ≡ Tries.Nobody refused → AllZip (Refuses self.now.settings) (all_tries self.now.settings pair) refused }
@@ -148,7 +151,8 @@ impl<D: Disk<Piece = P>, P: Piece, L: DirectoryCalls> Shared<SharedVolume<D, P>,
         requires volume { volume < self.now.settings.volumes }
         requires size { size ≤ MAX_PHOTO }
         ensures seated { IsSeated IsSeatOf L.fits self.now tag.lane lane.new }
-        ensures same { (start : Start) → IsOf (WasAt D.Tells D.files P.Tells D.fault_count D.fuse_count) L.is_at self.now.settings start lane.old → IsOf (WasAt D.Tells D.files P.Tells D.fault_count D.fuse_count) L.is_at self.now.settings start lane.new }
+        ensures same { (start : Start) → IsOf (WasAt D.Tells D.files P.Tells D.fault_count D.fuse_count) L.is_at self.now.settings start lane.old
+            → IsOf (WasAt D.Tells D.files P.Tells D.fault_count D.fuse_count) L.is_at self.now.settings start lane.new }
         ensures arm { lane.new.arm ≡ lane.old.arm }
         ensures tells { (start : Start) → IsOf (WasAt D.Tells D.files P.Tells D.fault_count D.fuse_count) L.is_at self.now.settings start lane.old →
             TryTells self.now.settings start self.now.drained.items tag volume size result (sight sight_of L.sight A.fault_count lane.old) (sight sight_of L.sight A.fault_count lane.new) }
@@ -178,7 +182,8 @@ impl<D: Disk<Piece = P>, P: Piece, L: DirectoryCalls> Shared<SharedVolume<D, P>,
         requires volume { volume < self.now.settings.volumes }
         requires size { length bytes.now ≤ MAX_PHOTO }
         ensures seated { IsSeated IsSeatOf L.fits self.now tag.lane lane.new }
-        ensures same { (start : Start) → IsOf (WasAt D.Tells D.files P.Tells D.fault_count D.fuse_count) L.is_at self.now.settings start lane.old → IsOf (WasAt D.Tells D.files P.Tells D.fault_count D.fuse_count) L.is_at self.now.settings start lane.new }
+        ensures same { (start : Start) → IsOf (WasAt D.Tells D.files P.Tells D.fault_count D.fuse_count) L.is_at self.now.settings start lane.old
+            → IsOf (WasAt D.Tells D.files P.Tells D.fault_count D.fuse_count) L.is_at self.now.settings start lane.new }
         ensures arm { lane.new.arm ≡ lane.old.arm }
         ensures answered { (start : Start) (a : Sight) → IsOf (WasAt D.Tells D.files P.Tells D.fault_count D.fuse_count) L.is_at self.now.settings start lane.old →
             HasTaker self.now.settings start self.now.drained.items tag pair (length bytes.now) volume a (sight sight_of L.sight A.fault_count lane.old) →
@@ -211,7 +216,8 @@ impl<D: Disk<Piece = P>, P: Piece, L: DirectoryCalls> Shared<SharedVolume<D, P>,
         requires volume { volume < self.now.settings.volumes }
         requires size { length bytes.now ≤ MAX_PHOTO }
         ensures seated { IsSeated IsSeatOf L.fits self.now tag.lane lane.new }
-        ensures same { (start : Start) → IsOf (WasAt D.Tells D.files P.Tells D.fault_count D.fuse_count) L.is_at self.now.settings start lane.old → IsOf (WasAt D.Tells D.files P.Tells D.fault_count D.fuse_count) L.is_at self.now.settings start lane.new }
+        ensures same { (start : Start) → IsOf (WasAt D.Tells D.files P.Tells D.fault_count D.fuse_count) L.is_at self.now.settings start lane.old
+            → IsOf (WasAt D.Tells D.files P.Tells D.fault_count D.fuse_count) L.is_at self.now.settings start lane.new }
         ensures arm { lane.new.arm ≡ lane.old.arm }
         ensures answered { (start : Start) (a : Sight) → IsOf (WasAt D.Tells D.files P.Tells D.fault_count D.fuse_count) L.is_at self.now.settings start lane.old →
             Settled self.now.settings start self.now.drained.items tag pair (length bytes.now) rows volume a (sight sight_of L.sight A.fault_count lane.old) →

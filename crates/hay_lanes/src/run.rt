@@ -117,7 +117,8 @@ fn answer_lanes<W: Work, R: Threads + Wait + Sync, G: Gate + Sync>(
     requires lanes { (length states.items ≡ length jobs.now) × (length jobs.now < 2 ^ 32) }
     requires ready { (lane : ℕ) (state js : _) → slice_get states.items lane ≡ Some state → slice_get jobs.now lane ≡ Some js → IsReady W.may_answer lane js.items state }
     ensures same { length result.items ≡ length states.items }
-    ensures answered { (lane : ℕ) (state after js : _) → slice_get states.items lane ≡ Some state → slice_get result.items lane ≡ Some after → slice_get jobs.now lane ≡ Some js → AnswersAll W.answers lane state.worker js.items after.worker after.outs.items }
+    ensures answered { (lane : ℕ) (state after js : _) → slice_get states.items lane ≡ Some state → slice_get result.items lane ≡ Some after → slice_get jobs.now lane ≡ Some js
+        → AnswersAll W.answers lane state.worker js.items after.worker after.outs.items }
 {
     let one_lane = |lane: usize, state: &mut LaneState<W>|
         requires { (lane < length jobs.now) × (length jobs.now < 2 ^ 32) × ((js : _) → slice_get jobs.now lane ≡ Some js → IsReady W.may_answer lane js.items state.old) }

@@ -31,7 +31,8 @@ use Rattle.hay_legal.specs.declared.turn.RowNote.{RowNote}
 use Rattle.hay_legal.specs.declared.turn.Turn.{Turn}
 use Rattle.hay_legal.specs.declared.turn.Turn.TheVariants.{Plain, Lanes, Restart}
 use Rattle.hay_legal.specs.Known.{empty_volume, home_in, home_of, replica_at, volume_at}
-use Rattle.hay_legal.specs.Blocks.{EnteredAt, FreezeIsLegal, Freezes, HomeAt, IsEntered, IsMade, LegalBlock, LineIsLegal, LogIsLegal, ReplicaIsLegal, VolumeIsLegal, acknowledged, entry_of_item, is_failed, new_entries, new_rows, pending_behind, tag_of}
+use Rattle.hay_legal.specs.Blocks.{EnteredAt, FreezeIsLegal, Freezes, HomeAt, IsEntered, IsMade, LegalBlock, LineIsLegal, LogIsLegal, ReplicaIsLegal, VolumeIsLegal, acknowledged}
+use Rattle.hay_legal.specs.Blocks.{entry_of_item, is_failed, new_entries, new_rows, pending_behind, tag_of}
 use Rattle.hay_legal.specs.Legal.{LegalTurn, known_after}
 use Rattle.hay_legal.specs.Subject.{IsLast, IsOf, IsTidy, Spares, TidyStays, pair_of}
 use Rattle.hay_legal.proofs.Subject.Shown.{at-now, last_look, map-append_rows, outcome_of, row_pair, spared_look}

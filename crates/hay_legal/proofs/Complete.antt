@@ -32,10 +32,12 @@ use Rattle.hay_legal.specs.declared.turn.Item.TheVariants as item
 use Rattle.hay_legal.specs.declared.turn.Turn.{Turn}
 use Rattle.hay_legal.specs.declared.turn.Turn.TheVariants.{Plain, Lanes, Restart}
 use Rattle.hay_legal.specs.Known.{NoneFalls, fault_count, arm_count, slot_of, machine_of, replica_on, volume_at, replica_at, home_of, tries_of, now, lacks_room, refusal_by, refusal_of, room_refusal}
-use Rattle.hay_legal.specs.Plain.{LegalPlain, LegalCommand, LegalGetAt, LegalShow, LegalFlush, LegalCompact, LegalBegin, LegalStep, LegalFinish, LegalFuse, OnReplica, RoseTo, HasCause, IsUnreadable, order_from, start_of, as_closed, DirectoryOpen}
+use Rattle.hay_legal.specs.Plain.{LegalPlain, LegalCommand, LegalGetAt, LegalShow, LegalFlush, LegalCompact, LegalBegin, LegalStep, LegalFinish, LegalFuse, OnReplica, RoseTo}
+use Rattle.hay_legal.specs.Plain.{HasCause, IsUnreadable, order_from, start_of, as_closed, DirectoryOpen}
 use Rattle.hay_legal.specs.Restarts.{LegalRestart}
 use Rattle.hay_legal.specs.Legal.{Legal, LegalTurn, known_after}
-use Rattle.hay_legal.specs.Subject.{known_behind, HasPhoto, NothingFailed, BlamesNothing, NothingIsBlamed, MayTake, IsStoredOrNoMem, TakenPutIsStored, HasEverywhere, IsShownOrNoMem, StandingPhotoIsShown, StandingPhotoIsGot}
+use Rattle.hay_legal.specs.Subject.{known_behind, HasPhoto, NothingFailed, BlamesNothing, NothingIsBlamed, MayTake, IsStoredOrNoMem, TakenPutIsStored, HasEverywhere}
+use Rattle.hay_legal.specs.Subject.{IsShownOrNoMem, StandingPhotoIsShown, StandingPhotoIsGot}
 use Rattle.hay_legal.proofs.Subject.Shown.{legal_split, at-now, last_look, spared_look, bytes_in, cookie_in}
 use Rattle.hay_legal.proofs.Subject.Effects.{plain_effect}
 use Rattle.hay_legal.proofs.Subject.Standing.{Standing, shown_stands}

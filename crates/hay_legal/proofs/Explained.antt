@@ -117,7 +117,19 @@ row_6 = record {
   legal = (
     record { taker = refl; directory = λ missing. refl; own = sym cookie_of-zero; position = refl; rows = refl; leaves = same_counts (fresh_unharmed one) row_6_1 refl refl },
     (
-      (own, (codes "a"), not_zero, record { seen = record { home = refl; front = refl; rows = refl }; replica = 0; there = refl; stands = refl; passed = inl (lit≤ tt); leaves = same_counts row_6_1 row_6_1 refl refl }),
+      (
+        own,
+        (codes "a"),
+        not_zero,
+        record {
+          seen = record { home = refl; front = refl; rows = refl };
+          replica = 0;
+          there = refl;
+          stands = refl;
+          passed = inl (lit≤ tt);
+          leaves = same_counts row_6_1 row_6_1 refl refl;
+        },
+      ),
       (
         record { home = record { home = refl; «open» = refl; rows = refl }; stood = refl; position = refl; ended = []; cause = λ j e. cc; leaves = same_counts row_6_1 row_6_2 refl refl },
         (
@@ -146,7 +158,12 @@ abbrev row_8_5 : Known
 row_8_5 = del_on row_8_4 0 5 1
 
 abbrev row_8_6 : Known
-row_8_6 = record row_8_5 { volumes = record empty_volume { replicas = record empty_replica { base = (pair 2, record { cookie = own; bytes = codes "b" }) ∷ (pair 3, record { cookie = own; bytes = codes "c" }) ∷ []; end = 232; cells = 3; bare = 1 } ∷ [] } ∷ [] }
+row_8_6 = record row_8_5 {
+  volumes = record empty_volume {
+    replicas = record empty_replica
+        { base = (pair 2, record { cookie = own; bytes = codes "b" }) ∷ (pair 3, record { cookie = own; bytes = codes "c" }) ∷ []; end = 232; cells = 3; bare = 1 } ∷ [];
+  } ∷ [];
+}
 
 row_8 : Explains one (fresh_unharmed one)
     (codes "put 0 1 61\nput 0 2 62\nflush 0 0\nput 0 3 63\ndel 0 1\nrestart 0\nread 0 1 903df1a0ade0b876\nread 0 2 903df1a0ade0b876\nread 0 3 903df1a0ade0b876")
@@ -175,12 +192,48 @@ row_8 = record {
           (
             record { home = record { home = refl; «open» = refl; rows = refl }; stood = refl; position = refl; ended = []; cause = λ j e. cc; leaves = same_counts row_8_4 row_8_5 refl refl },
             (
-              record { kept = [] ∷ []; row = false; opened = record { volumes = (record { may = refl; replicas = (record { base = refl; stands = inl (record { end = refl; cells = refl; bare = refl; generation = refl }); loose = refl; idle = refl; settled = refl }, tt); log = refl; frozen = refl; pending = refl }, tt); rows = refl; directory = refl; drained = refl; fuses = refl; faults = none_falls row_8_5.faults; arms = refl }; told = refl; rows = refl },
+              record {
+                kept = [] ∷ [];
+                row = false;
+                opened = record {
+                  volumes = (
+                    record {
+                      may = refl;
+                      replicas = (
+                        record { base = refl; stands = inl (record { end = refl; cells = refl; bare = refl; generation = refl }); loose = refl; idle = refl; settled = refl },
+                        tt,
+                      );
+                      log = refl;
+                      frozen = refl;
+                      pending = refl;
+                    },
+                    tt,
+                  );
+                  rows = refl;
+                  directory = refl;
+                  drained = refl;
+                  fuses = refl;
+                  faults = none_falls row_8_5.faults;
+                  arms = refl;
+                };
+                told = refl;
+                rows = refl;
+              },
               (
                 record { seen = record { home = refl; front = refl; rows = refl }; replica = 0; there = refl; stands = refl; passed = inl (lit≤ tt); leaves = same_counts row_8_6 row_8_6 refl refl },
                 (
                   record { seen = record { home = refl; front = refl; rows = refl }; replica = 0; there = refl; stands = refl; passed = inl (lit≤ tt); leaves = same_counts row_8_6 row_8_6 refl refl },
-                  (record { seen = record { home = refl; front = refl; rows = refl }; replica = 0; there = refl; stands = refl; passed = inl (lit≤ tt); leaves = same_counts row_8_6 row_8_6 refl refl }, refl),
+                  (
+                    record {
+                      seen = record { home = refl; front = refl; rows = refl };
+                      replica = 0;
+                      there = refl;
+                      stands = refl;
+                      passed = inl (lit≤ tt);
+                      leaves = same_counts row_8_6 row_8_6 refl refl;
+                    },
+                    refl,
+                  ),
                 ),
               ),
             ),
@@ -205,7 +258,12 @@ abbrev row_10_4 : Known
 row_10_4 = with_faults row_10_3 (0 ∷ 1 ∷ [])
 
 abbrev row_10_5 : Known
-row_10_5 = record row_10_4 { volumes = record empty_volume { replicas = record empty_replica { base = (pair 1, record { cookie = own; bytes = codes "b" }) ∷ []; end = 176; cells = 2; bare = 2 } ∷ [] } ∷ [] }
+row_10_5 = record row_10_4 {
+  volumes = record empty_volume {
+    replicas = record empty_replica
+        { base = (pair 1, record { cookie = own; bytes = codes "b" }) ∷ []; end = 176; cells = 2; bare = 2 } ∷ [];
+  } ∷ [];
+}
 
 row_10 : Explains one (fresh_unharmed one)
     (codes "put 0 1 61\nfuse 0 0 3\nput 0 1 62\nput 0 2 63\nrestart 1\nread 0 1 903df1a0ade0b876")
@@ -225,12 +283,61 @@ row_10 = record {
     (
       ((refl, refl), refl, (1, inl refl, same_counts row_10_1 row_10_2 refl refl)),
       (
-        record { taker = refl; directory = λ e. refl; replica = 0; there = refl; rose = record { count = refl; rose = inl (lit< tt) }; leaves = more_faults row_10_2 row_10_3 (0 ∷ 1 ∷ []) (lit≤ tt, (lit≤ tt, tt)) refl },
+        record {
+          taker = refl;
+          directory = λ e. refl;
+          replica = 0;
+          there = refl;
+          rose = record { count = refl; rose = inl (lit< tt) };
+          leaves = more_faults row_10_2 row_10_3 (0 ∷ 1 ∷ []) (lit≤ tt, (lit≤ tt, tt)) refl;
+        },
         (
           (refl, same_counts row_10_4 row_10_4 refl refl),
           (
-            record { kept = (true ∷ []) ∷ []; row = false; opened = record { volumes = (record { may = (refl, (0, 0, refl, refl, record { below = λ j h. absurd (no_less j h); nothing = λ j h e. cc; above = λ j h l e. absurd (one_only j h l) })); replicas = (record { base = ap (photo_alone (codes "b")) (sym cookie_of-zero); stands = inl (record { end = refl; cells = refl; bare = refl; generation = refl }); loose = refl; idle = refl; settled = refl }, tt); log = refl; frozen = refl; pending = refl }, tt); rows = refl; directory = refl; drained = refl; fuses = refl; faults = none_falls row_10_4.faults; arms = refl }; told = refl; rows = refl },
-            (record { seen = record { home = refl; front = refl; rows = refl }; replica = 0; there = refl; stands = refl; passed = inl (lit≤ tt); leaves = same_counts row_10_5 row_10_5 refl refl }, refl),
+            record {
+              kept = (true ∷ []) ∷ [];
+              row = false;
+              opened = record {
+                volumes = (
+                  record {
+                    may = (refl, (0, 0, refl, refl, record { below = λ j h. absurd (no_less j h); nothing = λ j h e. cc; above = λ j h l e. absurd (one_only j h l) }));
+                    replicas = (
+                      record {
+                        base = ap (photo_alone (codes "b")) (sym cookie_of-zero);
+                        stands = inl (record { end = refl; cells = refl; bare = refl; generation = refl });
+                        loose = refl;
+                        idle = refl;
+                        settled = refl;
+                      },
+                      tt,
+                    );
+                    log = refl;
+                    frozen = refl;
+                    pending = refl;
+                  },
+                  tt,
+                );
+                rows = refl;
+                directory = refl;
+                drained = refl;
+                fuses = refl;
+                faults = none_falls row_10_4.faults;
+                arms = refl;
+              };
+              told = refl;
+              rows = refl;
+            },
+            (
+              record {
+                seen = record { home = refl; front = refl; rows = refl };
+                replica = 0;
+                there = refl;
+                stands = refl;
+                passed = inl (lit≤ tt);
+                leaves = same_counts row_10_5 row_10_5 refl refl;
+              },
+              refl,
+            ),
           ),
         ),
       ),
@@ -271,10 +378,53 @@ row_10_later = record {
       (
         record { taker = refl; directory = λ missing. refl; own = sym cookie_of-zero; position = refl; rows = refl; leaves = same_counts row_10_2 row_10_later_3 refl refl },
         (
-          record { taker = refl; directory = λ e. refl; replica = 0; there = refl; rose = record { count = refl; rose = inl (lit< tt) }; leaves = more_faults row_10_later_3 (put_frozen one row_10_later_3 (at_line 4) (pair 2) (codes "c") 0 0 true) (0 ∷ 1 ∷ []) (lit≤ tt, (lit≤ tt, tt)) refl },
+          record {
+            taker = refl;
+            directory = λ e. refl;
+            replica = 0;
+            there = refl;
+            rose = record { count = refl; rose = inl (lit< tt) };
+            leaves = more_faults row_10_later_3 (put_frozen one row_10_later_3 (at_line 4) (pair 2) (codes "c") 0 0 true) (0 ∷ 1 ∷ []) (lit≤ tt, (lit≤ tt, tt)) refl;
+          },
           (
-            record { kept = (false ∷ []) ∷ []; row = false; opened = record { volumes = (record { may = (refl, (0, 0, refl, refl, record { below = λ j h. absurd (no_less j h); nothing = λ j h e. cc; above = λ j h l e. absurd (one_only j h l) })); replicas = (record { base = refl; stands = inl (record { end = refl; cells = refl; bare = refl; generation = refl }); loose = refl; idle = refl; settled = refl }, tt); log = refl; frozen = refl; pending = refl }, tt); rows = refl; directory = refl; drained = refl; fuses = refl; faults = none_falls row_10_later_4.faults; arms = refl }; told = refl; rows = refl },
-            (record { seen = record { home = refl; front = refl; rows = refl }; replica = 0; there = refl; stands = refl; passed = inl (lit≤ tt); leaves = same_counts row_10_later_5 row_10_later_5 refl refl }, refl),
+            record {
+              kept = (false ∷ []) ∷ [];
+              row = false;
+              opened = record {
+                volumes = (
+                  record {
+                    may = (refl, (0, 0, refl, refl, record { below = λ j h. absurd (no_less j h); nothing = λ j h e. cc; above = λ j h l e. absurd (one_only j h l) }));
+                    replicas = (
+                      record { base = refl; stands = inl (record { end = refl; cells = refl; bare = refl; generation = refl }); loose = refl; idle = refl; settled = refl },
+                      tt,
+                    );
+                    log = refl;
+                    frozen = refl;
+                    pending = refl;
+                  },
+                  tt,
+                );
+                rows = refl;
+                directory = refl;
+                drained = refl;
+                fuses = refl;
+                faults = none_falls row_10_later_4.faults;
+                arms = refl;
+              };
+              told = refl;
+              rows = refl;
+            },
+            (
+              record {
+                seen = record { home = refl; front = refl; rows = refl };
+                replica = 0;
+                there = refl;
+                stands = refl;
+                passed = inl (lit≤ tt);
+                leaves = same_counts row_10_later_5 row_10_later_5 refl refl;
+              },
+              refl,
+            ),
           ),
         ),
       ),
@@ -296,7 +446,13 @@ abbrev row_12_4 : Known
 row_12_4 = with_faults row_12_3 (0 ∷ 0 ∷ 1 ∷ [])
 
 abbrev row_12_5 : Known
-row_12_5 = record row_12_4 { volumes = record empty_volume { replicas = record empty_replica { base = (pair 1, record { cookie = own; bytes = codes "b" }) ∷ []; end = 176; cells = 2; bare = 2 } ∷ record empty_replica { base = (pair 1, record { cookie = own; bytes = codes "a" }) ∷ []; end = 120; cells = 1; bare = 1 } ∷ [] } ∷ [] }
+row_12_5 = record row_12_4 {
+  volumes = record empty_volume {
+    replicas = record empty_replica
+        { base = (pair 1, record { cookie = own; bytes = codes "b" }) ∷ []; end = 176; cells = 2; bare = 2 }
+        ∷ record empty_replica { base = (pair 1, record { cookie = own; bytes = codes "a" }) ∷ []; end = 120; cells = 1; bare = 1 } ∷ [];
+  } ∷ [];
+}
 
 abbrev row_12_6 : Known
 row_12_6 = put_on row_12_5 0 8 1 (codes "c")
@@ -322,18 +478,76 @@ row_12 = record {
     (
       ((refl, refl), refl, (1, inl refl, same_counts row_12_1 row_12_2 refl refl)),
       (
-        record { taker = refl; directory = λ e. refl; replica = 1; there = refl; rose = record { count = refl; rose = inl (lit< tt) }; leaves = more_faults row_12_2 row_12_3 (0 ∷ 0 ∷ 1 ∷ []) (lit≤ tt, (lit≤ tt, (lit≤ tt, tt))) refl },
+        record {
+          taker = refl;
+          directory = λ e. refl;
+          replica = 1;
+          there = refl;
+          rose = record { count = refl; rose = inl (lit< tt) };
+          leaves = more_faults row_12_2 row_12_3 (0 ∷ 0 ∷ 1 ∷ []) (lit≤ tt, (lit≤ tt, (lit≤ tt, tt))) refl;
+        },
         (
           record { seen = record { home = refl; front = refl; rows = refl }; replica = 0; there = refl; stands = refl; passed = inl (lit≤ tt); leaves = same_counts row_12_4 row_12_4 refl refl },
           (
-            record { kept = (true ∷ false ∷ []) ∷ []; row = false; opened = record { volumes = (record { may = (refl, (1, 1, refl, refl, record { below = λ j h. true_below_one j h; nothing = λ j h e. cc; above = λ j h l e. absurd (two_only j h l) })); replicas = (record { base = ap (photo_alone (codes "b")) (sym cookie_of-zero); stands = inl (record { end = refl; cells = refl; bare = refl; generation = refl }); loose = refl; idle = refl; settled = refl }, (record { base = refl; stands = inl (record { end = refl; cells = refl; bare = refl; generation = refl }); loose = refl; idle = refl; settled = refl }, tt)); log = refl; frozen = refl; pending = refl }, tt); rows = refl; directory = refl; drained = refl; fuses = refl; faults = none_falls row_12_4.faults; arms = refl }; told = refl; rows = refl },
+            record {
+              kept = (true ∷ false ∷ []) ∷ [];
+              row = false;
+              opened = record {
+                volumes = (
+                  record {
+                    may = (refl, (1, 1, refl, refl, record { below = λ j h. true_below_one j h; nothing = λ j h e. cc; above = λ j h l e. absurd (two_only j h l) }));
+                    replicas = (
+                      record {
+                        base = ap (photo_alone (codes "b")) (sym cookie_of-zero);
+                        stands = inl (record { end = refl; cells = refl; bare = refl; generation = refl });
+                        loose = refl;
+                        idle = refl;
+                        settled = refl;
+                      },
+                      (
+                        record {
+                          base = refl;
+                          stands = inl (record { end = refl; cells = refl; bare = refl; generation = refl });
+                          loose = refl;
+                          idle = refl;
+                          settled = refl;
+                        },
+                        tt,
+                      ),
+                    );
+                    log = refl;
+                    frozen = refl;
+                    pending = refl;
+                  },
+                  tt,
+                );
+                rows = refl;
+                directory = refl;
+                drained = refl;
+                fuses = refl;
+                faults = none_falls row_12_4.faults;
+                arms = refl;
+              };
+              told = refl;
+              rows = refl;
+            },
             (
               record { seen = record { home = refl; front = refl; rows = refl }; replica = 0; there = refl; stands = refl; passed = inl (lit≤ tt); leaves = same_counts row_12_5 row_12_5 refl refl },
               (
                 record { seen = record { home = refl; front = refl; rows = refl }; replica = 1; there = refl; stands = refl; passed = inl (lit≤ tt); leaves = same_counts row_12_5 row_12_5 refl refl },
                 (
                   record { taker = refl; directory = λ missing. refl; own = sym cookie_of-zero; position = refl; rows = refl; leaves = same_counts row_12_5 row_12_6 refl refl },
-                  (record { seen = record { home = refl; front = refl; rows = refl }; replica = 1; there = refl; stands = refl; passed = inl (lit≤ tt); leaves = same_counts row_12_6 row_12_6 refl refl }, refl),
+                  (
+                    record {
+                      seen = record { home = refl; front = refl; rows = refl };
+                      replica = 1;
+                      there = refl;
+                      stands = refl;
+                      passed = inl (lit≤ tt);
+                      leaves = same_counts row_12_6 row_12_6 refl refl;
+                    },
+                    refl,
+                  ),
                 ),
               ),
             ),
@@ -396,7 +610,14 @@ row_21 = record {
               (
                 (refl, same_counts row_21_4 row_21_4 refl refl),
                 (
-                  record { seen = record { home = refl; front = refl; rows = refl }; replica = 0; there = refl; stands = refl; passed = inl (lit≤ tt); leaves = same_counts row_21_4 row_21_4 refl refl },
+                  record {
+                    seen = record { home = refl; front = refl; rows = refl };
+                    replica = 0;
+                    there = refl;
+                    stands = refl;
+                    passed = inl (lit≤ tt);
+                    leaves = same_counts row_21_4 row_21_4 refl refl;
+                  },
                   (
                     (refl, lit< tt, same_counts row_21_4 row_21_5 refl refl),
                     (
@@ -467,8 +688,50 @@ row_9 = record {
               (
                 record { seen = record { home = refl; front = refl; rows = refl }; replica = 0; there = refl; stands = refl; passed = inl (lit≤ tt); leaves = same_counts row_9_6 row_9_6 refl refl },
                 (
-                  record { kept = [] ∷ []; row = false; opened = record { volumes = (record { may = refl; replicas = (record { base = refl; stands = inl (record { end = refl; cells = refl; bare = refl; generation = refl }); loose = refl; idle = refl; settled = refl }, tt); log = refl; frozen = refl; pending = refl }, tt); rows = refl; directory = refl; drained = refl; fuses = refl; faults = none_falls row_9_6.faults; arms = refl }; told = refl; rows = refl },
-                  (record { seen = record { home = refl; front = refl; rows = refl }; replica = 0; there = refl; stands = refl; passed = inl (lit≤ tt); leaves = same_counts row_9_7 row_9_7 refl refl }, refl),
+                  record {
+                    kept = [] ∷ [];
+                    row = false;
+                    opened = record {
+                      volumes = (
+                        record {
+                          may = refl;
+                          replicas = (
+                            record {
+                              base = refl;
+                              stands = inl (record { end = refl; cells = refl; bare = refl; generation = refl });
+                              loose = refl;
+                              idle = refl;
+                              settled = refl;
+                            },
+                            tt,
+                          );
+                          log = refl;
+                          frozen = refl;
+                          pending = refl;
+                        },
+                        tt,
+                      );
+                      rows = refl;
+                      directory = refl;
+                      drained = refl;
+                      fuses = refl;
+                      faults = none_falls row_9_6.faults;
+                      arms = refl;
+                    };
+                    told = refl;
+                    rows = refl;
+                  },
+                  (
+                    record {
+                      seen = record { home = refl; front = refl; rows = refl };
+                      replica = 0;
+                      there = refl;
+                      stands = refl;
+                      passed = inl (lit≤ tt);
+                      leaves = same_counts row_9_7 row_9_7 refl refl;
+                    },
+                    refl,
+                  ),
                 ),
               ),
             ),
@@ -499,7 +762,12 @@ abbrev row_11_at_0_6 : Known
 row_11_at_0_6 = with_faults row_11_at_0_5 (0 ∷ 1 ∷ [])
 
 abbrev row_11_at_0_7 : Known
-row_11_at_0_7 = record row_11_at_0_6 { volumes = record empty_volume { replicas = record empty_replica { base = (pair 1, record { cookie = own; bytes = codes "a" }) ∷ []; end = 120; cells = 1; bare = 1; generation = 0 } ∷ [] } ∷ [] }
+row_11_at_0_7 = record row_11_at_0_6 {
+  volumes = record empty_volume {
+    replicas = record empty_replica
+        { base = (pair 1, record { cookie = own; bytes = codes "a" }) ∷ []; end = 120; cells = 1; bare = 1; generation = 0 } ∷ [];
+  } ∷ [];
+}
 
 abbrev row_11_at_0_8 : Known
 row_11_at_0_8 = change_replica row_11_at_0_7 0 0 (swapped 120 1)
@@ -529,13 +797,58 @@ row_11_at_0 = record {
         (
           ((refl, refl), refl, (1, inl refl, same_counts row_11_at_0_3 row_11_at_0_4 refl refl)),
           (
-            ((refl, refl), refl, (record { goal = 1; left = 0 }, refl), record { count = refl; rose = inl (lit< tt) }, inr (more_faults row_11_at_0_4 row_11_at_0_5 (0 ∷ 1 ∷ []) (lit≤ tt, (lit≤ tt, tt)) refl)),
+            (
+              (refl, refl),
+              refl,
+              (record { goal = 1; left = 0 }, refl),
+              record { count = refl; rose = inl (lit< tt) },
+              inr (more_faults row_11_at_0_4 row_11_at_0_5 (0 ∷ 1 ∷ []) (lit≤ tt, (lit≤ tt, tt)) refl),
+            ),
             (
               (refl, same_counts row_11_at_0_6 row_11_at_0_6 refl refl),
               (
-                record { kept = [] ∷ []; row = false; opened = record { volumes = (record { may = refl; replicas = (record { base = refl; stands = inl (record { end = refl; cells = refl; bare = refl; generation = refl }); loose = refl; idle = refl; settled = refl }, tt); log = refl; frozen = refl; pending = refl }, tt); rows = refl; directory = refl; drained = refl; fuses = refl; faults = none_falls row_11_at_0_6.faults; arms = refl }; told = refl; rows = refl },
+                record {
+                  kept = [] ∷ [];
+                  row = false;
+                  opened = record {
+                    volumes = (
+                      record {
+                        may = refl;
+                        replicas = (
+                          record {
+                            base = refl;
+                            stands = inl (record { end = refl; cells = refl; bare = refl; generation = refl });
+                            loose = refl;
+                            idle = refl;
+                            settled = refl;
+                          },
+                          tt,
+                        );
+                        log = refl;
+                        frozen = refl;
+                        pending = refl;
+                      },
+                      tt,
+                    );
+                    rows = refl;
+                    directory = refl;
+                    drained = refl;
+                    fuses = refl;
+                    faults = none_falls row_11_at_0_6.faults;
+                    arms = refl;
+                  };
+                  told = refl;
+                  rows = refl;
+                },
                 (
-                  record { seen = record { home = refl; front = refl; rows = refl }; replica = 0; there = refl; stands = refl; passed = inl (lit≤ tt); leaves = same_counts row_11_at_0_7 row_11_at_0_7 refl refl },
+                  record {
+                    seen = record { home = refl; front = refl; rows = refl };
+                    replica = 0;
+                    there = refl;
+                    stands = refl;
+                    passed = inl (lit≤ tt);
+                    leaves = same_counts row_11_at_0_7 row_11_at_0_7 refl refl;
+                  },
                   (((refl, refl), refl, (refl, lit< tt), refl, (120, 1, (refl, refl), same_counts row_11_at_0_7 row_11_at_0_8 refl refl)), refl),
                 ),
               ),
@@ -567,7 +880,12 @@ abbrev row_11_at_1_6 : Known
 row_11_at_1_6 = with_faults row_11_at_1_5 (0 ∷ 1 ∷ [])
 
 abbrev row_11_at_1_7 : Known
-row_11_at_1_7 = record row_11_at_1_6 { volumes = record empty_volume { replicas = record empty_replica { base = (pair 1, record { cookie = own; bytes = codes "a" }) ∷ []; end = 120; cells = 1; bare = 0; generation = 1 } ∷ [] } ∷ [] }
+row_11_at_1_7 = record row_11_at_1_6 {
+  volumes = record empty_volume {
+    replicas = record empty_replica
+        { base = (pair 1, record { cookie = own; bytes = codes "a" }) ∷ []; end = 120; cells = 1; bare = 0; generation = 1 } ∷ [];
+  } ∷ [];
+}
 
 abbrev row_11_at_1_8 : Known
 row_11_at_1_8 = change_replica row_11_at_1_7 0 0 (swapped 120 1)
@@ -597,13 +915,66 @@ row_11_at_1 = record {
         (
           ((refl, refl), refl, (1, inl refl, same_counts row_11_at_1_3 row_11_at_1_4 refl refl)),
           (
-            ((refl, refl), refl, (record { goal = 1; left = 0 }, refl), record { count = refl; rose = inl (lit< tt) }, inr (more_faults row_11_at_1_4 row_11_at_1_5 (0 ∷ 1 ∷ []) (lit≤ tt, (lit≤ tt, tt)) refl)),
+            (
+              (refl, refl),
+              refl,
+              (record { goal = 1; left = 0 }, refl),
+              record { count = refl; rose = inl (lit< tt) },
+              inr (more_faults row_11_at_1_4 row_11_at_1_5 (0 ∷ 1 ∷ []) (lit≤ tt, (lit≤ tt, tt)) refl),
+            ),
             (
               (refl, same_counts row_11_at_1_6 row_11_at_1_6 refl refl),
               (
-                record { kept = [] ∷ []; row = false; opened = record { volumes = (record { may = refl; replicas = (record { base = refl; stands = inr (record { poised = refl; end = lit≤ tt; no_longer = lit≤ tt; cells = lit≤ tt; no_more = lit≤ tt; bare = refl; generation = refl }); loose = refl; idle = refl; settled = refl }, tt); log = refl; frozen = refl; pending = refl }, tt); rows = refl; directory = refl; drained = refl; fuses = refl; faults = none_falls row_11_at_1_6.faults; arms = refl }; told = refl; rows = refl },
+                record {
+                  kept = [] ∷ [];
+                  row = false;
+                  opened = record {
+                    volumes = (
+                      record {
+                        may = refl;
+                        replicas = (
+                          record {
+                            base = refl;
+                            stands = inr (record {
+                              poised = refl;
+                              end = lit≤ tt;
+                              no_longer = lit≤ tt;
+                              cells = lit≤ tt;
+                              no_more = lit≤ tt;
+                              bare = refl;
+                              generation = refl;
+                            });
+                            loose = refl;
+                            idle = refl;
+                            settled = refl;
+                          },
+                          tt,
+                        );
+                        log = refl;
+                        frozen = refl;
+                        pending = refl;
+                      },
+                      tt,
+                    );
+                    rows = refl;
+                    directory = refl;
+                    drained = refl;
+                    fuses = refl;
+                    faults = none_falls row_11_at_1_6.faults;
+                    arms = refl;
+                  };
+                  told = refl;
+                  rows = refl;
+                },
                 (
-                  record { seen = record { home = refl; front = refl; rows = refl }; replica = 0; there = refl; stands = refl; passed = inl (lit≤ tt); leaves = same_counts row_11_at_1_7 row_11_at_1_7 refl refl },
+                  record {
+                    seen = record { home = refl; front = refl; rows = refl };
+                    replica = 0;
+                    there = refl;
+                    stands = refl;
+                    passed = inl (lit≤ tt);
+                    leaves = same_counts row_11_at_1_7 row_11_at_1_7 refl refl;
+                  },
                   (((refl, refl), refl, (refl, lit< tt), refl, (120, 1, (refl, refl), same_counts row_11_at_1_7 row_11_at_1_8 refl refl)), refl),
                 ),
               ),
@@ -638,8 +1009,24 @@ row_14 = record {
   legal = (
     record { taker = refl; directory = λ missing. refl; own = sym cookie_of-zero; position = refl; rows = refl; leaves = same_counts (fresh_unharmed (shaped 2 1 2)) row_14_1 refl refl },
     (
-      record { seen = record { home = refl; front = refl; rows = refl }; replica = 1; there = refl; stands = refl; passed = inl (lit≤ tt); leaves = more_arms row_14_1 (1 ∷ 0 ∷ 0 ∷ 0 ∷ 0 ∷ 0 ∷ 0 ∷ 0 ∷ []) (lit≤ tt, (lit≤ tt, (lit≤ tt, (lit≤ tt, (lit≤ tt, (lit≤ tt, (lit≤ tt, (lit≤ tt, tt)))))))) },
-      (record { seen = record { home = refl; front = refl; rows = refl }; each = ((refl, (inl (lit< tt), lit≤ tt)), ((refl, (inl (lit< tt), lit≤ tt)), tt)); arms = ((inl (lit< tt), tt), (tt, tt)); leaves = more_arms row_14_2 (3 ∷ 0 ∷ 0 ∷ 0 ∷ 0 ∷ 0 ∷ 0 ∷ 0 ∷ []) (lit≤ tt, (lit≤ tt, (lit≤ tt, (lit≤ tt, (lit≤ tt, (lit≤ tt, (lit≤ tt, (lit≤ tt, tt)))))))) }, refl),
+      record {
+        seen = record { home = refl; front = refl; rows = refl };
+        replica = 1;
+        there = refl;
+        stands = refl;
+        passed = inl (lit≤ tt);
+        leaves = more_arms row_14_1 (1 ∷ 0 ∷ 0 ∷ 0 ∷ 0 ∷ 0 ∷ 0 ∷ 0 ∷ []) (lit≤ tt, (lit≤ tt, (lit≤ tt, (lit≤ tt, (lit≤ tt, (lit≤ tt, (lit≤ tt, (lit≤ tt, tt))))))));
+      },
+      (
+        record {
+          seen = record { home = refl; front = refl; rows = refl };
+          each = ((refl, (inl (lit< tt), lit≤ tt)), ((refl, (inl (lit< tt), lit≤ tt)), tt));
+          arms = ((inl (lit< tt), tt), (tt, tt));
+          leaves = more_arms row_14_2 (3 ∷ 0 ∷ 0 ∷ 0 ∷ 0 ∷ 0 ∷ 0 ∷ 0 ∷ [])
+              (lit≤ tt, (lit≤ tt, (lit≤ tt, (lit≤ tt, (lit≤ tt, (lit≤ tt, (lit≤ tt, (lit≤ tt, tt))))))));
+        },
+        refl,
+      ),
     ),
   );
   text = refl;
@@ -672,11 +1059,43 @@ row_22_at_0 = record {
   legal = (
     (refl, (1, inl refl, same_counts (fresh_unharmed one) row_22_at_0_1 refl refl)),
     (
-      record { needs = record { volume = 0; missing = refl; taker = refl }; before = refl; count = refl; rose = inl (lit< tt); leaves = more_faults row_22_at_0_1 row_22_at_0_2 (1 ∷ 0 ∷ []) (lit≤ tt, (lit≤ tt, tt)) refl },
+      record {
+        needs = record { volume = 0; missing = refl; taker = refl };
+        before = refl;
+        count = refl;
+        rose = inl (lit< tt);
+        leaves = more_faults row_22_at_0_1 row_22_at_0_2 (1 ∷ 0 ∷ []) (lit≤ tt, (lit≤ tt, tt)) refl;
+      },
       (
         (record { volume = 0; missing = refl; taker = refl }, refl, same_counts row_22_at_0_3 row_22_at_0_3 refl refl),
         (
-          record { kept = [] ∷ []; row = false; opened = record { volumes = (record { may = refl; replicas = (record { base = refl; stands = inl (record { end = refl; cells = refl; bare = refl; generation = refl }); loose = refl; idle = refl; settled = refl }, tt); log = refl; frozen = refl; pending = refl }, tt); rows = refl; directory = refl; drained = refl; fuses = refl; faults = none_falls row_22_at_0_3.faults; arms = refl }; told = refl; rows = refl },
+          record {
+            kept = [] ∷ [];
+            row = false;
+            opened = record {
+              volumes = (
+                record {
+                  may = refl;
+                  replicas = (
+                    record { base = refl; stands = inl (record { end = refl; cells = refl; bare = refl; generation = refl }); loose = refl; idle = refl; settled = refl },
+                    tt,
+                  );
+                  log = refl;
+                  frozen = refl;
+                  pending = refl;
+                },
+                tt,
+              );
+              rows = refl;
+              directory = refl;
+              drained = refl;
+              fuses = refl;
+              faults = none_falls row_22_at_0_3.faults;
+              arms = refl;
+            };
+            told = refl;
+            rows = refl;
+          },
           (((refl, refl), same_counts row_22_at_0_4 row_22_at_0_4 refl refl), refl),
         ),
       ),
@@ -712,12 +1131,54 @@ row_22_at_3 = record {
   legal = (
     (refl, (1, inl refl, same_counts (fresh_unharmed one) row_22_at_3_1 refl refl)),
     (
-      record { needs = record { volume = 0; missing = refl; taker = refl }; before = refl; count = refl; rose = inl (lit< tt); leaves = more_faults row_22_at_3_1 row_22_at_3_2 (1 ∷ 0 ∷ []) (lit≤ tt, (lit≤ tt, tt)) refl },
+      record {
+        needs = record { volume = 0; missing = refl; taker = refl };
+        before = refl;
+        count = refl;
+        rose = inl (lit< tt);
+        leaves = more_faults row_22_at_3_1 row_22_at_3_2 (1 ∷ 0 ∷ []) (lit≤ tt, (lit≤ tt, tt)) refl;
+      },
       (
         (record { volume = 0; missing = refl; taker = refl }, refl, same_counts row_22_at_3_3 row_22_at_3_3 refl refl),
         (
-          record { kept = [] ∷ []; row = true; opened = record { volumes = (record { may = refl; replicas = (record { base = refl; stands = inl (record { end = refl; cells = refl; bare = refl; generation = refl }); loose = refl; idle = refl; settled = refl }, tt); log = refl; frozen = refl; pending = refl }, tt); rows = refl; directory = refl; drained = refl; fuses = refl; faults = none_falls row_22_at_3_3.faults; arms = refl }; told = refl; rows = refl },
-          (record { seen = record { home = refl; front = refl; rows = refl }; replica = 0; there = refl; stands = refl; passed = inl (lit≤ tt); leaves = same_counts row_22_at_3_4 row_22_at_3_4 refl refl }, refl),
+          record {
+            kept = [] ∷ [];
+            row = true;
+            opened = record {
+              volumes = (
+                record {
+                  may = refl;
+                  replicas = (
+                    record { base = refl; stands = inl (record { end = refl; cells = refl; bare = refl; generation = refl }); loose = refl; idle = refl; settled = refl },
+                    tt,
+                  );
+                  log = refl;
+                  frozen = refl;
+                  pending = refl;
+                },
+                tt,
+              );
+              rows = refl;
+              directory = refl;
+              drained = refl;
+              fuses = refl;
+              faults = none_falls row_22_at_3_3.faults;
+              arms = refl;
+            };
+            told = refl;
+            rows = refl;
+          },
+          (
+            record {
+              seen = record { home = refl; front = refl; rows = refl };
+              replica = 0;
+              there = refl;
+              stands = refl;
+              passed = inl (lit≤ tt);
+              leaves = same_counts row_22_at_3_4 row_22_at_3_4 refl refl;
+            },
+            refl,
+          ),
         ),
       ),
     ),
@@ -797,7 +1258,14 @@ row_7 = record {
   t = row_7_3;
   items = refl;
   legal = (
-    record { taker = refl; directory = λ missing. refl; own = sym cookie_of-zero; position = refl; rows = refl; leaves = same_counts (fresh_unharmed (record (shaped 1 2 1) { capacity = 4096 })) row_7_1 refl refl },
+    record {
+      taker = refl;
+      directory = λ missing. refl;
+      own = sym cookie_of-zero;
+      position = refl;
+      rows = refl;
+      leaves = same_counts (fresh_unharmed (record (shaped 1 2 1) { capacity = 4096 })) row_7_1 refl refl;
+    },
     (
       (refl, refl, same_counts row_7_1 row_7_1 refl refl),
       (

@@ -18,7 +18,9 @@ use Rattle.hay_legal.specs.declared.known.Known.{Known}
 use Rattle.hay_legal.specs.declared.turn.Item.{Item}
 use Rattle.hay_legal.specs.declared.turn.Item.TheVariants as item
 use Rattle.hay_legal.specs.Known.{Leaves, empty_replica, empty_volume, is_drained, replica_at, replica_on, slot_of, volume_at, with_home, with_replica}
-use Rattle.hay_legal.specs.Plain.{LegalPlain, LegalCommand, LegalPut, LegalShow, LegalGetAt, LegalDel, LegalUrl, LegalFlush, LegalBegin, LegalStep, LegalFinish, LegalCompact, LegalDrain, LegalUndrain, LegalFuse, LegalFuseDir, OnReplica, IsLoose, IsTight, Swaps, change_replica, change_volume, disk_rose, ended_where, grown, replica_of, run_grown, start_of, stepped, swapped, with_bare, with_del, with_drain, with_fuses, with_put, with_run, as_it_is}
+use Rattle.hay_legal.specs.Plain.{LegalPlain, LegalCommand, LegalPut, LegalShow, LegalGetAt, LegalDel, LegalUrl, LegalFlush, LegalBegin, LegalStep, LegalFinish, LegalCompact}
+use Rattle.hay_legal.specs.Plain.{LegalDrain, LegalUndrain, LegalFuse, LegalFuseDir, OnReplica, IsLoose, IsTight, Swaps, change_replica, change_volume, disk_rose, ended_where}
+use Rattle.hay_legal.specs.Plain.{grown, replica_of, run_grown, start_of, stepped, swapped, with_bare, with_del, with_drain, with_fuses, with_put, with_run, as_it_is}
 use Rattle.hay_legal.specs.Refusals.{IsUntroubled}
 use Rattle.hay_legal.proofs.Subject.Effects.{read_set}
 
@@ -114,7 +116,8 @@ module _ (settings : Settings) (k : Known) (r : Reply) (t : Known) where
   -- nothing but counts and fuses changed
   well_beside : (e : Known) → e.volumes ≡ k.volumes → e.directory ≡ k.directory → Drains k r e → Leaves k e t → Well settings k r t
   well_beside e volumes directory drains leaves = well_by e
-      (λ w. subst (λ (vs : List VolumeKnown). KeepsWell (Ended settings k r t w) (volume_at k w) (slice_index_or vs w empty_volume)) (sym volumes) (same_keeps (Ended settings k r t w) (volume_at k w)))
+      (λ w. subst (λ (vs : List VolumeKnown). KeepsWell (Ended settings k r t w) (volume_at k w) (slice_index_or vs w empty_volume)) (sym volumes)
+      (same_keeps (Ended settings k r t w) (volume_at k w)))
       (ap (λ (d : DirKnown). d.frozen) directory) drains leaves
 
   well_same : NoUndrain r → Leaves k k t → Well settings k r t
@@ -174,7 +177,8 @@ put_well settings k tag pair bytes (reply.FailedDir f) t u h = absurd u
 put_well settings k tag pair bytes reply.NoMem t u h = absurd u
 put_well settings k tag pair bytes _ t u h = absurd h
 
-show_well : (settings : Settings) (k : Known) (tag : CoreTag) (start : ℕ) (pair : Pair) (cookie : Cookie) (r : Reply) (t : Known) → IsUntroubled r → LegalShow settings k tag start pair cookie r t → Well settings k r t
+show_well : (settings : Settings) (k : Known) (tag : CoreTag) (start : ℕ) (pair : Pair) (cookie : Cookie) (r : Reply) (t : Known) → IsUntroubled r
+    → LegalShow settings k tag start pair cookie r t → Well settings k r t
 show_well settings k tag start pair cookie (reply.Photo v m p d bytes) t u h = well_same settings k (reply.Photo v m p d bytes) t (λ n e. cc) h.leaves
 show_well settings k tag start pair cookie (reply.Gone v m p d) t u h = well_same settings k (reply.Gone v m p d) t (λ n e. cc) h.leaves
 show_well settings k tag start pair cookie (reply.WrongCookie v m p d) t u h = well_same settings k (reply.WrongCookie v m p d) t (λ n e. cc) (h.3).leaves

@@ -99,8 +99,20 @@ block = record {
     distinct = (tt, tt);
   };
   fronts = record {
-    volumes = ((((tt, tt), ((lit≤ tt, lit≤ tt), tt)), tt), ((((tt, tt), ((lit≤ tt, lit≤ tt), tt)), tt), ((((tt, tt), ((lit≤ tt, lit≤ tt), tt)), tt), (((tt, tt), tt), (((tt, tt), tt), (((tt, tt), tt), (((tt, tt), tt), (((tt, tt), tt), tt))))))));
-    directory = ((((lit≤ tt, tt), (tt, tt)), ((lit≤ tt, lit≤ tt), ((lit≤ tt, lit≤ tt), tt))), (((tt, tt), ((lit≤ tt, lit≤ tt), tt)), (((tt, tt), ((lit≤ tt, lit≤ tt), tt)), ((tt, tt), ((tt, tt), ((tt, tt), ((tt, tt), ((tt, tt), tt))))))));
+    volumes = (
+      (((tt, tt), ((lit≤ tt, lit≤ tt), tt)), tt),
+      (
+        (((tt, tt), ((lit≤ tt, lit≤ tt), tt)), tt),
+        ((((tt, tt), ((lit≤ tt, lit≤ tt), tt)), tt), (((tt, tt), tt), (((tt, tt), tt), (((tt, tt), tt), (((tt, tt), tt), (((tt, tt), tt), tt)))))),
+      ),
+    );
+    directory = (
+      (((lit≤ tt, tt), (tt, tt)), ((lit≤ tt, lit≤ tt), ((lit≤ tt, lit≤ tt), tt))),
+      (
+        ((tt, tt), ((lit≤ tt, lit≤ tt), tt)),
+        (((tt, tt), ((lit≤ tt, lit≤ tt), tt)), ((tt, tt), ((tt, tt), ((tt, tt), ((tt, tt), ((tt, tt), tt)))))),
+      ),
+    );
   };
   pairs = (((λ e. absurd (omega (arith, e))), ((λ e. absurd (omega (arith, e))), tt)), (((λ e. absurd (omega (arith, e))), tt), (tt, tt)));
   lines = (
@@ -117,7 +129,16 @@ block = record {
     as_printed = ((λ v p d causes is. absurd cc), ((λ v p d causes is. absurd cc), ((λ v p d causes is. absurd cc), tt)));
     disk = ((((tt, tt), inl (lit≤ tt), (tt, (tt, (tt, (tt, (tt, (tt, (tt, (tt, tt))))))))), tt), tt);
     directory = ((tt, tt), inl (lit≤ tt));
-    arm = (((tt, tt), inl (lit≤ tt)), (((tt, tt), inl (lit≤ tt)), (((tt, tt), inl (lit≤ tt)), (((tt, tt), inl (lit≤ tt)), (((tt, tt), inl (lit≤ tt)), (((tt, tt), inl (lit≤ tt)), (((tt, tt), inl (lit≤ tt)), (((tt, tt), inl (lit≤ tt)), tt))))))));
+    arm = (
+      ((tt, tt), inl (lit≤ tt)),
+      (
+        ((tt, tt), inl (lit≤ tt)),
+        (
+          ((tt, tt), inl (lit≤ tt)),
+          (((tt, tt), inl (lit≤ tt)), (((tt, tt), inl (lit≤ tt)), (((tt, tt), inl (lit≤ tt)), (((tt, tt), inl (lit≤ tt)), (((tt, tt), inl (lit≤ tt)), tt))))),
+        ),
+      ),
+    );
   };
   volumes = (
     record {
@@ -170,7 +191,8 @@ row_15 = record {
       ∷ plain 6 (command.Read (pair 1) own) (reply.Photo 0 0 2 1 (codes "b")) both ∷ [];
   t = both;
   items = refl;
-  legal = (block, (record { seen = record { home = refl; front = refl; rows = refl }; replica = 0; there = refl; stands = refl; passed = inl (lit≤ tt); leaves = same_counts both both refl refl }, refl));
+  legal =
+      (block, (record { seen = record { home = refl; front = refl; rows = refl }; replica = 0; there = refl; stands = refl; passed = inl (lit≤ tt); leaves = same_counts both both refl refl }, refl));
   text = refl;
 }
 
@@ -241,7 +263,16 @@ freezing_block = record {
     as_printed = ((λ v p d causes is. absurd cc), ((λ v p d causes is. absurd cc), ((λ v p d causes is. absurd cc), tt)));
     disk = ((((((inl (lit< tt), lit≤ tt), tt), (tt, tt)), inl (lit≤ tt), ((tt, tt), (tt, (tt, (tt, (tt, (tt, (tt, (tt, tt))))))))), tt), tt);
     directory = ((tt, tt), inl (lit≤ tt));
-    arm = (((tt, tt), inl (lit≤ tt)), (((tt, tt), inl (lit≤ tt)), (((tt, tt), inl (lit≤ tt)), (((tt, tt), inl (lit≤ tt)), (((tt, tt), inl (lit≤ tt)), (((tt, tt), inl (lit≤ tt)), (((tt, tt), inl (lit≤ tt)), (((tt, tt), inl (lit≤ tt)), tt))))))));
+    arm = (
+      ((tt, tt), inl (lit≤ tt)),
+      (
+        ((tt, tt), inl (lit≤ tt)),
+        (
+          ((tt, tt), inl (lit≤ tt)),
+          (((tt, tt), inl (lit≤ tt)), (((tt, tt), inl (lit≤ tt)), (((tt, tt), inl (lit≤ tt)), (((tt, tt), inl (lit≤ tt)), (((tt, tt), inl (lit≤ tt)), tt))))),
+        ),
+      ),
+    );
   };
   volumes = (
     record {

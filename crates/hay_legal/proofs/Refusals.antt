@@ -1,5 +1,6 @@
 -- The laws of specs/Refusals.antt.
-use Rattle.std.proofs.Common.{◌≡◌, ℕ, zero, suc, ◌+◌, ◌-◌, ◌^◌, ◌<◌, ◌≤◌, Bool, true, false, List, [], ◌∷◌, ◌++◌, length, map, Option, Some, None, option_map, refl, sym, ap, subst, ◌∙◌, ◌⊎◌, inl, inr, arith}
+use Rattle.std.proofs.Common.{◌≡◌, ℕ, zero, suc, ◌+◌, ◌-◌, ◌^◌, ◌<◌, ◌≤◌, Bool, true, false, List, [], ◌∷◌, ◌++◌, length, map, Option, Some, None, option_map, refl, sym, ap}
+use Rattle.std.proofs.Common.{subst, ◌∙◌, ◌⊎◌, inl, inr, arith}
 use Rattle.std.specs.Prelude.{◌==◌, ◌||◌, nat_lt, replicate, slice_index, slice_index_or, slice_set, find}
 use Rattle.std.specs.List.{AllByRecursion as Each, enumerate_from}
 use Rattle.std.proofs.lemmas.List.{get_or-set_same}
@@ -26,8 +27,10 @@ use Rattle.hay_legal.specs.declared.turn.Item.{Item}
 use Rattle.hay_legal.specs.declared.turn.Item.TheVariants as item
 use Rattle.hay_legal.specs.declared.turn.Turn.{Turn}
 use Rattle.hay_legal.specs.declared.turn.Turn.TheVariants.{Plain, Lanes, Restart}
-use Rattle.hay_legal.specs.Known.{NoneFalls, closed, closed_by, disk_count, drained_of, empty_replica, empty_volume, fault_count, is_drained, lacks_room, machine_of, refusal_by, refusal_of, replica_at, replica_on, replicas_of, slot_of, tries_of, volume_at}
-use Rattle.hay_legal.specs.Plain.{IsClosedHome, IsFrozenBy, IsIdle, IsStuckOn, LegalBegin, LegalCommand, LegalCompact, LegalFinish, LegalFlush, LegalFuse, LegalGetAt, LegalPlain, LegalStep, OnReplica, as_closed, disk_rose, replica_of, with_run}
+use Rattle.hay_legal.specs.Known.{NoneFalls, closed, closed_by, disk_count, drained_of, empty_replica, empty_volume, fault_count, is_drained, lacks_room, machine_of, refusal_by}
+use Rattle.hay_legal.specs.Known.{refusal_of, replica_at, replica_on, replicas_of, slot_of, tries_of, volume_at}
+use Rattle.hay_legal.specs.Plain.{IsClosedHome, IsFrozenBy, IsIdle, IsStuckOn, LegalBegin, LegalCommand, LegalCompact, LegalFinish, LegalFlush, LegalFuse, LegalGetAt, LegalPlain}
+use Rattle.hay_legal.specs.Plain.{LegalStep, OnReplica, as_closed, disk_rose, replica_of, with_run}
 use Rattle.hay_legal.specs.Restarts.{LegalRestart, ReopenedReplicas, ReopenedVolumes, undrained}
 use Rattle.hay_legal.specs.Legal.{Legal, LegalTurn, known_after}
 use Rattle.hay_legal.specs.Stands.{Outside}
@@ -73,7 +76,8 @@ new_at_ease settings k new = record {
   directory = ap (λ (d : DirKnown). d.frozen) new.directory;
 }
 
-reopened_loose : (volume : VolumeKnown) (kept : List Bool) (i : ℕ) (olds news : List ReplicaKnown) (j : ℕ) → ReopenedReplicas volume kept i olds news → (slice_index_or news j empty_replica).stuck ≡ false
+reopened_loose : (volume : VolumeKnown) (kept : List Bool) (i : ℕ) (olds news : List ReplicaKnown) (j : ℕ) → ReopenedReplicas volume kept i olds news
+    → (slice_index_or news j empty_replica).stuck ≡ false
 reopened_loose volume kept i [] [] j h = refl
 reopened_loose volume kept i (old ∷ olds) (new ∷ news) zero h = (h.0).loose
 reopened_loose volume kept i (old ∷ olds) (new ∷ news) (suc j) h = reopened_loose volume kept (i + 1) olds news j h.1
@@ -229,7 +233,8 @@ closed_refusal settings size v by None None e = absurd cc
 abbrev ByDrained : Known → ClosedBy → Type 0
 ByDrained k by = is_drained k by.machine ≡ true
 
-all_drained : (settings : Settings) (k : Known) (size : ℕ) (tries : List ℕ) (by : List ClosedBy) → AtEase k → map (refusal_of settings k size) tries ≡ map Some (map as_closed by) → Each (ByDrained k) by
+all_drained : (settings : Settings) (k : Known) (size : ℕ) (tries : List ℕ) (by : List ClosedBy) → AtEase k → map (refusal_of settings k size) tries ≡ map Some (map as_closed by)
+    → Each (ByDrained k) by
 all_drained settings k size tries [] ease e = tt
 all_drained settings k size [] (b ∷ by) ease e = absurd cc
 all_drained settings k size (v ∷ tries) (b ∷ by) ease e =
@@ -381,7 +386,8 @@ get_never_idle settings k tag url (Some start) v m t h = h.0
 get_never_idle settings k tag url None v m t h = h
 
 -- what is called idle is so
-idle_at : (settings : Settings) (k : Known) (v m j v' m' j' : ℕ) → replica_on settings v m ≡ Some j → replica_on settings v' m' ≡ Some j' → (v ≡ v') × (m ≡ m') → IsIdle k v' j' → Runs (replica_of k v j) → ⊥
+idle_at : (settings : Settings) (k : Known) (v m j v' m' j' : ℕ) → replica_on settings v m ≡ Some j → replica_on settings v' m' ≡ Some j' → (v ≡ v') × (m ≡ m') → IsIdle k v' j'
+    → Runs (replica_of k v j) → ⊥
 idle_at settings k v m j v' m' j' on there names idle runs =
     let both : Some j ≡ Some j' = sym on ∙ ap (λ (u : ℕ). replica_on settings u m) names.0 ∙ ap (λ (n : ℕ). replica_on settings v' n) names.1 ∙ there in
     let same : j ≡ j' = cc in
@@ -395,12 +401,15 @@ called_idle settings k tag (command.Finish v' m') v m j t on h runs =
     let at = idle_on k (replica_on settings v' m') (LegalFinish settings k v' m') v m t h in idle_at settings k v m j v' m' at.0 on at.1 at.2.0 at.2.2 runs
 called_idle settings k tag (command.Get url) v m j t on h runs = get_never_idle settings k tag url (replica_on settings url.volume url.machine) v m t h
 called_idle settings k tag (command.Flush v' m') v m j t on h runs = on_replica_never k (replica_on settings v' m') (LegalFlush settings k v' m') (reply.Idle v m) t (λ e. cc) (λ e. cc) (λ i g. g) h
-called_idle settings k tag (command.Compact v' m') v m j t on h runs = on_replica_never k (replica_on settings v' m') (LegalCompact settings k v' m') (reply.Idle v m) t (λ e. cc) (λ e. cc) (λ i g. g) h
+called_idle settings k tag (command.Compact v' m') v m j t on h runs =
+    on_replica_never k (replica_on settings v' m') (LegalCompact settings k v' m') (reply.Idle v m) t (λ e. cc) (λ e. cc) (λ i g. g) h
 called_idle settings k tag (command.Begin v' m') v m j t on h runs = on_replica_never k (replica_on settings v' m') (LegalBegin settings k v' m') (reply.Idle v m) t (λ e. cc) (λ e. cc) (λ i g. g) h
-called_idle settings k tag (command.Fuse v' m' n) v m j t on h runs = on_replica_never k (replica_on settings v' m') (λ i. LegalFuse settings k v' m' i n) (reply.Idle v m) t (λ e. cc) (λ e. cc) (λ i g. g) h
+called_idle settings k tag (command.Fuse v' m' n) v m j t on h runs =
+    on_replica_never k (replica_on settings v' m') (λ i. LegalFuse settings k v' m' i n) (reply.Idle v m) t (λ e. cc) (λ e. cc) (λ i g. g) h
 called_idle settings k tag _ v m j t on h runs = h
 
-item_idle : (settings : Settings) (k : Known) (line : ℕ) (i : Item) (v m j : ℕ) (t : Known) → replica_on settings v m ≡ Some j → LegalPlain settings k line i (reply.Idle v m) t → Runs (replica_of k v j) → ⊥
+item_idle : (settings : Settings) (k : Known) (line : ℕ) (i : Item) (v m j : ℕ) (t : Known) → replica_on settings v m ≡ Some j → LegalPlain settings k line i (reply.Idle v m) t
+    → Runs (replica_of k v j) → ⊥
 item_idle settings k line (item.Command c) v m j t on h runs = called_idle settings k (record { lane = 0; line = line }) c v m j t on h runs
 item_idle settings k line item.Bad v m j t on h runs = let is = h.0 in cc
 

@@ -99,7 +99,8 @@ wrong_photo : (t : Known) → LegalPlain one stored_hello 2 (item.Command (comma
 unfolding byte_of
 wrong_photo t shown =
     let same : shown.replica ≡ 0 = cc in
-    let stands : outcome_at (now (volume_at stored_hello 0) (replica_at (volume_at stored_hello 0) 0)) first ≡ outcome.Photo (record { cookie = own; bytes = codes "hallo" }) = subst (λ j. outcome_at (now (volume_at stored_hello 0) (replica_at (volume_at stored_hello 0) j)) first ≡ outcome.Photo (record { cookie = own; bytes = codes "hallo" })) same shown.stands in
+    let stands : outcome_at (now (volume_at stored_hello 0) (replica_at (volume_at stored_hello 0) 0)) first ≡ outcome.Photo (record { cookie = own; bytes = codes "hallo" }) =
+    subst (λ j. outcome_at (now (volume_at stored_hello 0) (replica_at (volume_at stored_hello 0) j)) first ≡ outcome.Photo (record { cookie = own; bytes = codes "hallo" })) same shown.stands in
     let e : 101 ≡ 97 = ap (byte_of 1) stands in
     omega (arith, e)
 
@@ -112,7 +113,8 @@ gone_too_early : (t : Known) → LegalPlain one stored_hello 2 (item.Command (co
 unfolding byte_of
 gone_too_early t shown =
     let same : shown.replica ≡ 0 = cc in
-    let stands : outcome_at (now (volume_at stored_hello 0) (replica_at (volume_at stored_hello 0) 0)) first ≡ outcome.Nothing = subst (λ j. outcome_at (now (volume_at stored_hello 0) (replica_at (volume_at stored_hello 0) j)) first ≡ outcome.Nothing) same shown.stands in
+    let stands : outcome_at (now (volume_at stored_hello 0) (replica_at (volume_at stored_hello 0) 0)) first ≡ outcome.Nothing =
+    subst (λ j. outcome_at (now (volume_at stored_hello 0) (replica_at (volume_at stored_hello 0) j)) first ≡ outcome.Nothing) same shown.stands in
     let e : 104 ≡ 0 = ap (byte_of 0) stands in
     omega (arith, e)
 
@@ -132,7 +134,9 @@ two : Settings
 two = record { machines = 2; volumes = 1; replicas = 2; capacity = 67108864; secret = replicate 32 0 }
 
 abbrev failed_on_one : Known
-failed_on_one = put_frozen (record { machines = 2; volumes = 1; replicas = 2; capacity = 67108864; secret = replicate 32 0 }) (fresh_unharmed (record { machines = 2; volumes = 1; replicas = 2; capacity = 67108864; secret = replicate 32 0 })) (record { lane = 0; line = 1 }) first (codes "a") 0 1 true
+failed_on_one =
+    put_frozen (record { machines = 2; volumes = 1; replicas = 2; capacity = 67108864; secret = replicate 32 0 })
+    (fresh_unharmed (record { machines = 2; volumes = 1; replicas = 2; capacity = 67108864; secret = replicate 32 0 })) (record { lane = 0; line = 1 }) first (codes "a") 0 1 true
 
 is_true : Option Bool → ℕ
 is_true (Some true) = 1
@@ -142,7 +146,8 @@ note_is_kept : List Note → ℕ
 note_is_kept (note.Kept v m line ∷ notes) = 1
 note_is_kept _ = 0
 
-first_note : (kept : List Bool) (rest : List Note) → slice_get kept 0 ≡ Some true → note_is_kept (replica_notes (record { machines = 2; volumes = 1; replicas = 2; capacity = 67108864; secret = replicate 32 0 }) 0 1 0 kept ++ rest) ≡ 1
+first_note : (kept : List Bool) (rest : List Note) → slice_get kept 0 ≡ Some true
+    → note_is_kept (replica_notes (record { machines = 2; volumes = 1; replicas = 2; capacity = 67108864; secret = replicate 32 0 }) 0 1 0 kept ++ rest) ≡ 1
 unfolding note_is_kept is_true
 first_note [] rest e = cc
 first_note (true ∷ kept) rest e = refl

@@ -96,13 +96,15 @@ restart_without_memory_ends_well line pick notes after before wants = elim (want
 ]
 
 -- nor is it followed by one that is refused
-pub restart_refused_behind_a_wanting_one : (replica : Settings → ℕ → ℕ → Contents → Found → Type 0) (rows : Settings → Contents → List HomeRow → Type 0) (void : Contents → Type 0) (settings : Settings) (k : Known) (script read : List ℕ) (taken : Outside)
+pub restart_refused_behind_a_wanting_one : (replica : Settings → ℕ → ℕ → Contents → Found → Type 0) (rows : Settings → Contents → List HomeRow → Type 0) (void : Contents → Type 0)
+    (settings : Settings) (k : Known) (script read : List ℕ) (taken : Outside)
     (before : List Turn) (line pick : ℕ) (notes : List Note) (after t : Known) (written : List ℕ) (given : Outside) (Much : List ℕ → List ℕ → Type 0)
     → RestartRefused replica rows void settings k script read taken (before ++ Restart line pick NoMem notes after ∷ []) t written given Much → ⊥
 restart_refused_behind_a_wanting_one replica rows void settings k script read taken before line pick notes after t written given Much refused =
     refused.answered before line pick notes after [] refl
 
-module _ (replica : Settings → ℕ → ℕ → Contents → Found → Type 0) (rows : Settings → Contents → List HomeRow → Type 0) (void : Contents → Type 0) (settings : Settings) (k : Known) (script read : List ℕ) (taken : Outside) (turn : Turn) (turns : List Turn) (t : Known) (written : List ℕ) (given : Outside) where
+module _ (replica : Settings → ℕ → ℕ → Contents → Found → Type 0) (rows : Settings → Contents → List HomeRow → Type 0) (void : Contents → Type 0) (settings : Settings) (k : Known)
+    (script read : List ℕ) (taken : Outside) (turn : Turn) (turns : List Turn) (t : Known) (written : List ℕ) (given : Outside) where
   -- Behind a turn the disks given back hold what was acknowledged, but for a restart that is the next item and was refused.
   pub acknowledged_is_held : Interrupted replica rows void settings k script read taken (turn ∷ turns) t written given
       → StandsOn (replica settings) (rows settings) settings t given ⊎ RestartRefused replica rows void settings k script read taken (turn ∷ turns) t written given IsFront
@@ -111,7 +113,8 @@ module _ (replica : Settings → ℕ → ℕ → Contents → Found → Type 0) 
   acknowledged_is_held (inr (inr (inl first))) = let clash = first.none in absurd cc
   acknowledged_is_held (inr (inr (inr again))) = inr again
 
-module _ (replica : Settings → ℕ → ℕ → Contents → Found → Type 0) (rows : Settings → Contents → List HomeRow → Type 0) (void : Contents → Type 0) (settings : Settings) (k : Known) (script read : List ℕ) (byte : ℕ) (taken : Outside) (turns : List Turn) (t : Known) (written : List ℕ) (given : Outside) where
+module _ (replica : Settings → ℕ → ℕ → Contents → Found → Type 0) (rows : Settings → Contents → List HomeRow → Type 0) (void : Contents → Type 0) (settings : Settings) (k : Known)
+    (script read : List ℕ) (byte : ℕ) (taken : Outside) (turns : List Turn) (t : Known) (written : List ℕ) (given : Outside) where
   -- So they do as soon as a byte of the script was read, turns or none.
   pub read_behind_an_opening : Interrupted replica rows void settings k script (byte ∷ read) taken turns t written given
       → StandsOn (replica settings) (rows settings) settings t given ⊎ RestartRefused replica rows void settings k script (byte ∷ read) taken turns t written given IsFront
@@ -123,7 +126,8 @@ module _ (replica : Settings → ℕ → ℕ → Contents → Found → Type 0) 
 -- A VOID DISK AT A FIRST OPENING THAT WAS REFUSED
 
 -- a void disk that was formatted in part has no photo that an opening would find, by whatever settings
-pub stranger_in_a_void_disk : (replica : Settings → ℕ → ℕ → Contents → Found → Type 0) (rows : Settings → Contents → List HomeRow → Type 0) (void : Contents → Type 0) (settings other : Settings) (taken : Outside) (image : ℕ → Contents) (v j : ℕ) (contents : Contents) (found : Found) (first : Pair × Photo) (others : Table)
+pub stranger_in_a_void_disk : (replica : Settings → ℕ → ℕ → Contents → Found → Type 0) (rows : Settings → Contents → List HomeRow → Type 0) (void : Contents → Type 0)
+    (settings other : Settings) (taken : Outside) (image : ℕ → Contents) (v j : ℕ) (contents : Contents) (found : Found) (first : Pair × Photo) (others : Table)
     → v < other.volumes → j < other.replicas → IsVoidStill replica rows void settings taken image (slot_of other v j) contents
     → replica other v j (image (slot_of other v j)) found → found.table ≡ first ∷ others → ⊥
 stranger_in_a_void_disk replica rows void settings other taken image v j contents found first others below within still finds is =

@@ -1,5 +1,6 @@
 -- Blocks of lanes that are not legal, each for one wrong reply or for one wrong thing that it leaves.
-use Rattle.std.specs.Prelude.{◌≡◌, ◌≢◌, ◌⊎◌, ◌++◌, cond, ℕ, zero, suc, ◌+◌, ◌-◌, ◌^◌, ◌<◌, ◌≤◌, ◌==◌, ◌&&◌, ◌||◌, not, Bool, true, false, List, [], ◌∷◌, length, take_while, slice_get, take, drop, count_by, Contains, Option, Some, None, flat_map, option_map}
+use Rattle.std.specs.Prelude.{◌≡◌, ◌≢◌, ◌⊎◌, ◌++◌, cond, ℕ, zero, suc, ◌+◌, ◌-◌, ◌^◌, ◌<◌, ◌≤◌, ◌==◌, ◌&&◌, ◌||◌, not, Bool, true, false, List, [], ◌∷◌, length, take_while}
+use Rattle.std.specs.Prelude.{slice_get, take, drop, count_by, Contains, Option, Some, None, flat_map, option_map}
 use Rattle.std.specs.List.{AllByRecursion as Each, AllZip}
 use Rattle.std.proofs.Common.{refl, sym, ap, subst, inl, inr, ◌∙◌, arith, sum_by}
 use Rattle.std.proofs.lemmas.Bool.{eq-eqb}
@@ -34,7 +35,11 @@ use Rattle.hay_legal.specs.declared.turn.LaneItem.{LaneItem}
 use Rattle.hay_legal.specs.declared.turn.LogNote.{LogNote}
 use Rattle.hay_legal.specs.declared.turn.RowNote.{RowNote}
 use Rattle.hay_legal.specs.Known.{CameUp, EachPair, all_tries, closed, closed_by, drained_of, fault_count, home_of, machine_of, replica_at, replica_on, replicas_of, slot_of, volume_at}
-use Rattle.hay_legal.specs.Blocks.{CompactIsLegal, DeletesOn, DiskIsLegal, FlushIsLegal, FreezeIsLegal, Freezes, HomeInBlock, FrontsGrow, InOrder, IsAt, IsEntered, IsNewRow, LacksRoom, LegalBlock, LineIsLegal, MayEndAt, MayHaveAdded, MayHaveFrozen, MayPrecede, MayRefuse, Printed, RecordsAreLegal, ReplicaIsLegal, RefusesPut, StandsBefore, SticksBy, SwappedBefore, SwappedWhere, VolumeIsLegal, WasFrozen, WasSwapped, disk_prints, end_with_puts, flushed_on, fronts_told, froze_at_compact, generation_print, highest_end, is_compacted, is_failed, is_put, is_wanting, lane_items, made_on, new_entries, new_rows, pending_behind, printed, put_total, puts_until, row_faults, row_failed, sticks_on}
+use Rattle.hay_legal.specs.Blocks.{CompactIsLegal, DeletesOn, DiskIsLegal, FlushIsLegal, FreezeIsLegal, Freezes, HomeInBlock, FrontsGrow, InOrder, IsAt, IsEntered, IsNewRow}
+use Rattle.hay_legal.specs.Blocks.{LacksRoom, LegalBlock, LineIsLegal, MayEndAt, MayHaveAdded, MayHaveFrozen, MayPrecede, MayRefuse, Printed, RecordsAreLegal, ReplicaIsLegal}
+use Rattle.hay_legal.specs.Blocks.{RefusesPut, StandsBefore, SticksBy, SwappedBefore, SwappedWhere, VolumeIsLegal, WasFrozen, WasSwapped, disk_prints, end_with_puts, flushed_on}
+use Rattle.hay_legal.specs.Blocks.{fronts_told, froze_at_compact, generation_print, highest_end, is_compacted, is_failed, is_put, is_wanting, lane_items, made_on, new_entries}
+use Rattle.hay_legal.specs.Blocks.{new_rows, pending_behind, printed, put_total, puts_until, row_faults, row_failed, sticks_on}
 use Rattle.hay_legal.proofs.Subject.Entries.{each_in_range}
 
 -- LISTS
@@ -272,7 +277,9 @@ module _ {settings : Settings} {k : Known} {items : List LaneItem} {logs : List 
       let front : ℕ = ((may.1).4).0 in
       let lacks = subst (λ (w : ℕ). LacksRoom settings k t w (WasSwapped k t w) front m end need) (sym (may.1).0) ((may.1).4).1 in
       let named : lacks.replica ≡ j = same_Some _ _ (sym lacks.there ∙ there) in
-      let lower = each_in_range (λ i. (other : ℕ) × MayEndAt k t v (WasSwapped k t v) front i other × (other + need + 8 ≤ settings.capacity)) 0 lacks.replica i lacks.lower (omega arith) (omega (arith, less, named)) in
+      let lower =
+      each_in_range (λ i. (other : ℕ) × MayEndAt k t v (WasSwapped k t v) front i other × (other + need + 8 ≤ settings.capacity)) 0 lacks.replica i lacks.lower (omega arith)
+      (omega (arith, less, named)) in
       let first : lower.0 ≡ end_with_puts k t v front i = exactly v front i lower.0 kept_i lower.1 in
       let second : end ≡ end_with_puts k t v front j = exactly v front j end kept_j (subst (λ (r : ℕ). MayEndAt k t v (WasSwapped k t v) front r end) named lacks.ended) in
       omega (arith, first, second, longer, lower.2, lacks.short)
@@ -286,7 +293,9 @@ module _ {settings : Settings} {k : Known} {items : List LaneItem} {logs : List 
       let front : ℕ = ((may.1).4).0 in
       let lacks = subst (λ (w : ℕ). LacksRoom settings k t w (WasSwapped k t w) front m end need) (sym (may.1).0) ((may.1).4).1 in
       let named : lacks.replica ≡ j = same_Some _ _ (sym lacks.there ∙ there) in
-      let lower = each_in_range (λ i. (other : ℕ) × MayEndAt k t v (WasSwapped k t v) front i other × (other + need + 8 ≤ settings.capacity)) 0 lacks.replica i lacks.lower (omega arith) (omega (arith, less, named)) in
+      let lower =
+      each_in_range (λ i. (other : ℕ) × MayEndAt k t v (WasSwapped k t v) front i other × (other + need + 8 ≤ settings.capacity)) 0 lacks.replica i lacks.lower (omega arith)
+      (omega (arith, less, named)) in
       let first : lower.0 ≡ end_with_puts k t v front i = exactly v front i lower.0 kept lower.1 in
       omega (arith, first, full, lower.2)
 
@@ -851,7 +860,8 @@ module _ {settings : Settings} {k : Known} {logs : List LogNote} {rows : RowNote
       told_in_order v _ _ told.met (full_put 2 v m end need pair bytes) (full_put 3 v m end' need' pair' bytes') (printed (told.met 2) false) (printed (told.met 3) false) refl refl
       (told_full v m 2 end need told.met pair bytes) (told_full v m 3 end' need' told.met pair' bytes') (told.fronts).0 in
       let first : end ≡ end_with_puts k t v (told.met 2) j = end_without_room v m j (told.met 2) end need _ there (never_swaps v (machine_of settings v j) _ _ _ refl refl) ((told.room).0.0 refl) in
-      let second : end' ≡ end_with_puts k t v (told.met 3) j = end_without_room v m j (told.met 3) end' need' _ there (never_swaps v (machine_of settings v j) _ _ _ refl refl) ((told.room).1.0.0 refl) in
+      let second : end' ≡ end_with_puts k t v (told.met 3) j =
+      end_without_room v m j (told.met 3) end' need' _ there (never_swaps v (machine_of settings v j) _ _ _ refl refl) ((told.room).1.0.0 refl) in
       let more = totals_grow (new_entries k t v) (told.met 2 - length (volume_at k v).log) (told.met 3 - length (volume_at k v).log) (omega (arith, rises)) in
       omega (arith, first, second, more, falls)
 
@@ -870,7 +880,9 @@ module _ {settings : Settings} {k : Known} {logs : List LogNote} {rows : RowNote
       let logged = entered.1.0 in
       let entry_is : entry.Put pair (cookie_of settings.secret pair.key) bytes ≡ logged.entry = same_Some _ logged.entry (entered.1.2).entry in
       let total : needle_total (length bytes) ≡ put_total logged = ap (λ (e : Entry). put_total (record { tag = logged.tag; entry = e })) entry_is in
-      let some = put_totalled (volume_at t v).log (length (volume_at k v).log) (p - 1) (told.met 3 - length (volume_at k v).log) logged (omega (arith, entered.0)) (omega (arith, entered.0, rises)) entered.1.1 in
+      let some =
+      put_totalled (volume_at t v).log (length (volume_at k v).log) (p - 1) (told.met 3 - length (volume_at k v).log) logged (omega (arith, entered.0))
+      (omega (arith, entered.0, rises)) entered.1.1 in
       omega (arith, ended, total, some, short)
 
   -- a lane is told an end before that of k, and swaps the replica only then
@@ -1015,7 +1027,9 @@ module _ (settings : Settings) (k : Known) (logs : List LogNote) (rows : RowNote
       last froze is each =
           let one : ◌≡◌ {A = ℕ} (cond (froze_at_compact v on is_wanting froze) 1 0) 1 =
           ap (λ (o : Option LaneItem). cond (froze_at_compact v on is_wanting o) 1 0) is ∙ ap (λ (x : Bool). cond (x && true) 1 0) compacts in
-          let shown = subst (λ (xs : List ℕ). Each (λ g. ((replica_at (volume_at k v) j).generation < g) × (g + cond (froze_at_compact v on is_wanting froze) 1 0 ≤ (replica_at (volume_at t v) j).generation)) (xs ++ []))
+          let shown =
+          subst (λ (xs : List ℕ). Each (λ g. ((replica_at (volume_at k v) j).generation < g)
+          × (g + cond (froze_at_compact v on is_wanting froze) 1 0 ≤ (replica_at (volume_at t v) j).generation)) (xs ++ []))
           (here (replica_at (volume_at t v) j).generation) each in
           omega (arith, one, shown.0.1)
         where

@@ -1,5 +1,6 @@
 -- Which blocks of lanes are legal: what their replies show of the log, the rows and the counts, whatever the order was.
-use Rattle.std.specs.Prelude.{◌≡◌, ◌≢◌, ℕ, ◌+◌, ◌-◌, ◌^◌, ◌<◌, ◌≤◌, ◌==◌, ◌&&◌, ◌||◌, ◌⊎◌, not, Bool, true, false, cond, List, [], ◌∷◌, ◌++◌, length, map, drop, take, filter, filter_map, flat_map, sum_by, count_by, take_while, slice_get, unwrap_or, Contains, Option, Some, None, option_map, if◌then◌else◌}
+use Rattle.std.specs.Prelude.{◌≡◌, ◌≢◌, ℕ, ◌+◌, ◌-◌, ◌^◌, ◌<◌, ◌≤◌, ◌==◌, ◌&&◌, ◌||◌, ◌⊎◌, not, Bool, true, false, cond, List, [], ◌∷◌, ◌++◌, length, map, drop, take, filter}
+use Rattle.std.specs.Prelude.{filter_map, flat_map, sum_by, count_by, take_while, slice_get, unwrap_or, Contains, Option, Some, None, option_map, if◌then◌else◌}
 use Rattle.std.specs.List.{AllZip, AllByRecursion as Each, list_any, enumerate_from, range_with_len}
 use Rattle.hay_needle.specs.declared.needle.Pair.{Pair}
 use Rattle.hay_needle.specs.declared.needle.Cookie.{Cookie}
@@ -18,7 +19,9 @@ use Rattle.hay_reply.specs.declared.Cause.TheVariants.{Arm, Disk, Damage}
 use Rattle.hay_reply.specs.declared.Passed.{Passed}
 use Rattle.hay_reply.specs.declared.LineVolume.{LineVolume}
 use Rattle.hay_reply.specs.declared.Reply.{Reply}
-use Rattle.hay_reply.specs.declared.Reply.TheVariants.{Stored, Deleted, Photo, Gone, Absent, WrongCookie, Unknown, Moved, Url, Full, ReadOnly, ReadOnlyDir, Failed, FailedDir, Unreadable, Damaged, Flushed, Begun, Stepped, Compacted, Busy, Idle, Worn, Drained, Undrained, Fused, FusedDir, Nowhere, Restarted, BadLine, NoMem}
+use Rattle.hay_reply.specs.declared.Reply.TheVariants.{Stored, Deleted, Photo, Gone, Absent, WrongCookie, Unknown, Moved, Url, Full, ReadOnly, ReadOnlyDir, Failed, FailedDir}
+use Rattle.hay_reply.specs.declared.Reply.TheVariants.{Unreadable, Damaged, Flushed, Begun, Stepped, Compacted, Busy, Idle, Worn, Drained, Undrained, Fused, FusedDir, Nowhere}
+use Rattle.hay_reply.specs.declared.Reply.TheVariants.{Restarted, BadLine, NoMem}
 use Rattle.hay_core.specs.declared.entry.Entry.{Entry}
 use Rattle.hay_core.specs.declared.entry.Entry.TheVariants as entry
 use Rattle.hay_core.specs.declared.entry.CoreTag.{CoreTag}
@@ -37,7 +40,8 @@ use Rattle.hay_legal.specs.declared.turn.Item.TheVariants as asks
 use Rattle.hay_legal.specs.declared.turn.LaneItem.{LaneItem}
 use Rattle.hay_legal.specs.declared.turn.LogNote.{LogNote}
 use Rattle.hay_legal.specs.declared.turn.RowNote.{RowNote}
-use Rattle.hay_legal.specs.Known.{volume_at, replica_at, machine_of, slot_of, replica_on, home_at, home_of, all_tries, at_front, now, closed, fault_count, arm_count, CameUp, NoneFalls, EachPair, replicas_of, volumes_of, all_lanes}
+use Rattle.hay_legal.specs.Known.{volume_at, replica_at, machine_of, slot_of, replica_on, home_at, home_of, all_tries, at_front, now, closed, fault_count, arm_count, CameUp}
+use Rattle.hay_legal.specs.Known.{NoneFalls, EachPair, replicas_of, volumes_of, all_lanes}
 use Rattle.hay_legal.specs.Plain.{GetShows, IsFrozenBy, Names, IsOpen, as_closed, first_machine, wants_room, order_from, put_entry, start_of}
 
 -- WHAT A REPLY TELLS

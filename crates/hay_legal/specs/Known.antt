@@ -1,5 +1,6 @@
 -- What follows from what a store stands at.
-use Rattle.std.specs.Prelude.{◌≡◌, ℕ, ◌+◌, ◌-◌, ◌*◌, ◌%◌, ◌^◌, ◌<◌, ◌≤◌, ◌==◌, ◌||◌, ◌⊎◌, nat_lt, Bool, true, false, List, [], ◌∷◌, ◌++◌, length, map, take, find, replicate, slice_index, slice_index_or, slice_set, Option, Some, None, option_map, is_none, if◌then◌else◌}
+use Rattle.std.specs.Prelude.{◌≡◌, ℕ, ◌+◌, ◌-◌, ◌*◌, ◌%◌, ◌^◌, ◌<◌, ◌≤◌, ◌==◌, ◌||◌, ◌⊎◌, nat_lt, Bool, true, false, List, [], ◌∷◌, ◌++◌, length, map, take, find, replicate}
+use Rattle.std.specs.Prelude.{slice_index, slice_index_or, slice_set, Option, Some, None, option_map, is_none, if◌then◌else◌}
 use Rattle.std.specs.List.{AllZip, AllByRecursion, range_with_len, enumerate_from}
 use Rattle.hay_needle.specs.declared.needle.Pair.{Pair}
 use Rattle.hay_needle.specs.declared.needle.Outcome.{Outcome}

@@ -5,7 +5,9 @@ use Rattle.hay_needle.specs.declared.settings.Settings.{Settings}
 use Rattle.hay_script.specs.declared.Command.TheVariants as command
 use Rattle.hay_reply.specs.declared.ClosedBy.{ClosedBy}
 use Rattle.hay_reply.specs.declared.Reply.{Reply}
-use Rattle.hay_reply.specs.declared.Reply.TheVariants.{Failed, FailedDir, NoMem, Restarted, Drained, Undrained, ReadOnly, ReadOnlyDir, Begun, Compacted, Idle, Stored, Deleted, Photo, Gone, Absent, WrongCookie, Unknown, Moved, Url, Full, Unreadable, Damaged, Flushed, Stepped, Busy, Worn, Fused, FusedDir, Nowhere, BadLine}
+use Rattle.hay_reply.specs.declared.Reply.TheVariants.{Failed, FailedDir, NoMem, Restarted, Drained, Undrained, ReadOnly, ReadOnlyDir, Begun, Compacted, Idle, Stored, Deleted}
+use Rattle.hay_reply.specs.declared.Reply.TheVariants.{Photo, Gone, Absent, WrongCookie, Unknown, Moved, Url, Full, Unreadable, Damaged, Flushed, Stepped, Busy, Worn, Fused}
+use Rattle.hay_reply.specs.declared.Reply.TheVariants.{FusedDir, Nowhere, BadLine}
 use Rattle.hay_legal.specs.declared.known.HomeRow.{HomeRow}
 use Rattle.hay_legal.specs.declared.known.Known.{Known}
 use Rattle.hay_legal.specs.declared.turn.Item.{Item}

@@ -75,7 +75,8 @@ abbrev pub IsImageOf : (ℕ → Contents) → ℕ → Contents → Type 0
 IsImageOf image slot contents = (file : ℕ) → contents file ≡ image slot file
 
 -- .. a void disk, where it was void and may be formatted in part, so that an opening by whatever settings finds nothing in it ..
-pub record IsVoidStill (replica : Settings → ℕ → ℕ → Contents → Found → Type 0) (rows : Settings → Contents → List HomeRow → Type 0) (void : Contents → Type 0) (settings : Settings) (taken : Outside) (image : ℕ → Contents) (slot : ℕ) (contents : Contents) : Type 0 where
+pub record IsVoidStill (replica : Settings → ℕ → ℕ → Contents → Found → Type 0) (rows : Settings → Contents → List HomeRow → Type 0) (void : Contents → Type 0)
+    (settings : Settings) (taken : Outside) (image : ℕ → Contents) (slot : ℕ) (contents : Contents) : Type 0 where
   pub was : void (read_contents taken slot)
   pub stands_for : void contents
   pub nothing : (other : Settings) → FindsNothing (replica other) (rows other) other slot (image slot)
@@ -84,13 +85,15 @@ pub record IsVoidStill (replica : Settings → ℕ → ℕ → Contents → Foun
 abbrev pub IsAsTaken : Outside → Outside → ℕ → Contents → Type 0
 IsAsTaken taken given slot contents = (given.files slot ≡ taken.files slot) × ((file : ℕ) → contents file ≡ read_contents taken slot file)
 
-abbrev pub StandsIn : (Settings → ℕ → ℕ → Contents → Found → Type 0) → (Settings → Contents → List HomeRow → Type 0) → (Contents → Type 0) → Settings → Outside → Outside → (ℕ → Contents) → ℕ → Contents → Type 0
+abbrev pub StandsIn : (Settings → ℕ → ℕ → Contents → Found → Type 0) → (Settings → Contents → List HomeRow → Type 0) → (Contents → Type 0) → Settings → Outside → Outside
+    → (ℕ → Contents) → ℕ → Contents → Type 0
 StandsIn replica rows void settings taken given image slot contents =
     IsImageOf image slot contents ⊎ IsVoidStill replica rows void settings taken image slot contents ⊎ IsAsTaken taken given slot contents
 
 -- The first opening of the disks that hold k was refused, or not begun: in every image of those given back the next one finds
 -- what k is. No fuse was set, no arm was used, and no count fell.
-pub record IsUnopened (replica : Settings → ℕ → ℕ → Contents → Found → Type 0) (rows : Settings → Contents → List HomeRow → Type 0) (void : Contents → Type 0) (settings : Settings) (k : Known) (taken given : Outside) : Type 0 where
+pub record IsUnopened (replica : Settings → ℕ → ℕ → Contents → Found → Type 0) (rows : Settings → Contents → List HomeRow → Type 0) (void : Contents → Type 0) (settings : Settings)
+    (k : Known) (taken given : Outside) : Type 0 where
   pub images : (image : ℕ → Contents) → ((slot : ℕ) → slot < disk_count settings → MayLeave (given.files slot) (image slot)) →
       (contents : ℕ → Contents) × ((slot : ℕ) → slot < disk_count settings → StandsIn replica rows void settings taken given image slot (contents slot))
       × HasOutcome (replica settings) (rows settings) settings k contents
@@ -161,7 +164,8 @@ NoneWants turns =
     (before : List Turn) (line pick : ℕ) (notes : List Note) (after : Known) (behind : List Turn)
     → turns ≡ before ++ Restart line pick NoMem notes after ∷ behind → ⊥
 
-module _ (replica : Settings → ℕ → ℕ → Contents → Found → Type 0) (rows : Settings → Contents → List HomeRow → Type 0) (void : Contents → Type 0) (settings : Settings) (k : Known) (script read : List ℕ) (taken : Outside) (turns : List Turn) (t : Known) (written : List ℕ) (given : Outside) where
+module _ (replica : Settings → ℕ → ℕ → Contents → Found → Type 0) (rows : Settings → Contents → List HomeRow → Type 0) (void : Contents → Type 0) (settings : Settings) (k : Known)
+    (script read : List ℕ) (taken : Outside) (turns : List Turn) (t : Known) (written : List ℕ) (given : Outside) where
   -- The turns are these items, and their text is all that was written.
   pub record AnsweredAll (items : List Asked) : Type 0 where
     pub asked : asked_of turns ≡ items
@@ -219,7 +223,8 @@ module _ (replica : Settings → ℕ → ℕ → Contents → Found → Type 0) 
   Ends NoMemory = Interrupted
 
 -- A whole run of a script, of which these bytes were read: from the disks and arms that hold k to those given back.
-pub record RunsTo (replica : Settings → ℕ → ℕ → Contents → Found → Type 0) (rows : Settings → Contents → List HomeRow → Type 0) (void : Contents → Type 0) (settings : Settings) (k : Known) (ending : Ending) (script read : List ℕ) (taken : Outside) (written : List ℕ) (given : Outside) : Type 0 where
+pub record RunsTo (replica : Settings → ℕ → ℕ → Contents → Found → Type 0) (rows : Settings → Contents → List HomeRow → Type 0) (void : Contents → Type 0) (settings : Settings)
+    (k : Known) (ending : Ending) (script read : List ℕ) (taken : Outside) (written : List ℕ) (given : Outside) : Type 0 where
   pub opened : Known
   pub opening : FaultsRose k opened
   pub turns : List Turn

@@ -13,7 +13,9 @@ use Rattle.hay_script.specs.declared.Command.TheVariants as command
 use Rattle.hay_reply.specs.declared.Note.{Note}
 use Rattle.hay_reply.specs.declared.Note.TheVariants.{Kept, Lost}
 use Rattle.hay_reply.specs.declared.Reply.{Reply}
-use Rattle.hay_reply.specs.declared.Reply.TheVariants.{Stored, Deleted, Photo, Gone, WrongCookie, Unknown, Moved, Nowhere, Failed, FailedDir, Unreadable, Damaged, Restarted, NoMem, Absent, Url, Full, ReadOnly, ReadOnlyDir, Flushed, Begun, Stepped, Compacted, Busy, Idle, Worn, Drained, Undrained, Fused, FusedDir, BadLine}
+use Rattle.hay_reply.specs.declared.Reply.TheVariants.{Stored, Deleted, Photo, Gone, WrongCookie, Unknown, Moved, Nowhere, Failed, FailedDir, Unreadable, Damaged, Restarted}
+use Rattle.hay_reply.specs.declared.Reply.TheVariants.{NoMem, Absent, Url, Full, ReadOnly, ReadOnlyDir, Flushed, Begun, Stepped, Compacted, Busy, Idle, Worn, Drained, Undrained}
+use Rattle.hay_reply.specs.declared.Reply.TheVariants.{Fused, FusedDir, BadLine}
 use Rattle.hay_core.specs.declared.entry.Entry.{Entry}
 use Rattle.hay_core.specs.declared.entry.Entry.TheVariants as entry
 use Rattle.hay_core.specs.declared.entry.CoreTag.{CoreTag}

@@ -1,5 +1,6 @@
 -- What a load told of the lines that it took.
-use Rattle.std.proofs.Common.{◌≡◌, inl, inr, ◌<◌, ◌+◌, ℕ, suc, List, [], ◌∷◌, ◌++◌, length, map, take, get_or, Bool, true, false, Some, Result, Err, refl, sym, ap, subst, ◌∙◌, arith, append_assoc, length-append}
+use Rattle.std.proofs.Common.{◌≡◌, inl, inr, ◌<◌, ◌+◌, ℕ, suc, List, [], ◌∷◌, ◌++◌, length, map, take, get_or, Bool, true, false, Some, Result, Err, refl, sym, ap, subst, ◌∙◌}
+use Rattle.std.proofs.Common.{arith, append_assoc, length-append}
 use Rattle.std.proofs.lemmas.List.{append-nil, map-append}
 use Rattle.std.proofs.Math.Seq.{take-suc}
 use Rattle.std.proofs.lemmas.Result.{IfErr-at_err}
@@ -26,7 +27,8 @@ use Rattle.hay_load.specs.Replies.{FitsLoad, load_line, refused_of}
 -- MORE TRIES
 
 -- one try more, as a run tells it
-pub refused_more : (tries : List FullTry) (i : ℕ) (d : FullTry) (told more : List Refused) (one : Refused) → i < length tries → told ≡ map refused_of (take i tries) → one ≡ refused_of (get_or tries i d)
+pub refused_more : (tries : List FullTry) (i : ℕ) (d : FullTry) (told more : List Refused) (one : Refused) → i < length tries → told ≡ map refused_of (take i tries)
+    → one ≡ refused_of (get_or tries i d)
     → more ≡ told ++ one ∷ [] → more ≡ map refused_of (take (i + 1) tries)
 refused_more tries i d told more one within are is longer =
     let next : suc i ≡ i + 1 = omega arith in

@@ -29,7 +29,8 @@ use Rattle.hay_load.proofs.Answering.{may_load, stands_remembers}
 use Rattle.hay_load.proofs.Taking.{answers_more, fit_more, suit_more}
 use Rattle.hay_loading.specs.declared.stops.Stop.{Stop}
 use Rattle.hay_loading.specs.declared.stops.Stop.TheVariants as stop
-use Rattle.hay_loading.specs.Endings.{AllStandIn, Answers, Begins, Breaks, CutsShort, Ends, Halts, HaltsAt, HaltsBehind, MayFailAt, ReadFront, ReadOver, ReadsTo, groups_before, IsFront, LoadsAll, MayLeaveSlots, Wants, WroteBoth, WroteThen, load_text, script_groups}
+use Rattle.hay_loading.specs.Endings.{AllStandIn, Answers, Begins, Breaks, CutsShort, Ends, Halts, HaltsAt, HaltsBehind, MayFailAt, ReadFront, ReadOver, ReadsTo, groups_before}
+use Rattle.hay_loading.specs.Endings.{IsFront, LoadsAll, MayLeaveSlots, Wants, WroteBoth, WroteThen, load_text, script_groups}
 use Rattle.hay_loading.specs.Lines.{FailsTold, Leaves, ServesAll, ServesUntil, Told}
 use Rattle.hay_loading.proofs.Apart.{front_apart}
 use Rattle.hay_loading.proofs.Showing.{all_stand, answers_same}

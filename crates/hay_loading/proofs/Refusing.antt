@@ -20,7 +20,8 @@ use Rattle.hay_loading.specs.Stops.{note_of}
 use Rattle.hay_loading.proofs.Sinks.{part_more, wrote_more, wrote_part}
 use Rattle.hay_loading.proofs.Statuses.{stopped}
 
-module _ (Tells : Type 0) (settings : Settings) (script : List ℕ) (old new : ℕ → HeldDisk) (shelf shelf' : ℕ) (before begun after rest : Option (List ℕ)) (unread : rest ≡ Some script) (fault : LoadOpenFault)
+module _ (Tells : Type 0) (settings : Settings) (script : List ℕ) (old new : ℕ → HeldDisk) (shelf shelf' : ℕ) (before begun after rest : Option (List ℕ))
+    (unread : rest ≡ Some script) (fault : LoadOpenFault)
     (fits : (note : Note) → note_of fault ≡ Some note → FitsNote note)
     (left : AreLeft Tells settings script old new shelf shelf' before after)
     (by_shelf : (faults : ℕ) → fault ≡ LoadOpenFault.Shelf faults → Rose shelf shelf' × (faults ≡ shelf'))
@@ -38,7 +39,12 @@ module _ (Tells : Type 0) (settings : Settings) (script : List ℕ) (old new : �
   why_by LoadOpenFault.NoMemory note is told = absurd cc
 
   unopened : after ≡ begun → Unopened Tells settings script old new shelf shelf' before after rest
-  unopened same = record { left = left; unread = unread; wrote = wrote_part before after (header_line settings) (subst (λ (w : Option (List ℕ)). Wrote before (header_line settings) w) (sym same) header) }
+  unopened same = record {
+    left = left;
+    unread = unread;
+    wrote = wrote_part before after (header_line settings)
+        (subst (λ (w : Option (List ℕ)). Wrote before (header_line settings) w) (sym same) header);
+  }
 
   -- by what was written of it
   pub ends_refused : (why : Stop) → (why ≡ stop.Store → (note : Note) × (note_of fault ≡ Some note) × Wrote begun (note_line note) after)
@@ -46,11 +52,25 @@ module _ (Tells : Type 0) (settings : Settings) (script : List ℕ) (old new : �
       → (why ≡ stop.Output) ⊎ (why ≡ stop.NoMemory) ⊎ (why ≡ stop.Store) → Ends Tells settings script old new shelf shelf' before after rest (Err why)
   ends_refused stop.Output told part wanting stops =
       let t = part refl in
-      inr (inl (record { note = t.0; fits = fits t.0 t.1; why = why_by fault t.0 refl t.1; left = left; unread = unread; wrote = part_more before begun after (header_line settings) (note_line t.0) header t.2 }))
+      inr (inl (record {
+        note = t.0;
+        fits = fits t.0 t.1;
+        why = why_by fault t.0 refl t.1;
+        left = left;
+        unread = unread;
+        wrote = part_more before begun after (header_line settings) (note_line t.0) header t.2;
+      }))
   ends_refused stop.NoMemory told part wanting stops = inl (unopened (wanting refl))
   ends_refused stop.Store told part wanting stops =
       let t = told refl in
-      inl (record { note = t.0; fits = fits t.0 t.1; why = why_by fault t.0 refl t.1; left = left; unread = unread; wrote = wrote_more before begun after (header_line settings) (note_line t.0) header t.2 })
+      inl (record {
+        note = t.0;
+        fits = fits t.0 t.1;
+        why = why_by fault t.0 refl t.1;
+        left = left;
+        unread = unread;
+        wrote = wrote_more before begun after (header_line settings) (note_line t.0) header t.2;
+      })
   ends_refused stop.Input told part wanting (inl is) = absurd cc
   ends_refused stop.Input told part wanting (inr (inl is)) = absurd cc
   ends_refused stop.Input told part wanting (inr (inr is)) = absurd cc
@@ -59,7 +79,8 @@ module _ (Tells : Type 0) (settings : Settings) (script : List ℕ) (old new : �
   ends_refused stop.TooLong told part wanting (inr (inr is)) = absurd cc
 
 -- the header was not written
-module _ (Tells : Type 0) (settings : Settings) (script : List ℕ) (old : ℕ → HeldDisk) (shelf : ℕ) (before after rest : Option (List ℕ)) (unread : rest ≡ Some script) (back : AreIn (disk_count settings) old)
+module _ (Tells : Type 0) (settings : Settings) (script : List ℕ) (old : ℕ → HeldDisk) (shelf : ℕ) (before after rest : Option (List ℕ)) (unread : rest ≡ Some script)
+    (back : AreIn (disk_count settings) old)
     (part : WrotePart before (header_line settings) after) where
   untouched : AreLeft Tells settings script old old shelf shelf before after
   untouched = λ slot within. inl (record {

@@ -1,5 +1,6 @@
 -- What no load tells, each as a lemma.
-use Rattle.std.proofs.Common.{◌≡◌, ◌≢◌, ◌⊎◌, inl, inr, ℕ, zero, suc, ◌+◌, ◌%◌, ◌<◌, ◌≤◌, List, [], ◌∷◌, ◌++◌, length, map, All, Bool, true, false, Option, Some, None, refl, sym, ap, subst, ◌∙◌, length-append, arith}
+use Rattle.std.proofs.Common.{◌≡◌, ◌≢◌, ◌⊎◌, inl, inr, ℕ, zero, suc, ◌+◌, ◌%◌, ◌<◌, ◌≤◌, List, [], ◌∷◌, ◌++◌, length, map, All, Bool, true, false, Option, Some, None, refl, sym}
+use Rattle.std.proofs.Common.{ap, subst, ◌∙◌, length-append, arith}
 use Rattle.std.specs.Prelude.{if◌then◌else◌, nat_eq}
 use Rattle.std.proofs.lemmas.Bool.{cond-true}
 use Rattle.std.proofs.lemmas.List.Elements.{All-append, All-cons, All-nil}
@@ -102,7 +103,8 @@ ends_all settings first known (Batch line photos ∷ groups) (reply ∷ replies)
     omega (arith, one, more)
 
 -- one that found none at an end within the superblock
-pub full_within_the_superblock : (Tells : Type 0) (settings : Settings) (contents : ℕ → ℕ → List ℕ) (first known new : Remembered) (groups : List Group) (replies : List LoadReply) (photos : List NewPhoto)
+pub full_within_the_superblock : (Tells : Type 0) (settings : Settings) (contents : ℕ → ℕ → List ℕ) (first known new : Remembered) (groups : List Group) (replies : List LoadReply)
+    (photos : List NewPhoto)
     (tries : List FullTry) (turn : ℕ) (full : FullTry) → 0 < settings.volumes → Begins Tells settings contents first → SuitAll settings first groups replies known
     → SuitsBatch settings known photos (full_reply tries) new → At tries turn full → full.end < 64 → ⊥
 full_within_the_superblock Tells settings contents first known new groups replies photos tries turn full some begins suit suits at low =
@@ -139,7 +141,8 @@ full_before_a_batch settings first known new photos others volume count rows tri
     same_number a b same = subst (λ (n : ℕ). nat_eq a n ≡ true) same (one_number a)
 
 -- one that was loaded elsewhere than into the first volume that it tries, where that has room
-pub loaded_past_a_volume_with_room : (settings : Settings) (known new : Remembered) (photos : List NewPhoto) (volume count rows : ℕ) → FitsIn settings known (batch_total photos) (try_at settings (key_of photos) 0)
+pub loaded_past_a_volume_with_room : (settings : Settings) (known new : Remembered) (photos : List NewPhoto) (volume count rows : ℕ)
+    → FitsIn settings known (batch_total photos) (try_at settings (key_of photos) 0)
     → volume ≢ try_at settings (key_of photos) 0 → SuitsBatch settings known photos (Loaded volume count rows) new → ⊥
 loaded_past_a_volume_with_room settings known new photos volume count rows room other (inl refused) = elim refused.0 [
   | inl home ↦ (let told = home.told in absurd cc)
@@ -202,7 +205,8 @@ known_home settings known new photos volume (inl (inr without, same)) = (let tol
 known_home settings known new photos volume (inr loaded) = (let told = loaded.told in absurd cc)
 
 -- a pair that is known in a volume that the store has not
-pub known_in_no_volume : (Tells : Type 0) (settings : Settings) (contents : ℕ → ℕ → List ℕ) (first known new : Remembered) (groups : List Group) (replies : List LoadReply) (photos : List NewPhoto) (volume : ℕ)
+pub known_in_no_volume : (Tells : Type 0) (settings : Settings) (contents : ℕ → ℕ → List ℕ) (first known new : Remembered) (groups : List Group) (replies : List LoadReply)
+    (photos : List NewPhoto) (volume : ℕ)
     → 0 < settings.volumes → Begins Tells settings contents first → SuitAll settings first groups replies known → SuitsBatch settings known photos (Known volume) new → settings.volumes ≤ volume → ⊥
 known_in_no_volume Tells settings contents first known new groups replies photos volume some begins suit suits high =
     let home = known_home settings known new photos volume suits in
@@ -316,8 +320,10 @@ answered_on_its_line settings line more rest bytes pair group groups free is som
     ]
 
 -- one that was cut short so, or broke, or wanted memory
-pub cut_short_on_its_line : (Tells : Type 0) (settings : Settings) (line more rest bytes : List ℕ) (old new : ℕ → HeldDisk) (shelf shelf' : ℕ) (before after : Option (List ℕ)) (pair : Pair) → NoFeed line
-    → says (fed_text line) ≡ said.Plain (command.Put pair bytes) → 0 < length more → length more ≤ length rest → CutsShort Tells settings (line ++ 10 ∷ more) old new shelf shelf' before after (Some rest) → ⊥
+pub cut_short_on_its_line : (Tells : Type 0) (settings : Settings) (line more rest bytes : List ℕ) (old new : ℕ → HeldDisk) (shelf shelf' : ℕ) (before after : Option (List ℕ))
+    (pair : Pair) → NoFeed line
+    → says (fed_text line) ≡ said.Plain (command.Put pair bytes) → 0 < length more → length more ≤ length rest
+    → CutsShort Tells settings (line ++ 10 ∷ more) old new shelf shelf' before after (Some rest) → ⊥
 cut_short_on_its_line Tells settings line more rest bytes old new shelf shelf' before after pair free is some short cuts =
     by cuts.groups cuts.last cuts.some cuts.reads
   where
@@ -337,7 +343,8 @@ broke_on_its_line Tells settings line more rest bytes old new shelf shelf' befor
     by [] reads = answered_on_its_line settings line more rest bytes pair (Batch breaks.line breaks.photos) [] free is some short reads
     by (group ∷ groups) reads = answered_on_its_line settings line more rest bytes pair group (groups ++ Batch breaks.line breaks.photos ∷ []) free is some short reads
 
-pub wanted_behind_an_answer_on_its_line : (Tells : Type 0) (settings : Settings) (line more rest bytes : List ℕ) (old new : ℕ → HeldDisk) (shelf shelf' : ℕ) (before after : Option (List ℕ)) (pair : Pair) → NoFeed line
+pub wanted_behind_an_answer_on_its_line : (Tells : Type 0) (settings : Settings) (line more rest bytes : List ℕ) (old new : ℕ → HeldDisk) (shelf shelf' : ℕ)
+    (before after : Option (List ℕ)) (pair : Pair) → NoFeed line
     → says (fed_text line) ≡ said.Plain (command.Put pair bytes) → 0 < length more → length more ≤ length rest
     → (wants : Wants Tells settings (line ++ 10 ∷ more) old new shelf shelf' before after (Some rest)) → wants.groups ≢ [] → ⊥
 wanted_behind_an_answer_on_its_line Tells settings line more rest bytes old new shelf shelf' before after pair free is some short wants answered =

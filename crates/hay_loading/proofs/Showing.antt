@@ -177,7 +177,8 @@ stored_same settings s t u photos reply (inr first) (inr second) =
     first.stored ∙ ap (λ (v : ℕ). with_stored v photos s) same ∙ sym second.stored
 
 -- the replies tell what is stored
-pub answers_same : (settings : Settings) (s t u : StoredStore) (groups : List Group) (replies : List LoadReply) → AnswersAll settings s groups replies t → AnswersAll settings s groups replies u → t ≡ u
+pub answers_same : (settings : Settings) (s t u : StoredStore) (groups : List Group) (replies : List LoadReply) → AnswersAll settings s groups replies t
+    → AnswersAll settings s groups replies u → t ≡ u
 answers_same settings s t u [] [] first second = first ∙ sym second
 answers_same settings s t u [] (reply ∷ replies) first second = absurd first
 answers_same settings s t u (group ∷ groups) [] first second = absurd first

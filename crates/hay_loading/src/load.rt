@@ -33,9 +33,11 @@ fn load_script<H: Shelf, S: Source, K: Sink>(
     ensures ends { (script : List ℕ) (before : Option (List ℕ)) → S.left source.old ≡ Some script → Wrote before (texts.header_line settings) (K.written sink.old) →
         Ends H.Disk.Tells settings script (H.disks shelf.old) (H.disks shelf.new) (H.fault_count shelf.old) (H.fault_count shelf.new) before (K.written sink.new) (S.left source.new) result }
     ensures halts { IsErrOf result Stop.Input → (script : List ℕ) (before : Option (List ℕ)) → S.left source.old ≡ Some script → Wrote before (texts.header_line settings) (K.written sink.old) →
-        HaltsBehind H.Disk.Tells settings script (H.disks shelf.old) (H.disks shelf.new) (H.fault_count shelf.old) (H.fault_count shelf.new) before (K.written sink.new) (λ read. ReadFront script read (S.left source.new)) }
+        HaltsBehind H.Disk.Tells settings script (H.disks shelf.old) (H.disks shelf.new) (H.fault_count shelf.old) (H.fault_count shelf.new) before (K.written sink.new)
+        (λ read. ReadFront script read (S.left source.new)) }
     ensures halts_over { IsErrOf result Stop.TooLong → (script : List ℕ) (before : Option (List ℕ)) → S.left source.old ≡ Some script → Wrote before (texts.header_line settings) (K.written sink.old) →
-        HaltsBehind H.Disk.Tells settings script (H.disks shelf.old) (H.disks shelf.new) (H.fault_count shelf.old) (H.fault_count shelf.new) before (K.written sink.new) (λ read. ReadOver script read (S.left source.new)) }
+        HaltsBehind H.Disk.Tells settings script (H.disks shelf.old) (H.disks shelf.new) (H.fault_count shelf.old) (H.fault_count shelf.new) before (K.written sink.new)
+        (λ read. ReadOver script read (S.left source.new)) }
     ensures sound { H.Disk.Tells → IsOk result ⊎ IsErrOf result Stop.Input ⊎ IsErrOf result Stop.TooLong ⊎ (S.left source.new ≢ S.left source.old) →
         IsUndamagedBelow settings (disk_count settings) (reads_of (H.disks shelf.old)) }
     ensures ended { OnOk result (IsReadToEnd (S.left source.old) (S.left source.new)) }
@@ -75,11 +77,14 @@ fn load_headed<H: Shelf, S: Source, K: Sink>(
     requires limits { IsLimited settings }
     requires disks_in { AreIn (disk_count settings) (H.disks shelf.old) }
     ensures ends { (script : List ℕ) → S.left source.old ≡ Some script →
-        Ends H.Disk.Tells settings script (H.disks shelf.old) (H.disks shelf.new) (H.fault_count shelf.old) (H.fault_count shelf.new) (K.written sink.old) (K.written sink.new) (S.left source.new) result }
+        Ends H.Disk.Tells settings script (H.disks shelf.old) (H.disks shelf.new) (H.fault_count shelf.old) (H.fault_count shelf.new) (K.written sink.old) (K.written sink.new)
+        (S.left source.new) result }
     ensures halts { IsErrOf result Stop.Input → (script : List ℕ) → S.left source.old ≡ Some script →
-        HaltsBehind H.Disk.Tells settings script (H.disks shelf.old) (H.disks shelf.new) (H.fault_count shelf.old) (H.fault_count shelf.new) (K.written sink.old) (K.written sink.new) (λ read. ReadFront script read (S.left source.new)) }
+        HaltsBehind H.Disk.Tells settings script (H.disks shelf.old) (H.disks shelf.new) (H.fault_count shelf.old) (H.fault_count shelf.new) (K.written sink.old)
+        (K.written sink.new) (λ read. ReadFront script read (S.left source.new)) }
     ensures halts_over { IsErrOf result Stop.TooLong → (script : List ℕ) → S.left source.old ≡ Some script →
-        HaltsBehind H.Disk.Tells settings script (H.disks shelf.old) (H.disks shelf.new) (H.fault_count shelf.old) (H.fault_count shelf.new) (K.written sink.old) (K.written sink.new) (λ read. ReadOver script read (S.left source.new)) }
+        HaltsBehind H.Disk.Tells settings script (H.disks shelf.old) (H.disks shelf.new) (H.fault_count shelf.old) (H.fault_count shelf.new) (K.written sink.old)
+        (K.written sink.new) (λ read. ReadOver script read (S.left source.new)) }
     ensures sound { H.Disk.Tells → IsOk result ⊎ IsErrOf result Stop.Input ⊎ IsErrOf result Stop.TooLong ⊎ (S.left source.new ≢ S.left source.old) →
         IsUndamagedBelow settings (disk_count settings) (reads_of (H.disks shelf.old)) }
     ensures ended { OnOk result (IsReadToEnd (S.left source.old) (S.left source.new)) }
@@ -124,13 +129,16 @@ pub fn load_store<H: Shelf, S: Source, K: Sink>(
     requires disks_in { AreIn (disk_count settings) (H.disks shelf.old) }
     // What was answered and written at each status, and what the disks given back hold.
     ensures loaded { (script : List ℕ) → S.left source.old ≡ Some script →
-        LoadsTo H.Disk.Tells settings script (H.disks shelf.old) (H.disks shelf.new) (H.fault_count shelf.old) (H.fault_count shelf.new) (K.written sink.old) (K.written sink.new) (S.left source.new) result }
+        LoadsTo H.Disk.Tells settings script (H.disks shelf.old) (H.disks shelf.new) (H.fault_count shelf.old) (H.fault_count shelf.new) (K.written sink.old) (K.written sink.new)
+        (S.left source.new) result }
 
     // Where the source failed, or the script is too long, just what ends with the lines that were read was answered.
     ensures halts { result ≡ 4 → (script : List ℕ) → S.left source.old ≡ Some script →
-        HaltsBehind H.Disk.Tells settings script (H.disks shelf.old) (H.disks shelf.new) (H.fault_count shelf.old) (H.fault_count shelf.new) (K.written sink.old) (K.written sink.new) (λ read. ReadFront script read (S.left source.new)) }
+        HaltsBehind H.Disk.Tells settings script (H.disks shelf.old) (H.disks shelf.new) (H.fault_count shelf.old) (H.fault_count shelf.new) (K.written sink.old)
+        (K.written sink.new) (λ read. ReadFront script read (S.left source.new)) }
     ensures halts_over { result ≡ 7 → (script : List ℕ) → S.left source.old ≡ Some script →
-        HaltsBehind H.Disk.Tells settings script (H.disks shelf.old) (H.disks shelf.new) (H.fault_count shelf.old) (H.fault_count shelf.new) (K.written sink.old) (K.written sink.new) (λ read. ReadOver script read (S.left source.new)) }
+        HaltsBehind H.Disk.Tells settings script (H.disks shelf.old) (H.disks shelf.new) (H.fault_count shelf.old) (H.fault_count shelf.new) (K.written sink.old)
+        (K.written sink.new) (λ read. ReadOver script read (S.left source.new)) }
 
     // Where a script was read to its end, or as far as it could be, or any of it was, nothing that an opening reads of the disks was damaged.
     ensures sound { H.Disk.Tells → (result ≡ 0) ⊎ (result ≡ 4) ⊎ (result ≡ 7) ⊎ (S.left source.new ≢ S.left source.old) →

@@ -40,7 +40,8 @@ rows_told {D} {shared = shared} {lane = lane} {old = old} fits {start = start} t
     let same : fits.begun ≡ at.begun = cc in
     tells at.begun lane (subst (λ (b : BegunAt D). IsSeated shared.lock b lane old) same fits.seated) start at.stands
 
-pub settle_tells : (start : Start) (tag : CoreTag) (row : HomeRow) (answer : Result (ℕ × ℕ) DirFault) (a b : LockSight DirAct HomeRow) → SettlesAs start row tag answer a b → SettleTells start tag row answer a b
+pub settle_tells : (start : Start) (tag : CoreTag) (row : HomeRow) (answer : Result (ℕ × ℕ) DirFault) (a b : LockSight DirAct HomeRow) → SettlesAs start row tag answer a b
+    → SettleTells start tag row answer a b
 settle_tells start tag row (Ok answer) a b x = x
 settle_tells start tag row (Err refusal.Frozen) a b x = x
 settle_tells start tag row (Err refusal.NoMemory) a b x = x

@@ -32,12 +32,14 @@ lines_added : (acts : List DirAct) → map (λ (tag : Tag). tag.line) (rows.tags
 lines_added [] = refl
 lines_added (act ∷ acts) =
     let rest = lines_added acts in
-    elim (row_of act.did) as (λ o. map (λ (tag : Tag). tag.line) (rows.add_tag o (rows.tag_of act) (rows.tags_of acts)) ≡ map (λ (row : LineVolume). row.line) (cons_option (row_line act o) (filter_map added_row acts))) [
+    elim (row_of act.did) as (λ o. map (λ (tag : Tag). tag.line) (rows.add_tag o (rows.tag_of act) (rows.tags_of acts))
+    ≡ map (λ (row : LineVolume). row.line) (cons_option (row_line act o) (filter_map added_row acts))) [
       | None ↦ rest
       | Some row ↦ ap (λ l. (act.tag).line ∷ l) rest
     ]
 
-module _ {D P : Type 0} {shared : SharedDirectory D P} {settings : Settings} {room : ℕ} {before : State D} {seats : List (DirectorySeatState D)} (made : IsMadeOfRows shared room before settings (length seats)) where
+module _ {D P : Type 0} {shared : SharedDirectory D P} {settings : Settings} {room : ℕ} {before : State D} {seats : List (DirectorySeatState D)}
+    (made : IsMadeOfRows shared room before settings (length seats)) where
   pub all_seated_rows : {other : Settings} → AreSeated IsRowSeatOf shared other (length seats) seats → directory.AreSeated shared.lock made.begun seats
   all_seated_rows sits = record {
     many = sym made.seats;
@@ -49,7 +51,8 @@ module _ {D P : Type 0} {shared : SharedDirectory D P} {settings : Settings} {ro
         subst (λ (b : BegunAt D). IsSeated shared.lock b lane seat) same fits.seated;
   }
 
-  module _ (Tells : Type 0) (files : D → Files) (faults fuses : D → ℕ) {after : State D} {tags : List Tag} (closes : directory.Closes Tells files faults fuses shared.lock made.begun seats after tags) where
+  module _ (Tells : Type 0) (files : D → Files) (faults fuses : D → ℕ) {after : State D} {tags : List Tag}
+      (closes : directory.Closes Tells files faults fuses shared.lock made.begun seats after tags) where
     pub is_directory_of : IsDirectoryOf after settings
     is_directory_of = record {
       settings_are = (closes.stands).settings ∙ (ap (λ (d : State D). d.settings) made.directory_is ∙ (made.of).settings_are);

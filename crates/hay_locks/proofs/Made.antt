@@ -20,7 +20,8 @@ module _ {D P : Type 0} (shared : SharedDirectory D P) (directory : State D) (be
   first_begun : ((shared.first).value.turn).start ≡ Some begun
   first_begun = ((new.seated).each 0 (shared.first).value first).start
 
-  pub is_made_of_rows : (settings : Settings) (room lanes : ℕ) → (shared.lock).seats ≡ lanes → room ≡ lanes → 0 < lanes → IsDirectoryOf directory settings → IsMadeOfRows shared room directory settings lanes
+  pub is_made_of_rows : (settings : Settings) (room lanes : ℕ) → (shared.lock).seats ≡ lanes → room ≡ lanes → 0 < lanes → IsDirectoryOf directory settings
+      → IsMadeOfRows shared room directory settings lanes
   is_made_of_rows settings room lanes many room_is some of = record {
     of = of;
     some = some;
@@ -40,7 +41,8 @@ module _ {D P : Type 0} (shared : SharedDirectory D P) (directory : State D) (be
   pub are_unseen_rows : AreUnseen (sight {D = D}) seats
   are_unseen_rows = record { each = new.blank }
 
-  pub are_at_rows : (Tells : Type 0) (files : D → Files) (faults fuses : D → ℕ) → AreAtRows (RowsWereAt faults fuses) (DirectoryStands Tells files) (rows_count_of faults) (rows_count_of fuses) directory seats
+  pub are_at_rows : (Tells : Type 0) (files : D → Files) (faults fuses : D → ℕ) → AreAtRows (RowsWereAt faults fuses) (DirectoryStands Tells files) (rows_count_of faults)
+      (rows_count_of fuses) directory seats
   are_at_rows Tells files faults fuses lane seat at known drained stands start same =
       let stood : StandsAt faults fuses directory (standing_of faults fuses directory known drained) = stands_at files faults fuses directory known drained stands.stands in record {
         begun = begun;

@@ -35,8 +35,10 @@ pending_within volumes mode pending is within row some =
     let same : mode ≡ mode_of (Some row) = is ∙ ap mode_of some in
     subst (λ (m : Mode). IfSome (unsure_of m) (λ unsure. unsure.row.volume < volumes)) same within
 
-pub is_regular_directory : {D : Type 0} (files : D → Files) → ((disk : D) (n : ℕ) → IsImage (files disk n) (files disk n).now) → (directory : State D) (settings : Settings) (known : DirKnown) (drained : List Bool)
-    → directory.settings ≡ settings → Stands files directory known drained → IfSome (unsure_of directory.mode) (λ unsure. unsure.row.volume < directory.settings.volumes) → IsRegularDirectory settings known
+pub is_regular_directory : {D : Type 0} (files : D → Files) → ((disk : D) (n : ℕ) → IsImage (files disk n) (files disk n).now)
+    → (directory : State D) (settings : Settings) (known : DirKnown) (drained : List Bool)
+    → directory.settings ≡ settings → Stands files directory known drained → IfSome (unsure_of directory.mode) (λ unsure. unsure.row.volume < directory.settings.volumes)
+    → IsRegularDirectory settings known
 unfolding Stands
 is_regular_directory files now directory settings known drained of stands within =
     let file = (files directory.disk 0).now in

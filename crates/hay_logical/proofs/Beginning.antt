@@ -98,7 +98,8 @@ module _ {D : Type 0} (DiskTells : Type 0) (files : D → Files) (faults : D →
   begin_left (fault.Damaged at) up kept cause = absurd cause
   begin_left fault.NoMemory up kept cause = (up, kept ∙ cause.0, cause)
 
-  pub begin_holds : (s : Stored) (run : Run) (f : ReplicaFault) → physical.Stands files x s → is_stuck x ≡ is_stuck r → (f ≡ fault.Worn → s.generation ≡ 65535) → IsBeginFault faults r x f → HoldsUnswapped files r x s run (Refused f)
+  pub begin_holds : (s : Stored) (run : Run) (f : ReplicaFault) → physical.Stands files x s → is_stuck x ≡ is_stuck r → (f ≡ fault.Worn → s.generation ≡ 65535)
+      → IsBeginFault faults r x f → HoldsUnswapped files r x s run (Refused f)
   begin_holds s run (fault.Failed n) stands stuck last cause = (stands, stuck)
   begin_holds s run fault.Frozen stands stuck last cause = absurd cause
   begin_holds s run (fault.Full end need capacity) stands stuck last cause = absurd cause

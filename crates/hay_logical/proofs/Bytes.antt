@@ -39,7 +39,8 @@ pub looked_bytes : {D : Type 0} (files : D → Files) (r x : Copy D) → KeepsBy
 looked_bytes files r x keeps same = ap (λ n. (files x.disk (volume_file n)).now) same ∙ keeps.now (volume_file (generation_of r))
 
 -- so it is of each replica
-pub bytes_through : {D : Type 0} (DiskTells : Type 0) (files : D → Files) → DiskTells → (olds mids : List (Copy D)) → KeepsFiles DiskTells files olds mids → map replica_seen mids ≡ map replica_seen olds
+pub bytes_through : {D : Type 0} (DiskTells : Type 0) (files : D → Files) → DiskTells → (olds mids : List (Copy D)) → KeepsFiles DiskTells files olds mids
+    → map replica_seen mids ≡ map replica_seen olds
     → (j : ℕ) (r x : Copy D) → At olds j r → At mids j x → volume_bytes files x ≡ volume_bytes files r
 bytes_through {D} DiskTells files tells olds mids keeps same j r x e f =
     let before : At (map replica_seen mids) j (replica_seen r) = subst (λ (l : List ReplicaSeen). At l j (replica_seen r)) (sym same) (at_map replica_seen olds j r e) in

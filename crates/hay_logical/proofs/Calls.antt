@@ -239,7 +239,8 @@ flush_if faults r r' (Err f) up cause stuck stayed thawed same =
     flush_cause faults r r' f up cause stuck (λ e. stayed (ap Err e)) (λ e. thawed (ap Err e)) (λ h. (same h).1)
 
 -- a flush that goes on had an index that was not stuck
-pub not_stuck_before : {D : Type 0} (r r' : Copy D) (result : Result ℕ ReplicaFault) → ((IsFrozen r ⊎ (is_stuck r ≡ true)) → (result ≡ Err fault.Frozen) × (r' ≡ r)) → (result ≡ Err fault.Frozen → ⊥) → is_stuck r ≡ false
+pub not_stuck_before : {D : Type 0} (r r' : Copy D) (result : Result ℕ ReplicaFault) → ((IsFrozen r ⊎ (is_stuck r ≡ true)) → (result ≡ Err fault.Frozen) × (r' ≡ r))
+    → (result ≡ Err fault.Frozen → ⊥) → is_stuck r ≡ false
 not_stuck_before r r' result same never = elim (cases_Bool (is_stuck r)) [
   | inl t ↦ absurd (never ((same (inr t)).0))
   | inr f ↦ f
@@ -323,13 +324,15 @@ stays_where DiskTells files place.Gone r never = loses_none DiskTells files r
 stays_where DiskTells files place.None r never = loses_none DiskTells files r
 stays_where DiskTells files (place.Unseen at size) r never = loses_none DiskTells files r
 
-pub follows_where : {D P : Type 0} (DiskTells : Type 0) (files : D → Files) (faults : D → ℕ) (pair : Pair) (p : Place P) (r : Copy D) → ((needle : SealedNeedle) → p ≡ place.Live needle → ⊥) → FollowsAt DiskTells files faults pair p r r
+pub follows_where : {D P : Type 0} (DiskTells : Type 0) (files : D → Files) (faults : D → ℕ) (pair : Pair) (p : Place P) (r : Copy D)
+    → ((needle : SealedNeedle) → p ≡ place.Live needle → ⊥) → FollowsAt DiskTells files faults pair p r r
 follows_where DiskTells files faults pair (place.Live needle) r never = absurd (never needle refl)
 follows_where DiskTells files faults pair place.Gone r never = refl
 follows_where DiskTells files faults pair place.None r never = refl
 follows_where DiskTells files faults pair (place.Unseen at size) r never = refl
 
-pub follows_on : {D P : Type 0} (DiskTells : Type 0) (files : D → Files) (faults : D → ℕ) (pair : Pair) (r r' : Copy D) (p q : Place P) → q ≡ p → FollowsAt DiskTells files faults pair p r r' → FollowsAt DiskTells files faults pair q r r'
+pub follows_on : {D P : Type 0} (DiskTells : Type 0) (files : D → Files) (faults : D → ℕ) (pair : Pair) (r r' : Copy D) (p q : Place P) → q ≡ p
+    → FollowsAt DiskTells files faults pair p r r' → FollowsAt DiskTells files faults pair q r r'
 follows_on DiskTells files faults pair r r' p q e h = subst (λ x. FollowsAt DiskTells files faults pair x r r') (sym e) h
 
 pub follows_keeps : {D P : Type 0} (DiskTells : Type 0) (files : D → Files) (faults : D → ℕ) (pair : Pair) (p : Place P) (r r' : Copy D)
@@ -347,7 +350,8 @@ none_in zero i = refl
 none_in (suc n) zero = refl
 none_in (suc n) (suc i) = none_in n i
 
-pub opens_on : {D P : Type 0} (DiskTells : Type 0) (files : D → Files) (Tells : Type 0) (rows rows' : MapRows P) (j : ℕ) (r r' : Copy D) → ((pair : Pair) → place_in (row_at rows' pair) j ≡ place_in (row_at rows pair) j)
+pub opens_on : {D P : Type 0} (DiskTells : Type 0) (files : D → Files) (Tells : Type 0) (rows rows' : MapRows P) (j : ℕ) (r r' : Copy D)
+    → ((pair : Pair) → place_in (row_at rows' pair) j ≡ place_in (row_at rows pair) j)
     → OpensAt DiskTells files Tells rows j r r' → OpensAt DiskTells files Tells rows' j r r'
 opens_on DiskTells files Tells rows rows' j r r' same h = record {
   up = h.up;
@@ -392,7 +396,8 @@ reach_from DiskTells files rows R n old new w opened closed = λ tells j r' f.
 -- the places of a replica that was opened, as they were loaded
 pub reaches_loaded : {D P Tells : Type 0} (files : D → Files) (rows : MapRows P) (j : ℕ) (r : Copy D) (loads : Pair → Place P) → ((pair : Pair) → place_in (row_at rows pair) j ≡ loads pair)
     → ((pair : Pair) → physical.MayDeletePlace files r (loads pair)) → ((pair : Pair) → physical.MaySeePlace files r (loads pair))
-    → ((pair other : Pair) → pair_eq pair other ≡ false → physical.ArePlacesApart (loads pair) (loads other)) → ((pair : Pair) → physical.HasWholeNeedle Tells (loads pair)) → ReachesPlaces files Tells rows j r
+    → ((pair other : Pair) → pair_eq pair other ≡ false → physical.ArePlacesApart (loads pair) (loads other)) → ((pair : Pair) → physical.HasWholeNeedle Tells (loads pair))
+    → ReachesPlaces files Tells rows j r
 reaches_loaded {Tells = Tells} files rows j r loads there deletes sees apart whole = record {
   deletes = λ up pair. subst (physical.MayDeletePlace files r) (sym (there pair)) (deletes pair);
   sees = λ is. record {

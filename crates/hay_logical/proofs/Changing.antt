@@ -100,7 +100,8 @@ deletes_up {D = D} DiskTells files place.Gone r r' h up = h.up up
 deletes_up {D = D} DiskTells files place.None r r' h up = h.up up
 deletes_up {D = D} DiskTells files (place.Unseen at size) r r' h up = h.up up
 
-pub deleted_same : {D P : Type 0} (DiskTells : Type 0) (files : D → Files) (p : Place P) (r r' : Copy D) → DeletesAt DiskTells files p r r' → IsUp r → IsUp r' × (r'.sup ≡ r.sup) × (is_stuck r' ≡ is_stuck r)
+pub deleted_same : {D P : Type 0} (DiskTells : Type 0) (files : D → Files) (p : Place P) (r r' : Copy D) → DeletesAt DiskTells files p r r' → IsUp r
+    → IsUp r' × (r'.sup ≡ r.sup) × (is_stuck r' ≡ is_stuck r)
 deleted_same DiskTells files p r r' h up =
     let s = deletes_sup DiskTells files p r r' h in
     (deletes_up DiskTells files p r r' h up, s.0, s.1)
@@ -132,7 +133,8 @@ module _ {D P : Type 0} (settings : Settings) (number : ℕ) (DiskTells : Type 0
       (shown settings number DiskTells files Tells faults fuses items rows front frozen unsure k stands pair j there.0 there.1)))
 
   pub not_held : (items : List (Copy D)) (rows : MapRows P) (front : ℕ) (frozen : Option ℕ) (unsure : Option Unsure) (k : VolumeKnown) (pair : Pair) (row : List (Place P))
-      → StandsFor files Tells (volume_with settings number items rows front frozen unsure) k → row ≡ row_at rows pair → length row ≡ settings.replicas → ((j : ℕ) → j < settings.replicas → IsSeen (place_in (row_at rows pair) j))
+      → StandsFor files Tells (volume_with settings number items rows front frozen unsure) k → row ≡ row_at rows pair → length row ≡ settings.replicas
+      → ((j : ℕ) → j < settings.replicas → IsSeen (place_in (row_at rows pair) j))
       → ((j : ℕ) → j < length row → is_live (place_in row j) ≡ false) → is_held k pair ≡ false
   not_held items rows front frozen unsure k pair row stands is long seen none =
       let many : length k.replicas ≡ settings.replicas = stands.many in
@@ -142,7 +144,8 @@ module _ {D P : Type 0} (settings : Settings) (number : ℕ) (DiskTells : Type 0
       held_by items rows front frozen unsure k pair row stands is seen j within ∙ none j less)
 
   pub is_held_at : (items : List (Copy D)) (rows : MapRows P) (front : ℕ) (frozen : Option ℕ) (unsure : Option Unsure) (k : VolumeKnown) (pair : Pair) (row : List (Place P))
-      → StandsFor files Tells (volume_with settings number items rows front frozen unsure) k → row ≡ row_at rows pair → length row ≡ settings.replicas → ((j : ℕ) → j < settings.replicas → IsSeen (place_in (row_at rows pair) j))
+      → StandsFor files Tells (volume_with settings number items rows front frozen unsure) k → row ≡ row_at rows pair → length row ≡ settings.replicas
+      → ((j : ℕ) → j < settings.replicas → IsSeen (place_in (row_at rows pair) j))
       → (some : (j : ℕ) × (j < length row) × (is_live (place_in row j) ≡ true)) → is_held k pair ≡ true
   is_held_at items rows front frozen unsure k pair row stands is long seen some =
       let many : length k.replicas ≡ settings.replicas = stands.many in
@@ -153,7 +156,8 @@ module _ {D P : Type 0} (settings : Settings) (number : ℕ) (DiskTells : Type 0
 
   -- the places of other pairs that were not looked at are apart from those of a pair that was
   pub apart_of : DiskTells → (items : List (Copy D)) (rows : MapRows P) (pair : Pair) → CanReach DiskTells files Tells items rows → ((j : ℕ) (r : Copy D) → At items j r → IsOpenCopy r)
-      → (j : ℕ) (r : Copy D) → At items j r → IsSeen (place_in (row_at rows pair) j) → (q : Pair) (at size : ℕ) → place_in (row_at rows q) j ≡ place.Unseen at size → physical.IsApartPlace at size (place_in (row_at rows pair) j)
+      → (j : ℕ) (r : Copy D) → At items j r → IsSeen (place_in (row_at rows pair) j) → (q : Pair) (at size : ℕ) → place_in (row_at rows q) j ≡ place.Unseen at size
+      → physical.IsApartPlace at size (place_in (row_at rows pair) j)
   apart_of tells items rows pair can ups j r e own q at size here = elim (cases_Bool (pair_eq q pair)) [
     | inl same ↦
         let is_own : place_in (row_at rows pair) j ≡ place.Unseen at size = ap (λ (x : Pair). place_in (row_at rows x) j) (sym (pair_same q pair same)) ∙ here in
@@ -161,10 +165,13 @@ module _ {D P : Type 0} (settings : Settings) (number : ℕ) (DiskTells : Type 0
     | inr differ ↦ subst (λ x. physical.ArePlacesApart x (place_in (row_at rows pair) j)) here (((can tells j r e).sees (ups j r e)).apart q pair differ)
   ]
 
-  pub delete_refused : DiskTells → (items new : List (Copy D)) (rows : MapRows P) (front : ℕ) (frozen : Option ℕ) (unsure : Option Unsure) (k : VolumeKnown) (tag : CoreTag) (pair : Pair) (row : List (Place P)) (failed : DiskFailed) (m : ℕ)
+  pub delete_refused : DiskTells → (items new : List (Copy D)) (rows : MapRows P) (front : ℕ) (frozen : Option ℕ) (unsure : Option Unsure) (k : VolumeKnown) (tag : CoreTag)
+      (pair : Pair) (row : List (Place P)) (failed : DiskFailed) (m : ℕ)
       → StandsFor files Tells (volume_with settings number items rows front frozen unsure) k → frozen ≡ None → length new ≡ length items → row ≡ row_at rows pair
-      → length row ≡ settings.replicas → ((j : ℕ) → j < settings.replicas → IsSeen (place_in (row_at rows pair) j)) → (some : (j : ℕ) × (j < length row) × (is_live (place_in row j) ≡ true)) → m ≡ machine_of settings number failed.at → DeleteLeaves DiskTells files faults row items new failed → AllIdle new
-      → CanReach DiskTells files Tells items rows → ((j : ℕ) (r : Copy D) → At items j r → IsOpenCopy r) → ((j : ℕ) (r r' : Copy D) → At items j r → At new j r' → StaysBeside DiskTells files (place_in row j) r r')
+      → length row ≡ settings.replicas → ((j : ℕ) → j < settings.replicas → IsSeen (place_in (row_at rows pair) j))
+      → (some : (j : ℕ) × (j < length row) × (is_live (place_in row j) ≡ true)) → m ≡ machine_of settings number failed.at → DeleteLeaves DiskTells files faults row items new failed → AllIdle new
+      → CanReach DiskTells files Tells items rows → ((j : ℕ) (r : Copy D) → At items j r → IsOpenCopy r)
+      → ((j : ℕ) (r r' : Copy D) → At items j r → At new j r' → StaysBeside DiskTells files (place_in row j) r r')
       → DeleteRefused files Tells k tag pair (volume_with settings number new rows front (Some m) (Some (record { tag = tag; change = change.Delete pair }))) (logical.Failed m failed.faults)
   unfolding Stands
   delete_refused tells items new rows front (Some n) unsure k tag pair row failed m stands thawed count is long seen some machine left idle can ups beside = some_none thawed
@@ -172,7 +179,8 @@ module _ {D P : Type 0} (settings : Settings) (number : ℕ) (DiskTells : Type 0
       let left' : DeleteLeaves DiskTells files faults (row_at rows pair) items new failed = subst (λ l. DeleteLeaves DiskTells files faults l items new failed) is left in
       let below = at_below items failed.at left.before left.was in
       let all : length items ≡ settings.replicas = stands.all in
-      let looked : (j : ℕ) (r : Copy D) → At items j r → IsSeen (place_in (row_at rows pair) j) = λ j r e. seen j (let low = at_below items j r e in let less : j < settings.replicas = omega (arith, low, all) in less) in (
+      let looked : (j : ℕ) (r : Copy D) → At items j r → IsSeen (place_in (row_at rows pair) j) =
+      λ j r e. seen j (let low = at_below items j r e in let less : j < settings.replicas = omega (arith, low, all) in less) in (
         stands.frozen,
         inr (
           is_held_at items rows front None unsure k pair row stands is long seen some,
@@ -249,8 +257,10 @@ module _ {D P : Type 0} (settings : Settings) (number : ℕ) (DiskTells : Type 0
   pub stands_one : (items new : List (Copy D)) (rows : MapRows P) (front : ℕ) (unsure : Option Unsure) (k t : VolumeKnown) (at : ℕ) (one : CallsOne at items new)
       → StandsFor files Tells (volume_with settings number items rows front None unsure) k
       → t.log ≡ k.log → t.frozen ≡ k.frozen → t.pending ≡ k.pending → length t.replicas ≡ length k.replicas
-      → (ReplicaStands files Tells (volume_with settings number items rows front None unsure) k at one.before → ReplicaStands files Tells (volume_with settings number new rows front None unsure) t at one.after)
-      → ((j : ℕ) → j ≢ at → (r : Copy D) → ReplicaStands files Tells (volume_with settings number items rows front None unsure) k j r → ReplicaStands files Tells (volume_with settings number new rows front None unsure) t j r)
+      → (ReplicaStands files Tells (volume_with settings number items rows front None unsure) k at one.before
+      → ReplicaStands files Tells (volume_with settings number new rows front None unsure) t at one.after)
+      → ((j : ℕ) → j ≢ at → (r : Copy D) → ReplicaStands files Tells (volume_with settings number items rows front None unsure) k j r
+      → ReplicaStands files Tells (volume_with settings number new rows front None unsure) t j r)
       → StandsFor files Tells (volume_with settings number new rows front None unsure) t
   stands_one items new rows front unsure k t at one stands log frozen pending many here others =
       let V : Volume D P = volume_with settings number items rows front None unsure in
@@ -265,8 +275,10 @@ module _ {D P : Type 0} (settings : Settings) (number : ℕ) (DiskTells : Type 0
         | inr apart ↦ subst (λ x. ReplicaStands files Tells W t j x) (sym (other_same at items new one j apart r r' e f)) (others j apart r was)
       ])
 
-  pub other_changed : (items new : List (Copy D)) (rows : MapRows P) (front : ℕ) (unsure : Option Unsure) (k : VolumeKnown) (at : ℕ) (alter : ReplicaKnown → ReplicaKnown) (j : ℕ) → j ≢ at → (r : Copy D)
-      → ReplicaStands files Tells (volume_with settings number items rows front None unsure) k j r → ReplicaStands files Tells (volume_with settings number new rows front None unsure) (change_at k at alter) j r
+  pub other_changed : (items new : List (Copy D)) (rows : MapRows P) (front : ℕ) (unsure : Option Unsure) (k : VolumeKnown) (at : ℕ) (alter : ReplicaKnown → ReplicaKnown) (j : ℕ)
+      → j ≢ at → (r : Copy D)
+      → ReplicaStands files Tells (volume_with settings number items rows front None unsure) k j r
+      → ReplicaStands files Tells (volume_with settings number new rows front None unsure) (change_at k at alter) j r
   other_changed items new rows front unsure k at alter j apart r was = record {
     stored = was.stored;
     fits = fits_other k j at alter was.stored apart was.fits;
@@ -345,8 +357,10 @@ module _ {D P : Type 0} (settings : Settings) (number : ℕ) (DiskTells : Type 0
             (other_changed items new rows front unsure k at (with_bare 0));
       }
 
-  pub flush_refused : DiskTells → (items new : List (Copy D)) (rows : MapRows P) (front : ℕ) (frozen : Option ℕ) (unsure : Option Unsure) (k : VolumeKnown) (at m : ℕ) (f : ReplicaFault) (one : CallsOne at items new)
-      → StandsFor files Tells (volume_with settings number items rows front frozen unsure) k → frozen ≡ None → m ≡ machine_of settings number at → FlushesAt DiskTells files faults one.before one.after (Err f)
+  pub flush_refused : DiskTells → (items new : List (Copy D)) (rows : MapRows P) (front : ℕ) (frozen : Option ℕ) (unsure : Option Unsure) (k : VolumeKnown) (at m : ℕ)
+      (f : ReplicaFault) (one : CallsOne at items new)
+      → StandsFor files Tells (volume_with settings number items rows front frozen unsure) k → frozen ≡ None → m ≡ machine_of settings number at
+      → FlushesAt DiskTells files faults one.before one.after (Err f)
       → FlushRefused files Tells k at (volume_with settings number items rows front frozen unsure) (volume_with settings number new rows front frozen unsure) (answer_at m f)
   unfolding Stands
   flush_refused tells items new rows front (Some n) unsure k at m f one stands thawed machine step = some_none thawed
@@ -403,7 +417,8 @@ module _ {D P : Type 0} (settings : Settings) (number : ℕ) (DiskTells : Type 0
       )
 
 -- the one replica that was called failed
-pub one_failed : {D : Type 0} (faults : D → ℕ) (settings : Settings) (number : ℕ) (items new : List (Copy D)) (at m printed : ℕ) (one : CallsOne at items new) → length items ≡ settings.replicas → m ≡ machine_of settings number at
+pub one_failed : {D : Type 0} (faults : D → ℕ) (settings : Settings) (number : ℕ) (items new : List (Copy D)) (at m printed : ℕ) (one : CallsOne at items new)
+    → length items ≡ settings.replicas → m ≡ machine_of settings number at
     → Rose (faults (one.before).disk) (faults (one.after).disk) → printed ≡ faults (one.after).disk → HasFailed faults settings number items new m printed
 one_failed faults settings number items new at m printed one all machine rose is =
     let below = at_below items at one.before one.was in

@@ -41,7 +41,8 @@ run_next : {D : Type 0} (files : D → Files) (r : Copy D) (s : Stored) (run : r
 unfolding HasRun
 run_next files r s run h = h.has.next
 
-module _ {D P : Type 0} (settings : Settings) (number : ℕ) (DiskTells : Type 0) (files : D → Files) (Tells : Type 0) (faults : D → ℕ) (items new : List (Copy D)) (rows rows' : MapRows P) (front : ℕ) (unsure : Option Unsure) (k : VolumeKnown)
+module _ {D P : Type 0} (settings : Settings) (number : ℕ) (DiskTells : Type 0) (files : D → Files) (Tells : Type 0) (faults : D → ℕ) (items new : List (Copy D))
+    (rows rows' : MapRows P) (front : ℕ) (unsure : Option Unsure) (k : VolumeKnown)
     (stands : StandsFor files Tells (volume_with settings number items rows front None unsure) k) (tells : DiskTells) (at : ℕ) (one : SwapsOne DiskTells files at items new) where
   was : ReplicaStands files Tells (volume_with settings number items rows front None unsure) k at one.before
   was = was_there settings number DiskTells files Tells items new rows rows' front unsure k stands one.count tells at one
@@ -62,7 +63,8 @@ module _ {D P : Type 0} (settings : Settings) (number : ℕ) (DiskTells : Type 0
       let fits = was.fits.generation in
       (run, (let e : (replica_at k at).generation < 65535 = omega (arith, most, next, fits) in e))
 
-  pub finished : (files_now : NewFiles P) → (goal_of one.before ≡ None → ⊥) → ((goal : ℕ) → goal_of one.before ≡ Some goal → goal ≤ 65535) → SwapsAt DiskTells files faults Tells Going rows rows' at one.before one.after (Ok files_now) → KeepsPlaces rows rows' at (Ok files_now)
+  pub finished : (files_now : NewFiles P) → (goal_of one.before ≡ None → ⊥) → ((goal : ℕ) → goal_of one.before ≡ Some goal → goal ≤ 65535)
+      → SwapsAt DiskTells files faults Tells Going rows rows' at one.before one.after (Ok files_now) → KeepsPlaces rows rows' at (Ok files_now)
       → IsFinished files Tells k at files_now.generation (volume_with settings number new rows' front None unsure)
   unfolding Stands was has_run
   finished files_now standing few swaps places =
@@ -76,21 +78,29 @@ module _ {D P : Type 0} (settings : Settings) (number : ℕ) (DiskTells : Type 0
           made.stored.end,
           length made.stored.cells,
           loose_sizes k at was.stored made.stored (copier_run run.0) was.fits made.to,
-          stands_swap settings number DiskTells files Tells items new rows rows' front unsure k stands one.count tells at one (copier_run run.0) files_now.generation swaps.up.0 swaps.up.1 swaps.up.2 made places.others,
+          stands_swap settings number DiskTells files Tells items new rows rows' front unsure k stands one.count tells at one (copier_run run.0) files_now.generation swaps.up.0
+              swaps.up.1 swaps.up.2 made places.others,
         );
         sizes = λ r f s is.
             let same = one_standing files r made.stored s (subst (λ (x : Copy D). physical.Stands files x made.stored) (at_same new at one.after r one.is f) made.stands) is in
             (same.0, ap (λ (l : List Cell). length l) same.1);
       }
 
-  pub finish_refused : (u : Unswapped) → (goal_of one.before ≡ None → ⊥) → ((goal : ℕ) → goal_of one.before ≡ Some goal → goal ≤ 65535) → SwapsAt DiskTells files faults Tells Going rows rows' at one.before one.after (Err u) → StaysInReach DiskTells files one.before one.after
+  pub finish_refused : (u : Unswapped) → (goal_of one.before ≡ None → ⊥) → ((goal : ℕ) → goal_of one.before ≡ Some goal → goal ≤ 65535)
+      → SwapsAt DiskTells files faults Tells Going rows rows' at one.before one.after (Err u) → StaysInReach DiskTells files one.before one.after
       → KeepsPlaces rows rows' at (Err u)
-      → FinishRefused files Tells k at (volume_with settings number items rows front None unsure) (volume_with settings number new rows' front (unfinished_by settings number at u).frozen unsure) (unfinished_by settings number at u).fault
+      → FinishRefused files Tells k at (volume_with settings number items rows front None unsure)
+      (volume_with settings number new rows' front (unfinished_by settings number at u).frozen unsure) (unfinished_by settings number at u).fault
   unfolding Stands was has_run
   finish_refused (Refused (fault.Failed n)) standing few swaps stays places =
       let run = running standing in
-      let h = swaps.refused tells was.stored (copier_run run.0) was.stands (has_run run) was.places in
-      (stands.frozen, refl, run, inl (stands_dropped settings number DiskTells files Tells items new rows rows' front unsure k stands one.count tells at one swaps.left.0 swaps.left.1 h.0 h.1 (rows_stay places)))
+      let h = swaps.refused tells was.stored (copier_run run.0) was.stands (has_run run) was.places in (
+        stands.frozen,
+        refl,
+        run,
+        inl (stands_dropped settings number DiskTells files Tells items new rows rows' front unsure k stands one.count tells at one swaps.left.0
+            swaps.left.1 h.0 h.1 (rows_stay places)),
+      )
   finish_refused (Refused fault.Frozen) standing few swaps stays places = absurd swaps.left
   finish_refused (Refused (fault.Full end need capacity)) standing few swaps stays places = absurd swaps.left
   finish_refused (Refused (fault.Busy goal)) standing few swaps stays places = let wrong : Going ≡ Fresh = swaps.left.0 in absurd cc
@@ -101,12 +111,21 @@ module _ {D P : Type 0} (settings : Settings) (number : ℕ) (DiskTells : Type 0
       absurd (swaps.refused tells was.stored (copier_run run.0) was.stands (has_run run) was.places)
   finish_refused (Refused fault.NoMemory) standing few swaps stays places =
       let run = running standing in
-      let h = swaps.refused tells was.stored (copier_run run.0) was.stands (has_run run) was.places in
-      (stands.frozen, may_finish standing few, stands_dropped settings number DiskTells files Tells items new rows rows' front unsure k stands one.count tells at one swaps.left.0 swaps.left.1 h.0 h.1 (rows_stay places))
+      let h = swaps.refused tells was.stored (copier_run run.0) was.stands (has_run run) was.places in (
+        stands.frozen,
+        may_finish standing few,
+        stands_dropped settings number DiskTells files Tells items new rows rows' front unsure k stands one.count tells at one swaps.left.0
+            swaps.left.1 h.0 h.1 (rows_stay places),
+      )
   finish_refused (Perhaps n) standing few swaps stays places =
       let run = running standing in
-      let h = swaps.refused tells was.stored (copier_run run.0) was.stands (has_run run) was.places in
-      (stands.frozen, refl, run, inr (stands_poised settings number DiskTells files Tells items new rows rows' front unsure k stands one.count tells at one (machine_of settings number at) h.0 swaps.left.0 stays h.1 h.2 (rows_stay places)))
+      let h = swaps.refused tells was.stored (copier_run run.0) was.stands (has_run run) was.places in (
+        stands.frozen,
+        refl,
+        run,
+        inr (stands_poised settings number DiskTells files Tells items new rows rows' front unsure k stands one.count tells at one
+            (machine_of settings number at) h.0 swaps.left.0 stays h.1 h.2 (rows_stay places)),
+      )
 
   -- the files of the old generation
   pub removes_old : (start : Start) (files_now : NewFiles P) → SwapsAt DiskTells files faults Tells start rows rows' at one.before one.after (Ok files_now)
@@ -115,7 +134,8 @@ module _ {D P : Type 0} (settings : Settings) (number : ℕ) (DiskTells : Type 0
   removes_old start files_now swaps = λ r r' e f.
       subst (λ n. RemovedBoth (files r'.disk) (volume_file n) (index_file n) (faults r.disk) (faults r'.disk)) (sym was.fits.generation)
       (subst (λ (x : Copy D). RemovedBoth (files x.disk) (volume_file was.stored.generation) (index_file was.stored.generation) (faults r.disk) (faults x.disk)) (at_same new at one.after r' one.is f)
-      (subst (λ (x : Copy D). RemovedBoth (files (one.after).disk) (volume_file was.stored.generation) (index_file was.stored.generation) (faults x.disk) (faults (one.after).disk)) (at_same items at one.before r one.was e)
+      (subst (λ (x : Copy D). RemovedBoth (files (one.after).disk) (volume_file was.stored.generation) (index_file was.stored.generation) (faults x.disk) (faults (one.after).disk))
+      (at_same items at one.before r one.was e)
       (swaps.removed tells was.stored was.stands)))
 
   -- ALL AT ONCE
@@ -144,7 +164,8 @@ module _ {D P : Type 0} (settings : Settings) (number : ℕ) (DiskTells : Type 0
           made.stored.end,
           length made.stored.cells,
           tight_sizes k at was.stored made.stored fresh refl was.fits made.to,
-          stands_swap settings number DiskTells files Tells items new rows rows' front unsure k stands one.count tells at one fresh files_now.generation swaps.up.0 swaps.up.1 swaps.up.2 made places.others,
+          stands_swap settings number DiskTells files Tells items new rows rows' front unsure k stands one.count tells at one fresh files_now.generation swaps.up.0 swaps.up.1
+              swaps.up.2 made places.others,
         );
         sizes = λ r f s is.
             let same = one_standing files r made.stored s (subst (λ (x : Copy D). physical.Stands files x made.stored) (at_same new at one.after r one.is f) made.stands) is in
@@ -159,12 +180,18 @@ module _ {D P : Type 0} (settings : Settings) (number : ℕ) (DiskTells : Type 0
 
   pub compact_refused : (u : Unswapped) → IsUp one.before → SwapsAt DiskTells files faults Tells Fresh rows rows' at one.before one.after (Err u) → StaysInReach DiskTells files one.before one.after
       → KeepsPlaces rows rows' at (Err u)
-      → CompactRefused files Tells k at (volume_with settings number items rows front None unsure) (volume_with settings number new rows' front (unfinished_by settings number at u).frozen unsure) (unfinished_by settings number at u).fault
+      → CompactRefused files Tells k at (volume_with settings number items rows front None unsure)
+      (volume_with settings number new rows' front (unfinished_by settings number at u).frozen unsure) (unfinished_by settings number at u).fault
   unfolding Stands was fresh
   compact_refused (Refused (fault.Failed n)) up swaps stays places =
       let idle = swaps.left.2 in
-      let h = swaps.refused tells was.stored fresh was.stands (goal_none files one.before was.stored idle.0, refl) was.places in
-      (stands.frozen, refl, rest idle, inl (stands_dropped settings number DiskTells files Tells items new rows rows' front unsure k stands one.count tells at one swaps.left.0 swaps.left.1 h.0 h.1 (rows_stay places)))
+      let h = swaps.refused tells was.stored fresh was.stands (goal_none files one.before was.stored idle.0, refl) was.places in (
+        stands.frozen,
+        refl,
+        rest idle,
+        inl (stands_dropped settings number DiskTells files Tells items new rows rows' front unsure k stands one.count tells at one swaps.left.0
+            swaps.left.1 h.0 h.1 (rows_stay places)),
+      )
   compact_refused (Refused fault.Frozen) up swaps stays places = absurd swaps.left
   compact_refused (Refused (fault.Full end need capacity)) up swaps stays places = absurd swaps.left
   compact_refused (Refused (fault.Busy goal)) up swaps stays places = (
@@ -188,18 +215,29 @@ module _ {D P : Type 0} (settings : Settings) (number : ℕ) (DiskTells : Type 0
       absurd (swaps.refused tells was.stored fresh was.stands (goal_none files one.before was.stored swaps.left.2.0, refl) was.places)
   compact_refused (Refused fault.NoMemory) up swaps stays places =
       let idle = swaps.left.2 in
-      let h = swaps.refused tells was.stored fresh was.stands (goal_none files one.before was.stored idle.0, refl) was.places in
-      (stands.frozen, rest idle, stands_dropped settings number DiskTells files Tells items new rows rows' front unsure k stands one.count tells at one swaps.left.0 swaps.left.1 h.0 h.1 (rows_stay places))
+      let h = swaps.refused tells was.stored fresh was.stands (goal_none files one.before was.stored idle.0, refl) was.places in (
+        stands.frozen,
+        rest idle,
+        stands_dropped settings number DiskTells files Tells items new rows rows' front unsure k stands one.count tells at one swaps.left.0 swaps.left.1
+            h.0 h.1 (rows_stay places),
+      )
   compact_refused (Perhaps n) up swaps stays places =
       let idle = swaps.left.2 in
-      let h = swaps.refused tells was.stored fresh was.stands (goal_none files one.before was.stored idle.0, refl) was.places in
-      (stands.frozen, refl, rest idle, inr (stands_poised settings number DiskTells files Tells items new rows rows' front unsure k stands one.count tells at one (machine_of settings number at) h.0 swaps.left.0 stays h.1 h.2 (rows_stay places)))
+      let h = swaps.refused tells was.stored fresh was.stands (goal_none files one.before was.stored idle.0, refl) was.places in (
+        stands.frozen,
+        refl,
+        rest idle,
+        inr (stands_poised settings number DiskTells files Tells items new rows rows' front unsure k stands one.count tells at one
+            (machine_of settings number at) h.0 swaps.left.0 stays h.1 h.2 (rows_stay places)),
+      )
 
 -- CAUSES
 
-module _ {D P : Type 0} (settings : Settings) (number : ℕ) (DiskTells : Type 0) (files : D → Files) (Tells : Type 0) (faults : D → ℕ) (items new : List (Copy D)) (rows rows' : MapRows P) (at : ℕ) (one : SwapsOne DiskTells files at items new)
+module _ {D P : Type 0} (settings : Settings) (number : ℕ) (DiskTells : Type 0) (files : D → Files) (Tells : Type 0) (faults : D → ℕ) (items new : List (Copy D))
+    (rows rows' : MapRows P) (at : ℕ) (one : SwapsOne DiskTells files at items new)
     (all : length items ≡ settings.replicas) where
-  failed_at : (printed : ℕ) → Rose (faults (one.before).disk) (faults (one.after).disk) → printed ≡ faults (one.after).disk → HasFailed faults settings number items new (machine_of settings number at) printed
+  failed_at : (printed : ℕ) → Rose (faults (one.before).disk) (faults (one.after).disk) → printed ≡ faults (one.after).disk
+      → HasFailed faults settings number items new (machine_of settings number at) printed
   failed_at printed rose is =
       let below = at_below items at one.before one.was in
       record {
@@ -214,7 +252,8 @@ module _ {D P : Type 0} (settings : Settings) (number : ℕ) (DiskTells : Type 0
         printed = is;
       }
 
-  pub finish_fault : (u : Unswapped) → SwapsAt DiskTells files faults Tells Going rows rows' at one.before one.after (Err u) → answers.IsRunFault faults settings number at items new (unfinished_by settings number at u).fault
+  pub finish_fault : (u : Unswapped) → SwapsAt DiskTells files faults Tells Going rows rows' at one.before one.after (Err u)
+      → answers.IsRunFault faults settings number at items new (unfinished_by settings number at u).fault
   finish_fault (Refused (fault.Failed n)) swaps = (refl, failed_at n swaps.left.3 swaps.left.4)
   finish_fault (Refused fault.Frozen) swaps = absurd swaps.left
   finish_fault (Refused (fault.Full end need capacity)) swaps = absurd swaps.left
@@ -225,7 +264,8 @@ module _ {D P : Type 0} (settings : Settings) (number : ℕ) (DiskTells : Type 0
   finish_fault (Refused fault.NoMemory) swaps = tt
   finish_fault (Perhaps n) swaps = (refl, failed_at n swaps.left.3 swaps.left.4)
 
-  pub compact_fault : (u : Unswapped) → SwapsAt DiskTells files faults Tells Fresh rows rows' at one.before one.after (Err u) → answers.IsCompactFault faults settings number at items new (unfinished_by settings number at u).fault
+  pub compact_fault : (u : Unswapped) → SwapsAt DiskTells files faults Tells Fresh rows rows' at one.before one.after (Err u)
+      → answers.IsCompactFault faults settings number at items new (unfinished_by settings number at u).fault
   compact_fault (Refused (fault.Failed n)) swaps = (refl, failed_at n swaps.left.3 swaps.left.4)
   compact_fault (Refused fault.Frozen) swaps = absurd swaps.left
   compact_fault (Refused (fault.Full end need capacity)) swaps = absurd swaps.left

@@ -97,7 +97,8 @@ heads_one sights replica next at place file later head here bytes ends stands me
   many = refl;
 }
 
-pub heads_more : (sights : Sights) (replica n m next mid place : ℕ) (file : List ℕ) → HeadsLead sights replica n next mid file → HeadsLead sights replica m mid place file → HeadsLead sights replica (n + m) next place file
+pub heads_more : (sights : Sights) (replica n m next mid place : ℕ) (file : List ℕ) → HeadsLead sights replica n next mid file → HeadsLead sights replica m mid place file
+    → HeadsLead sights replica (n + m) next place file
 heads_more sights replica n m next mid place file first later = record {
   heads = first.heads ++ later.heads;
   row = row_more next mid place first.heads later.heads first.row later.row;
@@ -107,13 +108,15 @@ heads_more sights replica n m next mid place file first later = record {
 }
 
 -- as far as the end, where all cells were to be examined
-pub heads_all : (sights : Sights) (replica number : ℕ) (r x : ReplicaSeen) (file : List ℕ) → StepsTo r.end number r x → HeadsLead sights replica number r.next x.next file → HeadsLeadOn sights replica r file
+pub heads_all : (sights : Sights) (replica number : ℕ) (r x : ReplicaSeen) (file : List ℕ) → StepsTo r.end number r x → HeadsLead sights replica number r.next x.next file
+    → HeadsLeadOn sights replica r file
 heads_all sights replica number r x file steps lead =
     let low : r.next + number * 48 ≤ x.next = steps.behind in
     (number, x.next, elim steps.all [ inl all ↦ omega (arith, all, low) | inr far ↦ far ], lead)
 
 -- so where it began, and stands at the first cell
-pub heads_anew : (sights : Sights) (replica : ℕ) (r x : ReplicaSeen) (file later : List ℕ) → x.next ≡ 64 → x.end ≡ r.end → later ≡ file → HeadsLeadOn sights replica x later → HeadsLeadOn sights replica (begun r) file
+pub heads_anew : (sights : Sights) (replica : ℕ) (r x : ReplicaSeen) (file later : List ℕ) → x.next ≡ 64 → x.end ≡ r.end → later ≡ file → HeadsLeadOn sights replica x later
+    → HeadsLeadOn sights replica (begun r) file
 heads_anew sights replica r x file later next end bytes lead = (
   lead.0,
   lead.1,
@@ -128,7 +131,8 @@ pub lacks_next : (sights : Sights) (replica place : ℕ) (r : ReplicaSeen) (file
 lacks_next sights replica place r file here lacks = record { examined = 0; few = omega arith; lead = heads_none sights replica r.next place file here; lacks = lacks }
 
 -- behind calls that left the volume file
-pub lacks_there : (sights : Sights) (replica cells place : ℕ) (r x : ReplicaSeen) (file later : List ℕ) → x.next ≡ r.next → x.end ≡ r.end → later ≡ file → LacksCell sights replica cells place x later → LacksCell sights replica cells place r file
+pub lacks_there : (sights : Sights) (replica cells place : ℕ) (r x : ReplicaSeen) (file later : List ℕ) → x.next ≡ r.next → x.end ≡ r.end → later ≡ file
+    → LacksCell sights replica cells place x later → LacksCell sights replica cells place r file
 lacks_there sights replica cells place r x file later next end bytes lacks = record {
   examined = lacks.examined;
   few = lacks.few;
@@ -137,12 +141,14 @@ lacks_there sights replica cells place r x file later next end bytes lacks = rec
 }
 
 -- where the compaction began, and stands at the first cell
-pub lacks_anew : (sights : Sights) (replica place : ℕ) (r x : ReplicaSeen) (file later : List ℕ) → x.next ≡ 64 → x.end ≡ r.end → later ≡ file → LacksCellLeft sights replica place x later → LacksCellLeft sights replica place (begun r) file
+pub lacks_anew : (sights : Sights) (replica place : ℕ) (r x : ReplicaSeen) (file later : List ℕ) → x.next ≡ 64 → x.end ≡ r.end → later ≡ file
+    → LacksCellLeft sights replica place x later → LacksCellLeft sights replica place (begun r) file
 lacks_anew sights replica place r x file later next end bytes lacks =
     lacks_there sights replica r.end place (begun r) x file later next end bytes (subst (λ n. LacksCell sights replica n place x later) end lacks)
 
 -- behind cells that were examined
-pub lacks_behind : (sights : Sights) (replica cells n place : ℕ) (r x : ReplicaSeen) (file later : List ℕ) → n < cells → HeadsLead sights replica n r.next x.next file → x.end ≡ r.end → later ≡ file → LacksCell sights replica 1 place x later → LacksCell sights replica cells place r file
+pub lacks_behind : (sights : Sights) (replica cells n place : ℕ) (r x : ReplicaSeen) (file later : List ℕ) → n < cells → HeadsLead sights replica n r.next x.next file
+    → x.end ≡ r.end → later ≡ file → LacksCell sights replica 1 place x later → LacksCell sights replica cells place r file
 lacks_behind sights replica cells n place r x file later less lead end bytes lacks = record {
   examined = n + lacks.examined;
   few = (let first = lacks.few in omega (arith, less, first));
@@ -181,7 +187,8 @@ needles_lead next end place last file (head ∷ heads) (cell ∷ cells) has with
     (subst (λ n. AreHeadsFrom (next + needle_total n) heads place) same row.1) stand.1 lacks
 
 -- So damage is told in none of them, nor where one begins.
-pub damaged_within_a_needle : (sights : Sights) (replica cells place last : ℕ) (r : ReplicaSeen) (file : List ℕ) (whole : List Cell) → HasCells r.next file whole last → last ≤ r.end → LacksCell sights replica cells place r file → last ≤ place
+pub damaged_within_a_needle : (sights : Sights) (replica cells place last : ℕ) (r : ReplicaSeen) (file : List ℕ) (whole : List Cell) → HasCells r.next file whole last
+    → last ≤ r.end → LacksCell sights replica cells place r file → last ≤ place
 damaged_within_a_needle sights replica cells place last r file whole has within lacks =
     needles_lead r.next r.end place last file (lacks.lead).heads whole has within (lacks.lead).row (lacks.lead).stand lacks.lacks
 

@@ -39,7 +39,8 @@ module _ {D P : Type 0} (drawn : D → ℕ → ℕ) (pair : Pair) (before : MapR
     pub went : Went LooksAtPlace n old new
     pub places : (j : ℕ) → n ≤ j → place_in (row_at rows pair) j ≡ place_in (row_at before pair) j
 
-  pub draws_one : (at : ℕ) (old items new : List (Copy D)) (rows rows' : MapRows P) (result : Result Unit ReplicaFault) → DrawsLooks at old items rows → (one : CallsOne at items new) → SeesRow pair at rows rows' result
+  pub draws_one : (at : ℕ) (old items new : List (Copy D)) (rows rows' : MapRows P) (result : Result Unit ReplicaFault) → DrawsLooks at old items rows
+      → (one : CallsOne at items new) → SeesRow pair at rows rows' result
       → DrawsAtMost drawn (look_total (place_in (row_at rows pair) at)) one.before one.after → DrawsLooks (at + 1) old new rows'
   draws_one at old items new rows rows' result looks one row draws =
       let here : at ≤ at = omega arith in
@@ -68,7 +69,8 @@ module _ {D P : Type 0} (files : D → Files) (drawn : D → ℕ → ℕ) (rows 
   look_most j None r x was = refl
   look_most j (Some pair) r x was = place_looks ((was.drew).records) pair (place_in (row_at rows pair) j) (was.unseen pair)
 
-  pub drew_looked : (j : ℕ) (looked : Option Pair) (r x y : Copy D) → DrewRecordedAt files drawn rows j r x → ((n : ℕ) → (files y.disk n).now ≡ (files x.disk n).now) → DrawsAtMost drawn (looked_total looked rows j) x y
+  pub drew_looked : (j : ℕ) (looked : Option Pair) (r x y : Copy D) → DrewRecordedAt files drawn rows j r x → ((n : ℕ) → (files y.disk n).now ≡ (files x.disk n).now)
+      → DrawsAtMost drawn (looked_total looked rows j) x y
       → DrewAt files drawn looked r y
   drew_looked j looked r x y was now draws =
       let d = was.drew in
@@ -87,8 +89,10 @@ module _ {D P : Type 0} (files : D → Files) (drawn : D → ℕ → ℕ) (rows 
         most = (let one = d.most in let two = draws (volume_file d.generation) in omega (arith, one, two, nothing));
       }
 
-  pub drew_all : {Tells : Type 0} (DiskTells : Type 0) (faults fuses : D → ℕ) (looked : Option Pair) (olds mids news : List (Copy D)) (rows' : MapRows P) → DiskTells → KeepsCounts faults fuses olds mids
-      → ((j : ℕ) (x y : Copy D) → At mids j x → At news j y → LooksAt DiskTells files Tells rows rows' j x y) → ((j : ℕ) (r x : Copy D) → At olds j r → At mids j x → DrewRecordedAt files drawn rows j r x)
+  pub drew_all : {Tells : Type 0} (DiskTells : Type 0) (faults fuses : D → ℕ) (looked : Option Pair) (olds mids news : List (Copy D)) (rows' : MapRows P) → DiskTells
+      → KeepsCounts faults fuses olds mids
+      → ((j : ℕ) (x y : Copy D) → At mids j x → At news j y → LooksAt DiskTells files Tells rows rows' j x y)
+      → ((j : ℕ) (r x : Copy D) → At olds j r → At mids j x → DrewRecordedAt files drawn rows j r x)
       → ((j : ℕ) (x y : Copy D) → At mids j x → At news j y → DrawsAtMost drawn (looked_total looked rows j) x y) → (j : ℕ) (r y : Copy D) → At olds j r → At news j y → DrewAt files drawn looked r y
   drew_all DiskTells faults fuses looked olds mids news rows' tells counts looks opened draws j r y e f =
       let m = at_there mids j (let h = at_below olds j r e in let n = counts.count in let less : j < length mids = omega (arith, h, n) in less) in

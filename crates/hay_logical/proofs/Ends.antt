@@ -28,7 +28,8 @@ module _ {D P : Type 0} (DiskTells : Type 0) (files : D → Files) (faults : D �
   idle_frozen r y (Err (Refused (fault.Ended n))) up frozen swaps = absurd swaps.left
   idle_frozen r y (Err (Unsure n)) up frozen swaps = (swaps.left).1
 
-  module _ (old new : List (Copy D)) (r y : Copy D) (result : Result (NewFiles P) Unswapped) (was : At old at r) (up : IsUp r) (swaps : SwapsAt DiskTells files faults Tells start rows rows' at r y result)
+  module _ (old new : List (Copy D)) (r y : Copy D) (result : Result (NewFiles P) Unswapped) (was : At old at r) (up : IsUp r)
+      (swaps : SwapsAt DiskTells files faults Tells start rows rows' at r y result)
       (count : length new ≡ length (slice_set old at y))
       (each : (j : ℕ) (a b : Copy D) → At (slice_set old at y) j a → At new j b → LosesRun DiskTells files a b)
       (still : (a : Copy D) → At (slice_set old at y) at a → is_frozen a ≡ false → new ≡ slice_set old at y)

@@ -94,7 +94,8 @@ module _ {D : Type 0} (faults : D → ℕ) where
 
 module _ {D : Type 0} (files : D → Files) where
   -- nothing was examined
-  pub leaves_none : (r' : Copy D) (s : Stored) (run : Run) (cells : ℕ) (f : ReplicaFault) → (f ≡ fault.NoMemory → HasRun files r' s (Some run)) → ((at : ℕ) → f ≡ fault.Damaged at → ⊥) → StepLeaves files r' s run cells f
+  pub leaves_none : (r' : Copy D) (s : Stored) (run : Run) (cells : ℕ) (f : ReplicaFault) → (f ≡ fault.NoMemory → HasRun files r' s (Some run))
+      → ((at : ℕ) → f ≡ fault.Damaged at → ⊥) → StepLeaves files r' s run cells f
   leaves_none r' s run cells (fault.Failed n) memory whole = tt
   leaves_none r' s run cells fault.Frozen memory whole = tt
   leaves_none r' s run cells (fault.Full end need capacity) memory whole = tt
@@ -106,7 +107,8 @@ module _ {D : Type 0} (files : D → Files) where
       record { number = 0; within = omega arith; has = subst (λ (x : Run). HasRun files r' s (Some x)) (sym (step_none run)) (memory refl) }
 
   -- nothing more was examined
-  pub leaves_some : (r' : Copy D) (s : Stored) (run : Run) (cells n : ℕ) (f : ReplicaFault) → n < cells → n ≤ run.left → StepLeaves files r' s (stepped_by n run) 0 f → StepLeaves files r' s run cells f
+  pub leaves_some : (r' : Copy D) (s : Stored) (run : Run) (cells n : ℕ) (f : ReplicaFault) → n < cells → n ≤ run.left → StepLeaves files r' s (stepped_by n run) 0 f
+      → StepLeaves files r' s run cells f
   leaves_some r' s run cells n (fault.Failed count) low few leaves = tt
   leaves_some r' s run cells n fault.Frozen low few leaves = tt
   leaves_some r' s run cells n (fault.Full end need capacity) low few leaves = tt
@@ -150,7 +152,8 @@ peeked_small r head peeked some = let small : head.size ≤ 16777216 = small_pha
 
 -- THE LATEST PLACE
 
-pub latest_is : {P : Type 0} (Tells : Type 0) (cells : List Cell) (pair : Pair) (p : Place P) (cell : Cell) → last_cell cells pair ≡ Some cell → PhotoAt Tells (last_cell cells pair) p → IsLatest cells pair (latest_of p)
+pub latest_is : {P : Type 0} (Tells : Type 0) (cells : List Cell) (pair : Pair) (p : Place P) (cell : Cell) → last_cell cells pair ≡ Some cell
+    → PhotoAt Tells (last_cell cells pair) p → IsLatest cells pair (latest_of p)
 latest_is {P = P} Tells cells pair p cell last at = by_place p (subst (λ (o : Option Cell). PhotoAt Tells o p) last at)
   where
     by_place : (q : Place P) → PhotoAt Tells (Some cell) q → IsLatest cells pair (latest_of q)

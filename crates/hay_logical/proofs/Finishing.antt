@@ -65,7 +65,8 @@ tight_sizes k j s t run tight fits to =
 
 -- VOLUMES
 
-module _ {D P : Type 0} (settings : Settings) (number : ℕ) (DiskTells : Type 0) (files : D → Files) (Tells : Type 0) (items new : List (Copy D)) (rows rows' : MapRows P) (front : ℕ) (unsure : Option Unsure) (k : VolumeKnown)
+module _ {D P : Type 0} (settings : Settings) (number : ℕ) (DiskTells : Type 0) (files : D → Files) (Tells : Type 0) (items new : List (Copy D)) (rows rows' : MapRows P)
+    (front : ℕ) (unsure : Option Unsure) (k : VolumeKnown)
     (stands : StandsFor files Tells (volume_with settings number items rows front None unsure) k) (count : length new ≡ length items) where
   -- each replica stands for what is known now
   pub stands_each : (t : VolumeKnown) → t.log ≡ k.log → t.frozen ≡ None → t.pending ≡ k.pending → length t.replicas ≡ length k.replicas
@@ -144,7 +145,8 @@ module _ {D P : Type 0} (settings : Settings) (number : ℕ) (DiskTells : Type 0
         };
       }
 
-  frozen_as : (t : VolumeKnown) (j : ℕ) (r r' : Copy D) (x : ReplicaKnown) (s : Stored) → replica_at t j ≡ x → x.base ≡ (replica_at k j).base → x.run ≡ None → physical.KeepsSight files physical.Anywhere r r' → Fits t x s
+  frozen_as : (t : VolumeKnown) (j : ℕ) (r r' : Copy D) (x : ReplicaKnown) (s : Stored) → replica_at t j ≡ x → x.base ≡ (replica_at k j).base → x.run ≡ None
+      → physical.KeepsSight files physical.Anywhere r r' → Fits t x s
       → HoldsSwap files r' x.stuck s x.poised → Frozen t j r r'
   frozen_as t j r r' x s is base run sees fits holds = (
     ap (λ (y : ReplicaKnown). y.base) is ∙ base,
@@ -153,11 +155,14 @@ module _ {D P : Type 0} (settings : Settings) (number : ℕ) (DiskTells : Type 0
     (s, subst (λ (y : ReplicaKnown). Fits t y s) (sym is) fits, subst (λ (y : ReplicaKnown). HoldsSwap files r' y.stuck s y.poised) (sym is) holds),
   )
 
-  frozen_other : DiskTells → (t : VolumeKnown) (j : ℕ) (r r' : Copy D) → t.log ≡ k.log → ReplicaStands files Tells (volume_with settings number items rows front None unsure) k j r → LosesRun DiskTells files r r'
+  frozen_other : DiskTells → (t : VolumeKnown) (j : ℕ) (r r' : Copy D) → t.log ≡ k.log → ReplicaStands files Tells (volume_with settings number items rows front None unsure) k j r
+      → LosesRun DiskTells files r r'
       → replica_at t j ≡ without_run (replica_at k j) → Frozen t j r r'
   frozen_other tells t j r r' log was loses is =
-      frozen_as t j r r' (without_run (replica_at k j)) was.stored is refl refl (loses.reach tells).sees (fits_same k t (replica_at k j) (without_run (replica_at k j)) was.stored log refl refl refl refl refl was.fits)
-      (swap_settled files r' (replica_at k j).stuck was.stored (replica_at k j).poised was.settled (loses.holds tells (replica_at k j).stuck was.stored was.stored (hold_stuck files r was.stored (replica_at k j).stuck was.stands was.stuck)))
+      frozen_as t j r r' (without_run (replica_at k j)) was.stored is refl refl (loses.reach tells).sees
+      (fits_same k t (replica_at k j) (without_run (replica_at k j)) was.stored log refl refl refl refl refl was.fits)
+      (swap_settled files r' (replica_at k j).stuck was.stored (replica_at k j).poised was.settled
+      (loses.holds tells (replica_at k j).stuck was.stored was.stored (hold_stuck files r was.stored (replica_at k j).stuck was.stands was.stuck)))
 
   -- the volume was frozen, and nothing else
   pub stands_halted : DiskTells → (m : ℕ) → ((q : Pair) → row_at rows' q ≡ row_at rows q) → ((j : ℕ) (r r' : Copy D) → At items j r → At new j r' → LosesRun DiskTells files r r') → AllIdle new
@@ -221,7 +226,8 @@ module _ {D P : Type 0} (settings : Settings) (number : ℕ) (DiskTells : Type 0
         ])
 
     -- a swap
-    pub stands_swap : (run : runs.Run) (generation : ℕ) → IsUp one.after → is_stuck one.after ≡ false → goal_of one.after ≡ None → (made : Swapped files Tells rows' at one.after was_there.stored run generation)
+    pub stands_swap : (run : runs.Run) (generation : ℕ) → IsUp one.after → is_stuck one.after ≡ false → goal_of one.after ≡ None
+        → (made : Swapped files Tells rows' at one.after was_there.stored run generation)
         → ((pair : Pair) (i : ℕ) → (i ≡ at → ⊥) → place_in (row_at rows' pair) i ≡ place_in (row_at rows pair) i)
         → StandsFor files Tells (volume_with settings number new rows' front None unsure) (change_at k at (swapped made.stored.end (length made.stored.cells)))
     stands_swap run generation up loose goal made others =
@@ -229,7 +235,8 @@ module _ {D P : Type 0} (settings : Settings) (number : ℕ) (DiskTells : Type 0
         (fits_swapped k at was_there.stored made.stored run was_there.fits made.to) up goal made.stands made.places others
 
     -- no swap, and no compaction any more
-    pub stands_dropped : IsUp one.after → goal_of one.after ≡ None → physical.Stands files one.after was_there.stored → is_stuck one.after ≡ is_stuck one.before → ((pair : Pair) → row_at rows' pair ≡ row_at rows pair)
+    pub stands_dropped : IsUp one.after → goal_of one.after ≡ None → physical.Stands files one.after was_there.stored → is_stuck one.after ≡ is_stuck one.before
+        → ((pair : Pair) → row_at rows' pair ≡ row_at rows pair)
         → StandsFor files Tells (volume_with settings number new rows' front None unsure) (change_at k at without_run)
     stands_dropped up goal now_stands stuck same =
         stands_with without_run (without_run (replica_at k at)) was_there.stored refl refl was_there.settled (was_there.stuck ∙ sym stuck)
@@ -238,7 +245,8 @@ module _ {D P : Type 0} (settings : Settings) (number : ℕ) (DiskTells : Type 0
         (λ pair i apart. ap (λ l. place_in l i) (same pair))
 
     -- a head switch of which no one knows whether it was made
-    pub stands_poised : (m : ℕ) (t : Stored) → IsFrozen one.after → StaysInReach DiskTells files one.before one.after → runs.Swaps was_there.stored t → physical.Holds files one.after (is_stuck one.before) was_there.stored t → ((pair : Pair) → row_at rows' pair ≡ row_at rows pair)
+    pub stands_poised : (m : ℕ) (t : Stored) → IsFrozen one.after → StaysInReach DiskTells files one.before one.after → runs.Swaps was_there.stored t
+        → physical.Holds files one.after (is_stuck one.before) was_there.stored t → ((pair : Pair) → row_at rows' pair ≡ row_at rows pair)
         → StandsFor files Tells (volume_with settings number new rows' front (Some m) unsure) (change_at (frozen_by m k) at poised)
     stands_poised m t frozen stays swaps holds same =
         let long : length (frozen_by m k).replicas ≡ length k.replicas = length-map k.replicas without_run in
@@ -251,20 +259,27 @@ module _ {D P : Type 0} (settings : Settings) (number : ℕ) (DiskTells : Type 0
               changed_here (frozen_by m k) at poised less ∙ ap poised (replica_mapped without_run k.replicas at low) in
               let before_is : r ≡ one.before = at_same items at r one.before (subst (λ n. At items n r) here e) one.was in
               let sees : physical.KeepsSight files physical.Anywhere r r' =
-              subst (λ (x : Copy D). physical.KeepsSight files physical.Anywhere x r') (sym before_is) (subst (λ (x : Copy D). physical.KeepsSight files physical.Anywhere one.before x) (sym after_is) (stays tells).sees) in
+              subst (λ (x : Copy D). physical.KeepsSight files physical.Anywhere x r') (sym before_is)
+              (subst (λ (x : Copy D). physical.KeepsSight files physical.Anywhere one.before x) (sym after_is) (stays tells).sees) in
               subst (λ n. Frozen (change_at (frozen_by m k) at poised) n r r') (sym here)
               (frozen_as (change_at (frozen_by m k) at poised) at r r' (poised (without_run (replica_at k at))) was_there.stored known refl refl sees
-              (fits_same k (change_at (frozen_by m k) at poised) (replica_at k at) (poised (without_run (replica_at k at))) was_there.stored refl refl refl refl refl refl was_there.fits)
-              (t, swaps, subst (λ (x : Copy D). physical.Holds files x (replica_at k at).stuck was_there.stored t) (sym after_is) (subst (λ b. physical.Holds files one.after b was_there.stored t) (sym was_there.stuck) holds)))
+              (fits_same k (change_at (frozen_by m k) at poised) (replica_at k at) (poised (without_run (replica_at k at))) was_there.stored refl refl refl refl refl refl was_there.fits) (
+                t,
+                swaps,
+                subst (λ (x : Copy D). physical.Holds files x (replica_at k at).stuck was_there.stored t) (sym after_is)
+                    (subst (λ b. physical.Holds files one.after b was_there.stored t) (sym was_there.stuck) holds),
+              ))
           | inr apart ↦
               let known : replica_at (change_at (frozen_by m k) at poised) j ≡ without_run (replica_at k j) =
               changed_other (frozen_by m k) j at poised apart
-              ∙ replica_mapped without_run k.replicas j (let h = at_below items j r e in let all = stands.all in let many = stands.many in let l : j < length k.replicas = omega (arith, h, all, many) in l) in
+              ∙ replica_mapped without_run k.replicas j (let h = at_below items j r e in let all = stands.all in let many = stands.many in let l : j
+              < length k.replicas = omega (arith, h, all, many) in l) in
               frozen_other tells (change_at (frozen_by m k) at poised) j r r' refl was (one.others j r r' apart e f).0 known
         ])
 
     -- nothing has changed
-    pub stands_same : ((j : ℕ) (r r' : Copy D) → At items j r → At new j r' → r' ≡ r) → ((pair : Pair) → row_at rows' pair ≡ row_at rows pair) → StandsFor files Tells (volume_with settings number new rows' front None unsure) k
+    pub stands_same : ((j : ℕ) (r r' : Copy D) → At items j r → At new j r' → r' ≡ r) → ((pair : Pair) → row_at rows' pair ≡ row_at rows pair)
+        → StandsFor files Tells (volume_with settings number new rows' front None unsure) k
     stands_same each same = stands_each k refl stands.frozen refl refl (λ j r r' e f was.
         let is : r' ≡ r = each j r r' e f in
         record {

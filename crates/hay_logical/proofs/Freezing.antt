@@ -18,7 +18,8 @@ pub frozen_machine : (settings : Settings) (v j m : ℕ) → j < settings.replic
 frozen_machine settings v j m within is = λ other same. let e : other ≡ m = cc in (j, within, e ∙ is)
 
 -- by a put that was broken off
-pub frozen_refusal : (settings : Settings) (v at : ℕ) (fault : ReplicaFault) (said : Refusal) → 1 ≤ settings.replicas → at < settings.replicas → RefusalBy settings v at fault said → IsFrozenBy settings v (Some said.machine)
+pub frozen_refusal : (settings : Settings) (v at : ℕ) (fault : ReplicaFault) (said : Refusal) → 1 ≤ settings.replicas → at < settings.replicas → RefusalBy settings v at fault said
+    → IsFrozenBy settings v (Some said.machine)
 frozen_refusal settings v at (replica.Failed printed) said some within by = frozen_machine settings v at said.machine within by.0
 frozen_refusal settings v at replica.NoMemory said some within by = frozen_machine settings v 0 said.machine (omega (arith, some)) by.0
 frozen_refusal settings v at _ said some within by = absurd by

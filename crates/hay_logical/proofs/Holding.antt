@@ -118,7 +118,8 @@ module _ {D : Type 0} (files : D → Files) where
   swap_settled r stuck s poised e h = subst (λ b. HoldsSwap files r stuck s b) (sym e) h
 
   -- a replica that takes changes holds what is known, if nothing is pending
-  pub up_holds : (k : VolumeKnown) (j : ℕ) (r r' : Copy D) (s : Stored) → k.pending ≡ None → (replica_at k j).poised ≡ false → Fits k (replica_at k j) s → physical.Holds files r' (replica_at k j).stuck s s
+  pub up_holds : (k : VolumeKnown) (j : ℕ) (r r' : Copy D) (s : Stored) → k.pending ≡ None → (replica_at k j).poised ≡ false → Fits k (replica_at k j) s
+      → physical.Holds files r' (replica_at k j).stuck s s
       → ReplicaHolds files k 0 j r'
   up_holds k j r r' s none settled fits holds = record {
     stored = s;
@@ -223,12 +224,15 @@ module _ {D P : Type 0} (DiskTells : Type 0) (files : D → Files) (Tells : Type
     delete_by tells (place.Live needle) None seen is last of stands step follow = absurd of
     delete_by tells place.Gone o seen is last of stands step follow =
         stays place.Gone is (subst (λ (x : Option Cell). PhotoAt {P = P} Tells x place.Gone) (sym last) of)
-        (no_photo P Tells pair _ (inl (place_means Tells s.cells pair place.Gone tt (subst (λ (x : Option Cell). PhotoAt {P = P} Tells x place.Gone) (sym last) of)))) (step.stands tells s stands) follow
+        (no_photo P Tells pair _ (inl (place_means Tells s.cells pair place.Gone tt (subst (λ (x : Option Cell). PhotoAt {P = P} Tells x place.Gone) (sym last) of))))
+        (step.stands tells s stands) follow
     delete_by tells place.None o seen is last of stands step follow =
         stays place.None is (subst (λ (x : Option Cell). PhotoAt {P = P} Tells x place.None) (sym last) of)
-        (no_photo P Tells pair _ (inr (place_means Tells s.cells pair place.None tt (subst (λ (x : Option Cell). PhotoAt {P = P} Tells x place.None) (sym last) of)))) (step.stands tells s stands) follow
+        (no_photo P Tells pair _ (inr (place_means Tells s.cells pair place.None tt (subst (λ (x : Option Cell). PhotoAt {P = P} Tells x place.None) (sym last) of))))
+        (step.stands tells s stands) follow
 
-    pub delete_replica : DiskTells → IsSeen (place_in (row_at rows pair) j) → physical.Stands files r s → DeletesAt DiskTells files (place_in (row_at rows pair) j) r r' → FollowsAt DiskTells files faults pair (place_in (row_at rows pair) j) r r' → DeletedIn files Tells pair s rows j r r'
+    pub delete_replica : DiskTells → IsSeen (place_in (row_at rows pair) j) → physical.Stands files r s → DeletesAt DiskTells files (place_in (row_at rows pair) j) r r'
+        → FollowsAt DiskTells files faults pair (place_in (row_at rows pair) j) r r' → DeletedIn files Tells pair s rows j r r'
     delete_replica tells seen stands step follow = delete_by tells (place_in (row_at rows pair) j) (last_cell s.cells pair) seen refl refl (places pair) stands step follow
 
   -- what a delete of a pair makes of a replica
@@ -255,14 +259,16 @@ module _ {D P : Type 0} (DiskTells : Type 0) (files : D → Files) (Tells : Type
 
   module _ (settings : Settings) (number : ℕ) where
     -- A change was broken off, and the rows are as they were.
-    pub stands_broken : (replicas replicas' : List (Copy D)) (rows rows' : MapRows P) (front : ℕ) (unsure : Option Unsure) (k : VolumeKnown) (tag : CoreTag) (entry : Entry) (asked : Change) (m at : ℕ) (failed : Bool)
+    pub stands_broken : (replicas replicas' : List (Copy D)) (rows rows' : MapRows P) (front : ℕ) (unsure : Option Unsure) (k : VolumeKnown) (tag : CoreTag) (entry : Entry)
+        (asked : Change) (m at : ℕ) (failed : Bool)
         → (given : StandsFor files Tells (volume_with settings number replicas rows front None unsure) k) → length replicas' ≡ length replicas
         → BreaksOffAt settings number (Some m) at failed entry → IsChange asked (frozen_with m tag entry failed k) entry
         → ((q : Pair) → row_at rows' q ≡ row_at rows q)
         → ((j : ℕ) (r r' : Copy D) → At replicas j r → At replicas' j r' → (was : ReplicaStands files Tells (volume_with settings number replicas rows front None unsure) k j r)
         → HoldsPart files r' (replica_at k j).stuck entry was.stored (part_of at j))
         → AllIdle replicas'
-        → ((j : ℕ) (r r' : Copy D) → At replicas j r → At replicas' j r' → (q : Pair) (what : Outcome) → PlaceStands files Tells r q (place_in (row_at rows q) j) what → PlaceStands files Tells r' q (place_in (row_at rows q) j) what)
+        → ((j : ℕ) (r r' : Copy D) → At replicas j r → At replicas' j r' → (q : Pair) (what : Outcome) → PlaceStands files Tells r q (place_in (row_at rows q) j) what
+        → PlaceStands files Tells r' q (place_in (row_at rows q) j) what)
         → StandsFor files Tells (volume_with settings number replicas' rows' front (Some m) (Some (record { tag = tag; change = asked }))) (frozen_with m tag entry failed k)
     stands_broken replicas replicas' rows rows' front unsure k tag entry asked m at failed given count broken changes same each idle sight =
         let taking = takes DiskTells files Tells settings number replicas rows front None unsure k given refl in
@@ -311,7 +317,8 @@ module _ {D P : Type 0} (DiskTells : Type 0) (files : D → Files) (Tells : Type
         }
 
     -- what a put leaves that was broken off
-    pub put_part : DiskTells → (faults : D → ℕ) (replicas replicas' : List (Copy D)) (rows : MapRows P) (front : ℕ) (unsure : Option Unsure) (k : VolumeKnown) (pair : Pair) (cookie : Cookie) (bytes : List ℕ) (broken : Broken)
+    pub put_part : DiskTells → (faults : D → ℕ) (replicas replicas' : List (Copy D)) (rows : MapRows P) (front : ℕ) (unsure : Option Unsure) (k : VolumeKnown) (pair : Pair)
+        (cookie : Cookie) (bytes : List ℕ) (broken : Broken)
         → PutLeaves DiskTells files faults pair cookie bytes replicas replicas' broken → (j : ℕ) (r r' : Copy D) → At replicas j r → At replicas' j r'
         → (was : ReplicaStands files Tells (volume_with settings number replicas rows front None unsure) k j r)
         → HoldsPart files r' (replica_at k j).stuck (Put pair cookie bytes) was.stored (part_of broken.at j)
@@ -333,7 +340,8 @@ module _ {D P : Type 0} (DiskTells : Type 0) (files : D → Files) (Tells : Type
                 let before : r ≡ left.before = at_same replicas j r left.before e (subst (λ n. At replicas n left.before) (sym here) left.was) in
                 let after : r' ≡ left.after = at_same replicas' j r' left.after f (subst (λ n. At replicas' n left.after) (sym here) left.is) in
                 let there : PutBroken DiskTells files pair cookie bytes r r' =
-                subst (λ (x : Copy D). PutBroken DiskTells files pair cookie bytes x r') (sym before) (subst (λ (x : Copy D). PutBroken DiskTells files pair cookie bytes left.before x) (sym after) left.there) in
+                subst (λ (x : Copy D). PutBroken DiskTells files pair cookie bytes x r') (sym before)
+                (subst (λ (x : Copy D). PutBroken DiskTells files pair cookie bytes left.before x) (sym after) left.there) in
                 subst (HoldsPart files r' stuck (Put pair cookie bytes) was.stored) (sym (part_unsure broken.at j here)) (
                   t,
                   makes_put was.stored pair cookie bytes,
@@ -357,7 +365,8 @@ module _ {D P : Type 0} (DiskTells : Type 0) (files : D → Files) (Tells : Type
         elim (cases_lt j failed.at) [
           | inl less ↦
               subst (HoldsPart files r' (replica_at k j).stuck (Del pair) was.stored) (sym (part_kept failed.at j less))
-              (let made = made_by tells pair was.stored r r' (place_in (row_at rows pair) j) (last_cell was.stored.cells pair) (seen j r e) refl (was.places pair) was.stands (left.below j r r' less e f) in
+              (let made = made_by tells pair was.stored r r' (place_in (row_at rows pair) j) (last_cell was.stored.cells pair) (seen j r e) refl (was.places pair) was.stands
+              (left.below j r r' less e f) in
               (made.0, made.1, hold_stuck files r' made.0 (replica_at k j).stuck made.2 (was.stuck ∙ sym (stuck j r r' less e f))))
           | inr most ↦ elim (cases_lt failed.at j) [
             | inl later ↦
@@ -405,7 +414,8 @@ module _ {D P : Type 0} (DiskTells : Type 0) (files : D → Files) (Tells : Type
     held tells replicas rows front (Some m) unsure k given = given.by.holds
 
     -- the same, where each disk holds at least what it held
-    pub held_on : (replicas replicas' : List (Copy D)) (rows rows' : MapRows P) (front front' : ℕ) (frozen frozen' : Option ℕ) (unsure unsure' : Option Unsure) (k : VolumeKnown) → length replicas' ≡ length replicas
+    pub held_on : (replicas replicas' : List (Copy D)) (rows rows' : MapRows P) (front front' : ℕ) (frozen frozen' : Option ℕ) (unsure unsure' : Option Unsure) (k : VolumeKnown)
+        → length replicas' ≡ length replicas
         → ((j : ℕ) (r r' : Copy D) → At replicas j r → At replicas' j r' → (b : Bool) (a t : Stored) → physical.Holds files r b a t → physical.Holds files r' b a t)
         → HoldsFor files (volume_with settings number replicas rows front frozen unsure) k → HoldsFor files (volume_with settings number replicas' rows' front' frozen' unsure') k
     held_on replicas replicas' rows rows' front front' frozen frozen' unsure unsure' k count on h = record {

@@ -25,7 +25,8 @@ use Rattle.hay_logical.proofs.Compacting.{ended_at, ended_by}
 whole_log : (log : List Logged) (base : Table) → after (entries_of log) (length log) base ≡ fold apply_entry base (entries_of log)
 whole_log log base = ap (λ (l : List Entry). fold apply_entry base l) (take_all (length log) (entries_of log) (omega (arith, length-map log (λ (l : Logged). l.entry))))
 
-pub logged_table : (log : List Logged) (entry : Logged) (base : Table) → after (entries_of (log ++ entry ∷ [])) (length (log ++ entry ∷ [])) base ≡ apply_entry (after (entries_of log) (length log) base) entry.entry
+pub logged_table : (log : List Logged) (entry : Logged) (base : Table) → after (entries_of (log ++ entry ∷ [])) (length (log ++ entry ∷ [])) base
+    ≡ apply_entry (after (entries_of log) (length log) base) entry.entry
 logged_table log entry base =
     whole_log (log ++ entry ∷ []) base ∙ ap (λ (l : List Entry). fold apply_entry base l) (map-append (λ (l : Logged). l.entry) log (entry ∷ []))
     ∙ fold-append apply_entry base (entries_of log) (entry.entry ∷ []) ∙ ap (λ (t : Table). apply_entry t entry.entry) (sym (whole_log log base))
@@ -90,7 +91,8 @@ pub fits_put : (k : VolumeKnown) (tag : CoreTag) (pair : Pair) (cookie : Cookie)
     → Makes (Put pair cookie bytes) s s' → Fits k (replica_at k j) s → Fits (with_put k tag pair cookie bytes) (replica_at (with_put k tag pair cookie bytes) j) s'
 fits_put k tag pair cookie bytes j s s' h makes fits =
     subst (λ (r : ReplicaKnown). Fits (with_put k tag pair cookie bytes) r s') (sym (replica_mapped (grown (length bytes)) k.replicas j h))
-    (fits_logged k (with_put k tag pair cookie bytes) tag (Put pair cookie bytes) (replica_at k j) (grown (length bytes) (replica_at k j)) s s' refl (grown_grows pair cookie bytes (replica_at k j)) makes fits)
+    (fits_logged k (with_put k tag pair cookie bytes) tag (Put pair cookie bytes) (replica_at k j) (grown (length bytes) (replica_at k j)) s s' refl
+    (grown_grows pair cookie bytes (replica_at k j)) makes fits)
 
 pub put_replica : (k : VolumeKnown) (tag : CoreTag) (pair : Pair) (cookie : Cookie) (bytes : List ℕ) (j : ℕ) → j < length k.replicas
     → replica_at (with_put k tag pair cookie bytes) j ≡ grown (length bytes) (replica_at k j)

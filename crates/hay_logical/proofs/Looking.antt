@@ -92,7 +92,8 @@ module _ {D P : Type 0} (DiskTells : Type 0) (files : D → Files) (Tells : Type
       }
 
   -- the places of a replica that stands
-  pub stored_stands : (r : Copy D) (s : Stored) (pair : Pair) (p : Place P) → physical.Stands files r s → PhotoAt Tells (last_cell s.cells pair) p → PlaceStands files Tells r pair p (outcome_at (table_of (needles_of s.cells)) pair)
+  pub stored_stands : (r : Copy D) (s : Stored) (pair : Pair) (p : Place P) → physical.Stands files r s → PhotoAt Tells (last_cell s.cells pair) p
+      → PlaceStands files Tells r pair p (outcome_at (table_of (needles_of s.cells)) pair)
   stored_stands r s pair p stands at =
       photo_stands r s pair p (outcome_at (table_of (needles_of s.cells)) pair) stands at (λ seen. place_means Tells s.cells pair p seen at)
       (λ cell last. sym (at_cells s.cells pair ∙ ap (λ (o : Option Cell). cell_outcome o outcome.Nothing) last))
@@ -310,7 +311,8 @@ module _ {P : Type 0} (pair : Pair) (j : ℕ) (rows rows' : MapRows P) where
       by_test true = get_or-set_other (row_at rows q) j i p place.None apart
       by_test false = refl
 
-  pub same_places : (p : Place P) → place_in (row_at rows pair) j ≡ p → ((q : Pair) → row_at rows' q ≡ row_at rows q) → (q : Pair) → place_in (row_at rows' q) j ≡ cond (pair_eq pair q) p (place_in (row_at rows q) j)
+  pub same_places : (p : Place P) → place_in (row_at rows pair) j ≡ p → ((q : Pair) → row_at rows' q ≡ row_at rows q) → (q : Pair)
+      → place_in (row_at rows' q) j ≡ cond (pair_eq pair q) p (place_in (row_at rows q) j)
   same_places p was same q = ap (λ l. place_in l j) (same q) ∙ by_test (pair_eq pair q) refl
     where
       by_test : (b : Bool) → pair_eq pair q ≡ b → place_in (row_at rows q) j ≡ cond b p (place_in (row_at rows q) j)
@@ -322,7 +324,8 @@ module _ {P : Type 0} (pair : Pair) (j : ℕ) (rows rows' : MapRows P) where
     where
       by_test : (b : Bool) → pair_eq pair q ≡ b → row_at rows q ≡ cond b (slice_set (row_at rows q) j (place_in (row_at rows' pair) j)) (row_at rows q)
       by_test true own =
-          sym (ap (λ p. slice_set (row_at rows q) j p) (ap (λ l. place_in l j) (same pair) ∙ ap (λ (x : Pair). place_in (row_at rows x) j) (pair_same pair q own)) ∙ set-get_or (row_at rows q) j place.None)
+          sym (ap (λ p. slice_set (row_at rows q) j p) (ap (λ l. place_in l j) (same pair) ∙ ap (λ (x : Pair). place_in (row_at rows x) j) (pair_same pair q own))
+          ∙ set-get_or (row_at rows q) j place.None)
       by_test false apart = refl
 
   -- the place that was set
@@ -335,7 +338,8 @@ pub bytes_same : (old : Files) → KeepsBytes old old
 bytes_same old = record { now = λ n. refl; solid = λ n solid. solid; leaves = λ image leaves. leaves }
 
 -- a replica that was not looked at, whose places stay
-pub looks_still : {D P : Type 0} (DiskTells : Type 0) (files : D → Files) (Tells : Type 0) (rows rows' : MapRows P) (j : ℕ) (r : Copy D) → ((q : Pair) → place_in (row_at rows' q) j ≡ place_in (row_at rows q) j)
+pub looks_still : {D P : Type 0} (DiskTells : Type 0) (files : D → Files) (Tells : Type 0) (rows rows' : MapRows P) (j : ℕ) (r : Copy D)
+    → ((q : Pair) → place_in (row_at rows' q) j ≡ place_in (row_at rows q) j)
     → LooksAt DiskTells files Tells rows rows' j r r
 looks_still DiskTells files Tells rows rows' j r same = record {
   copy = refl;

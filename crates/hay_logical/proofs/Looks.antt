@@ -117,7 +117,8 @@ module _ {D P : Type 0} (DiskTells : Type 0) (files : D → Files) (Tells : Type
               let now = (looks.each j r x.0 e x.1).stands tells s stands places in
               let is : x.0 ≡ one.before = at_same items at x.0 one.before (subst (λ n. At items n x.0) same x.1) one.was in
               subst (λ n. IsSeen (place_in (row_at rows' pair) n)) (sym same)
-              (place_seen DiskTells files Tells faults items new rows rows' at pair result one sights row tells s (subst (λ (z : Copy D). physical.Stands files z s) is now.0) (subst (λ n. PlacesAre Tells rows n s) same now.1) only)
+              (place_seen DiskTells files Tells faults items new rows rows' at pair result one sights row tells s (subst (λ (z : Copy D). physical.Stands files z s) is now.0)
+              (subst (λ n. PlacesAre Tells rows n s) same now.1) only)
           | inr apart ↦
               let less : j < at = omega (arith, within, apart) in
               subst IsSeen (sym (other_places pair at rows rows' result row j apart pair)) (seen j r s less e stands places)
@@ -132,7 +133,8 @@ module _ {D P : Type 0} (DiskTells : Type 0) (files : D → Files) (Tells : Type
               let x = mid j r e in
               let there : At items at x.0 = subst (λ n. At items n x.0) same x.1 in
               subst (λ n. IsToldPlace (sights_of rows' pair n) (volume_bytes files r)) (sym same)
-              (subst (λ (l : List ℕ). IsToldPlace (sights_of rows' pair at) l) (file_looked before rows j r x.0 tells (looks.each j r x.0 e x.1)) (by_answer (volume_bytes files x.0) (needle x.0 there) result refl))
+              (subst (λ (l : List ℕ). IsToldPlace (sights_of rows' pair at) l) (file_looked before rows j r x.0 tells (looks.each j r x.0 e x.1))
+              (by_answer (volume_bytes files x.0) (needle x.0 there) result refl))
           | inr apart ↦
               let less : j < at = omega (arith, within, apart) in
               subst (λ (p : Place P). IsToldPlace (sight p) (volume_bytes files r)) (sym (other_places pair at rows rows' result row j apart pair)) (told j r less e)
@@ -194,7 +196,8 @@ disk_looked files r x y was keeps = record {
 }
 
 module _ {D P : Type 0} (DiskTells : Type 0) (files : D → Files) (Tells : Type 0) where
-  pub opens_looked : (rows rows' : MapRows P) (j : ℕ) (r x y : Copy D) → OpensAt DiskTells files Tells rows j r x → LooksAt DiskTells files Tells rows rows' j x y → OpensAt DiskTells files Tells rows' j r y
+  pub opens_looked : (rows rows' : MapRows P) (j : ℕ) (r x y : Copy D) → OpensAt DiskTells files Tells rows j r x → LooksAt DiskTells files Tells rows rows' j x y
+      → OpensAt DiskTells files Tells rows' j r y
   opens_looked rows rows' j r x y opens looks = record {
     up = subst (λ (p : Phase). HasFrozen false p) (sym (ap (λ (z : Copy D). z.phase) looks.copy)) opens.up;
     sup = ap (λ (z : Copy D). z.sup) looks.copy ∙ opens.sup;

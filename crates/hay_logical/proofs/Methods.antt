@@ -98,7 +98,8 @@ module _ {D P : Type 0} (settings : Settings) (number : ℕ) where
       by = record {
         places = λ pair j r' f.
             let old = at_there items j (let h = at_below new j r' f in let less : j < length items = omega (arith, h, count) in less) in
-            stands_on DiskTells files Tells physical.Anywhere old.0 r' pair (place_in (row_at rows pair) j) (outcome_at (now k (replica_at k j)) pair) (each j old.0 r' old.1 f).sees (λ at size e. tt) (stands.by.places pair j old.0 old.1);
+            stands_on DiskTells files Tells physical.Anywhere old.0 r' pair (place_in (row_at rows pair) j) (outcome_at (now k (replica_at k j)) pair)
+            (each j old.0 r' old.1 f).sees (λ at size e. tt) (stands.by.places pair j old.0 old.1);
         idle = λ j r' f.
             let old = at_there items j (let h = at_below new j r' f in let less : j < length items = omega (arith, h, count) in less) in
             let was = stands.by.idle j old.0 old.1 in
@@ -148,7 +149,8 @@ pub other_same : {D : Type 0} (at : ℕ) (old new : List (Copy D)) → CallsOne 
 other_same at old new c j apart r r' e f = at_same old j r' r (sym (at_set_other old j at c.after apart) ∙ subst (λ xs. At xs j r') c.is f) e
 
 -- the last replica was taken
-pub shaped_shorter : {D P : Type 0} (settings : Settings) (number : ℕ) (items rest : List (Copy D)) (last : Copy D) (rows : MapRows P) (front : ℕ) (frozen : Option ℕ) (unsure : Option Unsure) → items ≡ rest ++ last ∷ []
+pub shaped_shorter : {D P : Type 0} (settings : Settings) (number : ℕ) (items rest : List (Copy D)) (last : Copy D) (rows : MapRows P) (front : ℕ) (frozen : Option ℕ)
+    (unsure : Option Unsure) → items ≡ rest ++ last ∷ []
     → IsShaped (volume_with settings number items rows front frozen unsure) → IsShaped (volume_with settings number rest rows front frozen unsure)
 shaped_shorter {D} settings number items rest last rows front frozen unsure is shape =
     let there : (j : ℕ) (r : Copy D) → At rest j r → At items j r = λ j r e. subst (λ xs. At xs j r) (sym is) (at_first rest (last ∷ []) j r e) in

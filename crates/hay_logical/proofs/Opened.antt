@@ -140,7 +140,8 @@ module _ {P : Type 0} (Tells : Type 0) (k : VolumeKnown) (at j : ℕ) (found : S
 
   live_by : (pair : Pair) → IsSeen (place_in (row_at rows pair) j) → may_be_live (sights_of rows pair j) ≡ has_photo (outcome_at (table_of (needles_of found.cells)) pair)
   live_by pair seen =
-      live_is Tells pair (place_in (row_at rows pair) j) (outcome_at (table_of (needles_of found.cells)) pair) seen (place_means Tells found.cells pair (place_in (row_at rows pair) j) seen (places pair))
+      live_is Tells pair (place_in (row_at rows pair) j) (outcome_at (table_of (needles_of found.cells)) pair) seen
+      (place_means Tells found.cells pair (place_in (row_at rows pair) j) seen (places pair))
 
   delete_keeps : (pair : Pair) (b : Bool) (pending : Pending) → IsSeen (place_in (row_at rows pair) j) → pending.entry ≡ Del pair → KeptRule k (Del pair) at j b
       → ReopenedReplica k (replica_at k j) (kept_entry (Some pending) b) (known_of found) → not (may_be_live (sights_of rows pair j)) ≡ b
@@ -167,17 +168,20 @@ module _ {P : Type 0} (Tells : Type 0) (k : VolumeKnown) (at j : ℕ) (found : S
       ap (λ (q : Pair). not (may_be_live (sights_of rows q j))) asked ∙ delete_keeps pair b pending (subst (λ (q : Pair). IsSeen (place_in (row_at rows q) j)) asked seen) is rule r
 
 -- a replica is settled where a change is pending
-settled_by : {D : Type 0} (files : D → Files) (r : Copy D) (stuck poised : Bool) (s : Stored) (p : Option Pending) (at j : ℕ) (pending : Pending) → p ≡ Some pending → HoldsPending files r stuck poised s p at j → poised ≡ false
+settled_by : {D : Type 0} (files : D → Files) (r : Copy D) (stuck poised : Bool) (s : Stored) (p : Option Pending) (at j : ℕ) (pending : Pending) → p ≡ Some pending
+    → HoldsPending files r stuck poised s p at j → poised ≡ false
 settled_by files r stuck poised s None at j pending e h = absurd cc
 settled_by files r stuck poised s (Some other) at j pending e h = h.0
 
 -- what a disk holds where a change is pending
-some_part : {D : Type 0} (files : D → Files) (r : Copy D) (stuck : Bool) (entry : Entry) (s : Stored) (part : Part) → HoldsPart files r stuck entry s part → (a : Stored) × (t : Stored) × physical.Holds files r stuck a t
+some_part : {D : Type 0} (files : D → Files) (r : Copy D) (stuck : Bool) (entry : Entry) (s : Stored) (part : Part) → HoldsPart files r stuck entry s part
+    → (a : Stored) × (t : Stored) × physical.Holds files r stuck a t
 some_part files r stuck entry s Kept h = (h.0, h.0, h.2)
 some_part files r stuck entry s Perhaps h = (s, h.0, h.2)
 some_part files r stuck entry s Lost h = (s, s, h)
 
-some_swap : {D : Type 0} (files : D → Files) (r : Copy D) (stuck : Bool) (s : Stored) (poised : Bool) → HoldsSwap files r stuck s poised → (a : Stored) × (t : Stored) × physical.Holds files r stuck a t
+some_swap : {D : Type 0} (files : D → Files) (r : Copy D) (stuck : Bool) (s : Stored) (poised : Bool) → HoldsSwap files r stuck s poised
+    → (a : Stored) × (t : Stored) × physical.Holds files r stuck a t
 some_swap files r stuck s false h = (s, s, h)
 some_swap files r stuck s true h = (s, h.0, h.2)
 
@@ -314,7 +318,8 @@ module _ {D P : Type 0} (DiskTells : Type 0) (files : D → Files) (Tells : Type
               places = (is.found).places;
             }
 
-        told_by : (both : Chosen (ChosenIn files Tells news rows k holds.broken_at) settings.replicas) (notes : List Note) (u : Option Unsure) (p : Option Pending) → ((j : ℕ) → j < length news → SeesUnsure u rows j) → IsPending u k p → k.pending ≡ p
+        told_by : (both : Chosen (ChosenIn files Tells news rows k holds.broken_at) settings.replicas) (notes : List Note) (u : Option Unsure) (p : Option Pending)
+            → ((j : ℕ) → j < length news → SeesUnsure u rows j) → IsPending u k p → k.pending ≡ p
             → NotesTell settings number u (sights_of rows) (map replica_seen news) notes → notes ≡ pending_notes settings number p (kept_list p both.items)
         told_by both notes None None see is e are = are
         told_by both notes None (Some pending) see is e are = absurd is

@@ -82,7 +82,8 @@ module _ {D P : Type 0} (files : D → Files) (Tells : Type 0) (k : VolumeKnown)
       subst (PutRefused files Tells k tag pair cookie bytes old old) (sym is)
       (thawed, ap (λ o. option_map (λ at. refused.NoRoom old.number (machine_of old.settings old.number at.0) (at.1).end (needle_total (length bytes))) o) found, refl, refl)
 
-  pub room_refused : (f : LogicalFault) → Err f ≡ room_answer old.settings k.frozen (room_refusal_of old.settings old.number k (length bytes)) → PutRefused files Tells k tag pair cookie bytes old old f
+  pub room_refused : (f : LogicalFault) → Err f ≡ room_answer old.settings k.frozen (room_refusal_of old.settings old.number k (length bytes))
+      → PutRefused files Tells k tag pair cookie bytes old old f
   room_refused f e = refused_by k.frozen (find (λ at. lacks_room old.settings (length bytes) at.1) (enumerate_from 0 k.replicas)) f refl refl e
 
 pub room_cause : {D : Type 0} (faults : D → ℕ) (settings : Settings) (v : ℕ) (old new : List (Copy D)) (f : LogicalFault) → IsRoomFault settings v f → answers.IsPutFault faults settings v old new f
@@ -96,7 +97,8 @@ room_cause faults settings v old new (logical.Worn m) is = absurd is
 room_cause faults settings v old new logical.Idle is = absurd is
 room_cause faults settings v old new (logical.Damaged m at) is = absurd is
 
-module _ {D : Type 0} (DiskTells : Type 0) (files : D → Files) (faults : D → ℕ) (pair : Pair) (cookie : Cookie) (bytes : List ℕ) (items new : List (Copy D)) (broken : Broken) (left : PutLeaves DiskTells files faults pair cookie bytes items new broken) where
+module _ {D : Type 0} (DiskTells : Type 0) (files : D → Files) (faults : D → ℕ) (pair : Pair) (cookie : Cookie) (bytes : List ℕ) (items new : List (Copy D)) (broken : Broken)
+    (left : PutLeaves DiskTells files faults pair cookie bytes items new broken) where
   first_thawed : IsUntouched new broken → (r' : Copy D) → At new broken.at r' → is_frozen r' ≡ false
   first_thawed un r' f = ap is_frozen (at_same new 0 r' un.replica (subst (λ n. At new n r') un.first f) un.there) ∙ un.thawed
 
@@ -109,7 +111,8 @@ module _ {D : Type 0} (DiskTells : Type 0) (files : D → Files) (faults : D →
         first_thawed un r' (subst (λ n. At new n r') here f)
   ]
 
-  by_cause : (settings : Settings) (number : ℕ) (refusal : Refusal) → length items ≡ settings.replicas → (f : ReplicaFault) → RefusalBy settings number broken.at f refusal → IsPutFault faults left.before left.after f
+  by_cause : (settings : Settings) (number : ℕ) (refusal : Refusal) → length items ≡ settings.replicas → (f : ReplicaFault) → RefusalBy settings number broken.at f refusal
+      → IsPutFault faults left.before left.after f
       → answers.IsPutFault faults settings number items new refusal.fault
   by_cause settings number refusal all (fault.Failed printed) by cause =
       let below = at_below items broken.at left.before left.was in
@@ -128,12 +131,14 @@ module _ {D : Type 0} (DiskTells : Type 0) (files : D → Files) (faults : D →
   by_cause settings number refusal all fault.NoMemory by cause = subst (answers.IsPutFault faults settings number items new) (sym by.1) tt
   by_cause settings number refusal all _ by cause = absurd cause
 
-  pub put_cause_of : (settings : Settings) (number : ℕ) (refusal : Refusal) → IsRefusal settings number broken refusal → length items ≡ settings.replicas → answers.IsPutFault faults settings number items new refusal.fault
+  pub put_cause_of : (settings : Settings) (number : ℕ) (refusal : Refusal) → IsRefusal settings number broken refusal → length items ≡ settings.replicas
+      → answers.IsPutFault faults settings number items new refusal.fault
   put_cause_of settings number refusal answered all = by_cause settings number refusal all broken.fault answered left.cause
 
 module _ {D P : Type 0} (settings : Settings) (number : ℕ) (DiskTells : Type 0) (files : D → Files) (Tells : Type 0) (faults : D → ℕ) where
   -- the rows were only made room in
-  pub rows_kept : (items : List (Copy D)) (rows rows' : MapRows P) (front : ℕ) (frozen : Option ℕ) (unsure : Option Unsure) (k : VolumeKnown) → frozen ≡ None → ((q : Pair) → row_at rows' q ≡ row_at rows q)
+  pub rows_kept : (items : List (Copy D)) (rows rows' : MapRows P) (front : ℕ) (frozen : Option ℕ) (unsure : Option Unsure) (k : VolumeKnown) → frozen ≡ None
+      → ((q : Pair) → row_at rows' q ≡ row_at rows q)
       → StandsFor files Tells (volume_with settings number items rows front frozen unsure) k → StandsFor files Tells (volume_with settings number items rows' front frozen unsure) k
   rows_kept items rows rows' front (Some m) unsure k thawed same stands = some_none thawed
   rows_kept items rows rows' front None unsure k thawed same stands =
@@ -202,7 +207,8 @@ module _ {D P : Type 0} (settings : Settings) (number : ℕ) (DiskTells : Type 0
           ])
 
     -- a put that was broken off
-    module _ (items new : List (Copy D)) (broken : Broken) (refusal : Refusal) (left : PutLeaves DiskTells files faults pair cookie bytes items new broken) (answered : IsRefusal settings number broken refusal) (idle : AllIdle new) where
+    module _ (items new : List (Copy D)) (broken : Broken) (refusal : Refusal) (left : PutLeaves DiskTells files faults pair cookie bytes items new broken)
+        (answered : IsRefusal settings number broken refusal) (idle : AllIdle new) where
       module _ (tells : DiskTells) (rows rows' : MapRows P) (front : ℕ) (unsure : Option Unsure) (k : VolumeKnown) (tag : CoreTag) (ends : List ℕ)
           (stands : StandsFor files Tells (volume_with settings number items rows front None unsure) k) (count : length new ≡ length items)
           (same : (q : Pair) → row_at rows' q ≡ row_at rows q) (room : HasRoom settings number k (length bytes))
@@ -222,7 +228,8 @@ module _ {D P : Type 0} (settings : Settings) (number : ℕ) (DiskTells : Type 0
         frozen_by : (m : ℕ) (failed : Bool) → BreaksOffAt settings number (Some m) broken.at failed (Put pair cookie bytes)
             → StandsFor files Tells (volume_with settings number new rows' front (Some m) (Some (record { tag = tag; change = change.Put ends }))) (frozen_with m tag (Put pair cookie bytes) failed k)
         frozen_by m failed at_is =
-            stands_broken DiskTells files Tells settings number items new rows rows' front unsure k tag (Put pair cookie bytes) (change.Put ends) m broken.at failed stands count at_is (ends_known m failed) same
+            stands_broken DiskTells files Tells settings number items new rows rows' front unsure k tag (Put pair cookie bytes) (change.Put ends) m broken.at failed stands count
+            at_is (ends_known m failed) same
             (put_part DiskTells files Tells settings number tells faults items new rows front unsure k pair cookie bytes broken left) idle
             (λ j r r' e f q what. stands_on DiskTells files Tells physical.Anywhere r r' q (place_in (row_at rows q) j) what (reach j r r' e f tells).sees (λ at size is. tt))
 
@@ -234,7 +241,8 @@ module _ {D P : Type 0} (settings : Settings) (number : ℕ) (DiskTells : Type 0
             subst (PutRefused files Tells k tag pair cookie bytes (volume_with settings number items rows front None unsure)
             (volume_with settings number new rows' front (Some refusal.machine) (Some (record { tag = tag; change = change.Put ends })))) (sym by.1) (
               room,
-              inr (subst (λ m. StandsFor files Tells (volume_with settings number new rows' front (Some refusal.machine) (Some (record { tag = tag; change = change.Put ends }))) (frozen_with m tag (Put pair cookie bytes) false k)) by.0
+              inr (subst (λ m. StandsFor files Tells (volume_with settings number new rows' front (Some refusal.machine) (Some (record { tag = tag; change = change.Put ends })))
+                  (frozen_with m tag (Put pair cookie bytes) false k)) by.0
                   (frozen_by refusal.machine false tt)),
             )
 
@@ -249,7 +257,8 @@ module _ {D P : Type 0} (settings : Settings) (number : ℕ) (DiskTells : Type 0
             subst (PutRefused files Tells k tag pair cookie bytes (volume_with settings number items rows front None unsure)
             (volume_with settings number new rows' front (Some refusal.machine) (Some (record { tag = tag; change = change.Put ends })))) (sym by.1) (
               room,
-              subst (λ m. StandsFor files Tells (volume_with settings number new rows' front (Some refusal.machine) (Some (record { tag = tag; change = change.Put ends }))) (frozen_with m tag (Put pair cookie bytes) true k)) by.0
+              subst (λ m. StandsFor files Tells (volume_with settings number new rows' front (Some refusal.machine) (Some (record { tag = tag; change = change.Put ends })))
+                  (frozen_with m tag (Put pair cookie bytes) true k)) by.0
                   (frozen_by refusal.machine true (less, ap (λ n. Some n) by.0)),
             )
         by_fault fault.NoMemory by = no_memory by

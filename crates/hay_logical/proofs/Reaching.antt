@@ -28,7 +28,8 @@ module _ {D P : Type 0} (files : D → Files) where
   place_kept r r' keeps place.None may = tt
   place_kept r r' keeps (place.Unseen at size) may = keeps.deletes at may
 
-  pub sight_kept : {IsKept : ℕ → ℕ → Type 0} (r r' : Copy D) → KeepsReach files IsKept r r' → (p : Place P) → ((at size : ℕ) → p ≡ place.Unseen at size → IsKept at size) → physical.MaySeePlace files r p → physical.MaySeePlace files r' p
+  pub sight_kept : {IsKept : ℕ → ℕ → Type 0} (r r' : Copy D) → KeepsReach files IsKept r r' → (p : Place P) → ((at size : ℕ) → p ≡ place.Unseen at size → IsKept at size)
+      → physical.MaySeePlace files r p → physical.MaySeePlace files r' p
   sight_kept r r' keeps (place.Live needle) kept may = tt
   sight_kept r r' keeps place.Gone kept may = tt
   sight_kept r r' keeps place.None kept may = tt
@@ -104,7 +105,8 @@ module _ {D P : Type 0} (files : D → Files) (rows rows' : MapRows P) (j : ℕ)
   beyond q apart = changed q ∙ cond-false (pair_eq pair q) p (place_in (row_at rows q) j) apart
 
   pub reaches_changed : {Tells : Type 0} → (IsUp r' → IsUp r) → (IsOpenCopy r' → IsOpenCopy r) → (IsUp r' → physical.MayDeletePlace files r' p) → physical.MaySeePlace files r' p
-      → physical.HasWholeNeedle Tells p → ((other : Place P) → physical.ArePlacesApart p other) → (SeesPlaces files Tells rows j r → (q : Pair) → pair_eq q pair ≡ false → physical.ArePlacesApart (place_in (row_at rows q) j) p)
+      → physical.HasWholeNeedle Tells p → ((other : Place P) → physical.ArePlacesApart p other)
+      → (SeesPlaces files Tells rows j r → (q : Pair) → pair_eq q pair ≡ false → physical.ArePlacesApart (place_in (row_at rows q) j) p)
       → (SeesPlaces files Tells rows j r → (q : Pair) → pair_eq q pair ≡ false → (at size : ℕ) → place_in (row_at rows q) j ≡ place.Unseen at size → IsKept at size)
       → ReachesPlaces files Tells rows j r → ReachesPlaces files Tells rows' j r'
   reaches_changed {Tells = Tells} up is deletes sees whole to from kept reach = record {
@@ -148,7 +150,8 @@ module _ {D P Tells : Type 0} (DiskTells : Type 0) (files : D → Files) where
     old_at : (j : ℕ) (r' : Copy D) → At replicas' j r' → (r : Copy D) × At replicas j r
     old_at j r' f = at_there replicas j (let h = at_below replicas' j r' f in let less : j < length replicas = omega (arith, h, count) in less)
 
-    pub same_rows : ((j : ℕ) (r r' : Copy D) → At replicas j r → At replicas' j r' → StaysInReach DiskTells files r r') → ((pair : Pair) → row_at rows' pair ≡ row_at rows pair) → CanReach DiskTells files Tells replicas' rows'
+    pub same_rows : ((j : ℕ) (r r' : Copy D) → At replicas j r → At replicas' j r' → StaysInReach DiskTells files r r') → ((pair : Pair) → row_at rows' pair ≡ row_at rows pair)
+        → CanReach DiskTells files Tells replicas' rows'
     same_rows keeps same = λ tells j r' f.
         let old = old_at j r' f in
         let w = was j old.0 r' old.1 f in
@@ -165,7 +168,8 @@ module _ {D P Tells : Type 0} (DiskTells : Type 0) (files : D → Files) where
     pub put_row : (pair : Pair) (row : List (Place P)) → ((other : Pair) → row_at rows' other ≡ cond (pair_eq pair other) row (row_at rows other))
         → ((j : ℕ) (r r' : Copy D) → At replicas j r → At replicas' j r' → StaysInReach DiskTells files r r')
         → ((j : ℕ) (r r' : Copy D) → At replicas j r → At replicas' j r' → DiskTells → physical.MayDeletePlace files r' (place_in row j) × physical.MaySeePlace files r' (place_in row j)
-        × physical.HasWholeNeedle Tells (place_in row j) × ((other : Place P) → physical.ArePlacesApart (place_in row j) other) × ((at size : ℕ) → physical.MaySee files r at size → physical.IsApartPlace at size (place_in row j)))
+        × physical.HasWholeNeedle Tells (place_in row j) × ((other : Place P) → physical.ArePlacesApart (place_in row j) other)
+        × ((at size : ℕ) → physical.MaySee files r at size → physical.IsApartPlace at size (place_in row j)))
         → CanReach DiskTells files Tells replicas' rows'
     put_row pair row changed keeps puts = λ tells j r' f.
         let old = old_at j r' f in
@@ -174,7 +178,8 @@ module _ {D P Tells : Type 0} (DiskTells : Type 0) (files : D → Files) where
         reaches_changed files rows rows' j old.0 r' pair (place_in row j) physical.Anywhere (by_row pair row j changed) (keeps j old.0 r' old.1 f tells) w.0 w.1 (λ up. put.0) put.1 put.2 put.3
         (λ sees q differ. from old.0 (place_in row j) put.4 (place_in (row_at rows q) j) (sees.may q)) (λ sees q differ at size e. tt) (can tells j old.0 old.1)
       where
-        from : (r : Copy D) (p : Place P) → ((at size : ℕ) → physical.MaySee files r at size → physical.IsApartPlace at size p) → (q : Place P) → physical.MaySeePlace files r q → physical.ArePlacesApart q p
+        from : (r : Copy D) (p : Place P) → ((at size : ℕ) → physical.MaySee files r at size → physical.IsApartPlace at size p) → (q : Place P) → physical.MaySeePlace files r q
+            → physical.ArePlacesApart q p
         from r p apart (place.Live needle) may = tt
         from r p apart place.Gone may = tt
         from r p apart place.None may = tt
@@ -189,7 +194,8 @@ module _ {D P Tells : Type 0} (DiskTells : Type 0) (files : D → Files) where
         let w = was j old.0 r' old.1 f in
         let p : Place P = gone_place (place_in (row_at rows pair) j) in
         reaches_changed files rows rows' j old.0 r' pair p (λ at size. physical.IsApartPlace at size (place_in (row_at rows pair) j)) (gone_by j) (keeps j old.0 r' old.1 f tells) w.0 w.1
-        (λ up. gone_deletable files r' (place_in (row_at rows pair) j)) (gone_sees files r' (place_in (row_at rows pair) j)) (gone_whole Tells (place_in (row_at rows pair) j)) (gone_apart (place_in (row_at rows pair) j))
+        (λ up. gone_deletable files r' (place_in (row_at rows pair) j)) (gone_sees files r' (place_in (row_at rows pair) j)) (gone_whole Tells (place_in (row_at rows pair) j))
+        (gone_apart (place_in (row_at rows pair) j))
         (λ sees q differ. apart_gone (place_in (row_at rows q) j) (place_in (row_at rows pair) j))
         (λ sees q differ at size e. subst (λ x. physical.ArePlacesApart x (place_in (row_at rows pair) j)) e (sees.apart q pair differ)) (can tells j old.0 old.1)
       where
@@ -197,7 +203,8 @@ module _ {D P Tells : Type 0} (DiskTells : Type 0) (files : D → Files) where
         gone_by j q = elim (cases_Bool (pair_eq pair q)) [
           | inl same ↦
               ap (λ l. place_in l j) (changed q ∙ cond-true (pair_eq pair q) (map gone_place (row_at rows q)) (row_at rows q) same) ∙ gone_in (row_at rows q) j
-              ∙ ap (λ (x : Pair). gone_place (place_in (row_at rows x) j)) (sym (pair_same pair q same)) ∙ sym (cond-true (pair_eq pair q) (gone_place (place_in (row_at rows pair) j)) (place_in (row_at rows q) j) same)
+              ∙ ap (λ (x : Pair). gone_place (place_in (row_at rows x) j)) (sym (pair_same pair q same))
+              ∙ sym (cond-true (pair_eq pair q) (gone_place (place_in (row_at rows pair) j)) (place_in (row_at rows q) j) same)
           | inr apart ↦
               ap (λ l. place_in l j) (changed q ∙ cond-false (pair_eq pair q) (map gone_place (row_at rows q)) (row_at rows q) apart)
               ∙ sym (cond-false (pair_eq pair q) (gone_place (place_in (row_at rows pair) j)) (place_in (row_at rows q) j) apart)

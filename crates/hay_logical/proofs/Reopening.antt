@@ -1,5 +1,6 @@
 -- What an opening finds of a volume behind a stop: one of the outcomes of a restart.
-use Rattle.std.proofs.Common.{◌≡◌, ◌⊎◌, inl, inr, ℕ, zero, suc, ◌+◌, ◌-◌, ◌<◌, ◌≤◌, Bool, true, false, not, List, [], ◌∷◌, ◌++◌, length, map, Option, Some, None, refl, sym, ap, subst, ◌∙◌, arith, length-append}
+use Rattle.std.proofs.Common.{◌≡◌, ◌⊎◌, inl, inr, ℕ, zero, suc, ◌+◌, ◌-◌, ◌<◌, ◌≤◌, Bool, true, false, not, List, [], ◌∷◌, ◌++◌, length, map, Option, Some, None, refl, sym, ap}
+use Rattle.std.proofs.Common.{subst, ◌∙◌, arith, length-append}
 use Rattle.std.specs.Prelude.{slice_get, nat_lt}
 use Rattle.std.proofs.lemmas.Bool.{cases_Bool, cases_lt, true≢false}
 use Rattle.std.proofs.lemmas.Bool.Decides.{nat_tests}
@@ -17,7 +18,8 @@ use Rattle.hay_legal.specs.declared.known.Pending.{Pending}
 use Rattle.hay_legal.specs.declared.known.ReplicaKnown.{ReplicaKnown}
 use Rattle.hay_legal.specs.declared.known.VolumeKnown.{VolumeKnown}
 use Rattle.hay_legal.specs.Known.{empty_replica, machine_of, now, replica_at, stands as has_photo}
-use Rattle.hay_legal.specs.Restarts.{BareIs, KeptAfter, KeptBelow, KeptFirst, MayKeep, ReopenedReplica, ReopenedReplicas, ReopenedVolume, added_cells, added_end, is_kept, kept_entry, nothing_at, with_entries}
+use Rattle.hay_legal.specs.Restarts.{BareIs, KeptAfter, KeptBelow, KeptFirst, MayKeep, ReopenedReplica, ReopenedReplicas, ReopenedVolume, added_cells, added_end, is_kept}
+use Rattle.hay_legal.specs.Restarts.{kept_entry, nothing_at, with_entries}
 use Rattle.hay_legal.specs.Stands.{Contents, VolumeOutcome, found_of}
 use Rattle.hay_open.specs.Stored.{IsStored, OpensAs, Stored, volume_file}
 use Rattle.hay_compact.specs.Copying.{end_of}
@@ -219,7 +221,8 @@ module _ {D : Type 0} (files : D → Files) (r : Copy D) (E : Stored → Type 0)
       let c = as_before k pending at j s fits f.0 like (λ below. let wrong : Kept ≡ Lost = sym (part_kept at j below) ∙ is in cc) in
       (record { found = f.0; kept = c.0 }, c.1, f.2)
 
-  by_swap : (k : VolumeKnown) (at j : ℕ) (s : Stored) → Fits k (replica_at k j) s → (poised : Bool) → (replica_at k j).poised ≡ poised → HoldsSwap files r (replica_at k j).stuck s poised → OutcomeBy k at j None
+  by_swap : (k : VolumeKnown) (at j : ℕ) (s : Stored) → Fits k (replica_at k j) s → (poised : Bool) → (replica_at k j).poised ≡ poised
+      → HoldsSwap files r (replica_at k j).stuck s poised → OutcomeBy k at j None
   by_swap k at j s fits false is h =
       let f = finder (replica_at k j).stuck s s h in
       let like : IsLike (replica_at k j).stuck s f.0 = elim (f.1) [ inl l ↦ l | inr l ↦ l ] in
@@ -231,7 +234,8 @@ module _ {D : Type 0} (files : D → Files) (r : Copy D) (E : Stored → Type 0)
         | inr l ↦ (record { found = f.0; kept = false }, (swapped_by k (replica_at k j) s h.0 f.0 is fits h.1 l (sized f.0 f.2), tt), f.2)
       ]
 
-  by_pending : (k : VolumeKnown) (p : Option Pending) (at j : ℕ) (s : Stored) → Fits k (replica_at k j) s → HoldsPending files r (replica_at k j).stuck (replica_at k j).poised s p at j → OutcomeBy k at j p
+  by_pending : (k : VolumeKnown) (p : Option Pending) (at j : ℕ) (s : Stored) → Fits k (replica_at k j) s
+      → HoldsPending files r (replica_at k j).stuck (replica_at k j).poised s p at j → OutcomeBy k at j p
   by_pending k None at j s fits h = by_swap k at j s fits (replica_at k j).poised refl h
   by_pending k (Some pending) at j s fits h = by_part k pending at j s fits (part_of at j) refl h.1
 
@@ -345,7 +349,8 @@ module _ (settings : Settings) (v : ℕ) (of : IsOfSettings settings v) (k : Vol
           → slice_get (map (λ (x : Choice). x.kept) chosen.items) j ≡ Some (nat_lt j n)
       by_place n j h low high =
           let a = answer_at (Some pending) is j (within_list j h) in
-          let read : is_kept (map (λ (x : Choice). x.kept) chosen.items) j ≡ a.0.kept = at_or (map (λ (x : Choice). x.kept) chosen.items) j a.0.kept false (at_map (λ (x : Choice). x.kept) chosen.items j a.0 a.1) in
+          let read : is_kept (map (λ (x : Choice). x.kept) chosen.items) j ≡ a.0.kept =
+          at_or (map (λ (x : Choice). x.kept) chosen.items) j a.0.kept false (at_map (λ (x : Choice). x.kept) chosen.items j a.0 a.1) in
           elim (cases_lt j n) [
             | inl less ↦
                 let test : nat_lt j n ≡ true = grind (arith, nat_tests, less) in
@@ -367,7 +372,8 @@ module _ (settings : Settings) (v : ℕ) (of : IsOfSettings settings v) (k : Vol
       subst (λ (x : Bool). IsBroken settings v k.frozen at (Some (record pending { failed = x }))) e (subst (λ (q : Option Pending). IsBroken settings v k.frozen at q) is broken) in
       (machine_of settings v at, at, b.1, replica_found settings v at of.within b.0 of.fits, kept_below pending is b.0)
   kept_after pending is false e =
-      kept_first pending is pending.entry refl (subst (λ (x : Bool). IsBroken settings v k.frozen at (Some (record pending { failed = x }))) e (subst (λ (q : Option Pending). IsBroken settings v k.frozen at q) is broken))
+      kept_first pending is pending.entry refl (subst (λ (x : Bool). IsBroken settings v k.frozen at (Some (record pending { failed = x }))) e
+      (subst (λ (q : Option Pending). IsBroken settings v k.frozen at q) is broken))
 
   may_keep : (p : Option Pending) → k.pending ≡ p → MayKeep settings v k p (kept_list p chosen.items)
   may_keep None is = refl
@@ -384,7 +390,8 @@ module _ (settings : Settings) (v : ℕ) (of : IsOfSettings settings v) (k : Vol
         let low : i < length k.replicas = at_below k.replicas i old e in
         let there = at_there chosen.items i (let n = chosen.count in let less : i < length chosen.items = omega (arith, low, n, many) in less) in
         let o = chosen.each i there.0 there.1 in
-        let new_is : known_of there.0.found ≡ new = at_same (map (λ (x : Choice). known_of x.found) chosen.items) i (known_of there.0.found) new (at_map (λ (x : Choice). known_of x.found) chosen.items i there.0 there.1) f in
+        let new_is : known_of there.0.found ≡ new =
+        at_same (map (λ (x : Choice). known_of x.found) chosen.items) i (known_of there.0.found) new (at_map (λ (x : Choice). known_of x.found) chosen.items i there.0 there.1) f in
         let old_is : replica_at k i ≡ old = at_or k.replicas i old empty_replica e in
         let plus : i ≡ 0 + i = omega arith in
         subst (λ n. ReopenedReplica k old (kept_entry k.pending (is_kept (kept_list k.pending chosen.items) n)) new) plus
@@ -417,8 +424,14 @@ volume_outcome files volume k of h sups image leaves =
     let there = at_there volume.replicas j (let a = h.all in let less : j < length volume.replicas = omega (arith, low, a) in less) in
     let o = replica_outcome files there.0 (λ found. OpensFor (super_of volume.settings volume.number j) (image j) found)
     (λ b a t holds.
-    let f = holds_image files there.0 b a t (image j) holds (leaves j there.0 there.1) in
-    (f.found, f.like, record { opens = subst (λ sup. OpensAs sup (image j) f.found) (sups j there.0 there.1) (finds_opens there.0.sup (image j) b a t f); ends = stored_end there.0.sup (image j) f.found f.is }))
+    let f = holds_image files there.0 b a t (image j) holds (leaves j there.0 there.1) in (
+      f.found,
+      f.like,
+      record {
+        opens = subst (λ sup. OpensAs sup (image j) f.found) (sups j there.0 there.1) (finds_opens there.0.sup (image j) b a t f);
+        ends = stored_end there.0.sup (image j) f.found f.is;
+      },
+    ))
     (λ found is. is.ends)
     k h.broken_at j (h.each j there.0 there.1) in
     (o.0, (o.1, o.2))) in

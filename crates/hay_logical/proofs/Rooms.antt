@@ -76,7 +76,8 @@ module _ {D P : Type 0} (files : D → Files) (Tells : Type 0) (settings : Setti
   copy_at j x e = let h = at_below k.replicas j x e in let m = stands.many in let a = stands.all in at_there items j (let less : j < length items = omega (arith, h, m, a) in less)
 
   has_room : (j : ℕ) (x : ReplicaKnown) (r : Copy D) → At k.replicas j x → At items j r → RoomFor size r → lacks_room settings size x ≡ false
-  has_room j x r e f fits = fits_in (needle_total size) x.end (end_of r) settings.capacity (capacity_of r) (ap (λ (y : ReplicaKnown). y.end) (same_at j x e) ∙ known_end j r f) (known_capacity j r f) fits
+  has_room j x r e f fits =
+      fits_in (needle_total size) x.end (end_of r) settings.capacity (capacity_of r) (ap (λ (y : ReplicaKnown). y.end) (same_at j x e) ∙ known_end j r f) (known_capacity j r f) fits
 
   pub room_none : ((j : ℕ) (r : Copy D) → At items j r → RoomFor size r) → room_refusal_of settings number k size ≡ None
   room_none fits =
@@ -97,7 +98,8 @@ module _ {D P : Type 0} (files : D → Files) (Tells : Type 0) (settings : Setti
       ∙ ap (λ m. Some (NoRoom number (machine_of settings number m) (known.0).end (needle_total size))) plus
       ∙ ap (λ n. Some (NoRoom number (machine_of settings number broken.at) n (needle_total size))) end
 
-pub room_by : (settings : Settings) (frozen known : Option ℕ) (refused refusal : Option Refused) → known ≡ frozen → refusal ≡ refused → room_answer settings frozen refused ≡ room_answer settings known refusal
+pub room_by : (settings : Settings) (frozen known : Option ℕ) (refused refusal : Option Refused) → known ≡ frozen → refusal ≡ refused
+    → room_answer settings frozen refused ≡ room_answer settings known refusal
 room_by settings frozen known refused refusal e f = ap (λ (o : Option ℕ). room_answer settings o refused) (sym e) ∙ ap (room_answer settings known) (sym f)
 
 -- what a replica that has its capacity may have, by the settings of the volume

@@ -1,5 +1,6 @@
 -- Changes that stand on each replica: how they are made, shown, and given up.
-use Rattle.std.proofs.Common.{◌≡◌, ◌⊎◌, inl, inr, ℕ, zero, suc, ◌+◌, ◌<◌, Bool, true, false, List, [], ◌∷◌, length, map, Option, Some, None, option_map, refl, sym, ap, subst, ◌∙◌, arith, length-append}
+use Rattle.std.proofs.Common.{◌≡◌, ◌⊎◌, inl, inr, ℕ, zero, suc, ◌+◌, ◌<◌, Bool, true, false, List, [], ◌∷◌, length, map, Option, Some, None, option_map, refl, sym, ap, subst, ◌∙◌}
+use Rattle.std.proofs.Common.{arith, length-append}
 use Rattle.std.specs.Prelude.{slice_index, slice_index_or}
 use Rattle.std.proofs.lemmas.Bool.{false≢true, true≢false}
 use Rattle.std.proofs.lemmas.List.{length-map}
@@ -141,7 +142,8 @@ breaks_behind settings v frozen (Del pair) = omega arith
 module _ {D P : Type 0} (settings : Settings) (number : ℕ) (DiskTells : Type 0) (files : D → Files) (Tells : Type 0) (faults fuses : D → ℕ) where
   -- MADE
 
-  pub written : DiskTells → (items new : List (Copy D)) (rows rows' : MapRows P) (front : ℕ) (frozen : Option ℕ) (unsure : Option Unsure) (k : VolumeKnown) (pair : Pair) (cookie : Cookie) (bytes : List ℕ) (w : Written P)
+  pub written : DiskTells → (items new : List (Copy D)) (rows rows' : MapRows P) (front : ℕ) (frozen : Option ℕ) (unsure : Option Unsure) (k : VolumeKnown) (pair : Pair)
+      (cookie : Cookie) (bytes : List ℕ) (w : Written P)
       → StandsFor files Tells (volume_with settings number items rows front frozen unsure) k → frozen ≡ None → HasRoom settings number k (length bytes) → length new ≡ length items
       → w.pair ≡ pair → w.position ≡ front + 1 → length w.row ≡ length items → ((q : Pair) → row_at rows' q ≡ row_at rows q)
       → ((j : ℕ) (r r' : Copy D) → At items j r → At new j r' → PutsAt DiskTells files Tells pair cookie bytes r r' (place_in w.row j))
@@ -201,7 +203,8 @@ module _ {D P : Type 0} (settings : Settings) (number : ℕ) (DiskTells : Type 0
                     (subst (λ (x : Option Run). HasRun files r' (physical.with_cell stood.stored pair cookie bytes) x) (longer_run (replica_at k j).run)
                     (put.run tells stood.stored (option_map copier_run (replica_at k j).run) stood.stands stood.run));
                 places = λ q.
-                    subst (λ (l : List (Place P)). PhotoAt Tells (last_cell (physical.with_cell stood.stored pair cookie bytes).cells q) (place_in (changed_row (op.Put pair w.row) q l) j)) (sym (same q))
+                    subst (λ (l : List (Place P)). PhotoAt Tells (last_cell (physical.with_cell stood.stored pair cookie bytes).cells q)
+                    (place_in (changed_row (op.Put pair w.row) q l) j)) (sym (same q))
                     (put_places DiskTells files Tells settings number pair cookie bytes w.row rows j stood.stored behind.1 stood.places q);
               };
         };
@@ -209,12 +212,14 @@ module _ {D P : Type 0} (settings : Settings) (number : ℕ) (DiskTells : Type 0
 
   pub erased : DiskTells → (items new : List (Copy D)) (rows : MapRows P) (front : ℕ) (frozen : Option ℕ) (unsure : Option Unsure) (k : VolumeKnown) (pair : Pair) (row : List (Place P)) (position : ℕ)
       → StandsFor files Tells (volume_with settings number items rows front frozen unsure) k → frozen ≡ None → length new ≡ length items → position ≡ front + 1
-      → row ≡ row_at rows pair → length row ≡ settings.replicas → ((j : ℕ) → j < settings.replicas → IsSeen (place_in (row_at rows pair) j)) → (some : (j : ℕ) × (j < length row) × (is_live (place_in row j) ≡ true))
+      → row ≡ row_at rows pair → length row ≡ settings.replicas → ((j : ℕ) → j < settings.replicas → IsSeen (place_in (row_at rows pair) j))
+      → (some : (j : ℕ) × (j < length row) × (is_live (place_in row j) ≡ true))
       → CanReach DiskTells files Tells items rows → ((j : ℕ) (r : Copy D) → At items j r → IsOpenCopy r)
       → ((j : ℕ) (r r' : Copy D) → At items j r → At new j r' → DeletesAt DiskTells files (place_in row j) r r')
       → ((j : ℕ) (r r' : Copy D) → At items j r → At new j r' → FollowsAt DiskTells files faults pair (place_in row j) r r')
       → ((j : ℕ) (r r' : Copy D) → At items j r → At new j r' → StaysBeside DiskTells files (place_in row j) r r')
-      → IsErased files faults Tells k pair (record { pair = pair; position = position }) (volume_with settings number items rows front frozen unsure) (volume_with settings number new rows front frozen unsure)
+      → IsErased files faults Tells k pair (record { pair = pair; position = position }) (volume_with settings number items rows front frozen unsure)
+      (volume_with settings number new rows front frozen unsure)
   erased tells items new rows front (Some m) unsure k pair row position stands thawed count next is long seen some can ups each follow beside = some_none thawed
   erased tells items new rows front None unsure k pair row position stands thawed count next is long seen some can ups each follow beside =
       let taking = takes DiskTells files Tells settings number items rows front None unsure k stands refl in
@@ -275,7 +280,8 @@ module _ {D P : Type 0} (settings : Settings) (number : ℕ) (DiskTells : Type 0
 
   -- SHOWN
 
-  entered : (items : List (Copy D)) (rows rows' : MapRows P) (front front' : ℕ) (frozen : Option ℕ) (unsure : Option Unsure) (k : VolumeKnown) (tag : CoreTag) (entry : Entry) (change : MapOp P) (behind : List ReplicaKnown)
+  entered : (items : List (Copy D)) (rows rows' : MapRows P) (front front' : ℕ) (frozen : Option ℕ) (unsure : Option Unsure) (k : VolumeKnown) (tag : CoreTag) (entry : Entry)
+      (change : MapOp P) (behind : List ReplicaKnown)
       → IsUnshown files Tells k entry change behind (volume_with settings number items rows front frozen unsure) → front' ≡ length k.log + 1 → length behind ≡ length k.replicas
       → ((j : ℕ) → j < length k.replicas → Behind entry (replica_at k j) (slice_index_or behind j empty_replica))
       → ((q : Pair) → row_at rows' q ≡ changed_row change q (row_at rows q))
@@ -298,7 +304,9 @@ module _ {D P : Type 0} (settings : Settings) (number : ℕ) (DiskTells : Type 0
               let b = each j known in
               record {
                 stored = unshown.stored;
-                fits = fits_logged k (known_behind k tag entry behind) tag entry (replica_at k j) (slice_index_or behind j empty_replica) unshown.before unshown.stored refl b.grows unshown.makes unshown.fits;
+                fits =
+                    fits_logged k (known_behind k tag entry behind) tag entry (replica_at k j) (slice_index_or behind j empty_replica) unshown.before unshown.stored refl b.grows
+                    unshown.makes unshown.fits;
                 stands = unshown.stands;
                 stuck = b.stuck ∙ unshown.stuck;
                 run = unshown.run;
@@ -308,7 +316,8 @@ module _ {D P : Type 0} (settings : Settings) (number : ℕ) (DiskTells : Type 0
         };
       }
 
-  pub put_shown : (items : List (Copy D)) (rows rows' : MapRows P) (front front' : ℕ) (frozen : Option ℕ) (unsure : Option Unsure) (k : VolumeKnown) (tag : CoreTag) (pair : Pair) (cookie : Cookie) (bytes : List ℕ) (w : Written P)
+  pub put_shown : (items : List (Copy D)) (rows rows' : MapRows P) (front front' : ℕ) (frozen : Option ℕ) (unsure : Option Unsure) (k : VolumeKnown) (tag : CoreTag) (pair : Pair)
+      (cookie : Cookie) (bytes : List ℕ) (w : Written P)
       → IsWritten files Tells k pair cookie bytes w (volume_with settings number items rows front frozen unsure) → front' ≡ w.position
       → ((q : Pair) → row_at rows' q ≡ changed_row (op.Put w.pair w.row) q (row_at rows q))
       → IsPut files Tells k tag pair cookie bytes front' (volume_with settings number items rows' front' frozen unsure)
@@ -316,11 +325,14 @@ module _ {D P : Type 0} (settings : Settings) (number : ℕ) (DiskTells : Type 0
   put_shown items rows rows' front front' frozen unsure k tag pair cookie bytes w is next changed = record {
     room = is.room;
     position = next ∙ is.position;
-    stands = entered items rows rows' front front' frozen unsure k tag (Put pair cookie bytes) (op.Put pair w.row) (map (grown (length bytes)) k.replicas) is.unshown (next ∙ is.position) (length-map k.replicas (grown (length bytes)))
+    stands =
+        entered items rows rows' front front' frozen unsure k tag (Put pair cookie bytes) (op.Put pair w.row) (map (grown (length bytes)) k.replicas) is.unshown
+        (next ∙ is.position) (length-map k.replicas (grown (length bytes)))
         (λ j h. behind_put pair cookie bytes k.replicas j h) (λ q. changed q ∙ ap (λ (p : Pair). changed_row (op.Put p w.row) q (row_at rows q)) is.own);
   }
 
-  pub delete_shown : (before : Volume D P) (items : List (Copy D)) (rows rows' : MapRows P) (front front' : ℕ) (frozen : Option ℕ) (unsure : Option Unsure) (k : VolumeKnown) (tag : CoreTag) (pair : Pair) (e : Erased)
+  pub delete_shown : (before : Volume D P) (items : List (Copy D)) (rows rows' : MapRows P) (front front' : ℕ) (frozen : Option ℕ) (unsure : Option Unsure) (k : VolumeKnown)
+      (tag : CoreTag) (pair : Pair) (e : Erased)
       → IsErased files faults Tells k pair e before (volume_with settings number items rows front frozen unsure) → front' ≡ e.position
       → ((q : Pair) → row_at rows' q ≡ changed_row (op.Del e.pair) q (row_at rows q))
       → IsDeleted files faults Tells k tag pair front' before (volume_with settings number items rows' front' frozen unsure)
@@ -333,13 +345,16 @@ module _ {D P : Type 0} (settings : Settings) (number : ℕ) (DiskTells : Type 0
     runs = refl;
     count = is.count;
     cause = is.cause;
-    stands = entered items rows rows' front front' frozen unsure k tag (Del pair) (op.Del pair) (ended_where (ended_runs before.replicas items) k.replicas) is.unshown (next ∙ is.position) (length-ended (ended_runs before.replicas items) k.replicas)
+    stands =
+        entered items rows rows' front front' frozen unsure k tag (Del pair) (op.Del pair) (ended_where (ended_runs before.replicas items) k.replicas) is.unshown
+        (next ∙ is.position) (length-ended (ended_runs before.replicas items) k.replicas)
         (λ j h. behind_delete pair (ended_runs before.replicas items) k.replicas j h) (λ q. changed q ∙ ap (λ (p : Pair). changed_row (op.Del p) q (row_at rows q)) is.own);
   }
 
   -- GIVEN UP
 
-  pub given_up : DiskTells → (items new : List (Copy D)) (rows : MapRows P) (front : ℕ) (frozen : Option ℕ) (unsure : Option Unsure) (k : VolumeKnown) (tag : CoreTag) (entry : Entry) (change : MapOp P) (behind : List ReplicaKnown) (asked : Change) (m : ℕ)
+  pub given_up : DiskTells → (items new : List (Copy D)) (rows : MapRows P) (front : ℕ) (frozen : Option ℕ) (unsure : Option Unsure) (k : VolumeKnown) (tag : CoreTag)
+      (entry : Entry) (change : MapOp P) (behind : List ReplicaKnown) (asked : Change) (m : ℕ)
       → IsUnshown files Tells k entry change behind (volume_with settings number items rows front frozen unsure) → IsChange asked k entry → m ≡ machine_of settings number 0 → length new ≡ length items
       → ((j : ℕ) (r r' : Copy D) → At items j r → At new j r' → LosesRun DiskTells files r r') → AllIdle new
       → StandsFor files Tells (volume_with settings number new rows front (Some m) (Some (record { tag = tag; change = asked }))) (frozen_with (machine_of settings number 0) tag entry false k)
@@ -361,7 +376,8 @@ module _ {D P : Type 0} (settings : Settings) (number : ℕ) (DiskTells : Type 0
           places = λ q j r' f.
               let was = old j r' f in
               subst (λ (t : Table). PlaceStands files Tells r' q (place_in (row_at rows q) j) (outcome_at t q)) (sym (frozen_base k n tag entry false j (known j r' f)))
-              (stands_on DiskTells files Tells physical.Anywhere was.0 r' q (place_in (row_at rows q) j) (outcome_at (now k (replica_at k j)) q) ((loses j was.0 r' was.1 f).reach tells).sees (λ at size e. tt) (is.shows q j was.0 was.1));
+              (stands_on DiskTells files Tells physical.Anywhere was.0 r' q (place_in (row_at rows q) j) (outcome_at (now k (replica_at k j)) q)
+              ((loses j was.0 r' was.1 f).reach tells).sees (λ at size e. tt) (is.shows q j was.0 was.1));
           idle = λ j r' f. (ap (λ (x : ReplicaKnown). x.run) (frozen_replica k n tag entry false j (known j r' f)), idle j r' f);
           holds = record {
             all = count ∙ all;

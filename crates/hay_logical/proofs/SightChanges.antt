@@ -190,7 +190,8 @@ finds_behind pair replicas a b c looks finds = record { looks = looks_more pair 
 
 module _ (settings : Settings) (v : ℕ) (pair : Pair) (a b : Sights) where
   -- a look was refused, which has left each place
-  pub look_refused_at : (at machine : ℕ) → at < settings.replicas → machine ≡ machine_of settings v at → KeepsSights a b → (f : ReplicaFault) → LookAwaited (a pair at) f → LookRefusedSights settings v pair a b (answer_at machine f)
+  pub look_refused_at : (at machine : ℕ) → at < settings.replicas → machine ≡ machine_of settings v at → KeepsSights a b → (f : ReplicaFault) → LookAwaited (a pair at) f
+      → LookRefusedSights settings v pair a b (answer_at machine f)
   look_refused_at at machine within is same (fault.Failed printed) awaits =
       record { looks = looks_kept pair a b same; unseen = (at, within, is, subst (λ (s : Sight). AwaitsLook s) (sym (same pair at)) awaits) }
   look_refused_at at machine within is same (fault.Damaged there) awaits =

@@ -36,7 +36,8 @@ use Rattle.hay_logical.proofs.Standing.{volume_with}
 use Rattle.hay_logical.proofs.Within.{row_lies}
 
 -- the places of the other replicas stay
-pub other_places : {P : Type 0} (pair : Pair) (at : ℕ) (rows rows' : MapRows P) (result : Result Unit ReplicaFault) → SeesRow pair at rows rows' result → (j : ℕ) → j ≢ at → (q : Pair) → place_in (row_at rows' q) j ≡ place_in (row_at rows q) j
+pub other_places : {P : Type 0} (pair : Pair) (at : ℕ) (rows rows' : MapRows P) (result : Result Unit ReplicaFault) → SeesRow pair at rows rows' result → (j : ℕ) → j ≢ at
+    → (q : Pair) → place_in (row_at rows' q) j ≡ place_in (row_at rows q) j
 other_places pair at rows rows' (Err f) sees j apart q = ap (λ l. place_in l j) (sees.kept q)
 other_places pair at rows rows' (Ok value) sees j apart q = set_others pair at rows rows' (place_in (row_at rows' pair) at) sees.set j apart q
 
@@ -62,7 +63,8 @@ failed_machine machine fault.Worn m count e = absurd cc
 failed_machine machine (fault.Damaged there) m count e = absurd cc
 failed_machine machine fault.NoMemory m count e = absurd cc
 
-pub sight_cause : {D : Type 0} (faults : D → ℕ) (settings : Settings) (number : ℕ) (items new : List (Copy D)) (at machine : ℕ) (f : ReplicaFault) → at < settings.replicas → machine ≡ machine_of settings number at → (one : CallsOne at items new)
+pub sight_cause : {D : Type 0} (faults : D → ℕ) (settings : Settings) (number : ℕ) (items new : List (Copy D)) (at machine : ℕ) (f : ReplicaFault) → at < settings.replicas
+    → machine ≡ machine_of settings number at → (one : CallsOne at items new)
     → physical_faults.IsSightFault (faults (one.before).disk) (faults (one.after).disk) f → IsSightFault faults settings number items new (answer_at machine f)
 sight_cause faults settings number items new at machine (fault.Failed n) within is one cause =
     record { replica = at; within = within; before = one.before; after = one.after; was = one.was; is = one_after at items new one; machine = is; rose = cause.0; printed = cause.1 }
@@ -74,10 +76,12 @@ sight_cause faults settings number items new at machine fault.Worn within is one
 sight_cause faults settings number items new at machine (fault.Damaged there) within is one cause = (at, within, is)
 sight_cause faults settings number items new at machine fault.NoMemory within is one cause = tt
 
-module _ {D P : Type 0} (DiskTells : Type 0) (files : D → Files) (Tells : Type 0) (faults : D → ℕ) (items new : List (Copy D)) (rows rows' : MapRows P) (at : ℕ) (pair : Pair) (result : Result Unit ReplicaFault)
+module _ {D P : Type 0} (DiskTells : Type 0) (files : D → Files) (Tells : Type 0) (faults : D → ℕ) (items new : List (Copy D)) (rows rows' : MapRows P) (at : ℕ) (pair : Pair)
+    (result : Result Unit ReplicaFault)
     (one : CallsOne at items new) (sights : SightsAt DiskTells files faults Tells pair rows rows' at one.before one.after result) (row : SeesRow pair at rows rows' result) where
   -- of the replica that was looked at, and of the others
-  by_replica : (Q : ℕ → Copy D → Copy D → Type 0) → Q at one.before one.after → ((j : ℕ) (r : Copy D) → j ≢ at → At items j r → Q j r r) → (j : ℕ) (r r' : Copy D) → At items j r → At new j r' → Q j r r'
+  by_replica : (Q : ℕ → Copy D → Copy D → Type 0) → Q at one.before one.after → ((j : ℕ) (r : Copy D) → j ≢ at → At items j r → Q j r r) → (j : ℕ) (r r' : Copy D) → At items j r
+      → At new j r' → Q j r r'
   by_replica Q here others j r r' e f = elim (cases_eq j at) [
     | inl same ↦
         let r_is : r ≡ one.before = at_same items at r one.before (subst (λ n. At items n r) same e) one.was in
@@ -89,18 +93,27 @@ module _ {D P : Type 0} (DiskTells : Type 0) (files : D → Files) (Tells : Type
   -- a look changes nothing that a replica stands for
   pub looks_one : (j : ℕ) (r r' : Copy D) → At items j r → At new j r' → LooksAt DiskTells files Tells rows rows' j r r'
   looks_one =
-      by_replica (λ n x y. LooksAt DiskTells files Tells rows rows' n x y) (record { copy = sights.copy; stands = sights.stands; holds = sights.holds; keeps = sights.keeps; reach = sights.reach; within = row_lies pair at rows rows' result row at })
+      by_replica (λ n x y. LooksAt DiskTells files Tells rows rows' n x y) (record {
+        copy = sights.copy;
+        stands = sights.stands;
+        holds = sights.holds;
+        keeps = sights.keeps;
+        reach = sights.reach;
+        within = row_lies pair at rows rows' result row at;
+      })
       (λ n x apart e. looks_still DiskTells files Tells rows rows' n x (other_places pair at rows rows' result row n apart))
 
   -- of a replica that stands, the place was seen, unless for another cause than damage
-  pub place_seen : DiskTells → (s : Stored) → physical.Stands files one.before s → PlacesAre Tells rows at s → ((f : ReplicaFault) → result ≡ Err f → (k : ℕ) × (f ≡ fault.Damaged k)) → IsSeen (place_in (row_at rows' pair) at)
+  pub place_seen : DiskTells → (s : Stored) → physical.Stands files one.before s → PlacesAre Tells rows at s
+      → ((f : ReplicaFault) → result ≡ Err f → (k : ℕ) × (f ≡ fault.Damaged k)) → IsSeen (place_in (row_at rows' pair) at)
   place_seen tells s stands places only = by_answer result refl
     where
       by_answer : (x : Result Unit ReplicaFault) → result ≡ x → IsSeen (place_in (row_at rows' pair) at)
       by_answer (Ok value) e = subst (λ x. OnOk x (IsSeen (place_in (row_at rows' pair) at))) e sights.seen
       by_answer (Err f) e =
           let damaged = only f e in
-          absurd (sights.undamaged tells (outcome_at (table_of (needles_of s.cells)) pair) (stored_stands DiskTells files Tells one.before s pair (place_in (row_at rows pair) at) stands (places pair)) damaged.0 (e ∙ ap (λ x. Err x) damaged.1))
+          absurd (sights.undamaged tells (outcome_at (table_of (needles_of s.cells)) pair) (stored_stands DiskTells files Tells one.before s pair (place_in (row_at rows pair) at)
+          stands (places pair)) damaged.0 (e ∙ ap (λ x. Err x) damaged.1))
 
   old_at : (j : ℕ) (r' : Copy D) → At new j r' → (r : Copy D) × At items j r
   old_at j r' f = at_there items j (let h = at_below new j r' f in let count = one_count at items new one in let less : j < length items = omega (arith, h, count) in less)
@@ -175,12 +188,15 @@ module _ {D P : Type 0} (DiskTells : Type 0) (files : D → Files) (Tells : Type
 
   -- the place that was seen
   pub known_seen : DiskTells → CanReach DiskTells files Tells items rows → (settings : Settings) (number front : ℕ) (frozen : Option ℕ) (unsure : Option Unsure) (fuses : D → ℕ) (k : VolumeKnown)
-      → StandsFor files Tells (volume_with settings number items rows front frozen unsure) k → IsSeen (place_in (row_at rows' pair) at) → PlaceMeans Tells pair (place_in (row_at rows' pair) at) (outcome_at (now k (replica_at k at)) pair)
+      → StandsFor files Tells (volume_with settings number items rows front frozen unsure) k → IsSeen (place_in (row_at rows' pair) at)
+      → PlaceMeans Tells pair (place_in (row_at rows' pair) at) (outcome_at (now k (replica_at k at)) pair)
   known_seen tells can settings number front frozen unsure fuses k stands seen =
       stands_seen DiskTells files Tells one.after pair (place_in (row_at rows' pair) at) (outcome_at (now k (replica_at k at)) pair) seen
-      (shown settings number DiskTells files Tells faults fuses new rows' front frozen unsure k (saw tells can settings number front frozen unsure k stands) pair at one.after (one_after at items new one))
+      (shown settings number DiskTells files Tells faults fuses new rows' front frozen unsure k (saw tells can settings number front frozen unsure k stands) pair at one.after
+      (one_after at items new one))
 
   pub seen_whole : DiskTells → (settings : Settings) (number front : ℕ) (frozen : Option ℕ) (unsure : Option Unsure) (fuses : D → ℕ) (k : VolumeKnown)
       → StandsFor files Tells (volume_with settings number items rows front frozen unsure) k → (n : ℕ) → result ≡ Err (fault.Damaged n) → ⊥
   seen_whole tells settings number front frozen unsure fuses k stands n e =
-      sights.undamaged tells (outcome_at (now k (replica_at k at)) pair) (shown settings number DiskTells files Tells faults fuses items rows front frozen unsure k stands pair at one.before one.was) n e
+      sights.undamaged tells (outcome_at (now k (replica_at k at)) pair) (shown settings number DiskTells files Tells faults fuses items rows front frozen unsure k stands pair at
+      one.before one.was) n e

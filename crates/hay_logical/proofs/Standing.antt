@@ -43,7 +43,8 @@ none_pending None k None e f = tt
 none_pending None k (Some pending) e f = absurd cc
 none_pending (Some unsure) k p e f = absurd cc
 
-place_put : {P : Type 0} (Tells : Type 0) (end : ℕ) (pair : Pair) (cookie : Cookie) (bytes : List ℕ) (p : Place P) → IsPlaceOf Tells end pair cookie bytes p → PhotoAt Tells (Some (live_cell end pair cookie bytes)) p
+place_put : {P : Type 0} (Tells : Type 0) (end : ℕ) (pair : Pair) (cookie : Cookie) (bytes : List ℕ) (p : Place P) → IsPlaceOf Tells end pair cookie bytes p
+    → PhotoAt Tells (Some (live_cell end pair cookie bytes)) p
 place_put Tells end pair cookie bytes (place.Live needle) is = is
 place_put Tells end pair cookie bytes place.None is = absurd is
 place_put Tells end pair cookie bytes place.Gone is = absurd is

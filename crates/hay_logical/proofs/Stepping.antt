@@ -39,7 +39,8 @@ is_run None standing = absurd (standing refl)
 is_run (Some run) standing = (run, refl)
 
 -- a replica of which only the compaction changed
-pub fits_run : (k : VolumeKnown) (j : ℕ) (s : Stored) (run : Run) → j < length k.replicas → Fits k (replica_at k j) s → Fits (change_at k j (with_run run)) (replica_at (change_at k j (with_run run)) j) s
+pub fits_run : (k : VolumeKnown) (j : ℕ) (s : Stored) (run : Run) → j < length k.replicas → Fits k (replica_at k j) s
+    → Fits (change_at k j (with_run run)) (replica_at (change_at k j (with_run run)) j) s
 fits_run k j s run h fits =
     subst (λ (r : ReplicaKnown). Fits (change_at k j (with_run run)) r s) (sym (changed_here k j (with_run run) h))
     (fits_same k (change_at k j (with_run run)) (replica_at k j) (with_run run (replica_at k j)) s refl refl refl refl refl refl fits)
@@ -52,7 +53,8 @@ fits_no_run k j s h fits =
 module _ {D P : Type 0} (settings : Settings) (number : ℕ) (DiskTells : Type 0) (files : D → Files) (Tells : Type 0) (faults : D → ℕ) where
   -- the generation that a compaction makes is known
   pub standing_known : (items : List (Copy D)) (rows : MapRows P) (front : ℕ) (frozen : Option ℕ) (unsure : Option Unsure) (k : VolumeKnown)
-      → StandsFor files Tells (volume_with settings number items rows front frozen unsure) k → (j : ℕ) (r : Copy D) → At items j r → goal_of r ≡ option_map (λ (run : Run). run.goal) (replica_at k j).run
+      → StandsFor files Tells (volume_with settings number items rows front frozen unsure) k → (j : ℕ) (r : Copy D) → At items j r
+      → goal_of r ≡ option_map (λ (run : Run). run.goal) (replica_at k j).run
   standing_known items rows front None unsure k stands j r e = let was = stands.by.each j r e in known_goal files r was.stored (replica_at k j).run was.run
   standing_known items rows front (Some m) unsure k stands j r e =
       let idle = stands.by.idle j r e in
@@ -86,9 +88,11 @@ module _ {D P : Type 0} (settings : Settings) (number : ℕ) (DiskTells : Type 0
         (λ j apart r w. record { stored = w.stored; fits = w.fits; stands = w.stands; stuck = w.stuck; run = w.run; settled = w.settled; places = w.places })
 
     -- it has this compaction now
-    pub stands_running_by : DiskTells → GoesOn DiskTells files one.before one.after → (run : Run) → (w : ReplicaStands files Tells (volume_with settings number items rows front None unsure) k at one.before)
+    pub stands_running_by : DiskTells → GoesOn DiskTells files one.before one.after → (run : Run)
+        → (w : ReplicaStands files Tells (volume_with settings number items rows front None unsure) k at one.before)
         → runs.HasRun files one.after w.stored (Some (copier_run run)) → StandsFor files Tells (volume_with settings number new rows front None unsure) (change_at k at (with_run run))
-    stands_running_by tells on run w has = stands_one settings number DiskTells files Tells faults items new rows front unsure k (change_at k at (with_run run)) at one stands refl refl refl (length-slice_set k.replicas at _)
+    stands_running_by tells on run w has =
+        stands_one settings number DiskTells files Tells faults items new rows front unsure k (change_at k at (with_run run)) at one stands refl refl refl (length-slice_set k.replicas at _)
         (λ v. record {
           stored = w.stored;
           fits = fits_run k at w.stored run known_at w.fits;
@@ -108,7 +112,8 @@ module _ {D P : Type 0} (settings : Settings) (number : ℕ) (DiskTells : Type 0
     -- or none any more
     pub stands_ended : DiskTells → GoesOn DiskTells files one.before one.after → goal_of one.after ≡ None
         → StandsFor files Tells (volume_with settings number new rows front None unsure) (change_at k at without_run)
-    stands_ended tells on none = stands_one settings number DiskTells files Tells faults items new rows front unsure k (change_at k at without_run) at one stands refl refl refl (length-slice_set k.replicas at _)
+    stands_ended tells on none =
+        stands_one settings number DiskTells files Tells faults items new rows front unsure k (change_at k at without_run) at one stands refl refl refl (length-slice_set k.replicas at _)
         (λ w. record {
           stored = w.stored;
           fits = fits_no_run k at w.stored known_at w.fits;
@@ -195,7 +200,8 @@ module _ {D P : Type 0} (settings : Settings) (number : ℕ) (DiskTells : Type 0
           stands = stands_running tells step.on (stepped n run.0) (λ v. (step.stepped tells v.stored (copier_run run.0) v.stands (has v) v.places).1);
         }
 
-    pub step_refused : DiskTells → (cells m : ℕ) (f : ReplicaFault) → (goal_of one.before ≡ None → ⊥) → m ≡ machine_of settings number at → StepsAt DiskTells files faults Tells rows at cells one.before one.after (Err f)
+    pub step_refused : DiskTells → (cells m : ℕ) (f : ReplicaFault) → (goal_of one.before ≡ None → ⊥) → m ≡ machine_of settings number at
+        → StepsAt DiskTells files faults Tells rows at cells one.before one.after (Err f)
         → StepRefused files Tells k at cells (volume_with settings number items rows front None unsure) (volume_with settings number new rows front None unsure) (answer_at m f)
     unfolding Stands
     step_refused tells cells m (fault.Failed printed) standing machine step = (stands.frozen, machine, running standing, stands_ended tells step.on step.cause.2)
@@ -229,7 +235,8 @@ module _ {D : Type 0} (settings : Settings) (number : ℕ) (DiskTells : Type 0) 
   begin_fault items new at m (fault.Damaged place) one all machine step = absurd step.cause
   begin_fault items new at m fault.NoMemory one all machine step = tt
 
-  pub step_fault : {P : Type 0} (Tells : Type 0) (rows : MapRows P) (cells : ℕ) (items new : List (Copy D)) (at m : ℕ) (f : ReplicaFault) (one : CallsOne at items new) → length items ≡ settings.replicas → m ≡ machine_of settings number at
+  pub step_fault : {P : Type 0} (Tells : Type 0) (rows : MapRows P) (cells : ℕ) (items new : List (Copy D)) (at m : ℕ) (f : ReplicaFault) (one : CallsOne at items new)
+      → length items ≡ settings.replicas → m ≡ machine_of settings number at
       → StepsAt DiskTells files faults Tells rows at cells one.before one.after (Err f) → answers.IsRunFault faults settings number at items new (answer_at m f)
   step_fault Tells rows cells items new at m (fault.Failed printed) one all machine step = (machine, one_failed faults settings number items new at m printed one all machine step.cause.0 step.cause.1)
   step_fault Tells rows cells items new at m fault.Frozen one all machine step = (let below = at_below items at one.before one.was in (at, omega (arith, below, all), machine))

@@ -22,10 +22,12 @@ use Rattle.hay_logical.proofs.Methods.{shaped_on}
 use Rattle.hay_logical.proofs.Reaching.{reaches_on}
 use Rattle.hay_logical.proofs.Standing.{volume_with}
 
-module _ {D P : Type 0} (DiskTells : Type 0) (files : D → Files) (Tells : Type 0) (faults : D → ℕ) (start : Start) (items new : List (Copy D)) (rows rows' : MapRows P) (at : ℕ) (one : SwapsOne DiskTells files at items new)
+module _ {D P : Type 0} (DiskTells : Type 0) (files : D → Files) (Tells : Type 0) (faults : D → ℕ) (start : Start) (items new : List (Copy D)) (rows rows' : MapRows P) (at : ℕ)
+    (one : SwapsOne DiskTells files at items new)
     (ups : (j : ℕ) (r : Copy D) → At items j r → IsUp r) where
   -- what holds of the replica that was called, and of the others
-  each_of : (Q : Copy D → Copy D → Type 0) → Q one.before one.after → ((r r' : Copy D) → IsUp r → LosesRun DiskTells files r r' → Q r r') → (j : ℕ) (r r' : Copy D) → At items j r → At new j r' → Q r r'
+  each_of : (Q : Copy D → Copy D → Type 0) → Q one.before one.after → ((r r' : Copy D) → IsUp r → LosesRun DiskTells files r r' → Q r r') → (j : ℕ) (r r' : Copy D) → At items j r
+      → At new j r' → Q r r'
   each_of Q here others j r r' e f = elim (cases_eq j at) [
     | inl same ↦
         let r_is : r ≡ one.before = at_same items at r one.before (subst (λ n. At items n r) same e) one.was in
@@ -34,13 +36,15 @@ module _ {D P : Type 0} (DiskTells : Type 0) (files : D → Files) (Tells : Type
     | inr apart ↦ others r r' (ups j r e) (one.others j r r' apart e f).0
   ]
 
-  pub swaps_kept : (result : Result (NewFiles P) Unswapped) → SwapsAt DiskTells files faults Tells start rows rows' at one.before one.after result → (j : ℕ) (r r' : Copy D) → At items j r → At new j r' → IsOpenCopy r' × (r'.sup ≡ r.sup)
+  pub swaps_kept : (result : Result (NewFiles P) Unswapped) → SwapsAt DiskTells files faults Tells start rows rows' at one.before one.after result → (j : ℕ) (r r' : Copy D)
+      → At items j r → At new j r' → IsOpenCopy r' × (r'.sup ≡ r.sup)
   swaps_kept result swaps = each_of (λ r r'. IsOpenCopy r' × (r'.sup ≡ r.sup)) (swaps.«open», swaps.sup) (λ r r' up loses. (loses.«open» (up_open r up), loses.sup))
 
   pub swaps_thawed : IsUp one.after → (j : ℕ) (r r' : Copy D) → At items j r → At new j r' → is_frozen r' ≡ false
   swaps_thawed up = each_of (λ r r'. is_frozen r' ≡ false) (up_thawed one.after up) (λ r r' was loses. loses.frozen ∙ up_thawed r was)
 
-  pub swaps_up : (settings : Settings) (number : ℕ) (u : Unswapped) → SwapsAt DiskTells files faults Tells start rows rows' at one.before one.after (Err u) → (unfinished_by settings number at u).frozen ≡ None → IsUp one.after
+  pub swaps_up : (settings : Settings) (number : ℕ) (u : Unswapped) → SwapsAt DiskTells files faults Tells start rows rows' at one.before one.after (Err u)
+      → (unfinished_by settings number at u).frozen ≡ None → IsUp one.after
   swaps_up settings number (Refused (fault.Failed n)) swaps none = swaps.left.0
   swaps_up settings number (Refused (fault.Damaged place)) swaps none = swaps.left.0
   swaps_up settings number (Refused fault.NoMemory) swaps none = swaps.left.0
@@ -54,7 +58,8 @@ module _ {D P : Type 0} (DiskTells : Type 0) (files : D → Files) (Tells : Type
   pub swaps_stuck : is_stuck one.after ≡ is_stuck one.before → KeepsStuck items new
   swaps_stuck same = each_of (λ r r'. is_stuck r' ≡ is_stuck r) same (λ r r' up loses. loses.stuck)
 
-  pub swaps_reach : (result : Result (NewFiles P) Unswapped) → SwapsAt DiskTells files faults Tells start rows rows' at one.before one.after result → KeepsPlaces rows rows' at result → CanReach DiskTells files Tells items rows → CanReach DiskTells files Tells new rows'
+  pub swaps_reach : (result : Result (NewFiles P) Unswapped) → SwapsAt DiskTells files faults Tells start rows rows' at one.before one.after result
+      → KeepsPlaces rows rows' at result → CanReach DiskTells files Tells items rows → CanReach DiskTells files Tells new rows'
   swaps_reach result swaps places can tells j r' f = elim (cases_eq j at) [
     | inl same ↦
         let r'_is : r' ≡ one.after = at_same new at r' one.after (subst (λ n. At new n r') same f) one.is in
@@ -66,23 +71,27 @@ module _ {D P : Type 0} (DiskTells : Type 0) (files : D → Files) (Tells : Type
   ]
 
 -- a volume's call that ended a compaction
-pub record SwapCall {D P : Type 0} (DiskTells : Type 0) (files : D → Files) (Tells : Type 0) (faults : D → ℕ) (start : Start) (items new : List (Copy D)) (rows rows' : MapRows P) (at : ℕ) (result : Result (NewFiles P) Unswapped) : Type 0 where
+pub record SwapCall {D P : Type 0} (DiskTells : Type 0) (files : D → Files) (Tells : Type 0) (faults : D → ℕ) (start : Start) (items new : List (Copy D)) (rows rows' : MapRows P)
+    (at : ℕ) (result : Result (NewFiles P) Unswapped) : Type 0 where
   pub one : SwapsOne DiskTells files at items new
   pub ups : (j : ℕ) (r : Copy D) → At items j r → IsUp r
   pub swaps : SwapsAt DiskTells files faults Tells start rows rows' at one.before one.after result
   pub stays : OnErr result (StaysInReach DiskTells files one.before one.after)
   pub places : KeepsPlaces rows rows' at result
 
-pub called_with : {D P : Type 0} {DiskTells : Type 0} {files : D → Files} {Tells : Type 0} {faults : D → ℕ} {start : Start} {items new : List (Copy D)} {rows rows' : MapRows P} {at : ℕ} {result result' : Result (NewFiles P) Unswapped}
+pub called_with : {D P : Type 0} {DiskTells : Type 0} {files : D → Files} {Tells : Type 0} {faults : D → ℕ} {start : Start} {items new : List (Copy D)} {rows rows' : MapRows P}
+    {at : ℕ} {result result' : Result (NewFiles P) Unswapped}
     → result ≡ result' → SwapCall DiskTells files Tells faults start items new rows rows' at result → SwapCall DiskTells files Tells faults start items new rows rows' at result'
 called_with {D} {P} {DiskTells} {files} {Tells} {faults} {start} {items} {new} {rows} {rows'} {at} is call = subst (λ z. SwapCall DiskTells files Tells faults start items new rows rows' at z) is call
 
-module _ {D P : Type 0} {DiskTells : Type 0} {files : D → Files} {Tells : Type 0} {faults : D → ℕ} {start : Start} {items new : List (Copy D)} {rows rows' : MapRows P} {at : ℕ} {result : Result (NewFiles P) Unswapped}
+module _ {D P : Type 0} {DiskTells : Type 0} {files : D → Files} {Tells : Type 0} {faults : D → ℕ} {start : Start} {items new : List (Copy D)} {rows rows' : MapRows P} {at : ℕ}
+    {result : Result (NewFiles P) Unswapped}
     (call : SwapCall DiskTells files Tells faults start items new rows rows' at result) where
   pub called_each : (j : ℕ) (r r' : Copy D) → At items j r → At new j r' → IsOpenCopy r' × (r'.sup ≡ r.sup)
   called_each = swaps_kept DiskTells files Tells faults start items new rows rows' at call.one call.ups result call.swaps
 
-  pub called_shaped : (settings : Settings) (number : ℕ) (replicas : List (Copy D)) (front : ℕ) (frozen frozen' : Option ℕ) (unsure : Option Unsure) → replicas ≡ new → (frozen' ≡ None → IsUp call.one.after) → IsFrozenBy settings number frozen' → (frozen' ≡ None → unsure ≡ None)
+  pub called_shaped : (settings : Settings) (number : ℕ) (replicas : List (Copy D)) (front : ℕ) (frozen frozen' : Option ℕ) (unsure : Option Unsure) → replicas ≡ new
+      → (frozen' ≡ None → IsUp call.one.after) → IsFrozenBy settings number frozen' → (frozen' ≡ None → unsure ≡ None)
       → IsShaped (volume_with settings number items rows front frozen unsure) → IsShaped (volume_with settings number replicas rows' front frozen' unsure)
   called_shaped settings number replicas front frozen frozen' unsure is up by settled shape =
       subst (λ rs. IsShaped (volume_with settings number rs rows' front frozen' unsure)) (sym is)
@@ -103,13 +112,15 @@ module _ {D P : Type 0} {DiskTells : Type 0} {files : D → Files} {Tells : Type
   }
 
 -- where nothing freezes the volume the replica takes changes
-pub called_up : {D P : Type 0} {DiskTells : Type 0} {files : D → Files} {Tells : Type 0} {faults : D → ℕ} {start : Start} {items new : List (Copy D)} {rows rows' : MapRows P} {at : ℕ} (settings : Settings) (number : ℕ) (u : Unswapped)
+pub called_up : {D P : Type 0} {DiskTells : Type 0} {files : D → Files} {Tells : Type 0} {faults : D → ℕ} {start : Start} {items new : List (Copy D)} {rows rows' : MapRows P}
+    {at : ℕ} (settings : Settings) (number : ℕ) (u : Unswapped)
     (call : SwapCall DiskTells files Tells faults start items new rows rows' at (Err u)) → (unfinished_by settings number at u).frozen ≡ None → IsUp call.one.after
 called_up {D} {P} {DiskTells} {files} {Tells} {faults} {start} {items} {new} {rows} {rows'} {at} settings number u call none =
     swaps_up DiskTells files Tells faults start items new rows rows' at call.one call.ups settings number u call.swaps none
 
 -- a refusal leaves each index as it was
-pub called_stuck : {D P : Type 0} {DiskTells : Type 0} {files : D → Files} {Tells : Type 0} {faults : D → ℕ} {start : Start} {items new : List (Copy D)} {rows rows' : MapRows P} {at : ℕ} (u : Unswapped)
+pub called_stuck : {D P : Type 0} {DiskTells : Type 0} {files : D → Files} {Tells : Type 0} {faults : D → ℕ} {start : Start} {items new : List (Copy D)} {rows rows' : MapRows P}
+    {at : ℕ} (u : Unswapped)
     (call : SwapCall DiskTells files Tells faults start items new rows rows' at (Err u)) → KeepsStuck items new
 called_stuck {D} {P} {DiskTells} {files} {Tells} {faults} {start} {items} {new} {rows} {rows'} {at} u call =
     swaps_stuck DiskTells files Tells faults start items new rows rows' at call.one call.ups call.swaps.still

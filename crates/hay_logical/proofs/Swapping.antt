@@ -189,7 +189,8 @@ module _ {P : Type 0} (Tells : Type 0) (rows rows' : MapRows P) (at : ℕ) (cell
     };
   }
 
-  pub swaps_sights : (end : ℕ) → ArePlacesWithin end cells → (replicas : List ReplicaSeen) → ((r : ReplicaSeen) → At replicas at r → r.end ≡ end) → SwapsSights at replicas (sights_of rows) (sights_of rows')
+  pub swaps_sights : (end : ℕ) → ArePlacesWithin end cells → (replicas : List ReplicaSeen) → ((r : ReplicaSeen) → At replicas at r → r.end ≡ end)
+      → SwapsSights at replicas (sights_of rows) (sights_of rows')
   swaps_sights end lie replicas ends = record {
     never = λ pair. new_place pair (λ p. sights_of rows pair at ≡ Never → sight p ≡ Never) (λ some held e. absurd (some e))
         (λ gone e. let wrong : Gone ≡ Never = sym (ap (λ (p : Place P). sight p) gone) ∙ e in cc) (λ none e. refl);
@@ -210,7 +211,8 @@ module _ {P : Type 0} (Tells : Type 0) (rows rows' : MapRows P) (at : ℕ) (cell
 
 module _ {D : Type 0} (files : D → Files) (faults : D → ℕ) where
   -- the end was refused, and the replica takes changes
-  pub refused_left : (r x : Copy D) (f : ReplicaFault) → IsUp r → (goal_of r ≡ None → ⊥) → IsUp x → goal_of x ≡ None → (f ≡ fault.Frozen → IsFrozen r) → ((n : ℕ) → f ≡ fault.Ended n → goal_of r ≡ None)
+  pub refused_left : (r x : Copy D) (f : ReplicaFault) → IsUp r → (goal_of r ≡ None → ⊥) → IsUp x → goal_of x ≡ None → (f ≡ fault.Frozen → IsFrozen r)
+      → ((n : ℕ) → f ≡ fault.Ended n → goal_of r ≡ None)
       → physical_faults.IsRunFault (faults r.disk) (faults x.disk) f → IsLeftBy faults Examined r x (Refused f)
   refused_left r x (fault.Failed n) was standing up goal thawed none cause = (up, goal, tt, cause.0, cause.1)
   refused_left r x fault.Frozen was standing up goal thawed none cause = absurd (not_both r was (thawed refl))
@@ -240,7 +242,8 @@ module _ {D : Type 0} (files : D → Files) (faults : D → ℕ) where
   refused_holds r x s run fault.NoMemory cause stands stuck = (stands, stuck)
 
   -- cells could not be examined
-  pub step_left : (cells : ℕ) (r x y : Copy D) (f : ReplicaFault) → cells ≡ end_of r → IsUp y → goal_of y ≡ None → y.disk ≡ x.disk → IsStepFault faults cells r x f → IsLeftBy faults Going r y (Refused f)
+  pub step_left : (cells : ℕ) (r x y : Copy D) (f : ReplicaFault) → cells ≡ end_of r → IsUp y → goal_of y ≡ None → y.disk ≡ x.disk → IsStepFault faults cells r x f
+      → IsLeftBy faults Going r y (Refused f)
   step_left cells r x y (fault.Failed n) all up goal disk cause = (up, goal, tt, subst (λ d. Rose (faults r.disk) (faults d)) (sym disk) cause.0, cause.1 ∙ ap faults (sym disk))
   step_left cells r x y fault.Frozen all up goal disk cause = absurd cause
   step_left cells r x y (fault.Full end need capacity) all up goal disk cause = absurd cause
@@ -250,7 +253,8 @@ module _ {D : Type 0} (files : D → Files) (faults : D → ℕ) where
   step_left cells r x y (fault.Damaged at) all up goal disk cause = (up, goal, tt, subst (λ n. MeetsDamage n at (replica_seen r)) all cause.1)
   step_left cells r x y fault.NoMemory all up goal disk cause = (up, goal, tt)
 
-  pub step_holds : (r x y : Copy D) (s : Stored) (run : Run) (cells : ℕ) (f : ReplicaFault) → IsStepFault faults cells r x f → StepLeaves files x s run cells f → physical.Stands files y s → is_stuck y ≡ is_stuck r
+  pub step_holds : (r x y : Copy D) (s : Stored) (run : Run) (cells : ℕ) (f : ReplicaFault) → IsStepFault faults cells r x f → StepLeaves files x s run cells f
+      → physical.Stands files y s → is_stuck y ≡ is_stuck r
       → HoldsUnswapped files r y s run (Refused f)
   step_holds r x y s run cells (fault.Failed n) cause leaves stands stuck = (stands, stuck)
   step_holds r x y s run cells fault.Frozen cause leaves stands stuck = (stands, stuck)
@@ -278,7 +282,8 @@ module _ {D : Type 0} (files : D → Files) (faults : D → ℕ) where
   pub to_later : (s t : Stored) (run next : Run) → next.tight ≡ run.tight → SwapsTo s t next → SwapsTo s t run
   to_later s t run next same to = record { swaps = to.swaps; tight = λ e. to.tight (same ∙ e); ends = to.ends }
 
-  pub holds_later : (r x y : Copy D) (s : Stored) (run next : Run) (u : Unswapped) → next.tight ≡ run.tight → is_stuck x ≡ is_stuck r → HoldsUnswapped files x y s next u → HoldsUnswapped files r y s run u
+  pub holds_later : (r x y : Copy D) (s : Stored) (run next : Run) (u : Unswapped) → next.tight ≡ run.tight → is_stuck x ≡ is_stuck r → HoldsUnswapped files x y s next u
+      → HoldsUnswapped files r y s run u
   holds_later r x y s run next (Refused (fault.Failed n)) same stuck h = (h.0, h.1 ∙ stuck)
   holds_later r x y s run next (Refused (fault.Damaged at)) same stuck h = h
   holds_later r x y s run next (Refused fault.NoMemory) same stuck h = (h.0, h.1 ∙ stuck)
@@ -297,7 +302,8 @@ pub rows_stay : {P : Type 0} {rows rows' : MapRows P} {at : ℕ} {u : Unswapped}
 rows_stay places pair = ap (λ x. row_at x pair) places.same
 
 -- a refusal behind what went before
-pub stays_later : {D P : Type 0} (DiskTells : Type 0) (files : D → Files) (r x y : Copy D) (result : Result (NewFiles P) Unswapped) → StaysInReach DiskTells files r x → OnErr result (StaysInReach DiskTells files x y) → OnErr result (StaysInReach DiskTells files r y)
+pub stays_later : {D P : Type 0} (DiskTells : Type 0) (files : D → Files) (r x y : Copy D) (result : Result (NewFiles P) Unswapped) → StaysInReach DiskTells files r x
+    → OnErr result (StaysInReach DiskTells files x y) → OnErr result (StaysInReach DiskTells files r y)
 stays_later DiskTells files r x y (Ok n) before behind = tt
 stays_later DiskTells files r x y (Err u) before behind = λ tells. reach_through files r x y (before tells) (behind tells)
 
@@ -305,7 +311,8 @@ stays_later DiskTells files r x y (Err u) before behind = λ tells. reach_throug
 module _ {D P : Type 0} (DiskTells : Type 0) (files : D → Files) (faults : D → ℕ) (Tells : Type 0) (rows rows' : MapRows P) (at : ℕ) (r x y : Copy D) where
   pub swaps_later : (result : Result (NewFiles P) Unswapped) (a b : Start) → (b ≡ Fresh → ⊥) → IsUp r → GoesOn DiskTells files r x → WasAtRest a r → faults r.disk ≤ faults x.disk
       → ((place : ℕ) → MeetsDamageBy b place (replica_seen x) → MeetsDamageBy a place (replica_seen r))
-      → (DiskTells → (s : Stored) (run : Run) → physical.Stands files r s → StartsRun files a r s run → PlacesAre Tells rows at s → (next : Run) × (next.tight ≡ run.tight) × StartsRun files b x s next)
+      → (DiskTells → (s : Stored) (run : Run) → physical.Stands files r s → StartsRun files a r s run → PlacesAre Tells rows at s
+      → (next : Run) × (next.tight ≡ run.tight) × StartsRun files b x s next)
       → SwapsAt DiskTells files faults Tells b rows rows' at x y result → SwapsAt DiskTells files faults Tells a rows rows' at r y result
   swaps_later (Ok generation) a b later up on rest low damage meets swaps = record {
     «open» = swaps.«open»;
@@ -318,7 +325,9 @@ module _ {D P : Type 0} (DiskTells : Type 0) (files : D → Files) (faults : D �
         record { stored = made.stored; to = to_later files faults s made.stored run next.0 next.1 made.to; stands = made.stands; places = made.places; generation_is = made.generation_is };
     sizes = swaps.sizes;
     still = tt;
-    removed = λ tells s stands. removed_since (files y.disk) (volume_file s.generation) (index_file s.generation) (faults r.disk) (faults x.disk) (faults y.disk) low (swaps.removed tells s (on.stands tells s stands));
+    removed =
+        λ tells s stands. removed_since (files y.disk) (volume_file s.generation) (index_file s.generation) (faults r.disk) (faults x.disk) (faults y.disk) low
+        (swaps.removed tells s (on.stands tells s stands));
     refused = λ tells s run stands start places. tt;
     reach = λ tells reach. swaps.reach tells (reaches_on files rows rows at r x (λ u. up) (λ u. up_open r up) (on.reach tells) (λ pair. refl) reach);
   }

@@ -1,5 +1,6 @@
 -- The last cell of each pair, the table, and the places of photos.
-use Rattle.std.proofs.Common.{◌≡◌, ◌≢◌, inl, inr, ℕ, ◌+◌, ◌<◌, Bool, true, false, cond, List, [], ◌∷◌, ◌++◌, length, Option, Some, None, option_map, refl, sym, ap, subst, ◌∙◌, arith, length-append, nat_eq}
+use Rattle.std.proofs.Common.{◌≡◌, ◌≢◌, inl, inr, ℕ, ◌+◌, ◌<◌, Bool, true, false, cond, List, [], ◌∷◌, ◌++◌, length, Option, Some, None, option_map, refl, sym, ap, subst, ◌∙◌}
+use Rattle.std.proofs.Common.{arith, length-append, nat_eq}
 use Rattle.std.specs.Option.{option_or}
 use Rattle.std.proofs.lemmas.Bool.{cases_Bool, cond-true, cond-false, eq-eqb, ne_eqb, true≢false}
 use Rattle.std.proofs.lemmas.List.{length-map, map-append}
@@ -86,13 +87,15 @@ none_means P Tells pair cell deleted =
     subst (λ (b : Bool). PlaceMeans {P = P} Tells pair place.None (cond b outcome.Nothing (outcome.Photo (record { cookie = cell.cookie; bytes = cell.bytes })))) (sym deleted) tt
 
 -- a place that was seen
-pub seen_means : {P : Type 0} (Tells : Type 0) (pair : Pair) (cell : Cell) (p : Place P) → cell.pair ≡ pair → IsSeen p → PhotoAt Tells (Some cell) p → PlaceMeans Tells pair p (needle_outcome (needle_of_cell cell))
+pub seen_means : {P : Type 0} (Tells : Type 0) (pair : Pair) (cell : Cell) (p : Place P) → cell.pair ≡ pair → IsSeen p → PhotoAt Tells (Some cell) p
+    → PlaceMeans Tells pair p (needle_outcome (needle_of_cell cell))
 seen_means {P} Tells pair cell (place.Live needle) same seen is = sealed_means P Tells pair cell needle same is
 seen_means {P} Tells pair cell place.Gone same seen is = gone_means P Tells pair cell is
 seen_means {P} Tells pair cell place.None same seen is = none_means P Tells pair cell is
 seen_means Tells pair cell (place.Unseen at size) same seen is = absurd seen
 
-means_by : {P : Type 0} (Tells : Type 0) (pair : Pair) (o : Option Cell) (p : Place P) → ((c : Cell) → o ≡ Some c → c.pair ≡ pair) → IsSeen p → PhotoAt Tells o p → PlaceMeans Tells pair p (cell_outcome o outcome.Nothing)
+means_by : {P : Type 0} (Tells : Type 0) (pair : Pair) (o : Option Cell) (p : Place P) → ((c : Cell) → o ≡ Some c → c.pair ≡ pair) → IsSeen p → PhotoAt Tells o p
+    → PlaceMeans Tells pair p (cell_outcome o outcome.Nothing)
 means_by Tells pair (Some cell) p same seen is = seen_means Tells pair cell p (same cell refl) seen is
 means_by Tells pair None place.None same seen is = tt
 means_by Tells pair None place.Gone same seen is = tt
@@ -219,7 +222,8 @@ makes_delete from bytes s q d are e = record {
       ∙ elim (cases_Bool (pair_eq q p)) [
         | inl t ↦
             let same : q ≡ p = pair_same q p t in
-            subst (λ (x : Pair). cell_outcome (last_cell (with_flag d.at true s.cells) x) outcome.Nothing ≡ outcome.Nothing) same (ap (λ (o : Option Cell). cell_outcome o outcome.Nothing) (last_own s.cells q d e))
+            subst (λ (x : Pair). cell_outcome (last_cell (with_flag d.at true s.cells) x) outcome.Nothing ≡ outcome.Nothing) same
+            (ap (λ (o : Option Cell). cell_outcome o outcome.Nothing) (last_own s.cells q d e))
             ∙ sym (cond-true (pair_eq q p) outcome.Nothing (outcome_at (table_of (needles_of s.cells)) p) t)
         | inr f ↦
             ap (λ (o : Option Cell). cell_outcome o outcome.Nothing) (last_other from bytes s.cells p q d are e f)

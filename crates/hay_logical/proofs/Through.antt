@@ -39,7 +39,8 @@ use Rattle.hay_logical.proofs.Showing.{ended_same}
 
 pub counts_through : {D : Type 0} (faults fuses : D → ℕ) (a b c : List (Copy D)) → KeepsCounts faults fuses a b → KeepsCounts faults fuses b c → KeepsCounts faults fuses a c
 counts_through faults fuses a b c first second =
-    let mid : (j : ℕ) (r : Copy _) → At a j r → (x : Copy _) × At b j x = λ j r e. (let h = at_below a j r e in let n = first.count in at_there b j (let less : j < length b = omega (arith, h, n) in less)) in
+    let mid : (j : ℕ) (r : Copy _) → At a j r → (x : Copy _) × At b j x =
+    λ j r e. (let h = at_below a j r e in let n = first.count in at_there b j (let less : j < length b = omega (arith, h, n) in less)) in
     record {
       count = second.count ∙ first.count;
       rises = λ j r r' e f. let x = mid j r e in let low = first.rises j r x.0 e x.1 in let high = second.rises j x.0 r' x.1 f in omega (arith, low, high);
@@ -76,7 +77,8 @@ module _ {D P : Type 0} (DiskTells : Type 0) (files : D → Files) (Tells : Type
     bytes = files_same DiskTells files volume.replicas;
   }
 
-  pub kept_more : (a b c : Volume D P) → Kept DiskTells files Tells faults fuses a b → (DiskTells → (k : VolumeKnown) → Stands files Tells b k → Stands files Tells c k) → IsOpenVolume c → KeepsCounts faults fuses b.replicas c.replicas
+  pub kept_more : (a b c : Volume D P) → Kept DiskTells files Tells faults fuses a b → (DiskTells → (k : VolumeKnown) → Stands files Tells b k → Stands files Tells c k)
+      → IsOpenVolume c → KeepsCounts faults fuses b.replicas c.replicas
       → IsSame b c → (c.frozen ≡ b.frozen) × (c.front ≡ b.front) × (c.unsure ≡ b.unsure) → ((j : ℕ) (r r' : Copy D) → At b.replicas j r → At c.replicas j r' → goal_of r' ≡ goal_of r)
       → KeepsFiles DiskTells files b.replicas c.replicas → Kept DiskTells files Tells faults fuses a c
   kept_more a b c kept stands is counts same still runs looked = record {
@@ -92,9 +94,12 @@ module _ {D P : Type 0} (DiskTells : Type 0) (files : D → Files) (Tells : Type
   }
 
   -- a refusal's cause
-  pub cause_later : (a b c : Volume D P) → Kept DiskTells files Tells faults fuses a b → (f : LogicalFault) → IsSightFault faults b.settings b.number b.replicas c.replicas f → IsSightFault faults a.settings a.number a.replicas c.replicas f
+  pub cause_later : (a b c : Volume D P) → Kept DiskTells files Tells faults fuses a b → (f : LogicalFault) → IsSightFault faults b.settings b.number b.replicas c.replicas f
+      → IsSightFault faults a.settings a.number a.replicas c.replicas f
   cause_later a b c kept (Failed machine printed) cause =
-      let old = at_there a.replicas cause.replica (let h = at_below b.replicas cause.replica cause.before cause.was in let n = kept.counts.count in let less : cause.replica < length a.replicas = omega (arith, h, n) in less) in
+      let old =
+      at_there a.replicas cause.replica (let h = at_below b.replicas cause.replica cause.before cause.was in let n = kept.counts.count in let less : cause.replica
+      < length a.replicas = omega (arith, h, n) in less) in
       record {
         replica = cause.replica;
         within = subst (λ (s : Settings). cause.replica < s.replicas) kept.same.settings cause.within;
@@ -127,14 +132,16 @@ seen_more {P} pair n rows rows' row sets is here before j within = elim (cases_e
   | inr apart ↦
       let less : j < n = omega (arith, within, apart) in
       let there : place_in (row_at rows' pair) j ≡ place_in (row_at rows pair) j =
-      ap (λ l. place_in l j) (sets pair ∙ cond-true (pair_eq pair pair) (slice_set (row_at rows pair) n (place_in row n)) (row_at rows pair) (pair_refl pair)) ∙ get_or-set_other (row_at rows pair) n j (place_in row n) place.None apart in
+      ap (λ l. place_in l j) (sets pair ∙ cond-true (pair_eq pair pair) (slice_set (row_at rows pair) n (place_in row n)) (row_at rows pair) (pair_refl pair))
+      ∙ get_or-set_other (row_at rows pair) n j (place_in row n) place.None apart in
       subst IsSeen (sym there) (before j less)
 ]
 
 -- A DELETE BEHIND THEM
 
 -- a look is refused as a delete is
-pub sight_deletes : {D : Type 0} (faults : D → ℕ) (settings : Settings) (number : ℕ) (a c : List (Copy D)) (f : LogicalFault) → IsSightFault faults settings number a c f → IsDeleteFault faults settings number a c f
+pub sight_deletes : {D : Type 0} (faults : D → ℕ) (settings : Settings) (number : ℕ) (a c : List (Copy D)) (f : LogicalFault) → IsSightFault faults settings number a c f
+    → IsDeleteFault faults settings number a c f
 sight_deletes faults settings number a c (Failed machine printed) cause = cause
 sight_deletes faults settings number a c (Damaged m at) cause = cause
 sight_deletes faults settings number a c NoMemory cause = tt
@@ -146,7 +153,8 @@ sight_deletes faults settings number a c (Worn m) cause = absurd cause
 sight_deletes faults settings number a c Idle cause = absurd cause
 
 module _ {D P : Type 0} (files : D → Files) (Tells : Type 0) (faults fuses : D → ℕ) where
-  pub look_refused : (k : VolumeKnown) (tag : CoreTag) (pair : Pair) (settings : Settings) (number : ℕ) (a c : List (Copy D)) (new : Volume D P) (f : LogicalFault) → IsSightFault faults settings number a c f → k.frozen ≡ None → Stands files Tells new k
+  pub look_refused : (k : VolumeKnown) (tag : CoreTag) (pair : Pair) (settings : Settings) (number : ℕ) (a c : List (Copy D)) (new : Volume D P) (f : LogicalFault)
+      → IsSightFault faults settings number a c f → k.frozen ≡ None → Stands files Tells new k
       → ((m at : ℕ) → f ≡ Damaged m at → ⊥) → DeleteRefused files Tells k tag pair new f
   look_refused k tag pair settings number a c new (Failed machine printed) cause thawed stands whole = (thawed, inl stands)
   look_refused k tag pair settings number a c new (Damaged m at) cause thawed stands whole = whole m at refl
@@ -162,7 +170,8 @@ module _ {D P : Type 0} (files : D → Files) (Tells : Type 0) (faults fuses : D
     mid : (j : ℕ) (r : Copy D) → At a.replicas j r → (x : Copy D) × At b.replicas j x
     mid j r e = (let h = at_below a.replicas j r e in let n = counts.count in at_there b.replicas j (let less : j < length b.replicas = omega (arith, h, n) in less))
 
-    pub erased_later : ((j : ℕ) (r r' : Copy D) → At a.replicas j r → At b.replicas j r' → goal_of r' ≡ goal_of r) → (k : VolumeKnown) (pair : Pair) (e : Erased) → IsErased files faults Tells k pair e b c → IsErased files faults Tells k pair e a c
+    pub erased_later : ((j : ℕ) (r r' : Copy D) → At a.replicas j r → At b.replicas j r' → goal_of r' ≡ goal_of r) → (k : VolumeKnown) (pair : Pair) (e : Erased)
+        → IsErased files faults Tells k pair e b c → IsErased files faults Tells k pair e a c
     erased_later runs k pair e is =
         let ended : ended_runs b.replicas c.replicas ≡ ended_runs a.replicas c.replicas = ended_same a.replicas b.replicas c.replicas counts.count runs in
         record {
@@ -186,7 +195,9 @@ module _ {D P : Type 0} (files : D → Files) (Tells : Type 0) (faults fuses : D
 
     failed_later : (m n : ℕ) → HasFailed faults b.settings b.number b.replicas c.replicas m n → HasFailed faults a.settings a.number a.replicas c.replicas m n
     failed_later m n cause =
-        let old = at_there a.replicas cause.replica (let h = at_below b.replicas cause.replica cause.before cause.was in let n = counts.count in let less : cause.replica < length a.replicas = omega (arith, h, n) in less) in
+        let old =
+        at_there a.replicas cause.replica (let h = at_below b.replicas cause.replica cause.before cause.was in let n = counts.count in let less : cause.replica
+        < length a.replicas = omega (arith, h, n) in less) in
         record {
           replica = cause.replica;
           within = subst (λ (s : Settings). cause.replica < s.replicas) same.settings cause.within;

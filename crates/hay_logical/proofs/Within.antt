@@ -15,7 +15,8 @@ use Rattle.hay_physical.specs.declared.fault.ReplicaFault.{ReplicaFault}
 use Rattle.hay_logical.specs.declared.unsure.Unsure.{Unsure}
 use Rattle.hay_logical.specs.Fits.{At}
 use Rattle.hay_logical.specs.Seen.{AreLonger, FreezesSeen, ReplicaSeen, VolumeSeen, grown}
-use Rattle.hay_logical.specs.Sights.{BecomesSeen, ErasesSights, KeepsSights, LiesWithin, LiesWithinAt, LiesWithinEach, Looks, LooksAtPair, Sight, Sights, StoresSights, SwapsSights, gone_sight, sight, sights_of}
+use Rattle.hay_logical.specs.Sights.{BecomesSeen, ErasesSights, KeepsSights, LiesWithin, LiesWithinAt, LiesWithinEach, Looks, LooksAtPair, Sight, Sights, StoresSights}
+use Rattle.hay_logical.specs.Sights.{SwapsSights, gone_sight, sight, sights_of}
 use Rattle.hay_logical.specs.Sights.Sight.{Gone, Live, Never, Unseen}
 use Rattle.hay_logical.specs.Steps.{SeesRow}
 use Rattle.hay_logical.proofs.Lists.{at_below, at_set_other, at_there}
@@ -71,7 +72,8 @@ pub further : (j end later : ℕ) (sights : Sights) → end ≤ later → LiesWi
 further j end later sights grows lies pair = lies_further end later (sights pair j) grows (lies pair)
 
 -- a look at one replica
-pub row_lies : {P : Type 0} (pair : Pair) (at : ℕ) (rows rows' : MapRows P) (result : Result Unit ReplicaFault) → SeesRow pair at rows rows' result → (j end : ℕ) → LiesWithinAt j end (sights_of rows) → LiesWithinAt j end (sights_of rows')
+pub row_lies : {P : Type 0} (pair : Pair) (at : ℕ) (rows rows' : MapRows P) (result : Result Unit ReplicaFault) → SeesRow pair at rows rows' result → (j end : ℕ)
+    → LiesWithinAt j end (sights_of rows) → LiesWithinAt j end (sights_of rows')
 row_lies pair at rows rows' (Ok value) sees j end lies = looks_lies j end (sights_of rows) (sights_of rows') pair sees.sees.looks lies
 row_lies pair at rows rows' (Err f) sees j end lies = keeps_lies j end (sights_of rows) (sights_of rows') (sights_kept rows rows' sees.kept) lies
 
@@ -111,7 +113,8 @@ within_longer sights olds news many grows lies j x there =
     let r = at_there olds j (let low = at_below news j x there in omega (arith, low, many)) in
     further j (r.0).end x.end sights (grows j r.0 x r.1 there) (lies j r.0 r.1)
 
-pub within_freezes : (sights : Sights) (m : ℕ) (pending : Option Unsure) (old new : VolumeSeen) → FreezesSeen m pending old new → LiesWithinEach sights old.replicas → LiesWithinEach sights new.replicas
+pub within_freezes : (sights : Sights) (m : ℕ) (pending : Option Unsure) (old new : VolumeSeen) → FreezesSeen m pending old new → LiesWithinEach sights old.replicas
+    → LiesWithinEach sights new.replicas
 within_freezes sights m pending old new freezes = within_longer sights old.replicas new.replicas freezes.many freezes.longer
 
 -- PLACES OF CELLS
@@ -122,7 +125,8 @@ place_lies end place.Gone lies = tt
 place_lies end place.None lies = tt
 place_lies end (place.Unseen at size) lies = lies
 
-pub last_lies : {P : Type 0} (end : ℕ) (cells : List (OpenCell P)) (pair : Pair) (before : Place P) → ArePlacesWithin end cells → LiesWithin end (sight before) → LiesWithin end (sight (last_place cells pair before))
+pub last_lies : {P : Type 0} (end : ℕ) (cells : List (OpenCell P)) (pair : Pair) (before : Place P) → ArePlacesWithin end cells → LiesWithin end (sight before)
+    → LiesWithin end (sight (last_place cells pair before))
 last_lies end [] pair before all lies = lies
 last_lies {P} end (cell ∷ cells) pair before all lies =
     last_lies end cells pair (cond (pair_eq cell.pair pair) cell.place before) all.1

@@ -1,5 +1,6 @@
 -- What the calls of one replica do, as far as a volume goes by it.
-use Rattle.std.specs.Prelude.{◌≡◌, ◌⊎◌, ◌≤◌, ◌<◌, ◌+◌, ℕ, ◌-◌, ◌*◌, min, Bool, true, false, List, [], length, slice_set, Option, Some, None, option_map, if◌then◌else◌, Result, Err, IfOk, IfErr, OnOk, OnErr}
+use Rattle.std.specs.Prelude.{◌≡◌, ◌⊎◌, ◌≤◌, ◌<◌, ◌+◌, ℕ, ◌-◌, ◌*◌, min, Bool, true, false, List, [], length, slice_set, Option, Some, None, option_map, if◌then◌else◌, Result}
+use Rattle.std.specs.Prelude.{Err, IfOk, IfErr, OnOk, OnErr}
 use Rattle.hay_needle.specs.declared.needle.Cell.{Cell}
 use Rattle.hay_needle.specs.declared.needle.Cookie.{Cookie}
 use Rattle.hay_needle.specs.declared.needle.Pair.{Pair}
@@ -188,7 +189,8 @@ KeepsAbove {D} DiskTells files settings v m old new = DiskTells → (i j : ℕ) 
     (r r' : Copy D) → At old j r → At new j r' → KeepsBytes (files r.disk) (files r'.disk)
 
 -- A look at the place of a pair: one that was not seen yet is seen, as what it stands for, or a refusal has left it.
-pub record SightsAt {D P : Type 0} (DiskTells : Type 0) (files : D → Files) (faults : D → ℕ) (Tells : Type 0) (pair : Pair) (rows rows' : MapRows P) (at : ℕ) (r r' : Copy D) (result : Result Unit ReplicaFault) : Type 0 where
+pub record SightsAt {D P : Type 0} (DiskTells : Type 0) (files : D → Files) (faults : D → ℕ) (Tells : Type 0) (pair : Pair) (rows rows' : MapRows P) (at : ℕ) (r r' : Copy D)
+    (result : Result Unit ReplicaFault) : Type 0 where
   pub copy : r' ≡ record r { disk = r'.disk }
   pub seen : OnOk result (IsSeen (place_in (row_at rows' pair) at))
   pub stands : DiskTells → (s : Stored) → physical.Stands files r s → PlacesAre Tells rows at s → physical.Stands files r' s × PlacesAre Tells rows' at s
@@ -409,7 +411,8 @@ StepLeaves files r' s run cells (fault.Damaged at) = ⊥
 StepLeaves files r' s run cells fault.NoMemory = SteppedPart files r' s run cells
 
 -- So many cells are examined, or all that are left.
-pub record StepsAt {D P : Type 0} (DiskTells : Type 0) (files : D → Files) (faults : D → ℕ) (Tells : Type 0) (rows : MapRows P) (at cells : ℕ) (r r' : Copy D) (result : Result ℕ ReplicaFault) : Type 0 where
+pub record StepsAt {D P : Type 0} (DiskTells : Type 0) (files : D → Files) (faults : D → ℕ) (Tells : Type 0) (rows : MapRows P) (at cells : ℕ) (r r' : Copy D)
+    (result : Result ℕ ReplicaFault) : Type 0 where
   pub on : GoesOn DiskTells files r r'
   pub goal : OnOk result (goal_of r' ≡ goal_of r)
   pub stepped : DiskTells → (s : Stored) (run : Run) → physical.Stands files r s → HasRun files r s (Some run) → PlacesAre Tells rows at s →
@@ -419,7 +422,8 @@ pub record StepsAt {D P : Type 0} (DiskTells : Type 0) (files : D → Files) (fa
   pub cause : IfErr result (IsStepFault faults cells r r')
 
 -- one cell is examined, if one is left
-pub record ExaminesAt {D P : Type 0} (DiskTells : Type 0) (files : D → Files) (faults : D → ℕ) (Tells : Type 0) (rows : MapRows P) (at : ℕ) (r r' : Copy D) (result : Result Bool ReplicaFault) : Type 0 where
+pub record ExaminesAt {D P : Type 0} (DiskTells : Type 0) (files : D → Files) (faults : D → ℕ) (Tells : Type 0) (rows : MapRows P) (at : ℕ) (r r' : Copy D)
+    (result : Result Bool ReplicaFault) : Type 0 where
   pub on : GoesOn DiskTells files r r'
   pub goal : OnOk result (goal_of r' ≡ goal_of r)
   pub examined : DiskTells → (s : Stored) (run : Run) → physical.Stands files r s → HasRun files r s (Some run) → PlacesAre Tells rows at s →
@@ -502,7 +506,8 @@ pub record Swapped {D P : Type 0} (files : D → Files) (Tells : Type 0) (rows' 
   pub generation_is : generation ≡ stored.generation
 
 -- The compaction ended with a swap of the files, or nothing of the replica's photos has changed.
-pub record SwapsAt {D P : Type 0} (DiskTells : Type 0) (files : D → Files) (faults : D → ℕ) (Tells : Type 0) (start : Start) (rows rows' : MapRows P) (at : ℕ) (r r' : Copy D) (result : Result (NewFiles P) Unswapped) : Type 0 where
+pub record SwapsAt {D P : Type 0} (DiskTells : Type 0) (files : D → Files) (faults : D → ℕ) (Tells : Type 0) (start : Start) (rows rows' : MapRows P) (at : ℕ) (r r' : Copy D)
+    (result : Result (NewFiles P) Unswapped) : Type 0 where
   pub «open» : IsOpenCopy r'
   pub sup : r'.sup ≡ r.sup
   pub up : OnOk result (IsUp r' × (is_stuck r' ≡ false) × (goal_of r' ≡ None) × WasAtRest start r)

@@ -34,7 +34,8 @@ use Rattle.hay_logical.specs.Volumes.{CanReach, HasAll, Volume}
 
 -- The replica has what the change makes of what is known. Once the rows are changed too, its places are those of its photos, and
 -- `behind` is what is known of the replicas.
-pub record ReplicaUnshown {D P : Type 0} (files : D → Files) (Tells : Type 0) (k : VolumeKnown) (entry : Entry) (change : MapOp P) (behind : List ReplicaKnown) (rows : MapRows P) (j : ℕ) (r : Copy D) : Type 0 where
+pub record ReplicaUnshown {D P : Type 0} (files : D → Files) (Tells : Type 0) (k : VolumeKnown) (entry : Entry) (change : MapOp P) (behind : List ReplicaKnown) (rows : MapRows P)
+    (j : ℕ) (r : Copy D) : Type 0 where
   pub before : Stored
   pub stored : Stored
   pub fits : Fits k (replica_at k j) before

@@ -1,5 +1,6 @@
 //! A logical volume.
-ghost use Rattle.std.specs.Prelude.{◌≡◌, ◌≢◌, ◌⊎◌, ◌≤◌, ◌<◌, ◌+◌, ◌++◌, ◌∷◌, [], ℕ, List, Option, Some, None, true, false, length, map, option_map, Ok, Err, IfOk, IfErr, IfSome, IfNone, IsOk, OnOk, OnErr};
+ghost use Rattle.std.specs.Prelude.{◌≡◌, ◌≢◌, ◌⊎◌, ◌≤◌, ◌<◌, ◌+◌, ◌++◌, ◌∷◌, [], ℕ, List, Option, Some, None, true, false, length, map, option_map, Ok, Err, IfOk, IfErr, IfSome};
+ghost use Rattle.std.specs.Prelude.{IfNone, IsOk, OnOk, OnErr};
 ghost use Rattle.std.specs.List.{AllByRecursion};
 ghost use Rattle.hay_disk.specs.Counts.{IsNext, Rose};
 ghost use Rattle.hay_disk.specs.Disk.{MayLeave};
@@ -23,14 +24,19 @@ ghost use Rattle.hay_logical.specs.Draws.{DrewAt, HasDrawnNothing, looked_pair};
 ghost use Rattle.hay_logical.specs.Fits.{At, PlaceStands, super_of};
 ghost use Rattle.hay_logical.specs.Notes.{NotesTell, ToldUnsure};
 ghost use Rattle.hay_logical.specs.Refusals.{IsUntouchedBy};
-ghost use Rattle.hay_logical.specs.Seen.{AreEnds, BeginRefusedSeen, BeginSeen, ChangesAt, CompactRefusedSeen, CompactSeen, DeleteRefusedSeen, EraseSeen, FinishRefusedSeen, FinishSeen, FlushRefusedSeen, FlushSeen, FreezesSeen, HideSeen, IsEnded, IsFoundAs, OpenSeen, PutRefusedSeen, PutSeen, ReplicaSeen, RoomRefusedSeen, RoomSeen, StepRefusedSeen, StepSeen, WriteSeen, begun, replica_seen, volume_seen};
+ghost use Rattle.hay_logical.specs.Seen.{AreEnds, BeginRefusedSeen, BeginSeen, ChangesAt, CompactRefusedSeen, CompactSeen, DeleteRefusedSeen, EraseSeen, FinishRefusedSeen};
+ghost use Rattle.hay_logical.specs.Seen.{FinishSeen, FlushRefusedSeen, FlushSeen, FreezesSeen, HideSeen, IsEnded, IsFoundAs, OpenSeen, PutRefusedSeen, PutSeen, ReplicaSeen};
+ghost use Rattle.hay_logical.specs.Seen.{RoomRefusedSeen, RoomSeen, StepRefusedSeen, StepSeen, WriteSeen, begun, replica_seen, volume_seen};
 ghost use Rattle.hay_logical.specs.Needles.{AreToldBy, DeletesTold, HeadsLead, HeadsLeadOn, HeadsLeadPart, IsDamagedCell, IsDamagedLook, LacksCell, LacksCellAnew, LacksCellLeft, LacksSeenOn};
-ghost use Rattle.hay_logical.specs.Sights.{DeleteRefusedSights, DeletesSights, ErasesSights, FindsPhoto, KeepsSights, LiesWithinEach, LookRefusedSights, LooksAtPair, SeeRefusedSights, SeesPair, StoresSights, SwapsSights, sights_of};
+ghost use Rattle.hay_logical.specs.Sights.{DeleteRefusedSights, DeletesSights, ErasesSights, FindsPhoto, KeepsSights, LiesWithinEach, LookRefusedSights, LooksAtPair};
+ghost use Rattle.hay_logical.specs.Sights.{SeeRefusedSights, SeesPair, StoresSights, SwapsSights, sights_of};
 ghost use Rattle.hay_logical.specs.Steps.{AllIdle, IsRefusedAt, IsSeenBy, KeepsAbove, KeepsDisk, KeepsFiles, KeepsRuns, KeepsStuck, LosesRun, RoomFor, SetsPlaceAt};
 ghost use Rattle.hay_logical.specs.Volumes.{HasAll, HasSupers, IsClosed, IsMachineOf, IsOfSettings, IsOpenVolume, IsSame, KeepsCounts, Volume};
 ghost use Rattle.hay_logical.specs.Unshown.{GivesUp, IsErased, IsWritten, IsWrittenFor, ShowsSame};
 ghost use Rattle.hay_logical.specs.Stands.{Holds, IsFirst, IsIdleVolume, IsTightAt, Stands, Stopped};
-ghost use Rattle.hay_logical.specs.Answers.{BeginRefused, BreaksPutOff, CompactRefused, DeleteRefused, FinishRefused, FlushRefused, HasSizes, IsBeginFault, IsBegun, IsCompactFault, IsCompacted, IsDeleteFault, IsDeleted, IsFinished, IsFlushFault, IsFlushed, IsPut, IsPutFault, IsReopened, IsRoomFault, IsRunFault, IsSightFault, IsStepped, IsTightened, PutRefused, RemovesOld, StepRefused, change_at, room_answer};
+ghost use Rattle.hay_logical.specs.Answers.{BeginRefused, BreaksPutOff, CompactRefused, DeleteRefused, FinishRefused, FlushRefused, HasSizes, IsBeginFault, IsBegun};
+ghost use Rattle.hay_logical.specs.Answers.{IsCompactFault, IsCompacted, IsDeleteFault, IsDeleted, IsFinished, IsFlushFault, IsFlushed, IsPut, IsPutFault, IsReopened, IsRoomFault};
+ghost use Rattle.hay_logical.specs.Answers.{IsRunFault, IsSightFault, IsStepped, IsTightened, PutRefused, RemovesOld, StepRefused, change_at, room_answer};
 
 use crate::fault::{LogicalFault, Unopened};
 use crate::notes::{machine_of, notes_of};
@@ -853,7 +859,8 @@ impl<D: Disk> Logical<D> {
             IfOk result (λ number. HeadsLead (sights_of self.old.rows) replica number (next_of r) (next_of r') (volume_bytes D.files r)) }
         ensures part { D.Tells → (r r' : Copy D) → At self.old.replicas replica r → At self.new.replicas replica r' → result ≡ Err LogicalFault.NoMemory →
             HeadsLeadPart (sights_of self.old.rows) replica cells (next_of r) (next_of r') (volume_bytes D.files r) }
-        ensures damaged { D.Tells → (m place : ℕ) → result ≡ Err (LogicalFault.Damaged m place) → IsDamagedCell D.files self.old.replicas replica (LacksCell (sights_of self.old.rows) replica cells place) }
+        ensures damaged { D.Tells → (m place : ℕ) → result ≡ Err (LogicalFault.Damaged m place)
+            → IsDamagedCell D.files self.old.replicas replica (LacksCell (sights_of self.old.rows) replica cells place) }
     {
         if let Some(machine) = self.frozen {
             return Err(LogicalFault::ReadOnly { machine });
@@ -912,7 +919,8 @@ impl<D: Disk> Logical<D> {
         ensures lead { D.Tells → OnOk result ((r : Copy D) → At self.old.replicas replica r → HeadsLeadOn (sights_of self.old.rows) replica (replica_seen r) (volume_bytes D.files r)) }
         ensures froze { D.Tells → self.old.frozen ≡ None → (m : ℕ) → self.new.frozen ≡ Some m → (r : Copy D) → At self.old.replicas replica r →
             HeadsLeadOn (sights_of self.old.rows) replica (replica_seen r) (volume_bytes D.files r) }
-        ensures damaged { D.Tells → (m place : ℕ) → result ≡ Err (LogicalFault.Damaged m place) → IsDamagedCell D.files self.old.replicas replica (LacksCellLeft (sights_of self.old.rows) replica place) }
+        ensures damaged { D.Tells → (m place : ℕ) → result ≡ Err (LogicalFault.Damaged m place)
+            → IsDamagedCell D.files self.old.replicas replica (LacksCellLeft (sights_of self.old.rows) replica place) }
         ensures sights { OnOk result (SwapsSights replica (volume_seen self.new).replicas (sights_of self.old.rows) (sights_of self.new.rows)) }
         ensures refused_sights { OnErr result (KeepsSights (sights_of self.old.rows) (sights_of self.new.rows)) }
     {
@@ -967,7 +975,8 @@ impl<D: Disk> Logical<D> {
         ensures lead { D.Tells → OnOk result ((r : Copy D) → At self.old.replicas replica r → HeadsLeadOn (sights_of self.old.rows) replica (replica_seen r) (volume_bytes D.files r)) }
         ensures froze { D.Tells → self.old.frozen ≡ None → (m : ℕ) → self.new.frozen ≡ Some m → (r : Copy D) → At self.old.replicas replica r →
             HeadsLeadOn (sights_of self.old.rows) replica (replica_seen r) (volume_bytes D.files r) }
-        ensures damaged { D.Tells → (m place : ℕ) → result ≡ Err (LogicalFault.Damaged m place) → IsDamagedCell D.files self.old.replicas replica (LacksCellLeft (sights_of self.old.rows) replica place) }
+        ensures damaged { D.Tells → (m place : ℕ) → result ≡ Err (LogicalFault.Damaged m place)
+            → IsDamagedCell D.files self.old.replicas replica (LacksCellLeft (sights_of self.old.rows) replica place) }
         ensures sights { OnOk result (SwapsSights replica (volume_seen self.new).replicas (sights_of self.old.rows) (sights_of self.new.rows)) }
         ensures refused_sights { OnErr result (KeepsSights (sights_of self.old.rows) (sights_of self.new.rows)) }
     {
@@ -1013,7 +1022,8 @@ impl<D: Disk> Logical<D> {
         ensures lead { D.Tells → OnOk result ((r : Copy D) → At self.old.replicas replica r → HeadsLeadOn (sights_of self.old.rows) replica (begun (replica_seen r)) (volume_bytes D.files r)) }
         ensures froze { D.Tells → self.old.frozen ≡ None → (m : ℕ) → self.new.frozen ≡ Some m → (r : Copy D) → At self.old.replicas replica r →
             HeadsLeadOn (sights_of self.old.rows) replica (begun (replica_seen r)) (volume_bytes D.files r) }
-        ensures damaged { D.Tells → (m place : ℕ) → result ≡ Err (LogicalFault.Damaged m place) → IsDamagedCell D.files self.old.replicas replica (LacksCellAnew (sights_of self.old.rows) replica place) }
+        ensures damaged { D.Tells → (m place : ℕ) → result ≡ Err (LogicalFault.Damaged m place)
+            → IsDamagedCell D.files self.old.replicas replica (LacksCellAnew (sights_of self.old.rows) replica place) }
         ensures sights { OnOk result (SwapsSights replica (volume_seen self.new).replicas (sights_of self.old.rows) (sights_of self.new.rows)) }
         ensures refused_sights { OnErr result (KeepsSights (sights_of self.old.rows) (sights_of self.new.rows)) }
     {
@@ -1064,7 +1074,8 @@ impl<D: Disk> Logical<D> {
         ensures lead { D.Tells → OnOk result ((r : Copy D) → At self.old.replicas replica r → HeadsLeadOn (sights_of self.old.rows) replica (begun (replica_seen r)) (volume_bytes D.files r)) }
         ensures froze { D.Tells → self.old.frozen ≡ None → (m : ℕ) → self.new.frozen ≡ Some m → (r : Copy D) → At self.old.replicas replica r →
             HeadsLeadOn (sights_of self.old.rows) replica (begun (replica_seen r)) (volume_bytes D.files r) }
-        ensures damaged { D.Tells → (m place : ℕ) → result ≡ Err (LogicalFault.Damaged m place) → IsDamagedCell D.files self.old.replicas replica (LacksCellAnew (sights_of self.old.rows) replica place) }
+        ensures damaged { D.Tells → (m place : ℕ) → result ≡ Err (LogicalFault.Damaged m place)
+            → IsDamagedCell D.files self.old.replicas replica (LacksCellAnew (sights_of self.old.rows) replica place) }
         ensures sights { OnOk result (SwapsSights replica (volume_seen self.new).replicas (sights_of self.old.rows) (sights_of self.new.rows)) }
         ensures refused_sights { OnErr result (KeepsSights (sights_of self.old.rows) (sights_of self.new.rows)) }
     {

@@ -15,7 +15,8 @@ ghost use Rattle.hay_logical.specs.Fits.{At};
 ghost use Rattle.hay_logical.specs.Refusals.{IsUntouched};
 ghost use Rattle.hay_logical.specs.Volumes.{CanReach, KeepsCounts, ReachesPlaces};
 ghost use Rattle.hay_logical.specs.Seen.{DeleteSeen, FlushesTo, grown, replica_seen};
-ghost use Rattle.hay_logical.specs.Steps.{AllIdle, CallsOne, DeleteLeaves, DeletesAt, EndsRuns, FlushesAt, FollowsAt, FusesAt, IsOpenFault, IsRefusedAt, KeepsDisk, KeepsFiles, LacksRoom, LeftAt, Lengthens, OpensAt, PutLeaves, PutsAt, RoomFor, StaysBeside, StaysInReach, Stops};
+ghost use Rattle.hay_logical.specs.Steps.{AllIdle, CallsOne, DeleteLeaves, DeletesAt, EndsRuns, FlushesAt, FollowsAt, FusesAt, IsOpenFault, IsRefusedAt, KeepsDisk, KeepsFiles};
+ghost use Rattle.hay_logical.specs.Steps.{LacksRoom, LeftAt, Lengthens, OpensAt, PutLeaves, PutsAt, RoomFor, StaysBeside, StaysInReach, Stops};
 
 use crate::fault::Unopened;
 use crate::refusals::is_untouched;

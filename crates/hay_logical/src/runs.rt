@@ -150,7 +150,8 @@ pub(crate) fn compact_at<D: Disk>(
     ensures seen { (r r' : Copy D) → At replicas.old at r → At replicas.new at r' → IfOk result (λ files. SwapSeen files.generation files.end (replica_seen r) (replica_seen r')) }
     ensures kept { (r r' : Copy D) → At replicas.old at r → At replicas.new at r' → OnErr result (ChangesRun (replica_seen r) (replica_seen r')) }
     ensures lead { D.Tells → OnOk result ((r : Copy D) → At replicas.old at r → HeadsLeadOn (sights_of rows.old) at (begun (replica_seen r)) (volume_bytes D.files r)) }
-    ensures unsure { D.Tells → (f : ℕ) → result ≡ Err (Unswapped.Unsure f) → (r : Copy D) → At replicas.old at r → HeadsLeadOn (sights_of rows.old) at (begun (replica_seen r)) (volume_bytes D.files r) }
+    ensures unsure { D.Tells → (f : ℕ) → result ≡ Err (Unswapped.Unsure f) → (r : Copy D) → At replicas.old at r
+        → HeadsLeadOn (sights_of rows.old) at (begun (replica_seen r)) (volume_bytes D.files r) }
     ensures damaged { D.Tells → (place : ℕ) → result ≡ Err (Unswapped.Refused (ReplicaFault.Damaged place)) → IsDamagedCell D.files replicas.old at (LacksCellAnew (sights_of rows.old) at place) }
 {
     let result = compact(&mut replicas[at], at as u32, rows, alloc);
@@ -189,7 +190,8 @@ fn compact<D: Disk>(
     ensures kept { OnErr result (ChangesRun (replica_seen replica.old) (replica_seen replica.new)) }
     ensures lead { D.Tells → OnOk result (HeadsLeadOn (sights_of rows.old) at (begun (replica_seen replica.old)) (volume_bytes D.files replica.old)) }
     ensures unsure { D.Tells → (f : ℕ) → result ≡ Err (Unswapped.Unsure f) → HeadsLeadOn (sights_of rows.old) at (begun (replica_seen replica.old)) (volume_bytes D.files replica.old) }
-    ensures damaged { D.Tells → (place : ℕ) → result ≡ Err (Unswapped.Refused (ReplicaFault.Damaged place)) → LacksCellAnew (sights_of rows.old) at place (replica_seen replica.old) (volume_bytes D.files replica.old) }
+    ensures damaged { D.Tells → (place : ℕ) → result ≡ Err (Unswapped.Refused (ReplicaFault.Damaged place))
+        → LacksCellAnew (sights_of rows.old) at place (replica_seen replica.old) (volume_bytes D.files replica.old) }
 {
     match replica.begin(alloc) {
         Ok(_) => finish(replica, at, rows),
@@ -215,7 +217,8 @@ fn finish<D: Disk>(
     ensures kept { OnErr result (ChangesRun (replica_seen replica.old) (replica_seen replica.new)) }
     ensures lead { D.Tells → OnOk result (HeadsLeadOn (sights_of rows.old) at (replica_seen replica.old) (volume_bytes D.files replica.old)) }
     ensures unsure { D.Tells → (f : ℕ) → result ≡ Err (Unswapped.Unsure f) → HeadsLeadOn (sights_of rows.old) at (replica_seen replica.old) (volume_bytes D.files replica.old) }
-    ensures damaged { D.Tells → (place : ℕ) → result ≡ Err (Unswapped.Refused (ReplicaFault.Damaged place)) → LacksCellLeft (sights_of rows.old) at place (replica_seen replica.old) (volume_bytes D.files replica.old) }
+    ensures damaged { D.Tells → (place : ℕ) → result ≡ Err (Unswapped.Refused (ReplicaFault.Damaged place))
+        → LacksCellLeft (sights_of rows.old) at place (replica_seen replica.old) (volume_bytes D.files replica.old) }
 {
     // There are fewer cells than bytes.
     let most = replica.end();

@@ -31,7 +31,8 @@ all_known_at rows (cell ∷ cells) (suc k) d all h = all_known_at rows cells k d
 
 -- CELLS OF A REPLICA
 
-last_place_push : {P : Type 0} (cells : List (OpenCell P)) (cell : OpenCell P) (pair : Pair) (before : Place P) → last_place (cells ++ cell ∷ []) pair before ≡ cond (pair_eq cell.pair pair) cell.place (last_place cells pair before)
+last_place_push : {P : Type 0} (cells : List (OpenCell P)) (cell : OpenCell P) (pair : Pair) (before : Place P)
+    → last_place (cells ++ cell ∷ []) pair before ≡ cond (pair_eq cell.pair pair) cell.place (last_place cells pair before)
 last_place_push [] cell pair before = refl
 last_place_push (first ∷ cells) cell pair before = last_place_push cells cell pair (cond (pair_eq first.pair pair) first.place before)
 
@@ -42,7 +43,8 @@ gives_none replica rows = record {
   known = λ other h. h;
 }
 
-pub gives_more : {P : Type 0} (replica : ℕ) (cells : List (OpenCell P)) (cell : OpenCell P) (old mid new : MapRows P) → GivesReplica replica cells old mid → SetsPlace cell.pair replica cell.place mid new
+pub gives_more : {P : Type 0} (replica : ℕ) (cells : List (OpenCell P)) (cell : OpenCell P) (old mid new : MapRows P) → GivesReplica replica cells old mid
+    → SetsPlace cell.pair replica cell.place mid new
     → GivesReplica replica (cells ++ cell ∷ []) old new
 gives_more {P} replica cells cell old mid new gives sets = record {
   replicas = sets.replicas ∙ gives.replicas;
@@ -86,7 +88,8 @@ first_none pair row rows long = record {
   long = long;
 }
 
-pub first_more : {P : Type 0} (pair : Pair) (row : List (Place P)) (k : ℕ) (old mid new : MapRows P) → SetsFirst pair row k old mid → k < length row → length row ≡ old.replicas → SetsPlace pair k (get_or row k place.None) mid new
+pub first_more : {P : Type 0} (pair : Pair) (row : List (Place P)) (k : ℕ) (old mid new : MapRows P) → SetsFirst pair row k old mid → k < length row → length row ≡ old.replicas
+    → SetsPlace pair k (get_or row k place.None) mid new
     → SetsFirst pair row (k + 1) old new
 first_more {P} pair row k old mid new first h same sets = record {
   replicas = sets.replicas ∙ first.replicas;
@@ -175,7 +178,8 @@ load_gives {P} replica cells old mid new keeps gives = record {
   known = λ other h. gives.known other (keeps.known other h);
 }
 
-pub see_changes : {P : Type 0} (pair : Pair) (replica : ℕ) (place : Place P) (old mid new : MapRows P) → KeepsRows old mid → SetsPlace pair replica place mid new → ChangesRows (op.Seen pair replica place) old new
+pub see_changes : {P : Type 0} (pair : Pair) (replica : ℕ) (place : Place P) (old mid new : MapRows P) → KeepsRows old mid → SetsPlace pair replica place mid new
+    → ChangesRows (op.Seen pair replica place) old new
 see_changes {P} pair replica place old mid new keeps sets = record {
   replicas = sets.replicas ∙ keeps.replicas;
   rows = λ other. sets.rows other ∙ ap (λ (xs : List (Place P)). cond (pair_eq pair other) (set xs replica place) xs) (keeps.rows other);

@@ -69,5 +69,6 @@ left_all n r old now i left all k =
           let past : length now ≤ k = omega arith in
           let past_old : length old ≤ k = omega (arith, left.long) in
           get_or_past now k place.None past
-          ∙ sym (cond_both (nat_eq (k % n) r) (gone_place (place_in old k)) (place_in old k) (λ x. x ≡ place.None) (λ t. ap gone_place (get_or_past old k place.None past_old)) (λ f. get_or_past old k place.None past_old))
+          ∙ sym (cond_both (nat_eq (k % n) r) (gone_place (place_in old k)) (place_in old k) (λ x. x ≡ place.None) (λ t. ap gone_place (get_or_past old k place.None past_old))
+          (λ f. get_or_past old k place.None past_old))
     ]

@@ -1,6 +1,7 @@
 -- Parts of a list that an edit leaves or changes.
 use Rattle.std.proofs.Common.{◌≡◌, ℕ, ◌+◌, ◌-◌, ◌<◌, ◌≤◌, inl, inr, List, [], ◌∷◌, ◌++◌, length, take, drop, replicate, set, get_or, refl, sym, ap, ◌∙◌, arith}
-use Rattle.std.proofs.lemmas.List.{drop-set-add, drop-set-lt, take-set-le, drop-append-le, take-append-le, drop_at, take_all, take_more, drop_more, set_at, append_assoc, length-take-le, length-drop, length-replicate, append-nil, drop_all}
+use Rattle.std.proofs.lemmas.List.{drop-set-add, drop-set-lt, take-set-le, drop-append-le, take-append-le, drop_at, take_all, take_more, drop_more, set_at, append_assoc}
+use Rattle.std.proofs.lemmas.List.{length-take-le, length-drop, length-replicate, append-nil, drop_all}
 use Rattle.std.proofs.Math.Seq.{take-set-lt}
 use Rattle.hay_map.specs.MapRows.{Apart}
 

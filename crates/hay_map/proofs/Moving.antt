@@ -34,7 +34,8 @@ stood_known {P} rows pair r h stood =
     elim (cases_Bool (has_row rows pair)) [
       | inl t ↦ t
       | inr f ↦
-          let blank : place_in (row_at rows pair) r ≡ place.None = ap (λ (xs : List (Place P)). place_in xs r) (row_blank rows pair (unknown_none rows pair f)) ∙ get_or-replicate rows.replicas r place.None place.None h in
+          let blank : place_in (row_at rows pair) r ≡ place.None =
+          ap (λ (xs : List (Place P)). place_in xs r) (row_blank rows pair (unknown_none rows pair f)) ∙ get_or-replicate rows.replicas r place.None place.None h in
           absurd (false≢true (sym (ap has_stood blank) ∙ stood))
     ]
 
@@ -122,7 +123,8 @@ pub left_long : {P : Type 0} (r : ℕ) (old left : MapRows P) → LeavesReplica 
 left_long r old left leaves other =
     ap length (leaves.rows other) ∙ length-set (row_at old other) r (gone_place (place_in (row_at old other) r)) ∙ leaves.long other ∙ sym leaves.replicas
 
-pub swap_changes : {P : Type 0} (r : ℕ) (cells : List (OpenCell P)) (old left new : MapRows P) → LeavesReplica r old left → MovesReplica r cells left new → r < old.replicas → ChangesRows (op.Swap r cells) old new
+pub swap_changes : {P : Type 0} (r : ℕ) (cells : List (OpenCell P)) (old left new : MapRows P) → LeavesReplica r old left → MovesReplica r cells left new → r < old.replicas
+    → ChangesRows (op.Swap r cells) old new
 swap_changes {P} r cells old left new leaves moves h = record {
   replicas = moves.replicas ∙ leaves.replicas;
   rows = λ other.

@@ -1,5 +1,6 @@
 -- What becomes of the rows when places are added, set and left.
-use Rattle.std.proofs.Common.{◌≡◌, ℕ, ◌+◌, ◌*◌, ◌/◌, ◌%◌, ◌<◌, ◌≤◌, ◌⊎◌, inl, inr, true, false, cond, nat_eq, List, [], ◌++◌, length, take, drop, replicate, set, get_or, Option, Some, None, refl, sym, ap, ◌∙◌, arith}
+use Rattle.std.proofs.Common.{◌≡◌, ℕ, ◌+◌, ◌*◌, ◌/◌, ◌%◌, ◌<◌, ◌≤◌, ◌⊎◌, inl, inr, true, false, cond, nat_eq, List, [], ◌++◌, length, take, drop, replicate, set, get_or, Option}
+use Rattle.std.proofs.Common.{Some, None, refl, sym, ap, ◌∙◌, arith}
 use Rattle.std.specs.Prelude.{is_some}
 use Rattle.std.specs.Map.{lookup}
 use Rattle.std.proofs.lemmas.List.{ext_get_or, get_or-take, get_or-drop, get_or-replicate, get_or-set_same, get_or-set_other, set-get_or, length-append, length-replicate, length-set}
@@ -72,7 +73,8 @@ pub record AddsRow {P : Type 0} (pair : Pair) (old new : MapRows P) : Type 0 whe
   pub none : offset_of old pair ≡ None
   pub offsets : (other : Pair) → offset_of new other ≡ cond (pair_eq pair other) (Some (length old.places)) (offset_of old other)
 
-pub adds_row : {P : Type 0} (pair : Pair) (at : ℕ) (old new : MapRows P) → new.replicas ≡ old.replicas → new.blank ≡ old.blank → new.places ≡ old.places ++ replicate old.replicas place.None → offset_of old pair ≡ None
+pub adds_row : {P : Type 0} (pair : Pair) (at : ℕ) (old new : MapRows P) → new.replicas ≡ old.replicas → new.blank ≡ old.blank
+    → new.places ≡ old.places ++ replicate old.replicas place.None → offset_of old pair ≡ None
     → at ≡ length old.places → ((other : Pair) → offset_of new other ≡ cond (pair_eq pair other) (Some at) (offset_of old other)) → AddsRow pair old new
 adds_row pair at old new n b e none begins offsets = record {
   replicas = n;

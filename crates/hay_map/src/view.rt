@@ -4,7 +4,8 @@ ghost use Rattle.hay_needle.specs.declared.needle.Pair.{Pair};
 ghost use Rattle.hay_needle.specs.Tables.{pair_eq};
 ghost use Rattle.hay_map.specs.Places.{gone_place, has_stood, place_in};
 ghost use Rattle.hay_map.specs.MapRows.{offset_of};
-ghost use Rattle.hay_map.specs.Rows.{row_at, has_row, last_place, KeepsRows, ChangesRows, FitsRows, HasRoom, NeedsNoMemory, AllKnown, SetsPlace, SetsRow, LeavesReplica, GivesReplica, MovesPlace, MovesReplica};
+ghost use Rattle.hay_map.specs.Rows.{row_at, has_row, last_place, KeepsRows, ChangesRows, FitsRows, HasRoom, NeedsNoMemory, AllKnown, SetsPlace, SetsRow, LeavesReplica};
+ghost use Rattle.hay_map.specs.Rows.{GivesReplica, MovesPlace, MovesReplica};
 ghost use Rattle.hay_map.specs.declared.place.Place.TheVariants as place_is;
 ghost use Rattle.hay_map.specs.declared.view.MapOp.TheVariants as map_op;
 
@@ -68,9 +69,23 @@ impl<P: Piece> Model for MapView<P> {
 
     ghost Value = { MapRows P };
 
-    ghost view = { λ m. record { replicas = m.replicas; blank = m.blank; offsets = m.offsets.entries; places = m.places.items; spare_offsets = spare m.offsets; spare_places = vec_capacity m.places - vec_len m.places } };
+    ghost view = { λ m. record {
+      replicas = m.replicas;
+      blank = m.blank;
+      offsets = m.offsets.entries;
+      places = m.places.items;
+      spare_offsets = spare m.offsets;
+      spare_places = vec_capacity m.places - vec_len m.places;
+    } };
 
-    ghost invariant = { λ m. IsKept (record { replicas = m.replicas; blank = m.blank; offsets = m.offsets.entries; places = m.places.items; spare_offsets = spare m.offsets; spare_places = vec_capacity m.places - vec_len m.places }) };
+    ghost invariant = { λ m. IsKept (record {
+      replicas = m.replicas;
+      blank = m.blank;
+      offsets = m.offsets.entries;
+      places = m.places.items;
+      spare_offsets = spare m.offsets;
+      spare_places = vec_capacity m.places - vec_len m.places;
+    }) };
 }
 
 impl<P: Piece> MapView<P> {

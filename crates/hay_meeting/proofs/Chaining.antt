@@ -204,7 +204,8 @@ module _ (settings : Settings) (start : Start) (drained : List Bool) (lane : ℕ
     owned (note ∷ notes) a b chain =
         each_append (IsOwned (note ∷ notes)) (made_for note chain.2) (made_by notes note.after b chain.3)
         (each_weaker (IsMadeFor note.item) (IsOwned (note ∷ notes)) (λ act m. record { note = note; among = is_first note notes; made = m }) (made_for note chain.2) (each_made note chain.2))
-        (each_weaker (IsOwned notes) (IsOwned (note ∷ notes)) (λ act m. record { note = m.note; among = in_rest note notes m.note m.among; made = m.made }) (made_by notes note.after b chain.3) (owned notes note.after b chain.3))
+        (each_weaker (IsOwned notes) (IsOwned (note ∷ notes)) (λ act m. record { note = m.note; among = in_rest note notes m.note m.among; made = m.made })
+        (made_by notes note.after b chain.3) (owned notes note.after b chain.3))
 
     new_own : (note : Note) (goes : GoesOn settings start drained note) → made_for note goes ≡ drop (length (at note.before).own) (at note.after).own
     new_own note goes = sym (ap (drop (length (at note.before).own)) (place.worked note goes).own ∙ drop-append_seam (at note.before).own (made_for note goes))

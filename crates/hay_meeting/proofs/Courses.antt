@@ -99,7 +99,8 @@ module _ {S E X T : Type 0} (lock : Lock S E X T) {cut : ℕ} {h : List E} {line
       let to = held_to (past d) (doing_past d x) in
       let one = past_at d x in (from, omega (arith, to, one))
 
-module _ {settings : Settings} {start : Start} {drained : List Bool} {k : Known} {cut : Cut} {h : Happened} {item : LaneItem} {a b : Sight} {doings : Doings} (bears : Bears settings start drained k cut h item a b) (work : Work item a b doings) where
+module _ {settings : Settings} {start : Start} {drained : List Bool} {k : Known} {cut : Cut} {h : Happened} {item : LaneItem} {a b : Sight} {doings : Doings}
+    (bears : Bears settings start drained k cut h item a b) (work : Work item a b doings) where
   abbrev pub c : Course
   c = course_of settings k cut h (tag_of item) a b
 

@@ -22,9 +22,11 @@ use Rattle.hay_meeting.specs.Sights.{Bears, Cut, Doings, Sight, Work}
 use Rattle.hay_meeting.proofs.Courses.{at_doing, c, doing_held}
 use Rattle.hay_meeting.proofs.PutReplies.{left_pending}
 use Rattle.hay_meeting.proofs.ReadReplies.{look_froze}
-use Rattle.hay_meeting.proofs.Seeing.{among_own, closing_is, doing_among, did_nothing, failed_in, home_seen, moment_held, no_rows, no_steps, nothing_on, one_held, one_is, one_step, only_on, place_at, volume_held}
+use Rattle.hay_meeting.proofs.Seeing.{among_own, closing_is, doing_among, did_nothing, failed_in, home_seen, moment_held, no_rows, no_steps, nothing_on, one_held, one_is}
+use Rattle.hay_meeting.proofs.Seeing.{one_step, only_on, place_at, volume_held}
 
-module _ {settings : Settings} {start : Start} {drained : List Bool} {k : Known} {cut : Cut} {h : Happened} {item : LaneItem} {a b : Sight} {doings : Doings} (bears : Bears settings start drained k cut h item a b) (work : Work item a b doings) where
+module _ {settings : Settings} {start : Start} {drained : List Bool} {k : Known} {cut : Cut} {h : Happened} {item : LaneItem} {a b : Sight} {doings : Doings}
+    (bears : Bears settings start drained k cut h item a b) (work : Work item a b doings) where
   abbrev line : Course
   line = c bears work
 
@@ -64,7 +66,11 @@ module _ {settings : Settings} {start : Start} {drained : List Bool} {k : Known}
   home_is_closed pair [] x = absurd x
   home_is_closed pair (by ∷ []) ((d, home), found) = (
     (d, home_seen bears work home),
-    record { moment = place_at bears work by.volume found.held; seen = moment_held bears work by.volume found.held found.between; is = closing_is bears work by.volume found.held found.below found.between ∙ found.is },
+    record {
+      moment = place_at bears work by.volume found.held;
+      seen = moment_held bears work by.volume found.held found.between;
+      is = closing_is bears work by.volume found.held found.below found.between ∙ found.is;
+    },
   )
   home_is_closed pair (by ∷ other ∷ more) x = absurd x
 
@@ -85,7 +91,13 @@ module _ {settings : Settings} {start : Start} {drained : List Bool} {k : Known}
           let try = looked.0 in
           let is = doing_among bears work v try.one try.among in
           inl (
-            record { place = place_at bears work v (try.one).held; step = (at_doing bears work v try.one).1; among = among_own bears work v try.one try.among; none = nothing_on bears work v try.none; is = try.is },
+            record {
+              place = place_at bears work v (try.one).held;
+              step = (at_doing bears work v try.one).1;
+              among = among_own bears work v try.one try.among;
+              none = nothing_on bears work v try.none;
+              is = try.is;
+            },
             failed_open v m f try.one x.below is looked.1,
           )
       | inr deleted ↦
@@ -102,7 +114,11 @@ module _ {settings : Settings} {start : Start} {drained : List Bool} {k : Known}
   wanting pair (rows, inl none) = (no_rows bears work rows, inl (no_steps bears work none))
   wanting pair (rows, inr (inl (froze, found))) =
       let r = look_froze bears work froze in
-      let «open» : SeesOpen line froze.v = record { moment = place_at bears work froze.v found.held; seen = moment_held bears work froze.v found.held found.between; is = closing_is bears work froze.v found.held found.below found.between ∙ found.is } in
+      let «open» : SeesOpen line froze.v = record {
+        moment = place_at bears work froze.v found.held;
+        seen = moment_held bears work froze.v found.held found.between;
+        is = closing_is bears work froze.v found.held found.below found.between ∙ found.is;
+      } in
       (no_rows bears work rows, inr (inl (r.0, subst (SeesOpen line) (sym r.1) «open»)))
   wanting pair (rows, inr (inr pending)) = (
     no_rows bears work rows,

@@ -46,7 +46,8 @@ no_sight = record { volumes = λ v. record { seen = []; own = []; shown = [] }; 
 abbrev no_note : Note
 no_note = record { item = no_item; before = no_sight; after = no_sight }
 
-module _ {settings : Settings} {start : Start} {lanes : ℕ} {before after : List Sight} {items : List LaneItem} {h0 h : Happened} {k t : Known} (x : Lines settings start lanes before after items h0 h k t) where
+module _ {settings : Settings} {start : Start} {lanes : ℕ} {before after : List Sight} {items : List LaneItem} {h0 h : Happened} {k t : Known}
+    (x : Lines settings start lanes before after items h0 h k t) where
   abbrev pub notes : ℕ → List Note
   notes = (x.lines).notes
 
@@ -125,7 +126,8 @@ module _ {settings : Settings} {start : Start} {lanes : ℕ} {before after : Lis
 
   -- ONE LOCK
 
-  module _ {S E X T : Type 0} (place : Place settings start k.drained S E X T) {old all : List E} (begins : BeginsAtLock place.lock place.at lanes before old) (ends : WholeAt place.lock place.at lanes after all) where
+  module _ {S E X T : Type 0} (place : Place settings start k.drained S E X T) {old all : List E} (begins : BeginsAtLock place.lock place.at lanes before old)
+      (ends : WholeAt place.lock place.at lanes after all) where
     abbrev lock : Lock S E X T
     lock = place.lock
 
@@ -194,7 +196,9 @@ module _ {settings : Settings} {start : Start} {lanes : ℕ} {before after : Lis
         let z : Sight = final item.lane in
         let from : IsLaterAt (at a) (at note.before) = place.is_later a note.before i.from in
         let to : IsLaterAt (at note.after) (at z) = place.is_later note.after z i.to in record {
-          low = let l = prefix_length (at a).seen (at note.before).seen from.seen in let f = prefix_length old (at a).seen (begins.seen item.lane a (at_first_sight item.lane low)) in omega (arith, l, f);
+          low =
+              let l = prefix_length (at a).seen (at note.before).seen from.seen in let f = prefix_length old (at a).seen (begins.seen item.lane a (at_first_sight item.lane low)) in
+              omega (arith, l, f);
           low_shown = subst (λ w. IsPrefix (entries lock w) (at note.before).shown) (sym taken_is)
               (prefix_trans (entries lock old) (at a).shown (at note.before).shown (begins.shown item.lane a (at_first_sight item.lane low)) from.shown);
           seen = prefix_trans (at note.after).seen (at z).seen all to.seen (ends.seen item.lane z (at_final item.lane low));

@@ -30,9 +30,11 @@ use Rattle.hay_meeting.specs.Law.{ALineMakesAPlainTurn, LanesMakeBlocks, cut_of}
 use Rattle.hay_meeting.specs.Locks.{left, moment_of, replayed}
 use Rattle.hay_meeting.specs.Sights.{Agrees, Bears, Cut, Sight, course_of, history_of, rows_stood, seen_of, stood}
 use Rattle.hay_meeting.proofs.Chaining.{chain_later, row_place, volume_place}
-use Rattle.hay_meeting.proofs.Gathering.{IsOurs, at_final, at_first_sight, bears_at, by_notes, chain, each_replayed, final, first, found_in, in_chain, low_of, note_for, note_found, note_of, notes, ours, taken_is, whole}
+use Rattle.hay_meeting.proofs.Gathering.{IsOurs, at_final, at_first_sight, bears_at, by_notes, chain, each_replayed, final, first, found_in, in_chain, low_of, note_for}
+use Rattle.hay_meeting.proofs.Gathering.{note_found, note_of, notes, ours, taken_is, whole}
 use Rattle.hay_meeting.proofs.Replays.{left_append, length_replayed, moment_rises, moment_within}
-use Rattle.hay_meeting.proofs.Standings.{agrees_trans, begun_append, begun_replayed, behind_replayed, follows_again, follows_behind, left_agrees, rows_behind_replayed, rows_follow_behind, same_agrees, sized_behind}
+use Rattle.hay_meeting.proofs.Standings.{agrees_trans, begun_append, begun_replayed, behind_replayed, follows_again, follows_behind, left_agrees, rows_behind_replayed}
+use Rattle.hay_meeting.proofs.Standings.{rows_follow_behind, same_agrees, sized_behind}
 use Rattle.hay_turn.proofs.Prefixes.{prefix_self}
 
 -- COUNTS
@@ -63,7 +65,8 @@ slot_in (suc volumes) replicas i below =
       | inr last ↦ (volumes, i - volumes * replicas, omega arith, omega (arith, below, more, last), omega (arith, last))
     ]
 
-module _ {settings : Settings} {start : Start} {lanes : ℕ} {before after : List Sight} {items : List LaneItem} {h0 h : Happened} {k t : Known} (x : Lines settings start lanes before after items h0 h k t) where
+module _ {settings : Settings} {start : Start} {lanes : ℕ} {before after : List Sight} {items : List LaneItem} {h0 h : Happened} {k t : Known}
+    (x : Lines settings start lanes before after items h0 h k t) where
   abbrev cut : Cut
   cut = cut_of h0
 
@@ -196,7 +199,9 @@ module _ {settings : Settings} {start : Start} {lanes : ℕ} {before after : Lis
       (omega (arith, few)) (behind_cut v below)
 
   rows_behind_cut : FollowsRows (rows_stood start h0.directory) (replayed row_lock (rows_stood start h0.directory) (drop cut.rows h.directory))
-  rows_behind_cut = rows_follow_behind start.directory h0.directory (drop cut.rows h.directory) (subst (λ z. FollowsRows start.directory (replayed row_lock start.directory z)) rows_whole ((x.ends).sound).follows_rows)
+  rows_behind_cut =
+      rows_follow_behind start.directory h0.directory (drop cut.rows h.directory) (subst (λ z. FollowsRows start.directory (replayed row_lock start.directory z)) rows_whole
+      ((x.ends).sound).follows_rows)
 
   -- behind all acts stands what is left behind the lines
   left_all : (v : ℕ) → left volume_lock (stood start v (h0.volumes v)) (drop (cut.volumes v) (h.volumes v)) ≡ stood start v (h.volumes v)
@@ -235,7 +240,8 @@ module _ {settings : Settings} {start : Start} {lanes : ℕ} {before after : Lis
   faults_at zero below =
       let rise = row_faults_rise (rows_stood start h0.directory) (drop cut.rows h.directory) rows_behind_cut in
       let from_there : fault_count k 0 ≡ (rows_stood start h0.directory).faults = ap (λ (z : RowsStanding). z.faults) ((x.from).stands).rows in
-      let to_there : fault_count t 0 ≡ (left row_lock (rows_stood start h0.directory) (drop cut.rows h.directory)).faults = ap (λ (z : RowsStanding). z.faults) (((x.last).stands).rows ∙ sym rows_left_all) in
+      let to_there : fault_count t 0 ≡ (left row_lock (rows_stood start h0.directory) (drop cut.rows h.directory)).faults =
+      ap (λ (z : RowsStanding). z.faults) (((x.last).stands).rows ∙ sym rows_left_all) in
       omega (arith, rise, from_there, to_there)
   faults_at (suc i) below =
       let slot = slot_in settings.volumes settings.replicas i (omega (arith, below, (x.from).disks)) in

@@ -1,5 +1,6 @@
 -- The steps of a line on a lock are those of its doings, each at the number of acts that its holding found.
-use Rattle.std.proofs.Common.{◌≡◌, ℕ, zero, suc, ◌+◌, ◌-◌, ◌≤◌, Bool, true, false, cond, List, [], ◌∷◌, ◌++◌, length, map, filter, take, drop, refl, sym, ap, subst, ◌∙◌, arith, append_assoc, length-append, length-drop}
+use Rattle.std.proofs.Common.{◌≡◌, ℕ, zero, suc, ◌+◌, ◌-◌, ◌≤◌, Bool, true, false, cond, List, [], ◌∷◌, ◌++◌, length, map, filter, take, drop, refl, sym, ap, subst, ◌∙◌, arith}
+use Rattle.std.proofs.Common.{append_assoc, length-append, length-drop}
 use Rattle.std.specs.Prelude.{◌==◌}
 use Rattle.std.specs.List.{AllByRecursion as Each, enumerate_from}
 use Rattle.std.proofs.lemmas.Bool.{eq-eqb}
@@ -89,7 +90,8 @@ module _ {S E X T : Type 0} (lock : Lock S E X T) (stamp : T → CoreTag) (stamp
       let tail = enough line h (past d) p.1 ds p.4 rises.1 within.1 of.1 in
       let yes : is_of_line lock line d.act ≡ true = eq-eqb (lock.tag d.act).line line of.0 in
       let split : of_line lock line rest ≡ of_line lock line p.0 ++ d.act ∷ of_line lock line p.1 =
-      ap (of_line lock line) p.3 ∙ (filter-append (is_of_line lock line) p.0 (d.act ∷ p.1) ∙ ap (λ (b : Bool). of_line lock line p.0 ++ cond b (d.act ∷ of_line lock line p.1) (of_line lock line p.1)) yes) in
+      ap (of_line lock line) p.3 ∙ (filter-append (is_of_line lock line) p.0 (d.act ∷ p.1)
+      ∙ ap (λ (b : Bool). of_line lock line p.0 ++ cond b (d.act ∷ of_line lock line p.1) (of_line lock line p.1)) yes) in
       omega (arith, tail, ap length split ∙ length-append (of_line lock line p.0) (d.act ∷ of_line lock line p.1))
 
   none_of : {A : Type 0} (xs : List A) → length xs ≡ 0 → xs ≡ []
@@ -111,9 +113,11 @@ module _ {S E X T : Type 0} (lock : Lock S E X T) (stamp : T → CoreTag) (stamp
       let later : List E = p.1 in
       let yes : is_of_line lock line d.act ≡ true = eq-eqb (lock.tag d.act).line line of.0 in
       let split : of_line lock line rest ≡ of_line lock line more ++ d.act ∷ of_line lock line later =
-      ap (of_line lock line) p.3 ∙ (filter-append (is_of_line lock line) more (d.act ∷ later) ∙ ap (λ (b : Bool). of_line lock line more ++ cond b (d.act ∷ of_line lock line later) (of_line lock line later)) yes) in
+      ap (of_line lock line) p.3 ∙ (filter-append (is_of_line lock line) more (d.act ∷ later)
+      ∙ ap (λ (b : Bool). of_line lock line more ++ cond b (d.act ∷ of_line lock line later) (of_line lock line later)) yes) in
       let tail = enough line h (past d) later ds p.4 rises.1 within.1 of.1 in
-      let count : length (of_line lock line rest) ≡ length (of_line lock line more) + suc (length (of_line lock line later)) = ap length split ∙ length-append (of_line lock line more) (d.act ∷ of_line lock line later) in
+      let count : length (of_line lock line rest) ≡ length (of_line lock line more) + suc (length (of_line lock line later)) =
+      ap length split ∙ length-append (of_line lock line more) (d.act ∷ of_line lock line later) in
       let none : of_line lock line more ≡ [] = none_of (of_line lock line more) (omega (arith, count, tail, many)) in
       let rest_many : length (of_line lock line later) ≡ length ds = omega (arith, count, tail, many) in
       let s : S = left lock base (drop cut before) in
@@ -163,7 +167,8 @@ module _ {S E X T : Type 0} (lock : Lock S E X T) (stamp : T → CoreTag) (stamp
     -- its steps behind the cut, whatever stands there
     pub steps_are : (base : S) → steps_by tag.line 0 base (drop cut h) ≡ map (placed base cut) doings
     steps_are base =
-        let long : length (take cut h) ≡ cut = length-take-le cut h (let l = prefix_length a.seen h (prefix_trans a.seen b.seen h (worked.later).seen bears.seen) in let lo = bears.low in omega (arith, l, lo)) in
+        let long : length (take cut h) ≡ cut =
+        length-take-le cut h (let l = prefix_length a.seen h (prefix_trans a.seen b.seen h (worked.later).seen bears.seen) in let lo = bears.low in omega (arith, l, lo)) in
         let none : drop cut (take cut h) ≡ [] = none_of (drop cut (take cut h)) (omega (arith, length-drop cut (take cut h), long)) in
         let zero_at : length (take cut h) - cut ≡ 0 = omega (arith, long) in
         let many : length (of_line lock tag.line (drop cut h)) ≡ length doings =

@@ -87,7 +87,8 @@ module _ {S E X T : Type 0} (lock : Lock S E X T) where
   }
 
   -- the last of the later doings is the last of all
-  pub last_behind : {tag : CoreTag} {a m b : LockSight E X} {ds : List (Doing E)} (es : List (Doing E)) (d : Doing E) → Worked lock tag a m ds → IsDoing lock m b d → IsLastDoing es d → IsLastDoing (ds ++ es) d
+  pub last_behind : {tag : CoreTag} {a m b : LockSight E X} {ds : List (Doing E)} (es : List (Doing E)) (d : Doing E) → Worked lock tag a m ds → IsDoing lock m b d
+      → IsLastDoing es d → IsLastDoing (ds ++ es) d
   last_behind {tag} {a} {m} {b} {ds} es d x is last =
       each_append (λ e. length e.held ≤ length d.held) ds es
       (each_weaker (IsDoing lock a m) (λ e. length e.held ≤ length d.held)

@@ -22,13 +22,15 @@ use Rattle.hay_meeting.specs.declared.act.VolumeAct.{VolumeAct}
 use Rattle.hay_meeting.specs.Acts.{Happened, Start, row_lock, volume_lock}
 use Rattle.hay_meeting.specs.Facts.{FoundRefusal}
 use Rattle.hay_meeting.specs.Locks.{Doing, Held, IsDoing, past}
-use Rattle.hay_meeting.specs.Replies.{FoundRefusals, HomeRefusesHere, LeftPendingHere, MayAddRowHere, PutDidHere, PutFailedHere, PutRefusedHere, PutRowFailedHere, PutStoredHere, PutWantingHere, RowPendsHere}
+use Rattle.hay_meeting.specs.Replies.{FoundRefusals, HomeRefusesHere, LeftPendingHere, MayAddRowHere, PutDidHere, PutFailedHere, PutRefusedHere, PutRowFailedHere, PutStoredHere}
+use Rattle.hay_meeting.specs.Replies.{PutWantingHere, RowPendsHere}
 use Rattle.hay_meeting.specs.Sights.{Bears, Cut, Doings, Sight, Work, rows_stood}
 use Rattle.hay_meeting.proofs.Courses.{at_row_doing, c, doing_held, doing_past, held_in, held_low, own_rows_are, past_at, rows_behind_held}
 use Rattle.hay_meeting.proofs.Picking.{each_map}
 use Rattle.hay_meeting.proofs.Seeing.{failed_in, found_rows, home_seen, no_rows, no_steps, one_held, one_is, one_row_step, one_step, only_on, refusal_is, refusal_seen, row_is, taker_seen, volume_held}
 
-module _ {settings : Settings} {start : Start} {drained : List Bool} {k : Known} {cut : Cut} {h : Happened} {item : LaneItem} {a b : Sight} {doings : Doings} (bears : Bears settings start drained k cut h item a b) (work : Work item a b doings) where
+module _ {settings : Settings} {start : Start} {drained : List Bool} {k : Known} {cut : Cut} {h : Happened} {item : LaneItem} {a b : Sight} {doings : Doings}
+    (bears : Bears settings start drained k cut h item a b) (work : Work item a b doings) where
   abbrev line : Course
   line = c bears work
 
@@ -49,8 +51,11 @@ module _ {settings : Settings} {start : Start} {drained : List Bool} {k : Known}
   }
 
   refusals : (pair : Pair) (size : ℕ) (refused : List Refused) → FoundRefusals settings start drained item a b doings pair size refused → SeesRefusals line pair size refused
-  refusals pair size refused ((d, home), each) =
-      ((d, home_seen bears work home), zip_weaker (FoundRefusal settings start drained a b size) (SeesRefusal line size) (all_tries settings pair) refused (λ v r among found. refusal_seen bears work found) each)
+  refusals pair size refused ((d, home), each) = (
+    (d, home_seen bears work home),
+    zip_weaker (FoundRefusal settings start drained a b size) (SeesRefusal line size) (all_tries settings pair) refused
+        (λ v r among found. refusal_seen bears work found) each,
+  )
 
   home_refuses : (pair : Pair) (size : ℕ) (refused : List Refused) → HomeRefusesHere settings start drained item a b doings pair size refused → HomeRefuses line pair size refused
   home_refuses pair size [] x = absurd x
@@ -93,7 +98,8 @@ module _ {settings : Settings} {start : Start} {drained : List Bool} {k : Known}
       rows_behind_held bears work doing.held (held_low row_lock at later doing.held is.from) (held_in row_lock at later doing.held (doing_held row_lock at later doing is)) in
       let after : rows_standing line (place + 1) ≡ rows_stood start (past doing) =
       ap (rows_standing line) (sym (past_at row_lock at later doing is))
-      ∙ rows_behind_held bears work (past doing) (held_low row_lock at later (past doing) (doing_past row_lock at later doing is).from) (held_in row_lock at later (past doing) (doing_past row_lock at later doing is)) in record {
+      ∙ rows_behind_held bears work (past doing) (held_low row_lock at later (past doing) (doing_past row_lock at later doing is).from)
+      (held_in row_lock at later (past doing) (doing_past row_lock at later doing is)) in record {
         nothing = no_steps bears work x.nothing;
         pends = row_pends x.pends;
         rose = subst (λ (s : RowsStanding). Rose s.faults (rows_standing line (place + 1)).faults) (sym before)

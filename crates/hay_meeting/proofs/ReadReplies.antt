@@ -26,7 +26,8 @@ use Rattle.hay_meeting.specs.Sights.{Bears, Cut, Doings, Sight, Work}
 use Rattle.hay_meeting.proofs.Courses.{c}
 use Rattle.hay_meeting.proofs.Seeing.{among_own, doing_among, did_nothing, each_own, front_seen, home_seen, no_rows, no_steps, only_on, rose_in}
 
-module _ {settings : Settings} {start : Start} {drained : List Bool} {k : Known} {cut : Cut} {h : Happened} {item : LaneItem} {a b : Sight} {doings : Doings} (bears : Bears settings start drained k cut h item a b) (work : Work item a b doings) where
+module _ {settings : Settings} {start : Start} {drained : List Bool} {k : Known} {cut : Cut} {h : Happened} {item : LaneItem} {a b : Sight} {doings : Doings}
+    (bears : Bears settings start drained k cut h item a b) (work : Work item a b doings) where
   abbrev line : Course
   line = c bears work
 
@@ -72,7 +73,9 @@ module _ {settings : Settings} {start : Start} {drained : List Bool} {k : Known}
         moment = then.moment;
         seen = then.seen;
         front = then.front;
-        each = zip_weaker (λ j passed. (passed.machine ≡ machine_of settings v j) × PassedForHere settings start drained item a b doings v j passed.cause) (λ j passed. (passed.machine ≡ machine_of settings v j) × PassedFor line v j passed.cause)
+        each =
+            zip_weaker (λ j passed. (passed.machine ≡ machine_of settings v j) × PassedForHere settings start drained item a b doings v j passed.cause)
+            (λ j passed. (passed.machine ≡ machine_of settings v j) × PassedFor line v j passed.cause)
             (order_from settings first) causes (λ j passed among is. (is.0, passed_for v j passed.cause x.below is.1)) x.each;
         arms = x.arms;
         looks = only_looks v x.looks;

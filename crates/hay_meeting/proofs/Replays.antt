@@ -74,7 +74,8 @@ module _ {S E X T : Type 0} (lock : Lock S E X T) where
       none : (s : Option X) → shown_of acts s (place_by (place_of lock acts) s 0) ≡ []
       none None = refl
       none (Some x) = refl
-  entries_place (act ∷ acts) (suc p) le = shown_is act acts (place_by (place_of lock acts) (lock.shows act) (suc p)) ∙ elim (lock.shows act) as (λ (s : Option X). suc p ≤ length (add_shown s (entries lock acts))
+  entries_place (act ∷ acts) (suc p) le =
+      shown_is act acts (place_by (place_of lock acts) (lock.shows act) (suc p)) ∙ elim (lock.shows act) as (λ (s : Option X). suc p ≤ length (add_shown s (entries lock acts))
       → shown_of acts s (place_by (place_of lock acts) s (suc p)) ≡ take (suc p) (add_shown s (entries lock acts))) [
         | None ↦ λ few. entries_place acts (suc p) few
         | Some x ↦ λ few. ap (λ z. x ∷ z) (entries_place acts p (omega (arith, few)))

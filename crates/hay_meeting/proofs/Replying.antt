@@ -26,7 +26,8 @@ use Rattle.hay_meeting.proofs.ReadReplies.{get_did, show_did, url_did}
 use Rattle.hay_meeting.proofs.RunReplies.{begin_did, compact_did, finish_did, flush_did, only_did, step_did}
 use Rattle.hay_meeting.proofs.Seeing.{did_nothing, no_steps, one_row_step}
 
-module _ {settings : Settings} {start : Start} {drained : List Bool} {k : Known} {cut : Cut} {h : Happened} {item : LaneItem} {a b : Sight} {doings : Doings} (bears : Bears settings start drained k cut h item a b) (work : Work item a b doings) where
+module _ {settings : Settings} {start : Start} {drained : List Bool} {k : Known} {cut : Cut} {h : Happened} {item : LaneItem} {a b : Sight} {doings : Doings}
+    (bears : Bears settings start drained k cut h item a b) (work : Work item a b doings) where
   abbrev line : Course
   line = c bears work
 
@@ -79,7 +80,8 @@ module _ {settings : Settings} {start : Start} {drained : List Bool} {k : Known}
   line_did (asks.Command asked) reply x = command_did asked reply x
   line_did asks.Bad reply (bad, none) = (bad, did_nothing bears work none)
 
-pub is_legal_line : {settings : Settings} {start : Start} {drained : List Bool} {item : LaneItem} {a b : Sight} {doings : Doings} → Work item a b doings → DidHere settings start drained item a b doings item.item item.reply
+pub is_legal_line : {settings : Settings} {start : Start} {drained : List Bool} {item : LaneItem} {a b : Sight} {doings : Doings} → Work item a b doings
+    → DidHere settings start drained item a b doings item.item item.reply
     → IsLegalLine settings start drained a b item
 is_legal_line {item} work did k cut h bears = answered bears work (line_did bears work item.item item.reply did)
 

@@ -13,20 +13,25 @@ use Rattle.hay_legal.specs.Known.{now, replica_at}
 use Rattle.hay_history.specs.Steps.{Did}
 use Rattle.hay_history.specs.Steps.Did.{Examines}
 use Rattle.hay_history.specs.Histories.{Course, IsMoment, volume_then}
-use Rattle.hay_history.specs.Commands.{BeginDid, BeginFailed, CompactDid, CompactFailed, CompactRefused, CompactWanting, FinishDid, FinishFailed, FlushDid, FlushDone, FlushFailed, IsFrozen, IsLast, IsStuck, IsTightAlone, MetBusy, MetIdle, MetWorn, OnlyDid, Ran, RanAs, RanFrozen, RanUntil, RoseIn, StepDid, WentOn}
+use Rattle.hay_history.specs.Commands.{BeginDid, BeginFailed, CompactDid, CompactFailed, CompactRefused, CompactWanting, FinishDid, FinishFailed, FlushDid, FlushDone, FlushFailed}
+use Rattle.hay_history.specs.Commands.{IsFrozen, IsLast, IsStuck, IsTightAlone, MetBusy, MetIdle, MetWorn, OnlyDid, Ran, RanAs, RanFrozen, RanUntil, RoseIn, StepDid, WentOn}
 use Rattle.hay_history.proofs.Lists.{each_weaker}
 use Rattle.hay_meeting.specs.declared.act.VolumeAct.{VolumeAct}
 use Rattle.hay_meeting.specs.Acts.{Happened, Start, volume_lock}
 use Rattle.hay_meeting.specs.Facts.{volume_stood}
 use Rattle.hay_meeting.specs.Locks.{Doing, Held, IsDoing, past}
-use Rattle.hay_meeting.specs.Replies.{BeginDidHere, BeginFailedHere, CompactDidHere, CompactFailedHere, CompactRefusedHere, CompactWantingHere, FailedLast, FinishDidHere, FinishFailedHere, FlushDidHere, FlushDoneHere, FlushFailedHere, IsFrozenHere, IsStuckHere, IsTightHere, MetBusyHere, MetIdleHere, MetWornHere, OnlyDidHere, RanAsHere, RanFrozenHere, RanHere, RanUntilHere, StepDidHere, WentOnHere}
+use Rattle.hay_meeting.specs.Replies.{BeginDidHere, BeginFailedHere, CompactDidHere, CompactFailedHere, CompactRefusedHere, CompactWantingHere, FailedLast, FinishDidHere}
+use Rattle.hay_meeting.specs.Replies.{FinishFailedHere, FlushDidHere, FlushDoneHere, FlushFailedHere, IsFrozenHere, IsStuckHere, IsTightHere, MetBusyHere, MetIdleHere}
+use Rattle.hay_meeting.specs.Replies.{MetWornHere, OnlyDidHere, RanAsHere, RanFrozenHere, RanHere, RanUntilHere, StepDidHere, WentOnHere}
 use Rattle.hay_meeting.specs.Sights.{Bears, Cut, Doings, Sight, Work}
 use Rattle.hay_meeting.proofs.Courses.{at_doing, c, changes_are, doing_held, doing_past, held_low, past_at}
 use Rattle.hay_meeting.proofs.Picking.{each_map}
 use Rattle.hay_meeting.proofs.Replays.{prefix_length}
-use Rattle.hay_meeting.proofs.Seeing.{among_own, doing_among, doing_of, did_nothing, had_run, has_run, is_last, moment_held, no_rows, nothing_on, one_held, one_is, one_step, only_on, place_at, rose_in, volume_held}
+use Rattle.hay_meeting.proofs.Seeing.{among_own, doing_among, doing_of, did_nothing, had_run, has_run, is_last, moment_held, no_rows, nothing_on, one_held, one_is, one_step}
+use Rattle.hay_meeting.proofs.Seeing.{only_on, place_at, rose_in, volume_held}
 
-module _ {settings : Settings} {start : Start} {drained : List Bool} {k : Known} {cut : Cut} {h : Happened} {item : LaneItem} {a b : Sight} {doings : Doings} (bears : Bears settings start drained k cut h item a b) (work : Work item a b doings) where
+module _ {settings : Settings} {start : Start} {drained : List Bool} {k : Known} {cut : Cut} {h : Happened} {item : LaneItem} {a b : Sight} {doings : Doings}
+    (bears : Bears settings start drained k cut h item a b) (work : Work item a b doings) where
   abbrev line : Course
   line = c bears work
 
@@ -50,8 +55,14 @@ module _ {settings : Settings} {start : Start} {drained : List Bool} {k : Known}
   is_frozen : (v : ℕ) (by : List ClosedBy) → IsFrozenHere settings start drained item a b doings v by → IsFrozen line v by
   is_frozen v [] x = absurd x
   is_frozen v (by ∷ []) (at, found) =
-      let held : List VolumeAct = found.held in
-      (at, record { moment = place_at bears work v held; seen = moment_held bears work v held found.between; is = ap (λ (z : VolumeKnown). z.frozen) (volume_held bears work v held found.below found.between) ∙ found.is })
+      let held : List VolumeAct = found.held in (
+        at,
+        record {
+          moment = place_at bears work v held;
+          seen = moment_held bears work v held found.between;
+          is = ap (λ (z : VolumeKnown). z.frozen) (volume_held bears work v held found.below found.between) ∙ found.is;
+        },
+      )
   is_frozen v (by ∷ other ∷ more) x = absurd x
 
   -- FLUSHES
@@ -118,7 +129,8 @@ module _ {settings : Settings} {start : Start} {drained : List Bool} {k : Known}
         until = place_at bears work v until.held;
         behind_it = omega (arith, low, behind);
         inside = each_map (at_doing bears work v) (λ at. at.0 < place_at bears work v until.held) x.middle
-            (each_weaker (λ d. length d.held < length until.held) (λ d. place_at bears work v d.held < place_at bears work v until.held) (λ d less. omega (arith, low, behind, less)) x.middle x.inside);
+            (each_weaker (λ d. length d.held < length until.held) (λ d. place_at bears work v d.held < place_at bears work v until.held)
+            (λ d less. omega (arith, low, behind, less)) x.middle x.inside);
         seen = subst (IsMoment line v) (past_at volume_lock (bears.volumes v) (work.volumes v).later until is) (moment_held bears work v (past until) (past_of v until is));
         own = has_run bears work until.held x.below (held_of v until is) (x.ran).own;
         none = ap (λ (z : VolumeKnown). (replica_at z j).run) (after_is v until x.below is) ∙ (x.ran).none;
@@ -153,7 +165,13 @@ module _ {settings : Settings} {start : Start} {drained : List Bool} {k : Known}
       let stood = before_is v try.one x.below is in record {
         rows = no_rows bears work x.rows;
         elsewhere = only_on bears work x.elsewhere;
-        step = record { place = place_at bears work v (try.one).held; step = (at_doing bears work v try.one).1; among = among_own bears work v try.one try.among; none = nothing_on bears work v try.none; is = try.is };
+        step = record {
+          place = place_at bears work v (try.one).held;
+          step = (at_doing bears work v try.one).1;
+          among = among_own bears work v try.one try.among;
+          none = nothing_on bears work v try.none;
+          is = try.is;
+        };
         thawed = ap (λ (z : VolumeKnown). z.frozen) stood ∙ x.thawed;
         at_rest = ap (λ (z : VolumeKnown). (replica_at z j).run) stood ∙ x.at_rest;
         number = subst (λ (z : VolumeKnown). (replica_at z j).generation < 65535) (sym stood) x.number;

@@ -64,7 +64,8 @@ module _ (settings : Settings) (v : ℕ) (x : VolumeAct) (s : Standing) (j : ℕ
   how (act.Entered (entry.Del pair) ended) is (thawed, (which, rose, same)) none =
       let after : replica_at (left_by x s).volume j ≡ replica_at (after_of (act.Entered (entry.Del pair) ended)) j = ap (λ (d : VolumeDid). replica_at (after_of d) j) is in
       elim (ended_at which (s.volume).replicas j) [
-        | inl as_it_was ↦ absurd (none-some run (sym none ∙ (ap (λ (r : ReplicaKnown). r.run) (sym after) ∙ (ap (λ (z : VolumeKnown). (replica_at z j).run) same ∙ (ap (λ (r : ReplicaKnown). r.run) as_it_was ∙ stands)))))
+        | inl as_it_was ↦ absurd (none-some run (sym none ∙ (ap (λ (r : ReplicaKnown). r.run) (sym after)
+            ∙ (ap (λ (z : VolumeKnown). (replica_at z j).run) same ∙ (ap (λ (r : ReplicaKnown). r.run) as_it_was ∙ stands)))))
         | inr by ↦ ByDelete pair (ap did_of is) (rose j by.0) (ap (λ (z : VolumeKnown). z.frozen) same ∙ thawed)
       ]
   how (act.Pends m change failed) is leads none = ByFreeze m (ap (λ (d : VolumeDid). (after_of d).frozen) is)
@@ -151,9 +152,11 @@ found_ended {settings} {start} {drained} {a} {b} {v} {j} {tag} held more follows
       ran = record {
         between = record {
           from = prefix_trans (a.volumes v).seen held (held ++ e.held) first.from (e.held, refl);
-          shown_from = prefix_trans (a.volumes v).shown (entries volume_lock held) (entries volume_lock (held ++ e.held)) first.shown_from (entries_prefix volume_lock held (held ++ e.held) (e.held, refl));
+          shown_from =
+              prefix_trans (a.volumes v).shown (entries volume_lock held) (entries volume_lock (held ++ e.held)) first.shown_from (entries_prefix volume_lock held (held ++ e.held) (e.held, refl));
           to = prefix_trans (past until) (held ++ more) (b.volumes v).seen within last.to;
-          shown_to = prefix_trans (entries volume_lock (past until)) (entries volume_lock (held ++ more)) (b.volumes v).shown (entries_prefix volume_lock (past until) (held ++ more) within) last.shown_to;
+          shown_to =
+              prefix_trans (entries volume_lock (past until)) (entries volume_lock (held ++ more)) (b.volumes v).shown (entries_prefix volume_lock (past until) (held ++ more) within) last.shown_to;
         };
         own = record {
           run = e.run;

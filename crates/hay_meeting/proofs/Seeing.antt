@@ -16,22 +16,26 @@ use Rattle.hay_legal.specs.declared.known.VolumeKnown.{VolumeKnown}
 use Rattle.hay_legal.specs.declared.turn.LaneItem.{LaneItem}
 use Rattle.hay_legal.specs.Known.{all_tries, closed_by, drained_of, home_in, now, refusal_by, replica_at, room_refusal_of}
 use Rattle.hay_history.specs.Steps.{Did, Follows, RowDid, RowsStanding, Step}
-use Rattle.hay_history.specs.Histories.{Course, HasRunOf, IsMoment, IsRowMoment, NoRows, NoSteps, OneRowStep, OneStep, OnlyOn, SeesHome, SeesRefusal, SeesTaker, begun_by, changes, changes_it, changes_rows, closing_then, first_of, own, refusal_then, rows_standing, standing, volume_then}
+use Rattle.hay_history.specs.Histories.{Course, HasRunOf, IsMoment, IsRowMoment, NoRows, NoSteps, OneRowStep, OneStep, OnlyOn, SeesHome, SeesRefusal, SeesTaker, begun_by, changes}
+use Rattle.hay_history.specs.Histories.{changes_it, changes_rows, closing_then, first_of, own, refusal_then, rows_standing, standing, volume_then}
 use Rattle.hay_history.specs.Commands.{FailedIn, IsLast, RoseIn}
 use Rattle.hay_turn.proofs.Prefixes.{prefix_trans}
 use Rattle.hay_history.proofs.Lists.{each_in, each_kept, each_weaker}
 use Rattle.hay_meeting.specs.declared.act.DirAct.{DirAct}
 use Rattle.hay_meeting.specs.declared.act.VolumeAct.{VolumeAct}
 use Rattle.hay_meeting.specs.Acts.{Happened, Start, begun_of, did_of, nobody, row_did_of, row_lock, volume_lock}
-use Rattle.hay_meeting.specs.Facts.{FailedAt, FoundRefusal, FoundRows, FoundTaker, HasRunAt, IsLastDoing, NoNewRows, NothingDone, NothingOn, OneDoing, OneRowDoing, OnlyAt, RoseAt, SawFront, SawHome, changed, closing_at, drained_in, refusal_at, rows_shown, table_shown, volume_stood}
+use Rattle.hay_meeting.specs.Facts.{FailedAt, FoundRefusal, FoundRows, FoundTaker, HasRunAt, IsLastDoing, NoNewRows, NothingDone, NothingOn, OneDoing, OneRowDoing, OnlyAt, RoseAt}
+use Rattle.hay_meeting.specs.Facts.{SawFront, SawHome, changed, closing_at, drained_in, refusal_at, rows_shown, table_shown, volume_stood}
 use Rattle.hay_meeting.specs.Locks.{Doing, Held, IsDoing, LockSight, entries, moment_of, past, replayed}
 use Rattle.hay_meeting.specs.Sights.{Agrees, Bears, Cut, Doings, Sight, Work, stood}
-use Rattle.hay_meeting.proofs.Courses.{at_doing, at_row_doing, c, changes_are, doing_held, doing_past, held_from, held_in, held_low, held_to, own_are, past_at, past_cut, row_changes_are, rows_at, rows_behind_held, sight_from, sight_to, standing_at, standing_behind, take_cut}
+use Rattle.hay_meeting.proofs.Courses.{at_doing, at_row_doing, c, changes_are, doing_held, doing_past, held_from, held_in, held_low, held_to, own_are, past_at, past_cut}
+use Rattle.hay_meeting.proofs.Courses.{row_changes_are, rows_at, rows_behind_held, sight_from, sight_to, standing_at, standing_behind, take_cut}
 use Rattle.hay_meeting.proofs.Picking.{each_map, in_map}
 use Rattle.hay_meeting.proofs.Replays.{prefix_take, shown_then}
 use Rattle.hay_meeting.proofs.Standings.{begun_append, begun_replayed, follows_first, front_behind, rows_behind_acts, table_behind}
 
-module _ {settings : Settings} {start : Start} {drained : List Bool} {k : Known} {cut : Cut} {h : Happened} {item : LaneItem} {a b : Sight} {doings : Doings} (bears : Bears settings start drained k cut h item a b) (work : Work item a b doings) where
+module _ {settings : Settings} {start : Start} {drained : List Bool} {k : Known} {cut : Cut} {h : Happened} {item : LaneItem} {a b : Sight} {doings : Doings}
+    (bears : Bears settings start drained k cut h item a b) (work : Work item a b doings) where
   abbrev line : Course
   line = c bears work
 
@@ -70,7 +74,8 @@ module _ {settings : Settings} {start : Start} {drained : List Bool} {k : Known}
 
   pub agrees_held : (v : ℕ) (held : List VolumeAct) → v < settings.volumes → Held volume_lock (a.volumes v) (b.volumes v) held
       → Agrees settings.replicas (standing line v (length held - cut.volumes v)) (stood start v held)
-  agrees_held v held below x = standing_behind bears work v held below (held_low volume_lock (bears.volumes v) (work.volumes v).later held x.from) (held_in volume_lock (bears.volumes v) (work.volumes v).later held x)
+  agrees_held v held below x =
+      standing_behind bears work v held below (held_low volume_lock (bears.volumes v) (work.volumes v).later held x.from) (held_in volume_lock (bears.volumes v) (work.volumes v).later held x)
 
   pub volume_held : (v : ℕ) (held : List VolumeAct) → v < settings.volumes → Held volume_lock (a.volumes v) (b.volumes v) held
       → volume_then line v (length held - cut.volumes v) ≡ volume_stood start v held
@@ -98,14 +103,17 @@ module _ {settings : Settings} {start : Start} {drained : List Bool} {k : Known}
       (subst (λ z. Follows settings v (start.volumes v) (replayed volume_lock (start.volumes v) z)) (sym (take-append-drop m (h.volumes v))) ((bears.sound).follows v below)) in record {
         moment = m - cut.volumes v;
         seen = (sight_from volume_lock at later s saw.from, sight_to volume_lock at later s saw.to);
-        front = saw.front ∙ (ap (λ z. length ((start.volumes v).volume).log + length z) (sym there) ∙ (sym (front_behind settings v (start.volumes v) acts follows) ∙ ap (λ (x : VolumeKnown). length x.log) (sym is)));
+        front =
+            saw.front ∙ (ap (λ z. length ((start.volumes v).volume).log + length z) (sym there)
+            ∙ (sym (front_behind settings v (start.volumes v) acts follows) ∙ ap (λ (x : VolumeKnown). length x.log) (sym is)));
         tables = λ j. ap (λ (x : VolumeKnown). now x (replica_at x j)) is ∙ (table_behind settings v (start.volumes v) acts j follows ∙ ap (table_shown start v j) there);
       }
 
   pub closing_is : (v : ℕ) (held : List VolumeAct) → v < settings.volumes → Held volume_lock (a.volumes v) (b.volumes v) held
       → closing_then line v (length held - cut.volumes v) ≡ closing_at settings start drained a b v held
   closing_is v held below x =
-      ap (λ (z : VolumeKnown). closed_by z.frozen (drained_of settings k v)) (volume_held v held below x) ∙ ap (λ z. closed_by (volume_stood start v held).frozen (drained_in settings z v)) bears.drains
+      ap (λ (z : VolumeKnown). closed_by z.frozen (drained_of settings k v)) (volume_held v held below x)
+      ∙ ap (λ z. closed_by (volume_stood start v held).frozen (drained_in settings z v)) bears.drains
 
   pub refusal_is : (v : ℕ) (held : List VolumeAct) (size : ℕ) → v < settings.volumes → Held volume_lock (a.volumes v) (b.volumes v) held
       → refusal_then line v (length held - cut.volumes v) size ≡ refusal_at settings start drained a b v held size

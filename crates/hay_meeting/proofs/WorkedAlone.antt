@@ -114,8 +114,12 @@ store_first = store_opens six before (is_of-fresh six) (record {
   machines = lit≤ tt;
   slots = refl;
   ends = each_replica (λ v j. 64 ≤ (replica_at (volume_at before v) j).end) (lit≤ tt) (lit≤ tt) (lit≤ tt) (lit≤ tt);
-  numbers = each_replica (λ v j. (run : Run) → (replica_at (volume_at before v) j).run ≡ Some run → (replica_at (volume_at before v) j).generation < 65535) (λ run there. lit< tt) (λ run there. lit< tt) (λ run there. lit< tt) (λ run there. lit< tt);
-  runs = each_replica (λ v j. (run : Run) → (replica_at (volume_at before v) j).run ≡ Some run → run.goal ≡ (replica_at (volume_at before v) j).generation + 1) (λ run there. cc) (λ run there. cc) (λ run there. cc) (λ run there. cc);
+  numbers =
+      each_replica (λ v j. (run : Run) → (replica_at (volume_at before v) j).run ≡ Some run → (replica_at (volume_at before v) j).generation < 65535) (λ run there. lit< tt)
+      (λ run there. lit< tt) (λ run there. lit< tt) (λ run there. lit< tt);
+  runs =
+      each_replica (λ v j. (run : Run) → (replica_at (volume_at before v) j).run ≡ Some run → run.goal ≡ (replica_at (volume_at before v) j).generation + 1) (λ run there. cc)
+      (λ run there. cc) (λ run there. cc) (λ run there. cc);
 }) refl
   where
     -- of two volumes with two replicas each
@@ -139,7 +143,8 @@ drain_lines = record {
     low = (lit< tt, tt);
     each = each_lane drain (record { item = drain; before = at_first; after = behind_drain }) refl refl;
     chain = λ lane a b at_a at_b.
-        of_one_lane at_first (λ lane a. slice_get (behind_drain ∷ []) lane ≡ Some b → IsChain six start before.drained lane a (on_first (record { item = drain; before = at_first; after = behind_drain } ∷ []) lane) b)
+        of_one_lane at_first (λ lane a. slice_get (behind_drain ∷ []) lane ≡ Some b → IsChain six start before.drained lane a
+        (on_first (record { item = drain; before = at_first; after = behind_drain } ∷ []) lane) b)
         (λ at. (refl, refl, goes_on _ (record { doings = drain_doings; work = drain_work; did = drain_did }), sym (cc at))) lane a at_a at_b;
   };
   distinct = (tt, tt);
@@ -204,7 +209,8 @@ put_lines = record {
     low = (lit< tt, tt);
     each = each_lane put (record { item = put; before = behind_drain; after = behind_drain }) refl refl;
     chain = λ lane a b at_a at_b.
-        of_one_lane behind_drain (λ lane a. slice_get (behind_drain ∷ []) lane ≡ Some b → IsChain six start drained.drained lane a (on_first (record { item = put; before = behind_drain; after = behind_drain } ∷ []) lane) b)
+        of_one_lane behind_drain (λ lane a. slice_get (behind_drain ∷ []) lane ≡ Some b → IsChain six start drained.drained lane a
+        (on_first (record { item = put; before = behind_drain; after = behind_drain } ∷ []) lane) b)
         (λ at. (refl, refl, goes_on _ (record { doings = no_doings; work = put_work; did = put_did }), sym (cc at))) lane a at_a at_b;
   };
   distinct = (tt, tt);

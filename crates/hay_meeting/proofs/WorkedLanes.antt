@@ -371,7 +371,12 @@ chains lane a b at_a at_b =
     of_three at_first at_first at_first (λ lane a. slice_get lasts lane ≡ Some b → IsChain one start (false ∷ []) lane a (notes lane) b)
     (λ at. (refl, refl, goes_on _ (record { doings = _; work = work_of_put; did = put_b_did }), (refl, refl, goes_on _ (record { doings = _; work = work_of_read; did = read_a_did }), sym (cc at))))
     (λ at. (refl, refl, goes_on _ (record { doings = _; work = work_of_del; did = del_a_did }), sym (cc at)))
-    (λ at. (refl, refl, goes_on _ (record { doings = _; work = work_of_compact; did = compact_did }), (refl, refl, goes_on _ (record { doings = _; work = work_of_failed; did = put_c_did }), sym (cc at))))
+    (λ at. (
+      refl,
+      refl,
+      goes_on _ (record { doings = _; work = work_of_compact; did = compact_did }),
+      (refl, refl, goes_on _ (record { doings = _; work = work_of_failed; did = put_c_did }), sym (cc at)),
+    ))
     lane a at_a at_b
 
 each_lane : (lane : ℕ) → filter (λ (item : LaneItem). item.lane == lane) items ≡ items_of (notes lane)
@@ -494,7 +499,11 @@ lines = record {
   last = record {
     stands = record {
       volumes = of_first (λ v. Agrees 1 (first_of one behind v) (stood start v (h.volumes v)))
-          (record { volume = refl; faults = of_first (λ j. fault_count behind (slot_of one 0 j) ≡ (stood start 0 all).faults j) refl; fuses = of_first (λ j. fuse_count behind (slot_of one 0 j) ≡ (stood start 0 all).fuses j) refl });
+          (record {
+            volume = refl;
+            faults = of_first (λ j. fault_count behind (slot_of one 0 j) ≡ (stood start 0 all).faults j) refl;
+            fuses = of_first (λ j. fuse_count behind (slot_of one 0 j) ≡ (stood start 0 all).fuses j) refl;
+          });
       rows = refl;
     };
     count = refl;

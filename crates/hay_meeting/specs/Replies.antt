@@ -19,7 +19,9 @@ use Rattle.hay_reply.specs.declared.Cause.{Cause}
 use Rattle.hay_reply.specs.declared.Cause.TheVariants.{Arm, Disk, Damage}
 use Rattle.hay_reply.specs.declared.Passed.{Passed}
 use Rattle.hay_reply.specs.declared.Reply.{Reply}
-use Rattle.hay_reply.specs.declared.Reply.TheVariants.{Stored, Deleted, Photo, Gone, Absent, WrongCookie, Unknown, Moved, Url, Full, ReadOnly, ReadOnlyDir, Failed, FailedDir, Unreadable, Flushed, Begun, Stepped, Compacted, Busy, Idle, Worn, Drained, Undrained, Fused, FusedDir, Nowhere, BadLine, NoMem}
+use Rattle.hay_reply.specs.declared.Reply.TheVariants.{Stored, Deleted, Photo, Gone, Absent, WrongCookie, Unknown, Moved, Url, Full, ReadOnly, ReadOnlyDir, Failed, FailedDir}
+use Rattle.hay_reply.specs.declared.Reply.TheVariants.{Unreadable, Flushed, Begun, Stepped, Compacted, Busy, Idle, Worn, Drained, Undrained, Fused, FusedDir, Nowhere, BadLine}
+use Rattle.hay_reply.specs.declared.Reply.TheVariants.{NoMem}
 use Rattle.hay_core.specs.declared.entry.Entry.{Entry}
 use Rattle.hay_core.specs.declared.entry.Entry.TheVariants as entry
 use Rattle.hay_core.specs.declared.entry.CoreTag.{CoreTag}
@@ -36,7 +38,8 @@ use Rattle.hay_history.specs.Steps.Did.{Begins, Ends, Entered, Examines, Flushes
 use Rattle.hay_history.specs.Steps.RowDid.{AddsRow, Drains, FusesRow, PendsRow}
 use Rattle.hay_meeting.specs.declared.act.VolumeAct.{VolumeAct}
 use Rattle.hay_meeting.specs.Acts.{Start, did_of}
-use Rattle.hay_meeting.specs.Facts.{FailedAt, Found, FoundRefusal, FoundRows, FoundTaker, HasRunAt, IsLastDoing, NoNewRows, NothingDone, NothingOn, OneDoing, OneRowDoing, OneTryAt, OnlyAt, RanUntilAt, RoseAt, SawFront, SawHome, changed, closing_at, refusal_at, stood_at, table_shown, volume_stood}
+use Rattle.hay_meeting.specs.Facts.{FailedAt, Found, FoundRefusal, FoundRows, FoundTaker, HasRunAt, IsLastDoing, NoNewRows, NothingDone, NothingOn, OneDoing, OneRowDoing}
+use Rattle.hay_meeting.specs.Facts.{OneTryAt, OnlyAt, RanUntilAt, RoseAt, SawFront, SawHome, changed, closing_at, refusal_at, stood_at, table_shown, volume_stood}
 use Rattle.hay_meeting.specs.Locks.{Doing, past}
 use Rattle.hay_meeting.specs.Sights.{Doings, Sight, Work, rows_stood}
 
@@ -221,7 +224,8 @@ module _ (settings : Settings) (start : Start) (drained : List Bool) (item : Lan
 
   pub record DelAbsentHere (pair : Pair) (v p d : ℕ) : Type 0 where
     pub home : Home pair d (Some v)
-    pub found : Found settings start drained a b v (λ acts. (closing_at settings start drained a b v acts ≡ None) × (stood_at settings start drained a b v acts pair ≡ false) × (p ≡ length (volume_stood start v acts).log))
+    pub found : Found settings start drained a b v (λ acts. (closing_at settings start drained a b v acts ≡ None) × (stood_at settings start drained a b v acts pair ≡ false)
+        × (p ≡ length (volume_stood start v acts).log))
     pub none : Nothing
 
   abbrev pub HomeIsClosedHere : Pair → List ClosedBy → Type 0

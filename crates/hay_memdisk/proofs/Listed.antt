@@ -21,6 +21,7 @@ over_next (n ∷ ns) calls over =
     grind (arith, nat_tests, apart, rest)
 
 -- so the next call doesn't fail
-pub over_found : (listed held : List ℕ) (calls number : ℕ) (found : Bool) → number ≡ calls + 1 → held ≡ listed → found ≡ list_any (λ n. eqb n number) held → list_all (λ n. leb n calls) listed ≡ true → found ≡ false
+pub over_found : (listed held : List ℕ) (calls number : ℕ) (found : Bool) → number ≡ calls + 1 → held ≡ listed → found ≡ list_any (λ n. eqb n number) held
+    → list_all (λ n. leb n calls) listed ≡ true → found ≡ false
 over_found listed held calls number found next same is over =
     is ∙ ap (λ (m : ℕ). list_any (λ n. eqb n m) held) next ∙ ap (λ (l : List ℕ). list_any (λ n. eqb n (calls + 1)) l) same ∙ over_next listed calls over

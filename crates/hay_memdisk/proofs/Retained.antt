@@ -7,7 +7,9 @@ use Rattle.hay_memdisk.specs.declared.file.MemFile.{MemFile}
 use Rattle.hay_memdisk.specs.Mem.{file_at, drawn_at, Cycles, Settles}
 
 -- what each call does to a value, the whole does at each key
-pub each_value : {F K X : Type 0} (T : F → K → X → Bool → X → F → Type 0) (R : Option X → Option X → Type 0) (none : R None None) (calls : (g : F) (k : K) (v : X) (b : Bool) (w : X) (g' : F) → T g k v b w g' → (b ≡ true) × R (Some v) (Some w)) (f : F) (es kept : List (K × X)) → RetainsPairs T f es kept → (test : K → Bool) → R (lookup test es) (lookup test kept)
+pub each_value : {F K X : Type 0} (T : F → K → X → Bool → X → F → Type 0) (R : Option X → Option X → Type 0) (none : R None None)
+    (calls : (g : F) (k : K) (v : X) (b : Bool) (w : X) (g' : F) → T g k v b w g' → (b ≡ true) × R (Some v) (Some w)) (f : F) (es kept : List (K × X)) → RetainsPairs T f es kept
+    → (test : K → Bool) → R (lookup test es) (lookup test kept)
 each_value {F} {K} {X} T R none calls f [] kept retains test = subst (λ (l : List (K × X)). R None (lookup test l)) (sym retains) none
 each_value {F} {K} {X} T R none calls f (e ∷ es) kept (b, w, f', rest, called, retains, is) test =
     let met = calls f e.0 e.1 b w f' called in

@@ -18,7 +18,8 @@ no_value (Some None) none = inr refl
 no_value (Some (Some x)) none = let e : Some x ≡ None = none in cc
 
 -- what is seen of a slot without a value
-pub none_seen : {T A X : Type 0} (view : Option (Option T) → A) (is_out : A → Bool) (empty : A) (o : Option (Option T)) (r : Option X) → view None ≡ empty → is_out (view (Some None)) ≡ true → IfNone r (value_in o ≡ None) → IfNone r ((view o ≡ empty) ⊎ (is_out (view o) ≡ true))
+pub none_seen : {T A X : Type 0} (view : Option (Option T) → A) (is_out : A → Bool) (empty : A) (o : Option (Option T)) (r : Option X) → view None ≡ empty
+    → is_out (view (Some None)) ≡ true → IfNone r (value_in o ≡ None) → IfNone r ((view o ≡ empty) ⊎ (is_out (view o) ≡ true))
 none_seen view is_out empty o (Some x) nothing out is = tt
 none_seen view is_out empty o None nothing out is =
     elim (no_value o is) [

@@ -72,7 +72,8 @@ module _ {D : Type 0} (Tells : Type 0) (files : D → Files) (drawn : D → ℕ 
       → (slot : ℕ) → slot < slots → IsPutBack Tells (old slot) (new slot)
   disks_back slots disks old mid new in_place taken same given others slot below =
       elim (cases_lt slot (length disks)) [
-        | inl low ↦ InOrder-at (λ k disk. IsMountedDisk Tells files drawn faults fuses (old k) disk × IsGivenDisk Tells files drawn faults fuses (new k) disk) (λ k. IsPutBack Tells (old k) (new k)) 0 disks
+        | inl low ↦ InOrder-at (λ k disk. IsMountedDisk Tells files drawn faults fuses (old k) disk × IsGivenDisk Tells files drawn faults fuses (new k) disk)
+            (λ k. IsPutBack Tells (old k) (new k)) 0 disks
             (λ k disk both. back_at (old k) (new k) disk both.0 both.1) (InOrder-zip _ _ 0 disks taken given) slot (omega arith) (omega arith)
         | inr high ↦ not_taken (old slot) (new slot) (others slot high ∙ same slot high) (in_place slot below)
       ]

@@ -14,7 +14,8 @@ pub fn take_disks<H: Shelf>(
     slots: u32,
 ) -> Result<Vec<H::Disk>, MountFault>
     requires disks_in { AreIn slots (H.disks shelf.old) }
-    ensures disks { IfOk result (λ disks. InOrder (λ slot disk. IsMountedDisk H.Disk.Tells H.Disk.files H.Disk.drawn H.Disk.fault_count H.Disk.fuse_count (H.disks shelf.old slot) disk) 0 disks.items) }
+    ensures disks { IfOk result (λ disks. InOrder (λ slot disk. IsMountedDisk H.Disk.Tells H.Disk.files H.Disk.drawn H.Disk.fault_count H.Disk.fuse_count (H.disks shelf.old slot)
+        disk) 0 disks.items) }
     ensures count { IfOk result (λ disks. length disks.items ≡ slots) }
     ensures out { OnOk result (AreOut slots (H.disks shelf.new)) }
     ensures put_back { OnErr result ((slot : ℕ) → slot < slots → IsPutBack H.Disk.Tells (H.disks shelf.old slot) (H.disks shelf.new slot)) }

@@ -27,7 +27,8 @@ pub fn mount<H: Shelf>(
 ) -> Result<Mounted<H::Disk, H::Arm>, MountFault>
     requires disks_in { AreIn slots (H.disks shelf.old) }
     requires arms_in { AreArmsIn 8 (H.arms shelf.old) }
-    ensures disks { IfOk result (λ mounted. InOrder (λ slot disk. IsMountedDisk H.Disk.Tells H.Disk.files H.Disk.drawn H.Disk.fault_count H.Disk.fuse_count (H.disks shelf.old slot) disk) 0 mounted.disks.items) }
+    ensures disks { IfOk result (λ mounted. InOrder (λ slot disk. IsMountedDisk H.Disk.Tells H.Disk.files H.Disk.drawn H.Disk.fault_count H.Disk.fuse_count (H.disks shelf.old slot)
+        disk) 0 mounted.disks.items) }
     ensures arms { IfOk result (λ mounted. InOrder (λ lane arm. IsMountedArm H.Arm.fault_count H.Arm.is_sure (H.arms shelf.old lane) arm) 0 mounted.arms.items) }
     ensures disk_count { IfOk result (λ mounted. length mounted.disks.items ≡ slots) }
     ensures arm_count { IfOk result (λ mounted. length mounted.arms.items ≡ 8) }

@@ -13,9 +13,11 @@ use Rattle.hay_needle.specs.declared.needle.Outcome.{Outcome}
 use Rattle.hay_needle.specs.declared.needle.Outcome.TheVariants as outcome
 use Rattle.hay_needle.specs.declared.needle.Needle.{Needle}
 use Rattle.hay_needle.specs.Sizes.{needle_total}
-use Rattle.hay_needle.specs.Tables.{pair_cmp, pair_eq, Table, with_photo, with_outcome, needle_outcome, table_of, look_after, look, needle_row, rows_of, lacks, is_live, live_needles, flag_last, live_end}
+use Rattle.hay_needle.specs.Tables.{pair_cmp, pair_eq, Table, with_photo, with_outcome, needle_outcome, table_of, look_after, look, needle_row, rows_of, lacks, is_live}
+use Rattle.hay_needle.specs.Tables.{live_needles, flag_last, live_end}
 use Rattle.hay_needle.specs.Copies.{CopiesAt}
-use Rattle.hay_needle.proofs.TableLaws.{pair_same, pair_refl, pair_tied, pair_total, rows_append, lacks_look, has_look, flag_other, flag_same, drop_flag_other, drop_flag_same, drop_nothing, table_from, table_of-same}
+use Rattle.hay_needle.proofs.TableLaws.{pair_same, pair_refl, pair_tied, pair_total, rows_append, lacks_look, has_look, flag_other, flag_same, drop_flag_other, drop_flag_same}
+use Rattle.hay_needle.proofs.TableLaws.{drop_nothing, table_from, table_of-same}
 
 -- ONE NEEDLE
 
@@ -35,7 +37,8 @@ pass p c cs b t dead h =
       | inr f ↦ (ap (λ (x : Outcome). look_after (rows_of cs) p x) (sym (cond-false (pair_eq c.pair p) (needle_row c).outcome b f)) ∙ h.0, h.1)
       | inl e ↦
           let same : c.pair ≡ p = pair_same c.pair p e in
-          let first : look_after (rows_of cs) p (needle_row c).outcome ≡ t = ap (λ (x : Outcome). look_after (rows_of cs) p x) (sym (cond-true (pair_eq c.pair p) (needle_row c).outcome b e)) ∙ h.0 in (
+          let first : look_after (rows_of cs) p (needle_row c).outcome ≡ t =
+          ap (λ (x : Outcome). look_after (rows_of cs) p x) (sym (cond-true (pair_eq c.pair p) (needle_row c).outcome b e)) ∙ h.0 in (
             elim (cases_Bool (lacks p cs)) [
               | inr has ↦ has_look p cs b (needle_row c).outcome has ∙ first
               | inl none ↦
@@ -83,7 +86,8 @@ pub copies_from : (p : Pair) (fresh current : List Needle) (n : ℕ) → Follows
 copies_from p fresh current n h = record { table = rows_append fresh (drop n current) p outcome.Nothing ∙ h.0; gone = h.1 }
 
 -- the next needle is skipped
-pub copies_pass : (p : Pair) (fresh current : List Needle) (n : ℕ) (c : Needle) (behind : List Needle) → drop n current ≡ c ∷ behind → is_live c behind ≡ false → CopiesAt p fresh current n → CopiesAt p fresh current (n + 1)
+pub copies_pass : (p : Pair) (fresh current : List Needle) (n : ℕ) (c : Needle) (behind : List Needle) → drop n current ≡ c ∷ behind → is_live c behind ≡ false
+    → CopiesAt p fresh current n → CopiesAt p fresh current (n + 1)
 copies_pass p fresh current n c behind is dead h =
     let b : Outcome = look (rows_of fresh) p in
     let t : Outcome = look (rows_of current) p in
@@ -91,7 +95,8 @@ copies_pass p fresh current n c behind is dead h =
     copies_from p fresh current (n + 1) (subst F (left_behind n current c behind is) (pass p c behind b t dead (subst F is (follows p fresh current n h))))
 
 -- the next needle is copied
-pub copies_one : (p : Pair) (fresh current : List Needle) (n : ℕ) (c : Needle) (behind : List Needle) → drop n current ≡ c ∷ behind → is_live c behind ≡ true → CopiesAt p fresh current n → CopiesAt p (fresh ++ c ∷ []) current (n + 1)
+pub copies_one : (p : Pair) (fresh current : List Needle) (n : ℕ) (c : Needle) (behind : List Needle) → drop n current ≡ c ∷ behind → is_live c behind ≡ true
+    → CopiesAt p fresh current n → CopiesAt p (fresh ++ c ∷ []) current (n + 1)
 copies_one p fresh current n c behind is live h =
     let b : Outcome = look (rows_of fresh) p in
     let t : Outcome = look (rows_of current) p in
@@ -151,7 +156,8 @@ copies_repeat_other p q fresh current n ne h = record {
 }
 
 -- both files have nothing of the pair
-pub copies_nothing : (q : Pair) (fresh current : List Needle) (n : ℕ) → look (rows_of fresh) q ≡ outcome.Nothing → look (rows_of (drop n current)) q ≡ outcome.Nothing → look (rows_of current) q ≡ outcome.Nothing → CopiesAt q fresh current n
+pub copies_nothing : (q : Pair) (fresh current : List Needle) (n : ℕ) → look (rows_of fresh) q ≡ outcome.Nothing → look (rows_of (drop n current)) q ≡ outcome.Nothing
+    → look (rows_of current) q ≡ outcome.Nothing → CopiesAt q fresh current n
 copies_nothing q fresh current n a b c = record {
   table = rows_append fresh (drop n current) q outcome.Nothing ∙ ap (λ (o : Outcome). look_after (rows_of (drop n current)) q o) a ∙ b ∙ sym c;
   gone = λ nothing. a;
@@ -195,7 +201,8 @@ sum-put q photo [] none = refl
 sum-put q photo (e ∷ es) none =
     let new : Pair × Photo = (q, photo) in
     let first = sum_by-cons photo_total e es in
-    elim (pair_cmp q e.0) as (λ r. cond (is_eq r) (Some e.1) (find pair_cmp q es) ≡ None → sum_by photo_total (by_order r (new ∷ e ∷ es) ((e.0, photo) ∷ es) (e ∷ put pair_cmp q photo es)) ≡ sum_by photo_total (e ∷ es) + photo_total new) [
+    elim (pair_cmp q e.0) as (λ r. cond (is_eq r) (Some e.1) (find pair_cmp q es) ≡ None
+    → sum_by photo_total (by_order r (new ∷ e ∷ es) ((e.0, photo) ∷ es) (e ∷ put pair_cmp q photo es)) ≡ sum_by photo_total (e ∷ es) + photo_total new) [
       | Less ↦ λ none. let front = sum_by-cons photo_total new (e ∷ es) in omega (arith, front)
       | Equal ↦ λ none. absurd cc
       | Greater ↦ λ none. let later = sum_by-cons photo_total e (put pair_cmp q photo es) in let rest = sum-put q photo es none in omega (arith, first, later, rest)

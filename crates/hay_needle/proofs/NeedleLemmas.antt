@@ -46,7 +46,8 @@ footer_only n rest =
     let p : ℕ = needle_padding (length n.photo.bytes) in
     let sum_long : length (needle_sum n) ≡ 8 = length-needle_sum n in
     let footer : List ℕ = footer_bytes n ++ rest in
-    let split : footer ≡ big_bytes 4 footer_magic ++ (needle_sum n ++ (replicate p 0 ++ rest)) = ap (λ (x : List ℕ). big_bytes 4 footer_magic ++ x) (append_assoc (needle_sum n) (replicate p 0) rest) in
+    let split : footer ≡ big_bytes 4 footer_magic ++ (needle_sum n ++ (replicate p 0 ++ rest)) =
+    ap (λ (x : List ℕ). big_bytes 4 footer_magic ++ x) (append_assoc (needle_sum n) (replicate p 0) rest) in
     let sum_is : take 8 (drop 4 footer) ≡ needle_sum n = ap (λ (x : List ℕ). take 8 (drop 4 x)) split ∙ take_at (needle_sum n) (replicate p 0 ++ rest) 8 sum_long in
     let behind : drop 12 footer ≡ replicate p 0 ++ rest = ap (λ (x : List ℕ). drop 12 x) split ∙ drop_at (needle_sum n) (replicate p 0 ++ rest) 8 sum_long in
     let zeros : slice_range footer 12 (12 + p) ≡ replicate p 0 = ap (λ k. take k (drop 12 footer)) (omega arith) ∙ ap (take p) behind ∙ take_at (replicate p 0) rest p (length-replicate p 0) in

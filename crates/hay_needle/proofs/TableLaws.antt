@@ -14,7 +14,8 @@ use Rattle.hay_needle.specs.declared.needle.Outcome.TheVariants as outcome
 use Rattle.hay_needle.specs.declared.needle.Needle.{Needle}
 use Rattle.hay_needle.specs.declared.needle.Row.{Row}
 use Rattle.hay_needle.specs.Needle.{deleted_needle}
-use Rattle.hay_needle.specs.Tables.{pair_cmp, pair_eq, Table, outcome_by, outcome_at, with_photo, without_pair, with_outcome, needle_outcome, table_of, look_after, look, needle_row, rows_of, lacks, flag_last}
+use Rattle.hay_needle.specs.Tables.{pair_cmp, pair_eq, Table, outcome_by, outcome_at, with_photo, without_pair, with_outcome, needle_outcome, table_of, look_after, look}
+use Rattle.hay_needle.specs.Tables.{needle_row, rows_of, lacks, flag_last}
 
 -- PAIRS
 

@@ -1,5 +1,6 @@
 -- Cells that stand, and their records.
-use Rattle.std.proofs.Common.{◌≡◌, ℕ, zero, suc, ◌+◌, ◌*◌, ◌<◌, ◌≤◌, get_or, List, [], ◌∷◌, ◌++◌, length, map, take, drop, Some, refl, sym, ap, subst, ◌∙◌, arith, length-append, length-drop, length-take}
+use Rattle.std.proofs.Common.{◌≡◌, ℕ, zero, suc, ◌+◌, ◌*◌, ◌<◌, ◌≤◌, get_or, List, [], ◌∷◌, ◌++◌, length, map, take, drop, Some, refl, sym, ap, subst, ◌∙◌, arith, length-append}
+use Rattle.std.proofs.Common.{length-drop, length-take}
 use Rattle.std.specs.List.{slice_get, sum_by}
 use Rattle.std.proofs.lemmas.List.Sums.{sum_by-cons}
 use Rattle.hay_needle.specs.declared.needle.Cell.{Cell}
@@ -70,8 +71,11 @@ cells_row at bytes [] are = (tt, omega (arith, ap length are))
 cells_row at bytes (cell ∷ cells) are =
     let long : length are.0 ≡ needle_total (length cell.bytes) = length-needle are.0 (needle_of_cell cell) are.3.is in
     let rest = cells_row (at + length are.0) are.1 cells are.4 in
-    let there : at + length are.0 ≡ at + needle_total (length cell.bytes) = omega arith in
-    ((are.3.place, subst (λ n. AreInRow n (map cell_record cells)) there rest.0), ap (λ n. place_behind n (map cell_record cells)) (sym there) ∙ rest.1 ∙ omega (arith, ap length are.2, length-append are.0 are.1))
+    let there : at + length are.0 ≡ at + needle_total (length cell.bytes) = omega arith in (
+      (are.3.place, subst (λ n. AreInRow n (map cell_record cells)) there rest.0),
+      ap (λ n. place_behind n (map cell_record cells)) (sym there) ∙ rest.1
+          ∙ omega (arith, ap length are.2, length-append are.0 are.1),
+    )
 
 -- the records of cells are in the row, and it ends where they do
 pub has_row : (at end : ℕ) (file : List ℕ) (cells : List Cell) → HasCells at file cells end → AreInRow at (map cell_record cells)

@@ -4,7 +4,8 @@ use Rattle.std.proofs.lemmas.List.{take-take}
 use Rattle.hay_needle.specs.Needle.{Head, HeadBytes}
 use Rattle.hay_volume.proofs.ReadLaws.{front_seen}
 
-front_is : (at got : ℕ) (blank out file : List ℕ) → length blank ≡ 36 → got ≡ min (length blank) (length file - at) → out ≡ take got (drop at file) ++ drop got blank → take 36 (take got out) ≡ take 36 (drop at file)
+front_is : (at got : ℕ) (blank out file : List ℕ) → length blank ≡ 36 → got ≡ min (length blank) (length file - at) → out ≡ take got (drop at file) ++ drop got blank
+    → take 36 (take got out) ≡ take 36 (drop at file)
 front_is at got blank out file long count bytes =
     ap (λ (l : List ℕ). take 36 l) (front_seen at got blank out file long count bytes) ∙ take-take 36 36 (drop at file) (omega arith)
 

@@ -38,14 +38,21 @@ pub record SameRecords (sup : Super) (contents : ℕ → List ℕ) (generation :
   pub generation_is : s.generation ≡ generation
   pub records_are : recorded s ≡ records
 
-pub stored_same : (sup : Super) (contents : ℕ → List ℕ) (generation end : ℕ) (records : List Record) (s : Stored) → ((n : ℕ) → length (contents n) < 2 ^ 64) → IsRecorded sup contents generation records end → IsStored sup contents s → SameRecords sup contents generation records s
+pub stored_same : (sup : Super) (contents : ℕ → List ℕ) (generation end : ℕ) (records : List Record) (s : Stored) → ((n : ℕ) → length (contents n) < 2 ^ 64)
+    → IsRecorded sup contents generation records end → IsStored sup contents s → SameRecords sup contents generation records s
 stored_same sup contents generation end records s fits is stored =
     let g : s.generation ≡ generation = one_generation (super_bytes (head_super sup)) (contents 0) s.generation generation stored.head is.head in
-    let index : IsIndex (super_bytes (index_super sup generation)) (contents (index_file generation)) (recorded s) stored.index_end = subst (λ n. IsIndex (super_bytes (index_super sup n)) (contents (index_file n)) (recorded s) stored.index_end) g stored.index in
-    record { generation_is = g; records_are = (one_index (super_bytes (index_super sup generation)) (contents (index_file generation)) (recorded s) records stored.index_end end (fits (index_file generation)) index is.index).0 }
+    let index : IsIndex (super_bytes (index_super sup generation)) (contents (index_file generation)) (recorded s) stored.index_end =
+    subst (λ n. IsIndex (super_bytes (index_super sup n)) (contents (index_file n)) (recorded s) stored.index_end) g stored.index in
+    record {
+      generation_is = g;
+      records_are = (one_index (super_bytes (index_super sup generation)) (contents (index_file generation)) (recorded s) records stored.index_end end
+          (fits (index_file generation)) index is.index).0;
+    }
 
 -- its records fit their needles
-pub stored_fits : (sup : Super) (contents : ℕ → List ℕ) (generation number : ℕ) (records : List Record) (r : Record) (s : Stored) → IsStored sup contents s → SameRecords sup contents generation records s → slice_get records number ≡ Some r
+pub stored_fits : (sup : Super) (contents : ℕ → List ℕ) (generation number : ℕ) (records : List Record) (r : Record) (s : Stored) → IsStored sup contents s
+    → SameRecords sup contents generation records s → slice_get records number ≡ Some r
     → FitsNeedle r (contents (volume_file generation))
 stored_fits sup contents generation number records r s stored same there =
     let volume = contents (volume_file s.generation) in
@@ -66,16 +73,19 @@ stored_behind sup contents generation records s stored same =
 -- THE SCAN
 
 -- where cells end at a mark the scan began behind the last needle
-pub start_is : (start end : ℕ) (file : List ℕ) (records : List Record) (cells : List Cell) → length file < 2 ^ 64 → start ≡ scan_start records → HasCells start file cells end → IsClosed needle_magic end file → place_behind 64 records ≡ start
+pub start_is : (start end : ℕ) (file : List ℕ) (records : List Record) (cells : List Cell) → length file < 2 ^ 64 → start ≡ scan_start records → HasCells start file cells end
+    → IsClosed needle_magic end file → place_behind 64 records ≡ start
 start_is start end file records cells fits is has closed = omega (arith, has.ends, closed.room)
 
-pub scan_whole : (start end at : ℕ) (file : List ℕ) (records : List Record) (cells : List Cell) → length file < 2 ^ 64 → start ≡ scan_start records → HasCells (place_behind 64 records) file cells end → IsClosed needle_magic end file
+pub scan_whole : (start end at : ℕ) (file : List ℕ) (records : List Record) (cells : List Cell) → length file < 2 ^ 64 → start ≡ scan_start records
+    → HasCells (place_behind 64 records) file cells end → IsClosed needle_magic end file
     → IsDamagedCell start file at → ⊥
 scan_whole start end at file records cells fits is has closed damage =
     let same : place_behind 64 records ≡ start = omega (arith, has.ends, closed.room) in
     undamaged start end at file cells damage.cells (subst (λ n. HasCells n file cells end) same has) closed damage.lead damage.broken
 
-pub orphans_found : (start end : ℕ) (file : List ℕ) (records : List Record) (cells : List Cell) → length file < 2 ^ 64 → start ≡ scan_start records → LastFits records file → HasCells start file cells end → IsClosed needle_magic end file
+pub orphans_found : (start end : ℕ) (file : List ℕ) (records : List Record) (cells : List Cell) → length file < 2 ^ 64 → start ≡ scan_start records → LastFits records file
+    → HasCells start file cells end → IsClosed needle_magic end file
     → HasOrphans file records cells end
 orphans_found start end file records cells fits is last has closed =
     record { fits = last; has = subst (λ n. HasCells n file cells end) (sym (start_is start end file records cells fits is has closed)) has; closed = closed }
@@ -88,7 +98,8 @@ pub record IsOrphan (file : List ℕ) (rows : List Record) (k : ℕ) (head : Cel
   pub is : head ≡ cell_head cell
   pub row : slice_get rows k ≡ Some (head_record head)
 
-pub orphan_there : (from end recorded j : ℕ) (file : List ℕ) (orphans : List Cell) (rows : List Record) (heads items : List CellHead) (d : CellHead) → HasCells from file orphans end → items ≡ map cell_head orphans
+pub orphan_there : (from end recorded j : ℕ) (file : List ℕ) (orphans : List Cell) (rows : List Record) (heads items : List CellHead) (d : CellHead)
+    → HasCells from file orphans end → items ≡ map cell_head orphans
     → drop recorded rows ≡ map cell_record orphans → heads ≡ items → j < length heads → IsOrphan file rows (recorded + j) (get_or heads j d)
 orphan_there from end recorded j file orphans rows heads items d has are behind same below =
     let head = get_or heads j d in
@@ -110,7 +121,8 @@ pub record IsCellOf (volume : List ℕ) (whole : List Cell) (k : ℕ) (head : Ce
   pub is : head ≡ cell_head cell
   pub stands : StandsCell head.at volume cell
 
-pub orphan_at : (from end j : ℕ) (file : List ℕ) (orphans : List Cell) (heads items : List CellHead) (d : CellHead) → HasCells from file orphans end → items ≡ map cell_head orphans → heads ≡ items → j < length heads
+pub orphan_at : (from end j : ℕ) (file : List ℕ) (orphans : List Cell) (heads items : List CellHead) (d : CellHead) → HasCells from file orphans end → items ≡ map cell_head orphans
+    → heads ≡ items → j < length heads
     → IsCellOf file orphans j (get_or heads j d)
 orphan_at from end j file orphans heads items d has are same below =
     let head = get_or heads j d in
@@ -123,7 +135,8 @@ orphan_at from end j file orphans heads items d has are same below =
       stands = subst (λ n. StandsCell n file at.0) (ap (λ (h : CellHead). h.at) (sym at.2)) (cell_numbered from end j file orphans at.0 has at.1);
     }
 
-pub orphan_whole : (end recorded j : ℕ) (file : List ℕ) (whole : List Cell) (heads items : List CellHead) (d : CellHead) → HasCells 64 file whole end → items ≡ map cell_head (drop recorded whole) → heads ≡ items → j < length heads
+pub orphan_whole : (end recorded j : ℕ) (file : List ℕ) (whole : List Cell) (heads items : List CellHead) (d : CellHead) → HasCells 64 file whole end
+    → items ≡ map cell_head (drop recorded whole) → heads ≡ items → j < length heads
     → IsCellOf file whole (recorded + j) (get_or heads j d)
 orphan_whole end recorded j file whole heads items d has are same below =
     let head = get_or heads j d in

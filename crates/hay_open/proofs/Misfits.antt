@@ -35,13 +35,15 @@ pair_differs p q differs same =
     true≢false (differs ∙ ap not equal)
 
 -- the misfit in the files of a generation
-pub misfit_is : (sup : Super) (contents : ℕ → List ℕ) (generation : ℕ) (records : List Record) (end number file at : ℕ) (r : Record) → IsRecorded sup contents generation records end → slice_get records number ≡ Some r
+pub misfit_is : (sup : Super) (contents : ℕ → List ℕ) (generation : ℕ) (records : List Record) (end number file at : ℕ) (r : Record)
+    → IsRecorded sup contents generation records end → slice_get records number ≡ Some r
     → IsMisfitIn contents (volume_file generation) (index_file generation) r number file at → IsMisfit sup contents generation records number file at
 misfit_is sup contents generation records end number file at r is there (inl lacks) = (r, there, inl (lacks.0, lacks.1, lacks.2))
 misfit_is sup contents generation records end number file at r is there (inr other) =
     (r, there, inr (other.0, other.1, other.2 (super_bytes (index_super sup generation)) records end is.index (slice_get_within records number r there)))
 
-pub misfit_there : (f g : Files) (volume v index x number file at : ℕ) (r : Record) → g ≡ f → volume ≡ v → index ≡ x → IsMisfitIn (λ n. (g n).now) volume index r number file at → IsMisfitIn (λ n. (f n).now) v x r number file at
+pub misfit_there : (f g : Files) (volume v index x number file at : ℕ) (r : Record) → g ≡ f → volume ≡ v → index ≡ x → IsMisfitIn (λ n. (g n).now) volume index r number file at
+    → IsMisfitIn (λ n. (f n).now) v x r number file at
 misfit_there f g volume v index x number file at r same is also misfit =
     subst (λ (fs : Files). IsMisfitIn (λ n. (fs n).now) v x r number file at) same
     (subst (λ n. IsMisfitIn (λ k. (g k).now) v n r number file at) also (subst (λ n. IsMisfitIn (λ k. (g k).now) n index r number file at) is misfit))

@@ -29,7 +29,8 @@ use Rattle.hay_open.proofs.PieceLaws.{all_free}
 rows_in_row : (sup : Super) (contents : ℕ → List ℕ) (listing : Listing) (is : IsListing sup contents listing) → AreInRow 64 listing.rows.items
 rows_in_row sup contents listing is =
     let volume = contents (volume_file listing.head.generation) in
-    subst (λ (l : List Record). AreInRow 64 l) (sym is.rows) (row_join 64 is.records (map cell_record is.orphans) is.is.index.row (has_row (place_behind 64 is.records) listing.end volume is.orphans is.behind.has))
+    subst (λ (l : List Record). AreInRow 64 l) (sym is.rows) (row_join 64 is.records (map cell_record is.orphans) is.is.index.row
+    (has_row (place_behind 64 is.records) listing.end volume is.orphans is.behind.has))
 
 pub rows_end : (sup : Super) (contents : ℕ → List ℕ) (listing : Listing) (is : IsListing sup contents listing) → place_behind 64 listing.rows.items ≡ listing.end
 rows_end sup contents listing is =
@@ -45,7 +46,8 @@ listing_holds sup contents listing is =
       orphans = is.orphans;
       has = subst (λ n. HasCells (place_behind 64 is.records) (contents (volume_file listing.head.generation)) is.orphans n) (sym end) is.behind.has;
       heads = is.heads;
-      behind = ap (λ n. drop n listing.rows.items) is.recorded ∙ ap (λ (l : List Record). drop (length is.records) l) is.rows ∙ drop_at is.records (map cell_record is.orphans) (length is.records) refl;
+      behind =
+          ap (λ n. drop n listing.rows.items) is.recorded ∙ ap (λ (l : List Record). drop (length is.records) l) is.rows ∙ drop_at is.records (map cell_record is.orphans) (length is.records) refl;
     })
 
 -- A WHOLE DISK
@@ -59,7 +61,8 @@ pub record ListsStored (contents : ℕ → List ℕ) (listing : Listing) (s : St
   pub heads : listing.orphans.items ≡ map cell_head (drop s.records s.cells)
   pub noted : listing.index.pending ≡ unrecorded s
 
-pub lists_stored : (sup : Super) (contents : ℕ → List ℕ) (listing : Listing) (s : Stored) → ((n : ℕ) → length (contents n) < 2 ^ 64) → IsListing sup contents listing → IsStored sup contents s → ListsStored contents listing s
+pub lists_stored : (sup : Super) (contents : ℕ → List ℕ) (listing : Listing) (s : Stored) → ((n : ℕ) → length (contents n) < 2 ^ 64) → IsListing sup contents listing
+    → IsStored sup contents s → ListsStored contents listing s
 lists_stored sup contents listing s fits is stored =
     let generation = listing.head.generation in
     let volume = contents (volume_file generation) in
@@ -78,7 +81,8 @@ lists_stored sup contents listing s fits is stored =
       noted = is.noted ∙ rest;
     }
 
-pub lists_cells : (sup : Super) (contents : ℕ → List ℕ) (listing : Listing) (s : Stored) → IsListing sup contents listing → IsStored sup contents s → ListsStored contents listing s → ListsCells (contents listing.volume) listing s.cells
+pub lists_cells : (sup : Super) (contents : ℕ → List ℕ) (listing : Listing) (s : Stored) → IsListing sup contents listing → IsStored sup contents s → ListsStored contents listing s
+    → ListsCells (contents listing.volume) listing s.cells
 lists_cells sup contents listing s is stored lists =
     let number : volume_file s.generation ≡ listing.volume = ap volume_file lists.generation ∙ sym is.volume_number in
     record {
@@ -99,7 +103,8 @@ apart_head generation volume is same = omega arith
 apart_index : (generation volume : ℕ) → volume ≡ volume_file generation → index_file generation ≡ volume → ⊥
 apart_index generation volume is same = omega arith
 
-pub ready_head : (sup : Super) (old new : Files) (listing : Listing) → IsListing sup (λ n. (old n).now) listing → IsSolid (old 0) → IsFree (old 0) → GivesPieces listing.volume listing.rows.items (place_behind 64 listing.rows.items) old new
+pub ready_head : (sup : Super) (old new : Files) (listing : Listing) → IsListing sup (λ n. (old n).now) listing → IsSolid (old 0) → IsFree (old 0)
+    → GivesPieces listing.volume listing.rows.items (place_behind 64 listing.rows.items) old new
     → HeadRests sup (new 0) listing.head.generation
 ready_head sup old new listing is solid free gives =
     let g = listing.head.generation in
@@ -124,12 +129,14 @@ pub ready_index : (sup : Super) (old new : Files) (listing : Listing) → IsList
 ready_index sup old new listing is solid free gives =
     let g = listing.head.generation in
     let file = listing.index.file in
-    let index : IsIndex (super_bytes (index_super sup g)) (old file).now is.records listing.index.end = subst (λ n. IsIndex (super_bytes (index_super sup g)) (old n).now is.records listing.index.end) (sym is.index_number) is.is.index in
+    let index : IsIndex (super_bytes (index_super sup g)) (old file).now is.records listing.index.end =
+    subst (λ n. IsIndex (super_bytes (index_super sup g)) (old n).now is.records listing.index.end) (sym is.index_number) is.is.index in
     let apart : file ≡ listing.volume → ⊥ = λ same. apart_index g listing.volume is.volume_number (sym is.index_number ∙ same) in
     subst (λ (f : FileState). IsGate index_magic listing.index.end f) (sym (gives.others file apart))
     (index_gate (super_bytes (index_super sup g)) is.records listing.index.end (old file) index solid (λ k from. free k))
 
-pub rests_volume : (sup : Super) (old new : Files) (listing : Listing) (s : Stored) → IsListing sup (λ n. (old n).now) listing → IsStored sup (λ n. (old n).now) s → ListsStored (λ n. (old n).now) listing s → IsSolid (old listing.volume) → IsFree (old listing.volume)
+pub rests_volume : (sup : Super) (old new : Files) (listing : Listing) (s : Stored) → IsListing sup (λ n. (old n).now) listing → IsStored sup (λ n. (old n).now) s
+    → ListsStored (λ n. (old n).now) listing s → IsSolid (old listing.volume) → IsFree (old listing.volume)
     → GivesPieces listing.volume listing.rows.items (place_behind 64 listing.rows.items) old new → VolumeRests sup (new (volume_file s.generation)) s
 rests_volume sup old new listing s is stored lists solid free gives =
     let v = volume_file s.generation in
@@ -143,8 +150,10 @@ rests_volume sup old new listing s is stored lists solid free gives =
       flags = flags_of (new v) s.cells (subst (λ (l : List Record). RowFlagsFree (new v) l) lists.rows (subst (λ n. RowFlagsFree (new n) listing.rows.items) number flags));
     }
 
-pub rests_index : (sup : Super) (old new : Files) (listing : Listing) (s : Stored) → IsListing sup (λ n. (old n).now) listing → IsStored sup (λ n. (old n).now) s → ListsStored (λ n. (old n).now) listing s → ((n : ℕ) → length (old n).now < 2 ^ 64)
-    → IsSolid (old listing.index.file) → IsFree (old listing.index.file) → GivesPieces listing.volume listing.rows.items (place_behind 64 listing.rows.items) old new → IndexRests sup (new (index_file s.generation)) s listing.index.end
+pub rests_index : (sup : Super) (old new : Files) (listing : Listing) (s : Stored) → IsListing sup (λ n. (old n).now) listing → IsStored sup (λ n. (old n).now) s
+    → ListsStored (λ n. (old n).now) listing s → ((n : ℕ) → length (old n).now < 2 ^ 64)
+    → IsSolid (old listing.index.file) → IsFree (old listing.index.file) → GivesPieces listing.volume listing.rows.items (place_behind 64 listing.rows.items) old new
+    → IndexRests sup (new (index_file s.generation)) s listing.index.end
 rests_index sup old new listing s is stored lists fits solid free gives =
     let g = listing.head.generation in
     let same = stored_same sup (λ n. (old n).now) g listing.index.end is.records s fits is.is stored in
@@ -157,7 +166,12 @@ rests_index sup old new listing s is stored lists fits solid free gives =
     (subst (λ n. IsIndex (super_bytes (index_super sup n)) (old (index_file n)).now is.records listing.index.end) (sym lists.generation) is.is.index) in
     let whole : new x ≡ old x = subst (λ n. new n ≡ old n) number stays in
     subst (λ (f : FileState). IndexRests sup f s listing.index.end) (sym whole)
-    (record { is = index; solid = subst (λ n. IsSolid (old n)) number solid; gate = index_gate (super_bytes (index_super sup s.generation)) (recorded s) listing.index.end (old x) index (subst (λ n. IsSolid (old n)) number solid) (λ k from. subst (λ n. (old n).sealed k ≡ false) number (free k)) })
+    (record {
+      is = index;
+      solid = subst (λ n. IsSolid (old n)) number solid;
+      gate = index_gate (super_bytes (index_super sup s.generation)) (recorded s) listing.index.end (old x)
+          index (subst (λ n. IsSolid (old n)) number solid) (λ k from. subst (λ n. (old n).sealed k ≡ false) number (free k));
+    })
 
 -- READY FOR CHANGES
 

@@ -10,7 +10,8 @@ use Rattle.hay_open.specs.Listing.{GivesPieces, RowFlagsFree}
 use Rattle.hay_open.proofs.CellRows.{behind_far, row_within, split_at}
 
 -- flags bytes before a piece, behind it, and its hole
-flags_before : (from at n : ℕ) (rows more : List Record) (old new : FileState) → AreInRow from (rows ++ more) → place_behind from rows ≤ at → Seals at n 28 old new → RowFlagsFree old more → (RowFlagsFree old more → RowFlagsFree new more)
+flags_before : (from at n : ℕ) (rows more : List Record) (old new : FileState) → AreInRow from (rows ++ more) → place_behind from rows ≤ at → Seals at n 28 old new
+    → RowFlagsFree old more → (RowFlagsFree old more → RowFlagsFree new more)
     → RowFlagsFree old (rows ++ more) → RowFlagsFree new (rows ++ more)
 flags_before from at n [] more old new row low seals were rest free = rest free
 flags_before from at n (r ∷ rows) more old new row low seals were rest free =
@@ -32,7 +33,8 @@ free_behind : (before after : List Record) (r : Record) (file : FileState) → R
 free_behind [] after r file free = free
 free_behind (b ∷ before) after r file free = free_behind before after r file free.1
 
-flags_stay : (from : ℕ) (before after : List Record) (r : Record) (old new : FileState) → AreInRow from (before ++ r ∷ after) → Seals r.at (needle_total r.size) 28 old new → RowFlagsFree old (before ++ r ∷ after)
+flags_stay : (from : ℕ) (before after : List Record) (r : Record) (old new : FileState) → AreInRow from (before ++ r ∷ after) → Seals r.at (needle_total r.size) 28 old new
+    → RowFlagsFree old (before ++ r ∷ after)
     → RowFlagsFree new (before ++ r ∷ after)
 flags_stay from before after r old new row seals free =
     let here = row_here from before after r row in
@@ -44,7 +46,8 @@ flags_stay from before after r old new row seals free =
 pub gives_none : (volume end : ℕ) (rows : List Record) (files : Files) → GivesPieces volume rows end files files
 gives_none volume end rows files = record { others = λ other apart. refl; now = refl; solid = λ was. was; flags = λ free. free; free = λ free. free }
 
-pub gives_one : (volume k : ℕ) (rows : List Record) (r : Record) (old new : Files) → AreInRow 64 rows → slice_get rows k ≡ Some r → KeepsOthers volume old new → Seals r.at (needle_total r.size) 28 (old volume) (new volume)
+pub gives_one : (volume k : ℕ) (rows : List Record) (r : Record) (old new : Files) → AreInRow 64 rows → slice_get rows k ≡ Some r → KeepsOthers volume old new
+    → Seals r.at (needle_total r.size) 28 (old volume) (new volume)
     → GivesPieces volume rows (place_behind 64 rows) old new
 gives_one volume k rows r old new row there others seals =
     let split : rows ≡ take k rows ++ r ∷ drop (k + 1) rows = split_at k rows r there in
@@ -55,7 +58,8 @@ gives_one volume k rows r old new row there others seals =
       solid = λ was. solid_seals r.at (needle_total r.size) 28 (old volume) (new volume) was seals;
       flags = λ free.
           subst (λ (l : List Record). RowFlagsFree (new volume) l) (sym split)
-          (flags_stay 64 (take k rows) (drop (k + 1) rows) r (old volume) (new volume) (subst (λ (l : List Record). AreInRow 64 l) split row) seals (subst (λ (l : List Record). RowFlagsFree (old volume) l) split free));
+          (flags_stay 64 (take k rows) (drop (k + 1) rows) r (old volume) (new volume) (subst (λ (l : List Record). AreInRow 64 l) split row) seals
+          (subst (λ (l : List Record). RowFlagsFree (old volume) l) split free));
       free = λ free k from. seals.free k (free k from) (inl (inr (omega (arith, within.1))));
     }
 

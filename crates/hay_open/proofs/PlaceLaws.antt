@@ -24,7 +24,8 @@ use Rattle.hay_open.proofs.CellRows.{map_take, take_here}
 
 -- THE PIECE OF A CELL
 
-pub sealed_cell : (Tells : Type 0) (head : CellHead) (cell : Cell) (file bytes : List ℕ) (len : ℕ) (needle : SealedNeedle) → Tells → StandsCell head.at file cell → head ≡ cell_head cell → head.deleted ≡ false → len ≡ needle_total head.size
+pub sealed_cell : (Tells : Type 0) (head : CellHead) (cell : Cell) (file bytes : List ℕ) (len : ℕ) (needle : SealedNeedle) → Tells → StandsCell head.at file cell
+    → head ≡ cell_head cell → head.deleted ≡ false → len ≡ needle_total head.size
     → bytes ≡ take len (drop head.at file) → needle ≡ record { at = head.at; size = head.size; bytes = bytes } → IsSealedCell Tells cell needle
 sealed_cell Tells head cell file bytes len needle tells here is live long seen made =
     let alive : cell.deleted ≡ false = ap (λ (h : CellHead). h.deleted) (sym is) ∙ live in
@@ -38,7 +39,12 @@ sealed_cell Tells head cell file bytes len needle tells here is live long seen m
         size = ap (λ (s : SealedNeedle). s.size) made ∙ ap (λ (h : CellHead). h.size) is;
         version = cell.version;
         is = subst (λ (l : List ℕ). NeedleBytes l (record { version = cell.version; pair = cell.pair; photo = record { cookie = cell.cookie; bytes = cell.bytes }; deleted = false })) same
-            (subst (λ (b : Bool). NeedleBytes here.needle (record { version = cell.version; pair = cell.pair; photo = record { cookie = cell.cookie; bytes = cell.bytes }; deleted = b })) alive here.is.is);
+            (subst (λ (b : Bool). NeedleBytes here.needle (record {
+              version = cell.version;
+              pair = cell.pair;
+              photo = record { cookie = cell.cookie; bytes = cell.bytes };
+              deleted = b;
+            })) alive here.is.is);
       };
     }
 
@@ -54,17 +60,20 @@ last_cell-more (first ∷ cells) cell pair =
     ap (λ (o : Option Cell). option_or o (cond (pair_eq first.pair pair) (Some first) None)) (last_cell-more cells cell pair)
     ∙ or_cond (pair_eq cell.pair pair) cell (last_cell cells pair) (cond (pair_eq first.pair pair) (Some first) None)
 
-pub last_place-more : {P : Type 0} (cells : List (OpenCell P)) (cell : OpenCell P) (pair : Pair) (before : Place P) → last_place (cells ++ cell ∷ []) pair before ≡ cond (pair_eq cell.pair pair) cell.place (last_place cells pair before)
+pub last_place-more : {P : Type 0} (cells : List (OpenCell P)) (cell : OpenCell P) (pair : Pair) (before : Place P)
+    → last_place (cells ++ cell ∷ []) pair before ≡ cond (pair_eq cell.pair pair) cell.place (last_place cells pair before)
 last_place-more [] cell pair before = refl
 last_place-more (first ∷ cells) cell pair before = last_place-more cells cell pair (cond (pair_eq first.pair pair) first.place before)
 
-pub place_step : {P : Type 0} (Tells : Type 0) (whole : List Cell) (k : ℕ) (cell : Cell) (own : Pair) (done next : List (OpenCell P)) (at : Place P) → slice_get whole k ≡ Some cell → own ≡ cell.pair → ArePlaced Tells whole k done
+pub place_step : {P : Type 0} (Tells : Type 0) (whole : List Cell) (k : ℕ) (cell : Cell) (own : Pair) (done next : List (OpenCell P)) (at : Place P) → slice_get whole k ≡ Some cell
+    → own ≡ cell.pair → ArePlaced Tells whole k done
     → next ≡ done ++ record { pair = own; place = at } ∷ [] → PlaceOf Tells (Some cell) at → ArePlaced Tells whole (k + 1) next
 place_step {P} Tells whole k cell own done next at there pair_is before is holds pair =
     let same : last_cell (take (k + 1) whole) pair ≡ cond (pair_eq cell.pair pair) (Some cell) (last_cell (take k whole) pair) =
     ap (λ (l : List Cell). last_cell l pair) (take_here k whole cell there) ∙ last_cell-more (take k whole) cell pair in
     let places : last_place next pair place.None ≡ cond (pair_eq cell.pair pair) at (last_place done pair place.None) =
-    ap (λ (l : List (OpenCell P)). last_place l pair place.None) is ∙ last_place-more done (record { pair = own; place = at }) pair place.None ∙ ap (λ (p : Pair). cond (pair_eq p pair) at (last_place done pair place.None)) pair_is in
+    ap (λ (l : List (OpenCell P)). last_place l pair place.None) is ∙ last_place-more done (record { pair = own; place = at }) pair place.None
+    ∙ ap (λ (p : Pair). cond (pair_eq p pair) at (last_place done pair place.None)) pair_is in
     subst (λ (o : Option Cell). PlaceOf Tells o (last_place next pair place.None)) (sym same)
     (subst (λ (p : Place P). PlaceOf Tells (cond (pair_eq cell.pair pair) (Some cell) (last_cell (take k whole) pair)) p) (sym places) (chosen (pair_eq cell.pair pair)))
   where
@@ -73,7 +82,8 @@ place_step {P} Tells whole k cell own done next at there pair_is before is holds
     chosen false = before pair
 
 -- behind the last cell all places are right
-pub all_placed : {P : Type 0} (Tells : Type 0) (whole : List Cell) (k : ℕ) (done : List (OpenCell P)) → length whole ≤ k → ArePlaced Tells whole k done → (pair : Pair) → PlaceOf Tells (last_cell whole pair) (last_place done pair place.None)
+pub all_placed : {P : Type 0} (Tells : Type 0) (whole : List Cell) (k : ℕ) (done : List (OpenCell P)) → length whole ≤ k → ArePlaced Tells whole k done → (pair : Pair)
+    → PlaceOf Tells (last_cell whole pair) (last_place done pair place.None)
 all_placed Tells whole k done cells placed pair = subst (λ (l : List Cell). PlaceOf Tells (last_cell l pair) (last_place done pair place.None)) (take_all k whole cells) (placed pair)
 
 -- CELLS THAT ARE NOT LOOKED AT
@@ -91,7 +101,8 @@ unseen_more : {P : Type 0} (Tells : Type 0) (cells : List Cell) (pair : Pair) (o
 unseen_more Tells [] pair o before is = is
 unseen_more {P} Tells (cell ∷ cells) pair o before is =
     let b : Bool = pair_eq cell.pair pair in
-    subst (λ (x : Option Cell). PlaceOf Tells x (last_place (map unseen_cell (map cell_record cells)) pair (cond b (place.Unseen cell.at (length cell.bytes)) before))) (sym (or_or (last_cell cells pair) (cond b (Some cell) None) o))
+    subst (λ (x : Option Cell). PlaceOf Tells x (last_place (map unseen_cell (map cell_record cells)) pair (cond b (place.Unseen cell.at (length cell.bytes)) before)))
+    (sym (or_or (last_cell cells pair) (cond b (Some cell) None) o))
     (unseen_more Tells cells pair (option_or (cond b (Some cell) None) o) (cond b (place.Unseen cell.at (length cell.bytes)) before) (chosen b))
   where
     chosen : (b : Bool) → PlaceOf Tells (option_or (cond b (Some cell) None) o) (cond b (place.Unseen cell.at (length cell.bytes)) before)
@@ -99,12 +110,14 @@ unseen_more {P} Tells (cell ∷ cells) pair o before is =
     chosen false = is
 
 -- the places of the first k cells by their records
-pub recorded_placed : {P : Type 0} (Tells : Type 0) (whole : List Cell) (k : ℕ) (rows : List Record) (done : List (OpenCell P)) → rows ≡ map cell_record whole → done ≡ map unseen_cell (take k rows) → ArePlaced Tells whole k done
+pub recorded_placed : {P : Type 0} (Tells : Type 0) (whole : List Cell) (k : ℕ) (rows : List Record) (done : List (OpenCell P)) → rows ≡ map cell_record whole
+    → done ≡ map unseen_cell (take k rows) → ArePlaced Tells whole k done
 recorded_placed {P} Tells whole k rows done of is pair =
     let first : List Cell = take k whole in
     let same : done ≡ map unseen_cell (map cell_record first) = is ∙ ap (λ (l : List Record). map unseen_cell (take k l)) of ∙ ap (λ (l : List Record). map unseen_cell l) (map_take k whole) in
     subst (λ (l : List (OpenCell P)). PlaceOf {P = P} Tells (last_cell first pair) (last_place l pair place.None)) (sym same)
-    (subst (λ (o : Option Cell). PlaceOf {P = P} Tells o (last_place (map unseen_cell (map cell_record first)) pair place.None)) (or_none (last_cell first pair)) (unseen_more {P = P} Tells first pair None place.None tt))
+    (subst (λ (o : Option Cell). PlaceOf {P = P} Tells o (last_place (map unseen_cell (map cell_record first)) pair place.None)) (or_none (last_cell first pair))
+    (unseen_more {P = P} Tells first pair None place.None tt))
 
 -- CELLS THAT HAVE NO RECORD
 
@@ -122,7 +135,8 @@ pub orphans_none : {P : Type 0} (Tells : Type 0) (orphans : List Cell) (cells : 
 unfolding AddsOrphans
 orphans_none Tells orphans cells = ([], sym (append-nil cells), tt)
 
-pub orphans_more : {P : Type 0} (Tells : Type 0) (orphans : List Cell) (k : ℕ) (cell : Cell) (own : Pair) (at : Place P) (old mid new : List (OpenCell P)) → slice_get orphans k ≡ Some cell → own ≡ cell.pair → StandsAt cell.at at → PlaceOf Tells (Some cell) at
+pub orphans_more : {P : Type 0} (Tells : Type 0) (orphans : List Cell) (k : ℕ) (cell : Cell) (own : Pair) (at : Place P) (old mid new : List (OpenCell P))
+    → slice_get orphans k ≡ Some cell → own ≡ cell.pair → StandsAt cell.at at → PlaceOf Tells (Some cell) at
     → AddsOrphans Tells orphans k old mid → new ≡ mid ++ record { pair = own; place = at } ∷ [] → AddsOrphans Tells orphans (k + 1) old new
 unfolding AddsOrphans
 orphans_more {P} Tells orphans k cell own at old mid new there pair_is looked of (seen, is, all) grown =
@@ -139,7 +153,8 @@ unfolding AddsOrphans
 orphans_all Tells orphans k old new many (seen, is, all) = (seen, is, subst (λ (l : List Cell). AllZip (IsOrphanOf Tells) l seen) (take_all k orphans many) all)
 
 -- a disk without cells has no places
-pub void_places : {P : Type 0} (Tells : Type 0) (cells : List Cell) (done : List (OpenCell P)) → cells ≡ [] → done ≡ [] → (pair : Pair) → PlaceOf Tells (last_cell cells pair) (last_place done pair place.None)
+pub void_places : {P : Type 0} (Tells : Type 0) (cells : List Cell) (done : List (OpenCell P)) → cells ≡ [] → done ≡ [] → (pair : Pair)
+    → PlaceOf Tells (last_cell cells pair) (last_place done pair place.None)
 void_places {P} Tells cells done none void pair =
     subst (λ (l : List Cell). PlaceOf Tells (last_cell l pair) (last_place done pair place.None)) (sym none)
     (subst (λ (l : List (OpenCell P)). PlaceOf Tells (last_cell [] pair) (last_place l pair place.None)) (sym void) tt)

@@ -23,10 +23,13 @@ stored_not_void sup contents s is void = omega (arith, is.head.closed.room, ap l
 pub one_stored : (sup : Super) (contents : ℕ → List ℕ) (s t : Stored) → ((n : ℕ) → length (contents n) < 2 ^ 64) → IsStored sup contents s → IsStored sup contents t → s ≡ t
 one_stored sup contents s t fits a b =
     let g : t.generation ≡ s.generation = one_generation (super_bytes (head_super sup)) (contents 0) t.generation s.generation b.head a.head in
-    let volume : IsVolume (super_bytes (volume_super sup s.generation)) (contents (volume_file s.generation)) t.cells t.end = subst (λ n. IsVolume (super_bytes (volume_super sup n)) (contents (volume_file n)) t.cells t.end) g b.volume in
+    let volume : IsVolume (super_bytes (volume_super sup s.generation)) (contents (volume_file s.generation)) t.cells t.end =
+    subst (λ n. IsVolume (super_bytes (volume_super sup n)) (contents (volume_file n)) t.cells t.end) g b.volume in
     let cells = one_volume 64 s.end t.end (contents (volume_file s.generation)) s.cells t.cells a.volume.has a.volume.closed volume.has volume.closed in
-    let index : IsIndex (super_bytes (index_super sup s.generation)) (contents (index_file s.generation)) (recorded t) b.index_end = subst (λ n. IsIndex (super_bytes (index_super sup n)) (contents (index_file n)) (recorded t) b.index_end) g b.index in
-    let records = one_index (super_bytes (index_super sup s.generation)) (contents (index_file s.generation)) (recorded s) (recorded t) a.index_end b.index_end (fits (index_file s.generation)) a.index index in
+    let index : IsIndex (super_bytes (index_super sup s.generation)) (contents (index_file s.generation)) (recorded t) b.index_end =
+    subst (λ n. IsIndex (super_bytes (index_super sup n)) (contents (index_file n)) (recorded t) b.index_end) g b.index in
+    let records =
+    one_index (super_bytes (index_super sup s.generation)) (contents (index_file s.generation)) (recorded s) (recorded t) a.index_end b.index_end (fits (index_file s.generation)) a.index index in
     let few : s.records ≤ length (map cell_record s.cells) = omega (arith, map_length s.cells, a.lags) in
     let fewer : t.records ≤ length (map cell_record t.cells) = omega (arith, map_length t.cells, b.lags) in
     let count : s.records ≡ t.records = sym (length-take-le s.records (map cell_record s.cells) few) ∙ ap length records.0 ∙ length-take-le t.records (map cell_record t.cells) fewer in
@@ -59,7 +62,8 @@ opens_void sup contents s void (inl is) = is.1
 opens_void sup contents s void (inr is) = absurd (stored_not_void sup contents s is void)
 
 -- files that rest have this in every image
-pub rests_left : (sup : Super) (files : Files) (image : ℕ → List ℕ) (s : Stored) (end : ℕ) → s.records ≤ length s.cells → HeadRests sup (files 0) s.generation → VolumeRests sup (files (volume_file s.generation)) s
+pub rests_left : (sup : Super) (files : Files) (image : ℕ → List ℕ) (s : Stored) (end : ℕ) → s.records ≤ length s.cells → HeadRests sup (files 0) s.generation
+    → VolumeRests sup (files (volume_file s.generation)) s
     → IndexRests sup (files (index_file s.generation)) s end → MayLeave files image → OpensAs sup image s
 unfolding OpensAs
 rests_left sup files image s end lags head volume index leaves =

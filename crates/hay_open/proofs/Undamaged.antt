@@ -24,25 +24,31 @@ use Rattle.hay_open.proofs.Misfits.{fits_lacks, fits_other}
 
 -- RECORDS AND THEIR NEEDLES
 
-no_misfit : (sup : Super) (contents : ℕ → List ℕ) (generation number file at : ℕ) (records : List Record) → ((r : Record) → slice_get records number ≡ Some r → FitsNeedle r (contents (volume_file generation)))
+no_misfit : (sup : Super) (contents : ℕ → List ℕ) (generation number file at : ℕ) (records : List Record)
+    → ((r : Record) → slice_get records number ≡ Some r → FitsNeedle r (contents (volume_file generation)))
     → IsMisfit sup contents generation records number file at → ⊥
 no_misfit sup contents generation number file at records fits (r, there, inl lacks) = fits_lacks r (contents (volume_file generation)) (fits r there) lacks.2
 no_misfit sup contents generation number file at records fits (r, there, inr other) = fits_other r (contents (volume_file generation)) (fits r there) other.1
 
-rest_whole : (sup : Super) (contents : ℕ → List ℕ) (generation end file at : ℕ) (records : List Record) (orphans : List Cell) → length (contents (volume_file generation)) < 2 ^ 64 → HasOrphans (contents (volume_file generation)) records orphans end
+rest_whole : (sup : Super) (contents : ℕ → List ℕ) (generation end file at : ℕ) (records : List Record) (orphans : List Cell) → length (contents (volume_file generation)) < 2 ^ 64
+    → HasOrphans (contents (volume_file generation)) records orphans end
     → IsDamagedRest sup contents generation records file at → ⊥
 rest_whole sup contents generation end file at records orphans short behind (inl last) = no_misfit sup contents generation last.0 file at records (λ r there. behind.fits last.0 r last.1 there) last.2
-rest_whole sup contents generation end file at records orphans short behind (inr scan) = scan_whole (scan_start records) end at (contents (volume_file generation)) records orphans short refl behind.has behind.closed scan.2
+rest_whole sup contents generation end file at records orphans short behind (inr scan) =
+    scan_whole (scan_start records) end at (contents (volume_file generation)) records orphans short refl behind.has behind.closed scan.2
 
 -- ALL THAT IS READ
 
-pub reads_undamaged : {P : Type 0} (Tells : Type 0) (sup : Super) (contents : ℕ → List ℕ) (opened : Opened P) (file at : ℕ) → ((n : ℕ) → length (contents n) < 2 ^ 64) → ReadsWhole Tells sup contents opened → (IsDamagedFront sup contents file at → ⊥) → IsReadingDamage sup contents file at → ⊥
+pub reads_undamaged : {P : Type 0} (Tells : Type 0) (sup : Super) (contents : ℕ → List ℕ) (opened : Opened P) (file at : ℕ) → ((n : ℕ) → length (contents n) < 2 ^ 64)
+    → ReadsWhole Tells sup contents opened → (IsDamagedFront sup contents file at → ⊥) → IsReadingDamage sup contents file at → ⊥
 reads_undamaged Tells sup contents opened file at short is no_front (inl front) = no_front front
 reads_undamaged Tells sup contents opened file at short is no_front (inr (other, records, end, recorded, damage)) =
     let g = opened.head.generation in
     let same : other ≡ g = one_generation (super_bytes (head_super sup)) (contents 0) other g recorded.head is.recorded.head in
-    let index : IsIndex (super_bytes (index_super sup g)) (contents (index_file g)) records end = subst (λ n. IsIndex (super_bytes (index_super sup n)) (contents (index_file n)) records end) same recorded.index in
-    let rows : records ≡ is.records = (one_index (super_bytes (index_super sup g)) (contents (index_file g)) records is.records end opened.index.end (short (index_file g)) index is.recorded.index).0 in
+    let index : IsIndex (super_bytes (index_super sup g)) (contents (index_file g)) records end =
+    subst (λ n. IsIndex (super_bytes (index_super sup n)) (contents (index_file n)) records end) same recorded.index in
+    let rows : records ≡ is.records =
+    (one_index (super_bytes (index_super sup g)) (contents (index_file g)) records is.records end opened.index.end (short (index_file g)) index is.recorded.index).0 in
     rest_whole sup contents g opened.volume.end file at is.records is.orphans (short (volume_file g)) is.behind
     (subst (λ (l : List Record). IsDamagedRest sup contents g l file at) rows (subst (λ n. IsDamagedRest sup contents n records file at) same damage))
 
@@ -96,7 +102,8 @@ fresh_front sup contents end file at short fits head begins index (inr (other, a
     index_whole (index_super sup 0) (contents 2) [] end at (of_index sup fits) (short 2) index (subst (λ n. IsDamagedIndex (index_super sup n) (contents (index_file n)) at) one damage.2)
 
 -- nothing of it is damaged
-fresh_whole : {P : Type 0} (Tells : Type 0) (sup : Super) (files : Files) (opened : Opened P) → OpenedAs sup files opened fresh_stored → opened.cells.items ≡ [] → ReadsWhole Tells sup (λ n. (files n).now) opened
+fresh_whole : {P : Type 0} (Tells : Type 0) (sup : Super) (files : Files) (opened : Opened P) → OpenedAs sup files opened fresh_stored → opened.cells.items ≡ []
+    → ReadsWhole Tells sup (λ n. (files n).now) opened
 fresh_whole Tells sup files opened o none = record {
   records = [];
   orphans = [];
@@ -106,7 +113,8 @@ fresh_whole Tells sup files opened o none = record {
     index = subst (λ n. IsIndex (super_bytes (index_super sup n)) (files (index_file n)).now [] opened.index.end) (sym o.generation) o.index.is;
   };
   behind = subst (λ n. HasOrphans (files (volume_file n)).now [] [] opened.volume.end) (sym o.generation)
-      (subst (λ n. HasOrphans (files 1).now [] [] n) (sym (ap (λ (v : VolumeFile). v.end) o.volume)) (record { fits = λ number r last there. absurd (omega (arith, last)); has = o.cells.is.has; closed = o.cells.is.closed }));
+      (subst (λ n. HasOrphans (files 1).now [] [] n) (sym (ap (λ (v : VolumeFile). v.end) o.volume))
+      (record { fits = λ number r last there. absurd (omega (arith, last)); has = o.cells.is.has; closed = o.cells.is.closed }));
   capacity = ap (λ (v : VolumeFile). v.capacity) o.volume;
   noted = o.noted;
   record_count = o.records;
@@ -114,7 +122,8 @@ fresh_whole Tells sup files opened o none = record {
   cells = ([], none, tt);
 }
 
-pub fresh_undamaged : {P : Type 0} (Tells : Type 0) (sup : Super) (files : Files) (opened : Opened P) (file at : ℕ) → ((n : ℕ) → length (files n).now < 2 ^ 64) → SuperFits (volume_super sup 0) → OpenedAs sup files opened fresh_stored → opened.cells.items ≡ []
+pub fresh_undamaged : {P : Type 0} (Tells : Type 0) (sup : Super) (files : Files) (opened : Opened P) (file at : ℕ) → ((n : ℕ) → length (files n).now < 2 ^ 64)
+    → SuperFits (volume_super sup 0) → OpenedAs sup files opened fresh_stored → opened.cells.items ≡ []
     → IsReadingDamage sup (λ n. (files n).now) file at → ⊥
 fresh_undamaged Tells sup files opened file at short fits o none damage =
     reads_undamaged Tells sup (λ n. (files n).now) opened file at short (fresh_whole Tells sup files opened o none)

@@ -1,5 +1,6 @@
 -- Where the record of a number stands in an index file: a walk from block to block.
-use Rattle.std.proofs.Common.{◌≡◌, ℕ, suc, ◌+◌, ◌-◌, ◌*◌, ◌<◌, ◌≤◌, ◌^◌, min, max, List, [], ◌∷◌, ◌++◌, length, take, drop, refl, sym, ap, ◌∙◌, subst, arith, length-append, length-drop, length-take, take-append-drop}
+use Rattle.std.proofs.Common.{◌≡◌, ℕ, suc, ◌+◌, ◌-◌, ◌*◌, ◌<◌, ◌≤◌, ◌^◌, min, max, List, [], ◌∷◌, ◌++◌, length, take, drop, refl, sym, ap, ◌∙◌, subst, arith, length-append}
+use Rattle.std.proofs.Common.{length-drop, length-take, take-append-drop}
 use Rattle.std.specs.Prelude.{All}
 use Rattle.std.specs.List.{flat_map}
 use Rattle.std.proofs.lemmas.List.{drop-take, drop_at}
@@ -68,7 +69,8 @@ pub record NextBlock (file : List ℕ) (start : ℕ) (rest : List (List Record))
   pub whole : All IsBlock more
   pub behind : HasBytesAt (start + (16 + 32 * length block)) (flat_map block_bytes more) file
 
-next_block : (file : List ℕ) (start : ℕ) (rest : List (List Record)) → 0 < length (flat_map (λ (b : List Record). b) rest) → All IsBlock rest → HasBytesAt start (flat_map block_bytes rest) file → NextBlock file start rest
+next_block : (file : List ℕ) (start : ℕ) (rest : List (List Record)) → 0 < length (flat_map (λ (b : List Record). b) rest) → All IsBlock rest
+    → HasBytesAt start (flat_map block_bytes rest) file → NextBlock file start rest
 next_block file start [] some whole behind = absurd (omega arith)
 next_block file start (block ∷ more) some whole behind =
     let first = block_bytes block in
@@ -87,13 +89,16 @@ next_block file start (block ∷ more) some whole behind =
       behind = subst (λ n. HasBytesAt (start + n) others file) (length-block block) (stands_second start first others file behind);
     }
 
-pub walk_block : (superblock file : List ℕ) (records : List Record) (start left number : ℕ) → number < length records → (w : IsWalked superblock file records start left number) → NextBlock file start w.rest
+pub walk_block : (superblock file : List ℕ) (records : List Record) (start left number : ℕ) → number < length records → (w : IsWalked superblock file records start left number)
+    → NextBlock file start w.rest
 walk_block superblock file records start left number within w =
     next_block file start w.rest (omega (arith, w.parts, w.number_is)) w.whole w.behind
 
 -- one block further
-pub walk_on : (superblock file : List ℕ) (records : List Record) (start left number count first further next : ℕ) (w : IsWalked superblock file records start left number) (b : NextBlock file start w.rest)
-    → length file < 2 ^ 64 → count ≡ length b.block → count ≤ left → first ≡ min (start + 16) 18446744073709551615 → further ≡ left - count → next ≡ min (first + min (count * 32) 18446744073709551615) 18446744073709551615
+pub walk_on : (superblock file : List ℕ) (records : List Record) (start left number count first further next : ℕ) (w : IsWalked superblock file records start left number)
+    (b : NextBlock file start w.rest)
+    → length file < 2 ^ 64 → count ≡ length b.block → count ≤ left → first ≡ min (start + 16) 18446744073709551615 → further ≡ left - count
+    → next ≡ min (first + min (count * 32) 18446744073709551615) 18446744073709551615
     → IsWalked superblock file records next further number
 walk_on superblock file records start left number count first further next w b fits counts least first_is further_is next_is =
     let room = block_long (drop start file) b.block b.begins in

@@ -80,7 +80,8 @@ module _ {P : Type 0} where
   order_apart from [] pair other p q differ order first second apart = apart
   order_apart from (cell ∷ cells) pair other p q differ (next, grows, above, below, rest) first second apart =
       order_apart next cells pair other (if pair_eq cell.pair pair then cell.place else p) (if pair_eq cell.pair other then cell.place else q) differ rest
-      (either_below next (pair_eq cell.pair pair) cell.place p below (below_more from next p grows first)) (either_below next (pair_eq cell.pair other) cell.place q below (below_more from next q grows second))
+      (either_below next (pair_eq cell.pair pair) cell.place p below (below_more from next p grows first))
+      (either_below next (pair_eq cell.pair other) cell.place q below (below_more from next q grows second))
       (chosen (pair_eq cell.pair pair) (pair_eq cell.pair other) refl refl)
     where
       chosen : (b d : Bool) → pair_eq cell.pair pair ≡ b → pair_eq cell.pair other ≡ d → ArePlacesApart (if b then cell.place else p) (if d then cell.place else q)
@@ -106,14 +107,20 @@ module _ {P : Type 0} where
   stands_below from at next place.Gone here long stands = tt
   stands_below from at next (place.Unseen there size) here long stands = absurd stands
 
-  order_orphans : (Tells : Type 0) (from end : ℕ) (file : List ℕ) (orphans : List Cell) (seen : List (OpenCell P)) → HasCells from file orphans end → AllZip (IsOrphanOf Tells) orphans seen → InOrder from seen
+  order_orphans : (Tells : Type 0) (from end : ℕ) (file : List ℕ) (orphans : List Cell) (seen : List (OpenCell P)) → HasCells from file orphans end
+      → AllZip (IsOrphanOf Tells) orphans seen → InOrder from seen
   order_orphans Tells from end file [] [] has all = tt
   order_orphans Tells from end file [] (one ∷ seen) has all = absurd all
   order_orphans Tells from end file (cell ∷ orphans) [] has all = absurd all
   order_orphans Tells from end file (cell ∷ orphans) (one ∷ seen) has all =
       let first = cells_first from end file cell orphans has in
-      let next : ℕ = from + needle_total (length cell.bytes) in
-      (next, omega arith, stands_above from cell.at one.place first.0.is.place all.0.stands, stands_below from cell.at next one.place first.0.is.place (omega arith) all.0.stands, order_orphans Tells next end file orphans seen first.1 all.1)
+      let next : ℕ = from + needle_total (length cell.bytes) in (
+        next,
+        omega arith,
+        stands_above from cell.at one.place first.0.is.place all.0.stands,
+        stands_below from cell.at next one.place first.0.is.place (omega arith) all.0.stands,
+        order_orphans Tells next end file orphans seen first.1 all.1,
+      )
 
   -- a disk without cells
   nothing_apart : (Tells : Type 0) (p q : Place P) → PlaceOf Tells None p → ArePlacesApart p q
@@ -126,16 +133,19 @@ module _ {P : Type 0} where
       → (OpensAs sup contents fresh_stored → (pair : Pair) → PlaceOf Tells None (last_place opened.cells.items pair place.None))
       → (pair other : Pair) → pair_eq pair other ≡ false → ArePlacesApart (last_place opened.cells.items pair place.None) (last_place opened.cells.items other place.None)
   unfolding OpensAs
-  found_apart Tells sup contents opened (inl void) places pair other differ = nothing_apart Tells (last_place opened.cells.items pair place.None) (last_place opened.cells.items other place.None) (places (inl (void, refl)) pair)
+  found_apart Tells sup contents opened (inl void) places pair other differ =
+      nothing_apart Tells (last_place opened.cells.items pair place.None) (last_place opened.cells.items other place.None) (places (inl (void, refl)) pair)
   found_apart Tells sup contents opened (inr whole) places pair other differ =
       let order : InOrder 64 (map unseen_cell whole.records ++ whole.cells.0) =
-      order_rows 64 whole.records whole.cells.0 whole.recorded.index.row (order_orphans Tells (place_behind 64 whole.records) opened.volume.end _ whole.orphans whole.cells.0 whole.behind.has whole.cells.2) in
+      order_rows 64 whole.records whole.cells.0 whole.recorded.index.row (order_orphans Tells (place_behind 64 whole.records) opened.volume.end _ whole.orphans whole.cells.0
+      whole.behind.has whole.cells.2) in
       order_apart 64 opened.cells.items pair other place.None place.None differ (subst (λ (l : List (OpenCell P)). InOrder 64 l) (sym whole.cells.1) order) tt tt tt
 
 -- A PUT
 
 -- a cell behind all others is apart from each needle that can be seen
-pub put_apart : {D : Type 0} (files : D → Files) (r : Copy D) (sup : Super) (disk : D) (phase : Phase) (opened : OpenFiles) (place at size : ℕ) → record { sup = sup; disk = disk; phase = phase } ≡ r → phase ≡ Open opened
+pub put_apart : {D : Type 0} (files : D → Files) (r : Copy D) (sup : Super) (disk : D) (phase : Phase) (opened : OpenFiles) (place at size : ℕ)
+    → record { sup = sup; disk = disk; phase = phase } ≡ r → phase ≡ Open opened
     → place ≡ opened.volume.end → MaySee files r at size → IsApart at size place
 put_apart files r sup disk phase opened place at size view is last may =
     let look = files_look files r sup disk phase opened at size view is may in

@@ -40,10 +40,12 @@ needle_there file cell here =
     (sym here.stand ∙ ap (λ n. take n (drop cell.at file)) (needle_long cell.at here.needle cell here.is)) here.is.is
 
 -- so are the bytes that were read of it
-pub needle_from : (at n : ℕ) (file bytes : List ℕ) (cell : Cell) → StandsCell at file cell → n ≡ needle_total (length cell.bytes) → bytes ≡ take n (drop at file) → NeedleBytes bytes (needle_of_cell cell)
+pub needle_from : (at n : ℕ) (file bytes : List ℕ) (cell : Cell) → StandsCell at file cell → n ≡ needle_total (length cell.bytes) → bytes ≡ take n (drop at file)
+    → NeedleBytes bytes (needle_of_cell cell)
 needle_from at n file bytes cell stands total read =
     let place : cell.at ≡ at = stands.is.place in
-    let here : bytes ≡ take (needle_total (length cell.bytes)) (drop cell.at file) = read ∙ ap (λ k. take k (drop at file)) total ∙ ap (λ k. take (needle_total (length cell.bytes)) (drop k file)) (sym place) in
+    let here : bytes ≡ take (needle_total (length cell.bytes)) (drop cell.at file) =
+    read ∙ ap (λ k. take k (drop at file)) total ∙ ap (λ k. take (needle_total (length cell.bytes)) (drop k file)) (sym place) in
     subst (λ (l : List ℕ). NeedleBytes l (needle_of_cell cell)) (sym here) (needle_there file cell (subst (λ k. StandsCell k file cell) (sym place) stands))
 
 -- FLAGS
@@ -53,7 +55,8 @@ flags_kept old new [] free flags = tt
 flags_kept old new (cell ∷ cells) free flags = (free (cell.at + 28) flags.0, flags_kept old new cells free flags.1)
 
 -- where a piece behind the cells is given out
-pub flags_sealed : (at start n hole : ℕ) (bytes : List ℕ) (cells : List Cell) (old new : FileState) → AreCellsAt at bytes cells → at + length bytes ≤ start → Seals start n hole old new → FlagsFree old cells → FlagsFree new cells
+pub flags_sealed : (at start n hole : ℕ) (bytes : List ℕ) (cells : List Cell) (old new : FileState) → AreCellsAt at bytes cells → at + length bytes ≤ start
+    → Seals start n hole old new → FlagsFree old cells → FlagsFree new cells
 flags_sealed at start n hole bytes [] old new are before seals flags = tt
 flags_sealed at start n hole bytes (cell ∷ cells) old new are before seals flags =
     let long : length are.0 ≡ needle_total (length cell.bytes) = needle_long at are.0 cell are.3 in

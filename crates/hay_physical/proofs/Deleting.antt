@@ -20,7 +20,8 @@ module _ {P : Type 0} where
   place_either file end false p q own other = other
 
   -- the place of a pair is one of those that were found
-  pub last_may : (file : FileState) (end : ℕ) (cells : List (OpenCell P)) (pair : Pair) (before : Place P) → AllByRecursion (λ cell. MayFlagPlace file end cell.place) cells → MayFlagPlace file end before
+  pub last_may : (file : FileState) (end : ℕ) (cells : List (OpenCell P)) (pair : Pair) (before : Place P) → AllByRecursion (λ cell. MayFlagPlace file end cell.place) cells
+      → MayFlagPlace file end before
       → MayFlagPlace file end (last_place cells pair before)
   last_may file end [] pair before all may = may
   last_may file end (cell ∷ cells) pair before all may =
@@ -34,7 +35,8 @@ module _ {P : Type 0} where
   place_deletes files sup disk opened place.Gone may = tt
   place_deletes files sup disk opened (place.Unseen at size) may = record { within = omega (arith, may.0); free = may.1 }
 
-  pub found_deletes : {D : Type 0} (files : D → Files) (sup : Super) (disk : D) (opened : OpenFiles) (cells : List (OpenCell P)) → AllByRecursion (λ cell. MayFlagPlace (files disk opened.volume.file) opened.volume.end cell.place) cells
+  pub found_deletes : {D : Type 0} (files : D → Files) (sup : Super) (disk : D) (opened : OpenFiles) (cells : List (OpenCell P))
+      → AllByRecursion (λ cell. MayFlagPlace (files disk opened.volume.file) opened.volume.end cell.place) cells
       → (pair : Pair) → MayDeletePlace files (record { sup = sup; disk = disk; phase = Open opened }) (last_place cells pair place.None)
   found_deletes files sup disk opened cells all pair =
       place_deletes files sup disk opened (last_place cells pair place.None) (last_may (files disk opened.volume.file) opened.volume.end cells pair place.None all tt)

@@ -1,5 +1,6 @@
 -- How little an opening reads of a volume file.
-use Rattle.std.proofs.Common.{◌≡◌, ◌⊎◌, inl, inr, ℕ, suc, ◌+◌, ◌<◌, ◌≤◌, ◌^◌, Bool, true, false, List, [], ◌∷◌, ◌++◌, length, map, take, drop, if◌then◌else◌, Option, Some, refl, sym, ap, subst, ◌∙◌, arith}
+use Rattle.std.proofs.Common.{◌≡◌, ◌⊎◌, inl, inr, ℕ, suc, ◌+◌, ◌<◌, ◌≤◌, ◌^◌, Bool, true, false, List, [], ◌∷◌, ◌++◌, length, map, take, drop, if◌then◌else◌, Option, Some, refl}
+use Rattle.std.proofs.Common.{sym, ap, subst, ◌∙◌, arith}
 use Rattle.std.proofs.Math.Path.{fun_ext}
 use Rattle.std.specs.Prelude.{None}
 use Rattle.std.specs.List.{AllZip, slice_get}
@@ -36,14 +37,16 @@ module _ {P : Type 0} where
   abbrev IsRecordedPlace : List Record → Pair → Place P → Type 0
   IsRecordedPlace records pair p = (at size : ℕ) → p ≡ place.Unseen at size → HasRecordOf records pair size
 
-  either_recorded : (records : List Record) (pair : Pair) (b : Bool) (p q : Place P) → (b ≡ true → IsRecordedPlace records pair p) → IsRecordedPlace records pair q → IsRecordedPlace records pair (if b then p else q)
+  either_recorded : (records : List Record) (pair : Pair) (b : Bool) (p q : Place P) → (b ≡ true → IsRecordedPlace records pair p) → IsRecordedPlace records pair q
+      → IsRecordedPlace records pair (if b then p else q)
   either_recorded records pair true p q own other = own refl
   either_recorded records pair false p q own other = other
 
   stands_seen : (at there size : ℕ) (p : Place P) → StandsAt at p → p ≡ place.Unseen there size → ⊥
   stands_seen at there size p stands is = subst (λ (q : Place P). StandsAt at q) is stands
 
-  seen_recorded : (Tells : Type 0) (records : List Record) (orphans : List Cell) (seen : List (OpenCell P)) (pair : Pair) (p : Place P) → AllZip (IsOrphanOf Tells) orphans seen → IsRecordedPlace records pair p
+  seen_recorded : (Tells : Type 0) (records : List Record) (orphans : List Cell) (seen : List (OpenCell P)) (pair : Pair) (p : Place P) → AllZip (IsOrphanOf Tells) orphans seen
+      → IsRecordedPlace records pair p
       → IsRecordedPlace records pair (last_place seen pair p)
   seen_recorded Tells records [] [] pair p all before = before
   seen_recorded Tells records [] (one ∷ seen) pair p all before = absurd all
@@ -83,7 +86,8 @@ module _ {P : Type 0} (Tells : Type 0) (sup : Super) (old new : Files) (opened :
       omega (arith, here)
 
   -- of a disk that was formatted
-  fresh_draws : OpenedAs sup new opened fresh_stored → ((pair : Pair) → PlaceOf Tells None (last_place opened.cells.items pair place.None)) → DrewRecorded sup (λ n. (new n).now) before after opened.cells.items
+  fresh_draws : OpenedAs sup new opened fresh_stored → ((pair : Pair) → PlaceOf Tells None (last_place opened.cells.items pair place.None))
+      → DrewRecorded sup (λ n. (new n).now) before after opened.cells.items
   fresh_draws o none = record {
     drew = record {
       generation = opened.head.generation;
@@ -97,7 +101,8 @@ module _ {P : Type 0} (Tells : Type 0) (sup : Super) (old new : Files) (opened :
         index = subst (λ n. IsIndex (super_bytes (index_super sup n)) (new (index_file n)).now [] opened.index.end) (sym o.generation) o.index.is;
       };
       behind = subst (λ n. HasOrphans (new (volume_file n)).now [] [] opened.volume.end) (sym o.generation)
-          (subst (λ n. HasOrphans (new 1).now [] [] n) (sym (ap (λ (v : VolumeFile). v.end) o.volume)) (record { fits = λ number r last there. absurd (omega (arith, last)); has = o.cells.is.has; closed = o.cells.is.closed }));
+          (subst (λ n. HasOrphans (new 1).now [] [] n) (sym (ap (λ (v : VolumeFile). v.end) o.volume))
+          (record { fits = λ number r last there. absurd (omega (arith, last)); has = o.cells.is.has; closed = o.cells.is.closed }));
       more = 0;
       looks = refl;
       most = at_file [] o.noted;
@@ -135,19 +140,22 @@ module _ {P : Type 0} (Tells : Type 0) (sup : Super) (old new : Files) (opened :
 -- OF A WHOLE DISK
 
 -- what was read of it is what it has
-pub drew_stored : (sup : Super) (contents : ℕ → List ℕ) (looked : Option Pair) (before after : ℕ → ℕ) (s : Stored) → ((n : ℕ) → length (contents n) < 2 ^ 64) → IsStored sup contents s → (drew : DrewLittle sup contents looked before after)
+pub drew_stored : (sup : Super) (contents : ℕ → List ℕ) (looked : Option Pair) (before after : ℕ → ℕ) (s : Stored) → ((n : ℕ) → length (contents n) < 2 ^ 64)
+    → IsStored sup contents s → (drew : DrewLittle sup contents looked before after)
     → (drew.generation ≡ s.generation) × (map cell_record drew.orphans ≡ unrecorded s)
 drew_stored sup contents looked before after s fits stored drew =
     let same = stored_same sup contents drew.generation drew.index_end drew.records s fits drew.recorded stored in
     let behind = stored_behind sup contents drew.generation drew.records s stored same in
-    let cells = one_reading (place_behind 64 drew.records) drew.end s.end (contents (volume_file drew.generation)) drew.orphans (drop s.records s.cells) drew.behind.has drew.behind.closed behind.0 behind.1 in
+    let cells =
+    one_reading (place_behind 64 drew.records) drew.end s.end (contents (volume_file drew.generation)) drew.orphans (drop s.records s.cells) drew.behind.has drew.behind.closed behind.0 behind.1 in
     (sym same.generation_is, ap (λ (l : List Cell). map cell_record l) cells.0 ∙ sym (drop-map cell_record s.records s.cells))
 
 none_behind : (s : Stored) → s.records ≡ length s.cells → unrecorded s ≡ []
 none_behind s all = drop_all s.records (map cell_record s.cells) (omega (arith, all, length-map s.cells cell_record))
 
 -- where all cells have a record, and no look was taken, it is no more than this
-pub flushed_draws : (sup : Super) (contents : ℕ → List ℕ) (before after : ℕ → ℕ) (s : Stored) → ((n : ℕ) → length (contents n) < 2 ^ 64) → IsStored sup contents s → s.records ≡ length s.cells → DrewLittle sup contents None before after
+pub flushed_draws : (sup : Super) (contents : ℕ → List ℕ) (before after : ℕ → ℕ) (s : Stored) → ((n : ℕ) → length (contents n) < 2 ^ 64) → IsStored sup contents s
+    → s.records ≡ length s.cells → DrewLittle sup contents None before after
     → after (volume_file s.generation) ≤ before (volume_file s.generation) + 108
 flushed_draws sup contents before after s fits stored all drew =
     let same = drew_stored sup contents None before after s fits stored drew in

@@ -30,7 +30,8 @@ pub record Records (sup : Super) (image : List ℕ) (s : Stored) (stuck : Bool) 
   pub same : stuck ≡ false → records ≡ s.records
   pub is : IsIndex (super_bytes (index_super sup s.generation)) image (take records (map cell_record s.cells)) end
 
-pub image_index : (sup : Super) (file : FileState) (s : Stored) (end : ℕ) (stuck : Bool) (image : List ℕ) → s.records ≤ length s.cells → IndexStands sup file s end stuck → IsImage file image → Records sup image s stuck
+pub image_index : (sup : Super) (file : FileState) (s : Stored) (end : ℕ) (stuck : Bool) (image : List ℕ) → s.records ≤ length s.cells → IndexStands sup file s end stuck
+    → IsImage file image → Records sup image s stuck
 image_index sup file s end false image lags index leaves = record {
   records = s.records;
   end = end;
@@ -55,7 +56,8 @@ pub may_find : (sup : Super) (files : Files) (s : Stored) (changed : List Cell) 
 unfolding MayFind
 may_find sup files s changed last end stuck more lags longs rows head volume index = λ image leaves.
     let g : ℕ = s.generation in
-    let first : IsHead (super_bytes (head_super sup)) (image 0) g = subst (λ (l : List ℕ). IsHead (super_bytes (head_super sup)) l g) (sym (solid_whole (files 0) (image 0) head.solid (leaves 0))) head.is in
+    let first : IsHead (super_bytes (head_super sup)) (image 0) g =
+    subst (λ (l : List ℕ). IsHead (super_bytes (head_super sup)) l g) (sym (solid_whole (files 0) (image 0) head.solid (leaves 0))) head.is in
     let r = image_index sup (files (index_file g)) s end stuck (image (index_file g)) lags index (leaves (index_file g)) in
     elim (volume (image (volume_file g)) (leaves (volume_file g))) [
       | inl same ↦ record {
@@ -80,7 +82,8 @@ may_find sup files s changed last end stuck more lags longs rows head volume ind
 pub stand_finds : (sup : Super) (files : Files) (opened : OpenFiles) (s : Stored) → FilesStand sup files opened s → MayFind sup files opened.index.frozen s s
 stand_finds sup files opened s f =
     may_find sup files s s.cells s.end opened.index.end opened.index.frozen [] f.lags (omega arith) (sym (append-nil (map cell_record s.cells))) f.head
-    (λ image leaves. inl (subst (λ (l : List ℕ). IsVolume (super_bytes (volume_super sup s.generation)) l s.cells s.end) (sym (solid_whole (files (volume_file s.generation)) image f.cells.solid leaves)) f.cells.is))
+    (λ image leaves. inl (subst (λ (l : List ℕ). IsVolume (super_bytes (volume_super sup s.generation)) l s.cells s.end)
+    (sym (solid_whole (files (volume_file s.generation)) image f.cells.solid leaves)) f.cells.is))
     f.index
 
 -- what is found in one way is found in one of two
@@ -91,8 +94,10 @@ finds_second sup files stuck s t finds = λ image leaves.
     record { found = f.found; is = f.is; like = inr (⊎_elim (λ (l : IsLike stuck t f.found). l) (λ (l : IsLike stuck t f.found). l) f.like) }
 
 -- an append that failed
-pub finds_added : (sup : Super) (old new : Files) (opened : OpenFiles) (s : Stored) (pair : Pair) (cookie : Cookie) (photo : List ℕ) → FilesStand sup old opened s → KeepsOthers opened.volume.file old new
-    → ((superblock : List ℕ) (cells : List Cell) (image : List ℕ) → IsVolume superblock (old opened.volume.file).now cells opened.volume.end → IsSolidIn 0 opened.volume.end (old opened.volume.file) → IsImage (new opened.volume.file) image
+pub finds_added : (sup : Super) (old new : Files) (opened : OpenFiles) (s : Stored) (pair : Pair) (cookie : Cookie) (photo : List ℕ) → FilesStand sup old opened s
+    → KeepsOthers opened.volume.file old new
+    → ((superblock : List ℕ) (cells : List Cell) (image : List ℕ) → IsVolume superblock (old opened.volume.file).now cells opened.volume.end
+    → IsSolidIn 0 opened.volume.end (old opened.volume.file) → IsImage (new opened.volume.file) image
     → IsVolume superblock image cells opened.volume.end ⊎ IsVolume superblock image (cells ++ live_cell opened.volume.end pair cookie photo ∷ []) (opened.volume.end + needle_total (length photo)))
     → MayFind sup new opened.index.frozen s (with_cell s pair cookie photo)
 finds_added sup old new opened s pair cookie photo f others_was left_was =
@@ -101,9 +106,11 @@ finds_added sup old new opened s pair cookie photo f others_was left_was =
     let cell : Cell = live_cell s.end pair cookie photo in
     let left : (superblock : List ℕ) (cells : List Cell) (image : List ℕ) → IsVolume superblock (old file).now cells s.end → IsSolidIn 0 s.end (old file) → IsImage (new file) image
     → IsVolume superblock image cells s.end ⊎ IsVolume superblock image (cells ++ cell ∷ []) (s.end + needle_total (length photo)) =
-    subst (λ (v : VolumeFile). (superblock : List ℕ) (cells : List Cell) (image : List ℕ) → IsVolume superblock (old v.file).now cells v.end → IsSolidIn 0 v.end (old v.file) → IsImage (new v.file) image
+    subst (λ (v : VolumeFile). (superblock : List ℕ) (cells : List Cell) (image : List ℕ) → IsVolume superblock (old v.file).now cells v.end → IsSolidIn 0 v.end (old v.file)
+    → IsImage (new v.file) image
     → IsVolume superblock image cells v.end ⊎ IsVolume superblock image (cells ++ live_cell v.end pair cookie photo ∷ []) (v.end + needle_total (length photo))) f.volume left_was in
-    may_find sup new s (s.cells ++ cell ∷ []) (s.end + needle_total (length photo)) opened.index.end opened.index.frozen (cell_record cell ∷ []) f.lags (omega (arith, length-append s.cells (cell ∷ [])))
+    may_find sup new s (s.cells ++ cell ∷ []) (s.end + needle_total (length photo)) opened.index.end opened.index.frozen (cell_record cell ∷ []) f.lags
+    (omega (arith, length-append s.cells (cell ∷ [])))
     (map-append cell_record s.cells (cell ∷ []))
     (subst (λ (state : FileState). HeadRests sup state s.generation) (sym (others 0 (volume_not_head s.generation))) f.head)
     (λ image leaves. left (super_bytes (volume_super sup s.generation)) s.cells image f.cells.is (λ k from to. f.cells.solid.places k) leaves)
@@ -111,7 +118,8 @@ finds_added sup old new opened s pair cookie photo f others_was left_was =
 
 -- a flag that failed
 pub finds_flagged : (sup : Super) (old new : Files) (opened : OpenFiles) (s : Stored) (at : ℕ) → FilesStand sup old opened s → HasLive at s.cells → KeepsOthers opened.volume.file old new
-    → ((superblock : List ℕ) (cells : List Cell) (end : ℕ) (image : List ℕ) → IsVolume superblock (old opened.volume.file).now cells end → HasPlace at cells → IsSolid (old opened.volume.file) → IsImage (new opened.volume.file) image
+    → ((superblock : List ℕ) (cells : List Cell) (end : ℕ) (image : List ℕ) → IsVolume superblock (old opened.volume.file).now cells end → HasPlace at cells
+    → IsSolid (old opened.volume.file) → IsImage (new opened.volume.file) image
     → (deleted : Bool) × IsVolume superblock image (with_flag at deleted cells) end)
     → MayFind sup new opened.index.frozen s (without_cell s at)
 finds_flagged sup old new opened s at f live others_was left_was =
@@ -120,7 +128,8 @@ finds_flagged sup old new opened s at f live others_was left_was =
     let superblock : List ℕ = super_bytes (volume_super sup s.generation) in
     let left : (superblock : List ℕ) (cells : List Cell) (end : ℕ) (image : List ℕ) → IsVolume superblock (old file).now cells end → HasPlace at cells → IsSolid (old file) → IsImage (new file) image
     → (deleted : Bool) × IsVolume superblock image (with_flag at deleted cells) end =
-    subst (λ (v : VolumeFile). (superblock : List ℕ) (cells : List Cell) (end : ℕ) (image : List ℕ) → IsVolume superblock (old v.file).now cells end → HasPlace at cells → IsSolid (old v.file) → IsImage (new v.file) image
+    subst (λ (v : VolumeFile). (superblock : List ℕ) (cells : List Cell) (end : ℕ) (image : List ℕ) → IsVolume superblock (old v.file).now cells end → HasPlace at cells
+    → IsSolid (old v.file) → IsImage (new v.file) image
     → (deleted : Bool) × IsVolume superblock image (with_flag at deleted cells) end) f.volume left_was in
     may_find sup new s (with_flag at true s.cells) s.end opened.index.end opened.index.frozen [] f.lags (omega (arith, length-with_flag at true s.cells))
     (flagged_rows at s.cells)
@@ -130,7 +139,8 @@ finds_flagged sup old new opened s at f live others_was left_was =
     either superblock image found.0 found.1)
     (subst (λ (state : FileState). IndexStands sup state s opened.index.end opened.index.frozen) (sym (others (index_file s.generation) (index_not_volume s.generation))) f.index)
   where
-    either : (superblock image : List ℕ) (deleted : Bool) → IsVolume superblock image (with_flag at deleted s.cells) s.end → IsVolume superblock image s.cells s.end ⊎ IsVolume superblock image (with_flag at true s.cells) s.end
+    either : (superblock image : List ℕ) (deleted : Bool) → IsVolume superblock image (with_flag at deleted s.cells) s.end
+        → IsVolume superblock image s.cells s.end ⊎ IsVolume superblock image (with_flag at true s.cells) s.end
     either superblock image true volume = inr volume
     either superblock image false volume = inl (subst (λ (cells : List Cell). IsVolume superblock image cells s.end) (not_flagged 64 at f.cells.is.has.needles s.cells f.cells.is.has.are live) volume)
 

@@ -17,7 +17,8 @@ use Rattle.hay_map.specs.declared.place.Place.TheVariants as place
 use Rattle.hay_open.specs.Stored.{IsSealedCell, PlaceOf, Stored, last_cell, volume_file}
 use Rattle.hay_physical.specs.declared.state.Phase.{Phase}
 use Rattle.hay_physical.specs.declared.state.Phase.TheVariants.{Closed, Open}
-use Rattle.hay_physical.specs.Copies.{Copy, HasFrozen, IsUp, capacity_of, copier_goal, end_of, generation_of, goal_of, is_stuck, next_of, phase_capacity, phase_goal, phase_end, phase_generation, phase_next, phase_stuck}
+use Rattle.hay_physical.specs.Copies.{Copy, HasFrozen, IsUp, capacity_of, copier_goal, end_of, generation_of, goal_of, is_stuck, next_of, phase_capacity, phase_goal, phase_end}
+use Rattle.hay_physical.specs.Copies.{phase_generation, phase_next, phase_stuck}
 use Rattle.hay_physical.specs.Replicas.{Finds, HasLive, Holds, MayDelete, MayFind, PhaseMayDelete, Stands}
 use Rattle.hay_physical.proofs.Holding.{stand_finds}
 use Rattle.hay_physical.proofs.RunLaws.{none_next}
@@ -73,7 +74,8 @@ stands_delete files r s at stands live =
 
 -- WHAT AN IMAGE HAS
 
-pub holds_image : {D : Type 0} (files : D → Files) (r : Copy D) (stuck : Bool) (s t : Stored) (image : ℕ → List ℕ) → Holds files r stuck s t → MayLeave (files r.disk) image → Finds r.sup image stuck s t
+pub holds_image : {D : Type 0} (files : D → Files) (r : Copy D) (stuck : Bool) (s t : Stored) (image : ℕ → List ℕ) → Holds files r stuck s t → MayLeave (files r.disk) image
+    → Finds r.sup image stuck s t
 unfolding MayFind
 holds_image files r stuck s t image holds leaves = holds image leaves
 
@@ -88,7 +90,8 @@ last_live (first ∷ cells) pair cell last alive = by_rest (λ e. last_live cell
     here true is = let same : first ≡ cell = cc in (ap (λ (c : Cell). c.at) same, ap (λ (c : Cell). c.deleted) same ∙ alive)
     here false is = absurd cc
 
-    by_rest : (last_cell cells pair ≡ Some cell → HasLive cell.at cells) → (rest : Option Cell) → last_cell cells pair ≡ rest → option_or rest (cond (pair_eq first.pair pair) (Some first) None) ≡ Some cell → HasLive cell.at (first ∷ cells)
+    by_rest : (last_cell cells pair ≡ Some cell → HasLive cell.at cells) → (rest : Option Cell) → last_cell cells pair ≡ rest
+        → option_or rest (cond (pair_eq first.pair pair) (Some first) None) ≡ Some cell → HasLive cell.at (first ∷ cells)
     by_rest again (Some other) was is = inr (again (was ∙ is))
     by_rest again None was is = inl (here (pair_eq first.pair pair) is)
 

@@ -23,7 +23,8 @@ pub one_fault : {T : Type 0} (r : Result T ReplicaFault) (a b : ReplicaFault) �
 one_fault r a b was is = cc
 
 -- a cell that stands there is the one that was seen
-pub seen_head : (at : ℕ) (out file : List ℕ) (head : CellHead) (cell : Cell) → (seen : Cell) × IsCellAt at out seen × (head ≡ cell_head seen) → HasBytesAt at out file → StandsCell at file cell → head ≡ cell_head cell
+pub seen_head : (at : ℕ) (out file : List ℕ) (head : CellHead) (cell : Cell) → (seen : Cell) × IsCellAt at out seen × (head ≡ cell_head seen) → HasBytesAt at out file
+    → StandsCell at file cell → head ≡ cell_head cell
 seen_head at out file head cell seen stand here = seen.2 ∙ ap cell_head (same_cell at file seen.0 cell (stands_there at out file seen.0 seen.1 stand) here)
 
 -- what follows of a result where the disk tells

@@ -28,7 +28,8 @@ opened_stands sup files opened s o live = record {
 }
 
 -- and any one is ready for changes
-pub opened_ready : {P : Type 0} (files : Files) (opened : Opened P) → found.IsReady files opened → FilesReady files (record { head = opened.head; volume = opened.volume; index = opened.index; frozen = false; copier = Ended 0 })
+pub opened_ready : {P : Type 0} (files : Files) (opened : Opened P) → found.IsReady files opened
+    → FilesReady files (record { head = opened.head; volume = opened.volume; index = opened.index; frozen = false; copier = Ended 0 })
 opened_ready files opened r = record { volume_number = r.volume_number; index_number = r.index_number; head = r.head; volume = r.volume; index = λ live. r.index }
 
 -- THE DISK OF A REPLICA
@@ -46,7 +47,8 @@ finds_not_void sup files stuck s t left finds void =
     not_void sup (λ n. (files n).now) f.found f.is void
 
 -- it is found still where the bytes were kept, and nothing is loose
-pub finds_kept : (sup : Super) (old new : Files) (stuck : Bool) (s t : Stored) → MayLeave old (λ n. (old n).now) → ((n : ℕ) → (new n).now ≡ (old n).now) → ((n : ℕ) → IsSolid (new n)) → MayFind sup old stuck s t → MayFind sup new stuck s t
+pub finds_kept : (sup : Super) (old new : Files) (stuck : Bool) (s t : Stored) → MayLeave old (λ n. (old n).now) → ((n : ℕ) → (new n).now ≡ (old n).now)
+    → ((n : ℕ) → IsSolid (new n)) → MayFind sup old stuck s t → MayFind sup new stuck s t
 finds_kept sup old new stuck s t left kept solid finds =
     finds_left sup old new stuck s t (λ n. subst (λ (l : List ℕ). IsImage (old n) l) (sym (kept n)) (left n)) solid finds
 
@@ -56,5 +58,6 @@ pub on_any : {T E : Type 0} (r : Result T E) (P : Type 0) → P → OnErr r P
 on_any (Ok value) P p = tt
 on_any (Err fault) P p = p
 
-pub same_fault : {T : Type 0} (r : Result T OpenFault) (passed fault : OpenFault) (file at : ℕ) → r ≡ Err passed → passed ≡ fault → r ≡ Err (OpenFault.Damaged file at) → fault ≡ OpenFault.Damaged file at
+pub same_fault : {T : Type 0} (r : Result T OpenFault) (passed fault : OpenFault) (file at : ℕ) → r ≡ Err passed → passed ≡ fault → r ≡ Err (OpenFault.Damaged file at)
+    → fault ≡ OpenFault.Damaged file at
 same_fault r passed fault file at was same is = let e : passed ≡ OpenFault.Damaged file at = cc in sym same ∙ e

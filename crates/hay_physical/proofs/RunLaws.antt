@@ -1,5 +1,6 @@
 -- A compaction beside an open replica.
-use Rattle.std.proofs.Common.{true≢false, Option, ◌≡◌, ◌≢◌, ◌⊎◌, inl, inr, ℕ, suc, ◌+◌, ◌-◌, ◌≤◌, Bool, true, false, cond, List, [], ◌∷◌, length, drop, Some, None, refl, sym, ◌∙◌, ap, subst, arith, length-append, ◌&&◌}
+use Rattle.std.proofs.Common.{true≢false, Option, ◌≡◌, ◌≢◌, ◌⊎◌, inl, inr, ℕ, suc, ◌+◌, ◌-◌, ◌≤◌, Bool, true, false, cond, List, [], ◌∷◌, length, drop, Some, None, refl, sym, ◌∙◌}
+use Rattle.std.proofs.Common.{ap, subst, arith, length-append, ◌&&◌}
 use Rattle.std.proofs.lemmas.Bool.{cases_Bool}
 use Rattle.std.proofs.lemmas.List.{length-drop, length-map}
 use Rattle.hay_needle.specs.declared.needle.Cell.{Cell}
@@ -33,7 +34,8 @@ use Rattle.hay_head.specs.Head.{head_magic, row_place}
 
 -- FILES BESIDE THOSE OF A REPLICA
 
-pub stand_beside : (sup : Super) (files later : Files) (opened new : OpenFiles) (s : Stored) → FilesStand sup files opened s → KeepsFiles opened new → KeepsOtherFiles (opened.head.generation + 1) files later → FilesStand sup later new s
+pub stand_beside : (sup : Super) (files later : Files) (opened new : OpenFiles) (s : Stored) → FilesStand sup files opened s → KeepsFiles opened new
+    → KeepsOtherFiles (opened.head.generation + 1) files later → FilesStand sup later new s
 stand_beside sup files later opened new s f keeps others =
     let g = f.generation in
     let head : later 0 ≡ files 0 = others 0 (λ e. omega arith) (λ e. omega arith) in
@@ -129,7 +131,8 @@ settled_still old new settled head copier frozen = record {
   dropped = λ now. ap copier_goal copier ∙ settled.dropped (sym frozen ∙ now);
 }
 
-pub bounded_still : (capacity : ℕ) (old new : OpenFiles) → IsBounded capacity old → new.head ≡ old.head → new.volume.file ≡ old.volume.file → new.volume.capacity ≡ old.volume.capacity → old.volume.end ≤ new.volume.end → new.copier ≡ old.copier → IsBounded capacity new
+pub bounded_still : (capacity : ℕ) (old new : OpenFiles) → IsBounded capacity old → new.head ≡ old.head → new.volume.file ≡ old.volume.file
+    → new.volume.capacity ≡ old.volume.capacity → old.volume.end ≤ new.volume.end → new.copier ≡ old.copier → IsBounded capacity new
 bounded_still capacity old new bounded head file volume grows copier =
     let most = bounded.most in
     let from = bounded.from in
@@ -143,7 +146,8 @@ bounded_still capacity old new bounded head file volume grows copier =
       within = omega (arith, ap copier_next copier);
     }
 
-pub bounded_ended : (capacity : ℕ) (new : OpenFiles) (faults : ℕ) → new.volume.file ≡ volume_file new.head.generation → new.volume.capacity ≡ capacity → new.head.generation ≤ 65535 → 64 ≤ new.volume.end → new.copier ≡ Ended faults → IsBounded capacity new
+pub bounded_ended : (capacity : ℕ) (new : OpenFiles) (faults : ℕ) → new.volume.file ≡ volume_file new.head.generation → new.volume.capacity ≡ capacity → new.head.generation ≤ 65535
+    → 64 ≤ new.volume.end → new.copier ≡ Ended faults → IsBounded capacity new
 bounded_ended capacity new faults file volume most from ended = record {
   file = file;
   volume = volume;
@@ -160,7 +164,8 @@ bounded_dropped capacity old new faults bounded keeps ended =
     (ap (λ (o : OpenFiles). o.volume.capacity) keeps ∙ bounded.volume)
     (subst (λ (o : OpenFiles). o.head.generation ≤ 65535) (sym keeps) bounded.most) (subst (λ (o : OpenFiles). 64 ≤ o.volume.end) (sym keeps) bounded.from) ended
 
-pub bounded_stage : (capacity : ℕ) (old new : OpenFiles) (stage : Stage) → IsBounded capacity old → KeepsFiles old new → new.copier ≡ Standing stage → stage.capacity ≡ capacity → stage.next ≤ old.volume.end → IsBounded capacity new
+pub bounded_stage : (capacity : ℕ) (old new : OpenFiles) (stage : Stage) → IsBounded capacity old → KeepsFiles old new → new.copier ≡ Standing stage → stage.capacity ≡ capacity
+    → stage.next ≤ old.volume.end → IsBounded capacity new
 bounded_stage capacity old new stage bounded keeps stands same within = record {
   file = subst (λ (o : OpenFiles). o.volume.file ≡ volume_file o.head.generation) (sym keeps) bounded.file;
   volume = ap (λ (o : OpenFiles). o.volume.capacity) keeps ∙ bounded.volume;
@@ -179,7 +184,8 @@ bounded_next capacity old new stage later bounded keeps was is same within =
 pub examined_within : (capacity : ℕ) (opened : OpenFiles) (stage : Stage) → IsBounded capacity opened → opened.copier ≡ Standing stage → stage.next ≤ opened.volume.end
 examined_within capacity opened stage bounded is = subst (λ k. k ≤ opened.volume.end) (ap copier_next is) bounded.within
 
-pub bounded_kept : (capacity : ℕ) (old new : OpenFiles) → IsBounded capacity old → new.volume.file ≡ old.volume.file → new.volume.capacity ≡ old.volume.capacity → old.volume.end ≤ new.volume.end → KeepsCopier old new → IsBounded capacity new
+pub bounded_kept : (capacity : ℕ) (old new : OpenFiles) → IsBounded capacity old → new.volume.file ≡ old.volume.file → new.volume.capacity ≡ old.volume.capacity
+    → old.volume.end ≤ new.volume.end → KeepsCopier old new → IsBounded capacity new
 bounded_kept capacity old new bounded file volume grows keeps =
     elim (cases_Bool new.frozen) [
       | inr going ↦ bounded_still capacity old new bounded keeps.head file volume grows (keeps.same going)
@@ -189,7 +195,8 @@ bounded_kept capacity old new bounded file volume grows keeps =
             let ended = keeps.dropped going frozen in
             let most = bounded.most in
             let from = bounded.from in
-            bounded_ended capacity new ended.0 (file ∙ bounded.file ∙ ap (λ (h : Head). volume_file h.generation) (sym keeps.head)) (volume ∙ bounded.volume) (omega (arith, ap (λ (h : Head). h.generation) keeps.head)) (omega arith) ended.1
+            bounded_ended capacity new ended.0 (file ∙ bounded.file ∙ ap (λ (h : Head). volume_file h.generation) (sym keeps.head)) (volume ∙ bounded.volume)
+            (omega (arith, ap (λ (h : Head). h.generation) keeps.head)) (omega arith) ended.1
       ]
     ]
 
@@ -223,7 +230,8 @@ freeze_keeps old new faults going head frozen copier = record {
   dropped = λ before after. (faults, copier);
 }
 
-pub making_moved : (files later : Files) (stage : Stage) → IsMaking files stage → later stage.volume.file ≡ files stage.volume.file → later stage.index.file ≡ files stage.index.file → IsMaking later stage
+pub making_moved : (files later : Files) (stage : Stage) → IsMaking files stage → later stage.volume.file ≡ files stage.volume.file
+    → later stage.index.file ≡ files stage.index.file → IsMaking later stage
 making_moved files later stage m volume index = record {
   sup = m.sup;
   fresh = m.fresh;
@@ -252,12 +260,14 @@ copier_ready_kept files later old new changed settled ready same others first se
     let i = m.making.names_index in
     making_moved files later stage m (others stage.volume.file (λ e. first (omega arith))) (others stage.index.file (λ e. second (omega arith)))
 
-pub copier_ready_volume : (files later : Files) (old new : OpenFiles) → IsSettled old → FilesReady files old → IsCopierReady files old → new.copier ≡ old.copier → KeepsOthers old.volume.file files later → IsCopierReady later new
+pub copier_ready_volume : (files later : Files) (old new : OpenFiles) → IsSettled old → FilesReady files old → IsCopierReady files old → new.copier ≡ old.copier
+    → KeepsOthers old.volume.file files later → IsCopierReady later new
 copier_ready_volume files later old new settled r ready same others =
     let v = r.volume_number in
     copier_ready_kept files later old new old.volume.file settled ready same others (λ e. omega arith) (λ e. omega arith)
 
-pub copier_ready_index : (files later : Files) (old new : OpenFiles) → IsSettled old → FilesReady files old → IsCopierReady files old → new.copier ≡ old.copier → KeepsOthers old.index.file files later → IsCopierReady later new
+pub copier_ready_index : (files later : Files) (old new : OpenFiles) → IsSettled old → FilesReady files old → IsCopierReady files old → new.copier ≡ old.copier
+    → KeepsOthers old.index.file files later → IsCopierReady later new
 copier_ready_index files later old new settled r ready same others =
     let i = r.index_number in
     copier_ready_kept files later old new old.index.file settled ready same others (λ e. omega arith) (λ e. omega arith)
@@ -265,7 +275,8 @@ copier_ready_index files later old new settled r ready same others =
 -- A RUN
 
 pub run_begun : (sup : Super) (files later : Files) (opened new : OpenFiles) (stage : Stage) (s : Stored) (goal : ℕ)
-    → ((old : VolumeFile) (superblock : List ℕ) (cells : List Cell) → IsVolume superblock (files old.file).now cells old.end → old.file ≢ volume_file goal → old.file ≢ index_file goal → Copying sup later old stage cells [] 0)
+    → ((old : VolumeFile) (superblock : List ℕ) (cells : List Cell) → IsVolume superblock (files old.file).now cells old.end → old.file ≢ volume_file goal
+    → old.file ≢ index_file goal → Copying sup later old stage cells [] 0)
     → FilesStand sup files opened s → stage.generation ≡ goal → goal ≡ opened.head.generation + 1 → new.volume ≡ opened.volume → new.copier ≡ Standing stage
     → FilesRun sup later new s (record { goal = goal; left = length s.cells; tight = true })
 run_begun sup files later opened new stage s goal begun f named next volume copier =
@@ -288,7 +299,8 @@ run_begun sup files later opened new stage s goal begun f named next volume copi
     }
 
 -- the current volume file
-pub stands_volume : (sup : Super) (files : Files) (opened : OpenFiles) (s : Stored) → FilesStand sup files opened s → IsVolume (super_bytes (volume_super sup s.generation)) (files opened.volume.file).now s.cells opened.volume.end
+pub stands_volume : (sup : Super) (files : Files) (opened : OpenFiles) (s : Stored) → FilesStand sup files opened s
+    → IsVolume (super_bytes (volume_super sup s.generation)) (files opened.volume.file).now s.cells opened.volume.end
 stands_volume sup files opened s f = subst (λ (v : VolumeFile). IsVolume (super_bytes (volume_super sup s.generation)) (files v.file).now s.cells v.end) (sym f.volume) f.cells.is
 
 -- the files of the next generation are as they were
@@ -296,22 +308,26 @@ pub record KeepsNext (files later : Files) (generation : ℕ) : Type 0 where
   pub volume : later (volume_file (generation + 1)) ≡ files (volume_file (generation + 1))
   pub index : later (index_file (generation + 1)) ≡ files (index_file (generation + 1))
 
-pub next_besides_volume : (sup : Super) (files old later : Files) (opened : OpenFiles) (s : Stored) → FilesStand sup files opened s → KeepsOthers opened.volume.file old later → KeepsNext old later s.generation
+pub next_besides_volume : (sup : Super) (files old later : Files) (opened : OpenFiles) (s : Stored) → FilesStand sup files opened s → KeepsOthers opened.volume.file old later
+    → KeepsNext old later s.generation
 next_besides_volume sup files old later opened s f others =
     let file : opened.volume.file ≡ volume_file s.generation = ap (λ (v : VolumeFile). v.file) f.volume in
     record { volume = others (volume_file (s.generation + 1)) (λ e. omega arith); index = others (index_file (s.generation + 1)) (λ e. omega arith) }
 
-pub next_besides_index : (sup : Super) (files old later : Files) (opened : OpenFiles) (s : Stored) → FilesStand sup files opened s → KeepsOthers opened.index.file old later → KeepsNext old later s.generation
+pub next_besides_index : (sup : Super) (files old later : Files) (opened : OpenFiles) (s : Stored) → FilesStand sup files opened s → KeepsOthers opened.index.file old later
+    → KeepsNext old later s.generation
 next_besides_index sup files old later opened s f others =
     let file = f.index_number in
     record { volume = others (volume_file (s.generation + 1)) (λ e. omega arith); index = others (index_file (s.generation + 1)) (λ e. omega arith) }
 
-run_volume : (sup : Super) (files later : Files) (opened : OpenFiles) (s : Stored) (run : Run) → (r : FilesRun sup files opened s run) → KeepsNext files later s.generation → later r.stage.volume.file ≡ files r.stage.volume.file
+run_volume : (sup : Super) (files later : Files) (opened : OpenFiles) (s : Stored) (run : Run) → (r : FilesRun sup files opened s run) → KeepsNext files later s.generation
+    → later r.stage.volume.file ≡ files r.stage.volume.file
 run_volume sup files later opened s run r keeps =
     let at : r.stage.volume.file ≡ volume_file (s.generation + 1) = r.copying.names_volume ∙ ap volume_file (r.goal ∙ r.next) in
     subst (λ k. later k ≡ files k) (sym at) keeps.volume
 
-run_index : (sup : Super) (files later : Files) (opened : OpenFiles) (s : Stored) (run : Run) → (r : FilesRun sup files opened s run) → KeepsNext files later s.generation → later r.stage.index.file ≡ files r.stage.index.file
+run_index : (sup : Super) (files later : Files) (opened : OpenFiles) (s : Stored) (run : Run) → (r : FilesRun sup files opened s run) → KeepsNext files later s.generation
+    → later r.stage.index.file ≡ files r.stage.index.file
 run_index sup files later opened s run r keeps =
     let at : r.stage.index.file ≡ index_file (s.generation + 1) = r.copying.names_index ∙ ap index_file (r.goal ∙ r.next) in
     subst (λ k. later k ≡ files k) (sym at) keeps.index
@@ -336,7 +352,8 @@ run_kept sup files later opened new s n run r copier volume stand keeps = record
 }
 
 -- a photo was put
-pub run_put : (sup : Super) (files later : Files) (opened new : OpenFiles) (s : Stored) (pair : Pair) (cookie : Cookie) (photo : List ℕ) (run : Run) → FilesRun sup files opened s run → new.copier ≡ opened.copier → new.volume.file ≡ opened.volume.file
+pub run_put : (sup : Super) (files later : Files) (opened new : OpenFiles) (s : Stored) (pair : Pair) (cookie : Cookie) (photo : List ℕ) (run : Run)
+    → FilesRun sup files opened s run → new.copier ≡ opened.copier → new.volume.file ≡ opened.volume.file
     → FilesStand sup later new (with_cell s pair cookie photo) → KeepsNext files later s.generation → FilesRun sup later new (with_cell s pair cookie photo) (longer run)
 run_put sup files later opened new s pair cookie photo run r copier file stand keeps =
     let cell : Cell = live_cell s.end pair cookie photo in
@@ -368,7 +385,8 @@ length-flag_last pair (n ∷ needles) =
     ]
 
 -- in the current file, and then again in the new one
-pub run_deleted : (sup : Super) (files middle later : Files) (opened flagged new : OpenFiles) (s : Stored) (pair : Pair) (at : ℕ) (run : Run) (next : Stage) → (r : FilesRun sup files opened s run) → FilesStand sup files opened s
+pub run_deleted : (sup : Super) (files middle later : Files) (opened flagged new : OpenFiles) (s : Stored) (pair : Pair) (at : ℕ) (run : Run) (next : Stage)
+    → (r : FilesRun sup files opened s run) → FilesStand sup files opened s
     → flagged.volume ≡ opened.volume → FilesStand sup middle flagged (without_cell s at) → KeepsNext files middle s.generation → HasLastAt s.cells pair at
     → ((current fresh : List Cell) (examined : ℕ) → Copying sup middle flagged.volume r.stage current fresh examined → Repeats sup later flagged.volume next current fresh examined pair)
     → next.generation ≡ r.stage.generation → new.copier ≡ Standing next → new.volume ≡ flagged.volume → FilesRun sup later new (without_cell s at) (loosened run)
@@ -376,7 +394,8 @@ run_deleted sup files middle later opened flagged new s pair at run next r f vol
     let cells : List Cell = with_flag at true s.cells in
     let has = r.copying.current_is.has in
     let needles : needles_of cells ≡ flag_last pair (needles_of s.cells) =
-    subst (λ k. needles_of (with_flag k true s.cells) ≡ flag_last pair (needles_of s.cells)) last.place (flagged_needles opened.volume.end (files opened.volume.file).now s.cells pair last.cell has last.last) in
+    subst (λ k. needles_of (with_flag k true s.cells) ≡ flag_last pair (needles_of s.cells)) last.place
+    (flagged_needles opened.volume.end (files opened.volume.file).now s.cells pair last.cell has last.last) in
     let there : Copying sup middle opened.volume r.stage cells r.fresh r.examined =
     copying_delete sup files middle opened.volume r.stage s.cells r.fresh r.examined at true (super_bytes (volume_super sup s.generation)) r.copying
     (run_volume sup files middle opened s run r keeps) (run_index sup files middle opened s run r keeps)
@@ -392,7 +411,9 @@ run_deleted sup files middle later opened flagged new s pair at run next r f vol
       fresh = again.flagged;
       examined = r.examined;
       copying = subst (λ (v : VolumeFile). Copying sup later v next cells again.flagged r.examined) (sym same) again.copying;
-      copies = copies_repeated r.fresh s.cells cells again.flagged r.examined pair needles again.needles (λ other apart. copies_deleted r.fresh s.cells cells r.examined pair other needles apart (r.copies other));
+      copies =
+          copies_repeated r.fresh s.cells cells again.flagged r.examined pair needles again.needles
+          (λ other apart. copies_deleted r.fresh s.cells cells r.examined pair other needles apart (r.copies other));
       fewer = omega (arith, length-map again.flagged needle_of_cell, ap length again.needles, length-flag_last pair (needles_of r.fresh), length-map r.fresh needle_of_cell);
       left = omega (arith, length-map s.cells (λ (cell : Cell). cond (nat_eq cell.at at) (record cell { deleted = true }) cell));
       tight = λ yes. absurd (let e : false ≡ true = yes in cc);
@@ -401,7 +422,8 @@ run_deleted sup files middle later opened flagged new s pair at run next r f vol
 -- A CELL IS EXAMINED
 
 -- a copier that stands where it stood
-pub run_moves : (sup : Super) (files later : Files) (opened new : OpenFiles) (s : Stored) (run : Run) (next : Stage) → (r : FilesRun sup files opened s run) → new.copier ≡ Standing next → new.volume ≡ opened.volume → next.generation ≡ r.stage.generation
+pub run_moves : (sup : Super) (files later : Files) (opened new : OpenFiles) (s : Stored) (run : Run) (next : Stage) → (r : FilesRun sup files opened s run)
+    → new.copier ≡ Standing next → new.volume ≡ opened.volume → next.generation ≡ r.stage.generation
     → Copying sup later opened.volume next s.cells r.fresh r.examined → FilesRun sup later new s run
 run_moves sup files later opened new s run next r copier volume named copying = record {
   stage = next;
@@ -425,7 +447,8 @@ length-with_copy : (fresh : List Cell) (at n : ℕ) (cell : Cell) (copied : Bool
 length-with_copy fresh at n cell true few = omega (arith, length-append fresh (renewed at cell ∷ []))
 length-with_copy fresh at n cell false few = omega arith
 
-pub run_stepped : (sup : Super) (files later : Files) (opened new : OpenFiles) (s : Stored) (run : Run) (next : Stage) (head : CellHead) (copied : Bool) → (p : FilesPeek sup files opened s run head) → new.copier ≡ Standing next → new.volume ≡ opened.volume
+pub run_stepped : (sup : Super) (files later : Files) (opened new : OpenFiles) (s : Stored) (run : Run) (next : Stage) (head : CellHead) (copied : Bool)
+    → (p : FilesPeek sup files opened s run head) → new.copier ≡ Standing next → new.volume ≡ opened.volume
     → next.generation ≡ p.has.stage.generation → MovesOn sup later opened.volume next s.cells p.has.fresh p.has.examined p.cell p.has.stage.volume.end copied → FilesRun sup later new s (stepped run)
 run_stepped sup files later opened new s run next head copied p copier volume named moves =
     let r = p.has in
@@ -450,7 +473,8 @@ run_stepped sup files later opened new s run next head copied p copier volume na
 -- WHAT THE COPIER'S CALLS SAY
 
 -- a run at the copier that stands
-pub copying_at : (sup : Super) (files : Files) (opened : OpenFiles) (s : Stored) (run : Run) (stage : Stage) → (r : FilesRun sup files opened s run) → opened.copier ≡ Standing stage → Copying sup files opened.volume stage s.cells r.fresh r.examined
+pub copying_at : (sup : Super) (files : Files) (opened : OpenFiles) (s : Stored) (run : Run) (stage : Stage) → (r : FilesRun sup files opened s run)
+    → opened.copier ≡ Standing stage → Copying sup files opened.volume stage s.cells r.fresh r.examined
 copying_at sup files opened s run stage r is = subst (λ (x : Stage). Copying sup files opened.volume x s.cells r.fresh r.examined) (one_stage r.stage stage (sym r.stands ∙ is)) r.copying
 
 pub stage_at : (sup : Super) (files : Files) (opened : OpenFiles) (s : Stored) (run : Run) (stage : Stage) → (r : FilesRun sup files opened s run) → opened.copier ≡ Standing stage → r.stage ≡ stage
@@ -472,7 +496,8 @@ peek_one sup files later opened s run stage head r was same cell =
       copy = subst (λ (x : Stage). IsHeadOf x.next head cell.0) (sym (stage_at sup files opened s run stage r was)) cell.2;
     })
 
-pub peek_next : (o : Option CellHead) (sup : Super) (files later : Files) (opened : OpenFiles) (s : Stored) (run : Run) (stage : Stage) (r : FilesRun sup files opened s run) → opened.copier ≡ Standing stage
+pub peek_next : (o : Option CellHead) (sup : Super) (files later : Files) (opened : OpenFiles) (s : Stored) (run : Run) (stage : Stage) (r : FilesRun sup files opened s run)
+    → opened.copier ≡ Standing stage
     → later ≡ files → IfSome o (λ head. (cell : Cell) × (drop r.examined s.cells ≡ cell ∷ drop (r.examined + 1) s.cells) × IsHeadOf stage.next head cell)
     → IfSome o (λ head. FilesPeek sup later opened s run head)
 peek_next None sup files later opened s run stage r was same cell = cell
@@ -486,28 +511,36 @@ none_left (Some head) n left all sum here = here
 pub not_ended : {P : Type 0} (copier : Copier) (faults : ℕ) (x : Stage) → copier ≡ Ended faults → copier ≡ Standing x → P
 not_ended copier faults x ended is = let e : Ended faults ≡ Standing x = sym ended ∙ is in absurd cc
 
-pub run_copied : (sup : Super) (files later : Files) (opened new : OpenFiles) (s : Stored) (run : Run) (stage next : Stage) (head : CellHead) (latest : Option ℕ) (copied : Bool) → FilesPeek sup files opened s run head → opened.copier ≡ Standing stage → new.copier ≡ Standing next → new.volume ≡ opened.volume
+pub run_copied : (sup : Super) (files later : Files) (opened new : OpenFiles) (s : Stored) (run : Run) (stage next : Stage) (head : CellHead) (latest : Option ℕ) (copied : Bool)
+    → FilesPeek sup files opened s run head → opened.copier ≡ Standing stage → new.copier ≡ Standing next → new.volume ≡ opened.volume
     → next.generation ≡ stage.generation → IsLatest s.cells head.pair latest
-    → ((current fresh : List Cell) (examined : ℕ) (cell : Cell) → Copying sup files opened.volume stage current fresh examined → drop examined current ≡ cell ∷ drop (examined + 1) current → IsHeadOf stage.next head cell → IsLatest current cell.pair latest → MovesOn sup later opened.volume next current fresh examined cell stage.volume.end copied)
+    → ((current fresh : List Cell) (examined : ℕ) (cell : Cell) → Copying sup files opened.volume stage current fresh examined
+    → drop examined current ≡ cell ∷ drop (examined + 1) current → IsHeadOf stage.next head cell → IsLatest current cell.pair latest
+    → MovesOn sup later opened.volume next current fresh examined cell stage.volume.end copied)
     → FilesRun sup later new s (stepped run)
 run_copied sup files later opened new s run stage next head latest copied p was copier volume named last moves =
     let r = p.has in
     let same = stage_at sup files opened s run stage r was in
     let pair : head.pair ≡ p.cell.pair = ap (λ (x : CellHead). x.pair) p.copy.head_is in
-    let step = moves s.cells r.fresh r.examined p.cell (copying_at sup files opened s run stage r was) p.is (subst (λ (x : Stage). IsHeadOf x.next head p.cell) same p.copy) (subst (λ (q : Pair). IsLatest s.cells q latest) pair last) in
+    let step =
+    moves s.cells r.fresh r.examined p.cell (copying_at sup files opened s run stage r was) p.is (subst (λ (x : Stage). IsHeadOf x.next head p.cell) same p.copy)
+    (subst (λ (q : Pair). IsLatest s.cells q latest) pair last) in
     run_stepped sup files later opened new s run next head copied p copier volume (named ∙ ap (λ (x : Stage). x.generation) (sym same))
     (subst (λ (x : Stage). MovesOn sup later opened.volume next s.cells r.fresh r.examined p.cell x.volume.end copied) (sym same) step)
 
 -- a run whose copier did not move
-pub run_stays : (sup : Super) (files later : Files) (opened new : OpenFiles) (s : Stored) (run : Run) (stage next : Stage) → FilesRun sup files opened s run → opened.copier ≡ Standing stage → new.copier ≡ Standing next → new.volume ≡ opened.volume
-    → next.generation ≡ stage.generation → ((current fresh : List Cell) (examined : ℕ) → Copying sup files opened.volume stage current fresh examined → Copying sup later opened.volume next current fresh examined)
+pub run_stays : (sup : Super) (files later : Files) (opened new : OpenFiles) (s : Stored) (run : Run) (stage next : Stage) → FilesRun sup files opened s run
+    → opened.copier ≡ Standing stage → new.copier ≡ Standing next → new.volume ≡ opened.volume
+    → next.generation ≡ stage.generation → ((current fresh : List Cell) (examined : ℕ) → Copying sup files opened.volume stage current fresh examined
+    → Copying sup later opened.volume next current fresh examined)
     → FilesRun sup later new s run
 run_stays sup files later opened new s run stage next r was copier volume named stays =
     run_moves sup files later opened new s run next r copier volume (named ∙ ap (λ (x : Stage). x.generation) (sym (stage_at sup files opened s run stage r was)))
     (stays s.cells r.fresh r.examined (copying_at sup files opened s run stage r was))
 
 -- what the copier writes is beside the files of the replica
-pub beside_volume : (files later : Files) (opened : OpenFiles) (stage : Stage) → IsSettled opened → opened.copier ≡ Standing stage → IsMaking files stage → KeepsOthers stage.volume.file files later → KeepsOtherFiles (opened.head.generation + 1) files later
+pub beside_volume : (files later : Files) (opened : OpenFiles) (stage : Stage) → IsSettled opened → opened.copier ≡ Standing stage → IsMaking files stage
+    → KeepsOthers stage.volume.file files later → KeepsOtherFiles (opened.head.generation + 1) files later
 beside_volume files later opened stage settled is m others = λ other first second.
     let next = settled.next stage.generation (goal_is opened stage is) in
     let names = m.making.names_volume in

@@ -41,13 +41,15 @@ use Rattle.hay_physical.proofs.Standing.{index_not_volume, volume_not_head}
 
 -- WHAT IS KNOWN OF THE FILES
 
-pub files_look : {D : Type 0} (files : D → Files) (r : Copy D) (sup : Super) (disk : D) (phase : Phase) (opened : OpenFiles) (at size : ℕ) → record { sup = sup; disk = disk; phase = phase } ≡ r → phase ≡ Open opened → MaySee files r at size
+pub files_look : {D : Type 0} (files : D → Files) (r : Copy D) (sup : Super) (disk : D) (phase : Phase) (opened : OpenFiles) (at size : ℕ)
+    → record { sup = sup; disk = disk; phase = phase } ≡ r → phase ≡ Open opened → MaySee files r at size
     → MayLook (files disk opened.volume.file) opened.volume.end at size
 unfolding MaySee
 files_look files r sup disk phase opened at size view is may =
     subst (λ (p : Phase). PhaseMaySee (files disk) p at size) is (subst (λ (x : Copy _). MaySee files x at size) (sym view) may)
 
-pub files_cell : {D : Type 0} (files : D → Files) (r : Copy D) (sup : Super) (disk : D) (phase : Phase) (opened : OpenFiles) (cell : Cell) → record { sup = sup; disk = disk; phase = phase } ≡ r → phase ≡ Open opened → StandsIn files r cell
+pub files_cell : {D : Type 0} (files : D → Files) (r : Copy D) (sup : Super) (disk : D) (phase : Phase) (opened : OpenFiles) (cell : Cell)
+    → record { sup = sup; disk = disk; phase = phase } ≡ r → phase ≡ Open opened → StandsIn files r cell
     → StandsCell cell.at (files disk opened.volume.file).now cell
 unfolding StandsIn
 files_cell files r sup disk phase opened cell view is stands =
@@ -55,23 +57,28 @@ files_cell files r sup disk phase opened cell view is stands =
 
 -- WHAT THE FILES MAKE OF THE REPLICA
 
-pub open_look : {D : Type 0} (files : D → Files) (sup : Super) (disk : D) (opened : OpenFiles) (at size : ℕ) → MayLook (files disk opened.volume.file) opened.volume.end at size → MaySee files (record { sup = sup; disk = disk; phase = Open opened }) at size
+pub open_look : {D : Type 0} (files : D → Files) (sup : Super) (disk : D) (opened : OpenFiles) (at size : ℕ) → MayLook (files disk opened.volume.file) opened.volume.end at size
+    → MaySee files (record { sup = sup; disk = disk; phase = Open opened }) at size
 unfolding MaySee
 open_look files sup disk opened at size may = may
 
-pub open_cell : {D : Type 0} (files : D → Files) (sup : Super) (disk : D) (opened : OpenFiles) (cell : Cell) → StandsCell cell.at (files disk opened.volume.file).now cell → StandsIn files (record { sup = sup; disk = disk; phase = Open opened }) cell
+pub open_cell : {D : Type 0} (files : D → Files) (sup : Super) (disk : D) (opened : OpenFiles) (cell : Cell) → StandsCell cell.at (files disk opened.volume.file).now cell
+    → StandsIn files (record { sup = sup; disk = disk; phase = Open opened }) cell
 unfolding StandsIn
 open_cell files sup disk opened cell stands = stands
 
 -- a cell that stands in an open replica
-pub known_cell : {D : Type 0} (files : D → Files) (r : Copy D) (sup : Super) (disk : D) (phase : Phase) (opened : OpenFiles) (cell : Cell) → record { sup = sup; disk = disk; phase = phase } ≡ r → phase ≡ Open opened
+pub known_cell : {D : Type 0} (files : D → Files) (r : Copy D) (sup : Super) (disk : D) (phase : Phase) (opened : OpenFiles) (cell : Cell)
+    → record { sup = sup; disk = disk; phase = phase } ≡ r → phase ≡ Open opened
     → StandsCell cell.at (files disk opened.volume.file).now cell → StandsIn files r cell
 known_cell files r sup disk phase opened cell view is stands =
-    subst (λ (x : Copy _). StandsIn files x cell) view (subst (λ (p : Phase). StandsIn files (record { sup = sup; disk = disk; phase = p }) cell) (sym is) (open_cell files sup disk opened cell stands))
+    subst (λ (x : Copy _). StandsIn files x cell) view (subst (λ (p : Phase). StandsIn files (record { sup = sup; disk = disk; phase = p }) cell) (sym is)
+    (open_cell files sup disk opened cell stands))
 
 -- A CHANGE
 
-pub sight_kept : {D : Type 0} (files : D → Files) (IsKept : ℕ → ℕ → Type 0) (r : Copy D) (sup : Super) (disk new : D) (phase : Phase) (opened next : OpenFiles) → record { sup = sup; disk = disk; phase = phase } ≡ r → phase ≡ Open opened
+pub sight_kept : {D : Type 0} (files : D → Files) (IsKept : ℕ → ℕ → Type 0) (r : Copy D) (sup : Super) (disk new : D) (phase : Phase) (opened next : OpenFiles)
+    → record { sup = sup; disk = disk; phase = phase } ≡ r → phase ≡ Open opened
     → next.volume.file ≡ opened.volume.file → opened.volume.end ≤ next.volume.end
     → ((at size : ℕ) → IsKept at size → at + needle_total size ≤ opened.volume.end → KeepsRange at (needle_total size) (files disk opened.volume.file) (files new opened.volume.file))
     → KeepsSight files IsKept r (record { sup = sup; disk = new; phase = Open next })
@@ -90,14 +97,16 @@ sight_kept files IsKept r sup disk new phase opened next view is file grows keep
     }
 
 -- the volume file stays
-pub sight_same : {D : Type 0} (files : D → Files) (IsKept : ℕ → ℕ → Type 0) (r : Copy D) (sup : Super) (disk new : D) (phase : Phase) (opened next : OpenFiles) → record { sup = sup; disk = disk; phase = phase } ≡ r → phase ≡ Open opened
+pub sight_same : {D : Type 0} (files : D → Files) (IsKept : ℕ → ℕ → Type 0) (r : Copy D) (sup : Super) (disk new : D) (phase : Phase) (opened next : OpenFiles)
+    → record { sup = sup; disk = disk; phase = phase } ≡ r → phase ≡ Open opened
     → next.volume ≡ opened.volume → files new opened.volume.file ≡ files disk opened.volume.file → KeepsSight files IsKept r (record { sup = sup; disk = new; phase = Open next })
 sight_same files IsKept r sup disk new phase opened next view is volume same =
     sight_kept files IsKept r sup disk new phase opened next view is (ap (λ (v : VolumeFile). v.file) volume) (omega (arith, ap (λ (v : VolumeFile). v.end) volume))
     (λ at size kept within. range_same at (needle_total size) (files disk opened.volume.file) (files new opened.volume.file) same)
 
 -- and all files
-pub sight_moved : {D : Type 0} (files : D → Files) (IsKept : ℕ → ℕ → Type 0) (r : Copy D) (sup : Super) (disk new : D) (phase : Phase) → record { sup = sup; disk = disk; phase = phase } ≡ r → files new ≡ files disk
+pub sight_moved : {D : Type 0} (files : D → Files) (IsKept : ℕ → ℕ → Type 0) (r : Copy D) (sup : Super) (disk new : D) (phase : Phase)
+    → record { sup = sup; disk = disk; phase = phase } ≡ r → files new ≡ files disk
     → KeepsSight files IsKept r (record { sup = sup; disk = new; phase = phase })
 unfolding MaySee StandsIn
 sight_moved files IsKept r sup disk new phase view same =
@@ -112,7 +121,8 @@ sight_moved files IsKept r sup disk new phase view same =
     }
 
 -- files beside those of the replica change
-pub beside_sight : {D : Type 0} (files : D → Files) (IsKept : ℕ → ℕ → Type 0) (r : Copy D) (sup : Super) (disk new : D) (phase : Phase) (opened next : OpenFiles) → record { sup = sup; disk = disk; phase = phase } ≡ r → phase ≡ Open opened
+pub beside_sight : {D : Type 0} (files : D → Files) (IsKept : ℕ → ℕ → Type 0) (r : Copy D) (sup : Super) (disk new : D) (phase : Phase) (opened next : OpenFiles)
+    → record { sup = sup; disk = disk; phase = phase } ≡ r → phase ≡ Open opened
     → (opened.frozen ≡ true → (next ≡ opened) × (new ≡ disk)) → PhaseReady (files disk) phase → KeepsFiles opened next → KeepsOtherFiles (opened.head.generation + 1) (files disk) (files new)
     → KeepsSight files IsKept r (record { sup = sup; disk = new; phase = Open next })
 beside_sight files IsKept r sup disk new phase opened next view is frozen ready keeps others =
@@ -170,7 +180,8 @@ last_shows files r s pair cell stands last = last_one (ShowsCell files r) s.cell
 -- AN OPENING
 
 module _ {P : Type 0} where
-  place_sees : {D : Type 0} (files : D → Files) (sup : Super) (disk : D) (opened : OpenFiles) (p : Place P) → IsSolid (files disk opened.volume.file) → IsGate needle_magic opened.volume.end (files disk opened.volume.file)
+  place_sees : {D : Type 0} (files : D → Files) (sup : Super) (disk : D) (opened : OpenFiles) (p : Place P) → IsSolid (files disk opened.volume.file)
+      → IsGate needle_magic opened.volume.end (files disk opened.volume.file)
       → found.MayFlagPlace (files disk opened.volume.file) opened.volume.end p → MaySeePlace files (record { sup = sup; disk = disk; phase = Open opened }) p
   place_sees files sup disk opened (place.Live needle) solid gate may = tt
   place_sees files sup disk opened place.None solid gate may = tt
@@ -180,7 +191,8 @@ module _ {P : Type 0} where
       open_look files sup disk opened at size (record { within = may.0; inside = omega (arith, may.0); solid = λ k low high. solid.places k; free = may.1 })
 
   -- each place that was not looked at can be seen
-  pub found_sees : {D : Type 0} (files : D → Files) (sup : Super) (disk : D) (opened : OpenFiles) (cells : List (OpenCell P)) → IsSolid (files disk opened.volume.file) → IsGate needle_magic opened.volume.end (files disk opened.volume.file)
+  pub found_sees : {D : Type 0} (files : D → Files) (sup : Super) (disk : D) (opened : OpenFiles) (cells : List (OpenCell P)) → IsSolid (files disk opened.volume.file)
+      → IsGate needle_magic opened.volume.end (files disk opened.volume.file)
       → AllByRecursion (λ cell. found.MayFlagPlace (files disk opened.volume.file) opened.volume.end cell.place) cells
       → (pair : Pair) → MaySeePlace files (record { sup = sup; disk = disk; phase = Open opened }) (last_place cells pair place.None)
   found_sees files sup disk opened cells solid gate all pair =
@@ -199,7 +211,8 @@ pub stand_looked : (sup : Super) (old new : Files) (opened : OpenFiles) (s : Sto
 stand_looked sup old new opened s at n f has within_was total_was seals_was others_was =
     let file : ℕ = volume_file s.generation in
     let within : at + n ≤ s.end = omega (arith, within_was, ap (λ (v : VolumeFile). v.end) f.volume) in
-    let total : (cell : Cell) → StandsCell at (old file).now cell → needle_total (length cell.bytes) ≡ n = subst (λ (v : VolumeFile). (cell : Cell) → StandsCell at (old v.file).now cell → needle_total (length cell.bytes) ≡ n) f.volume total_was in
+    let total : (cell : Cell) → StandsCell at (old file).now cell → needle_total (length cell.bytes) ≡ n =
+    subst (λ (v : VolumeFile). (cell : Cell) → StandsCell at (old v.file).now cell → needle_total (length cell.bytes) ≡ n) f.volume total_was in
     let seals : Seals at n 28 (old file) (new file) = subst (λ (v : VolumeFile). Seals at n 28 (old v.file) (new v.file)) f.volume seals_was in
     let others : KeepsOthers file old new = subst (λ (v : VolumeFile). KeepsOthers v.file old new) f.volume others_was in
     record {
@@ -219,7 +232,8 @@ stand_looked sup old new opened s at n f has within_was total_was seals_was othe
     }
 
 -- changes can be made to them
-pub ready_looked : (old new : Files) (opened : OpenFiles) (at n : ℕ) → FilesReady old opened → at + n ≤ opened.volume.end → Seals at n 28 (old opened.volume.file) (new opened.volume.file) → KeepsOthers opened.volume.file old new → FilesReady new opened
+pub ready_looked : (old new : Files) (opened : OpenFiles) (at n : ℕ) → FilesReady old opened → at + n ≤ opened.volume.end
+    → Seals at n 28 (old opened.volume.file) (new opened.volume.file) → KeepsOthers opened.volume.file old new → FilesReady new opened
 ready_looked old new opened at n r within seals others =
     let v = r.volume_number in
     let i = r.index_number in
@@ -241,7 +255,8 @@ leaves_looked old new file at n seals others image leaves k = elim (cases_eq k f
 ]
 
 -- and an opening finds what it would have found
-pub finds_looked : (sup : Super) (old new : Files) (file : ℕ) (stuck : Bool) (s t : Stored) (at n : ℕ) → Seals at n 28 (old file) (new file) → KeepsOthers file old new → MayFind sup old stuck s t → MayFind sup new stuck s t
+pub finds_looked : (sup : Super) (old new : Files) (file : ℕ) (stuck : Bool) (s t : Stored) (at n : ℕ) → Seals at n 28 (old file) (new file) → KeepsOthers file old new
+    → MayFind sup old stuck s t → MayFind sup new stuck s t
 unfolding MayFind
 finds_looked sup old new file stuck s t at n seals others finds = λ image leaves. finds image (leaves_looked old new file at n seals others image leaves)
 

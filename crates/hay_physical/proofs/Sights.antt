@@ -131,7 +131,8 @@ pub record LooksAt (file : FileState) (end : ℕ) (cell : Cell) : Type 0 where
   pub stands : StandsCell cell.at file.now cell
 
 -- each cell of a file of which nothing is loose
-pub all_look : (from end : ℕ) (file : FileState) (cells : List Cell) → HasCells from file.now cells end → end ≤ length file.now → IsSolid file → FlagsFree file cells → AllByRecursion (LooksAt file end) cells
+pub all_look : (from end : ℕ) (file : FileState) (cells : List Cell) → HasCells from file.now cells end → end ≤ length file.now → IsSolid file → FlagsFree file cells
+    → AllByRecursion (LooksAt file end) cells
 all_look from end file [] has within solid free = tt
 all_look from end file (cell ∷ cells) has within solid free =
     let first = cells_first from end file.now cell cells has in
@@ -148,7 +149,8 @@ all_so P Q (cell ∷ cells) makes all = (makes cell all.0, all_so P Q cells make
 
 -- FLAGS BESIDE A PIECE
 
-flags_after : (from at n : ℕ) (bytes : List ℕ) (cells : List Cell) (old new : FileState) → AreCellsAt from bytes cells → at + n ≤ from → Seals at n 28 old new → FlagsFree old cells → FlagsFree new cells
+flags_after : (from at n : ℕ) (bytes : List ℕ) (cells : List Cell) (old new : FileState) → AreCellsAt from bytes cells → at + n ≤ from → Seals at n 28 old new → FlagsFree old cells
+    → FlagsFree new cells
 flags_after from at n bytes [] old new are far seals free = tt
 flags_after from at n bytes (cell ∷ cells) old new are far seals free =
     let place : cell.at ≡ from = are.3.place in (
@@ -157,7 +159,8 @@ flags_after from at n bytes (cell ∷ cells) old new are far seals free =
     )
 
 -- the piece is the needle of one of the cells
-pub flags_beside : (from end at n : ℕ) (cells : List Cell) (old new : FileState) → HasCells from old.now cells end → HasPlace at cells → ((cell : Cell) → StandsCell at old.now cell → needle_total (length cell.bytes) ≡ n)
+pub flags_beside : (from end at n : ℕ) (cells : List Cell) (old new : FileState) → HasCells from old.now cells end → HasPlace at cells
+    → ((cell : Cell) → StandsCell at old.now cell → needle_total (length cell.bytes) ≡ n)
     → Seals at n 28 old new → FlagsFree old cells → FlagsFree new cells
 flags_beside from end at n [] old new has there total seals free = absurd there
 flags_beside from end at n (cell ∷ cells) old new has (inl here) total seals free =

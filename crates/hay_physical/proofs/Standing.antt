@@ -1,5 +1,6 @@
 -- Files that stand for what a disk has, behind each change.
-use Rattle.std.proofs.Common.{◌≡◌, ◌≢◌, ◌⊎◌, inl, inr, ℕ, ◌+◌, ◌*◌, ◌<◌, ◌≤◌, Bool, true, false, List, [], ◌∷◌, ◌++◌, length, take, drop, refl, sym, ◌∙◌, ap, subst, arith, length-append, append-nil, take-append-drop}
+use Rattle.std.proofs.Common.{◌≡◌, ◌≢◌, ◌⊎◌, inl, inr, ℕ, ◌+◌, ◌*◌, ◌<◌, ◌≤◌, Bool, true, false, List, [], ◌∷◌, ◌++◌, length, take, drop, refl, sym, ◌∙◌, ap, subst, arith}
+use Rattle.std.proofs.Common.{length-append, append-nil, take-append-drop}
 use Rattle.std.specs.Prelude.{map, Result, Ok, Err, OnOk, OnErr, is_err}
 use Rattle.std.proofs.lemmas.List.{length-map, map-append, take-append-le, drop-append-le, take_all, drop_all}
 use Rattle.hay_needle.specs.declared.needle.Cell.{Cell}
@@ -23,7 +24,8 @@ use Rattle.hay_open.specs.Stored.{HeadRests, IndexRests, IsSealedCell, Stored, V
 use Rattle.hay_map.specs.Sealed.{SealedNeedle}
 use Rattle.hay_physical.specs.declared.state.OpenFiles.{OpenFiles}
 use Rattle.hay_physical.specs.Replicas.{FilesStand, HasLive, IndexStands, MayFlag, all_recorded, with_cell, without_cell}
-use Rattle.hay_physical.proofs.CellRows.{cells_row, flag_free, flags_first, flags_flagged, flags_kept, flags_more, flags_sealed, last_stands, length-with_flag, live_place, needle_there, records_flagged}
+use Rattle.hay_physical.proofs.CellRows.{cells_row, flag_free, flags_first, flags_flagged, flags_kept, flags_more, flags_sealed, last_stands, length-with_flag, live_place}
+use Rattle.hay_physical.proofs.CellRows.{needle_there, records_flagged}
 
 -- FILES OF DIFFERENT NUMBERS
 
@@ -38,7 +40,8 @@ index_not_head g e = omega arith
 
 -- RECORDS OF MORE CELLS
 
-pub same_records : (n : ℕ) (cells longer : List Cell) (more : List Record) → map cell_record longer ≡ map cell_record cells ++ more → n ≤ length cells → take n (map cell_record longer) ≡ take n (map cell_record cells)
+pub same_records : (n : ℕ) (cells longer : List Cell) (more : List Record) → map cell_record longer ≡ map cell_record cells ++ more → n ≤ length cells
+    → take n (map cell_record longer) ≡ take n (map cell_record cells)
 same_records n cells longer more rows within =
     let inside : n ≤ length (map cell_record cells) = omega (arith, length-map cells cell_record) in
     ap (λ (l : List Record). take n l) rows ∙ take-append-le n (map cell_record cells) more inside
@@ -85,7 +88,8 @@ pub stand_added : (sup : Super) (old new : Files) (opened : OpenFiles) (next : V
 stand_added sup old new opened next index row s pair cookie photo f row_is noted made =
     let volume : VolumeFile = record { file = volume_file s.generation; end = s.end; capacity = sup.settings.capacity } in
     let here : Appended old new volume next pair cookie photo = subst (λ (v : VolumeFile). Appended old new v next pair cookie photo) f.volume made in
-    let a : Appended old new volume (record volume { end = s.end + needle_total (length photo) }) pair cookie photo = subst (λ (v : VolumeFile). Appended old new volume v pair cookie photo) here.moved here in
+    let a : Appended old new volume (record volume { end = s.end + needle_total (length photo) }) pair cookie photo =
+    subst (λ (v : VolumeFile). Appended old new volume v pair cookie photo) here.moved here in
     let cell : Cell = live_cell s.end pair cookie photo in
     let end_is : opened.volume.end ≡ s.end = ap (λ (v : VolumeFile). v.end) f.volume in
     let row_there : row ≡ cell_record cell = row_is ∙ ap (λ (n : ℕ). let r : Record = record { pair = pair; at = n; size = length photo } in r) end_is in
@@ -108,8 +112,10 @@ stand_added sup old new opened next index row s pair cookie photo f row_is noted
             (free (s.end + 28) (f.cells.gate.free (s.end + 28) (omega arith)));
       };
       index = subst (λ (i : IndexFile). IndexStands sup (new (index_file s.generation)) (with_cell s pair cookie photo) i.end i.frozen) (sym noted)
-          (subst (λ (file : FileState). IndexStands sup file (with_cell s pair cookie photo) opened.index.end opened.index.frozen) (sym (a.others (index_file s.generation) (index_not_volume s.generation)))
-          (index_longer sup (old (index_file s.generation)) s (s.cells ++ cell ∷ []) (s.end + needle_total (length photo)) opened.index.end (cell_record cell ∷ []) opened.index.frozen (rows_more s.cells cell) longs f.lags f.index));
+          (subst (λ (file : FileState). IndexStands sup file (with_cell s pair cookie photo) opened.index.end opened.index.frozen)
+          (sym (a.others (index_file s.generation) (index_not_volume s.generation)))
+          (index_longer sup (old (index_file s.generation)) s (s.cells ++ cell ∷ []) (s.end + needle_total (length photo)) opened.index.end (cell_record cell ∷ [])
+          opened.index.frozen (rows_more s.cells cell) longs f.lags f.index));
     }
 
 -- THE PIECE OF THE LAST CELL
@@ -124,8 +130,10 @@ has_last : (cells : List Cell) (cell : Cell) → HasPlace cell.at (cells ++ cell
 has_last [] cell = inl refl
 has_last (first ∷ cells) cell = inr (has_last cells cell)
 
-pub stand_sealed : (sup : Super) (old new : Files) (opened : OpenFiles) (s : Stored) (pair : Pair) (cookie : Cookie) (photo : List ℕ) (at n : ℕ) → FilesStand sup old opened (with_cell s pair cookie photo) → at ≡ s.end
-    → n ≡ needle_total (length photo) → Seals at n 28 (old opened.volume.file) (new opened.volume.file) → KeepsOthers opened.volume.file old new → FilesStand sup new opened (with_cell s pair cookie photo)
+pub stand_sealed : (sup : Super) (old new : Files) (opened : OpenFiles) (s : Stored) (pair : Pair) (cookie : Cookie) (photo : List ℕ) (at n : ℕ)
+    → FilesStand sup old opened (with_cell s pair cookie photo) → at ≡ s.end
+    → n ≡ needle_total (length photo) → Seals at n 28 (old opened.volume.file) (new opened.volume.file) → KeepsOthers opened.volume.file old new
+    → FilesStand sup new opened (with_cell s pair cookie photo)
 stand_sealed sup old new opened s pair cookie photo at n f there long seals_was others_was =
     let file : ℕ = volume_file s.generation in
     let file_is : opened.volume.file ≡ file = ap (λ (v : VolumeFile). v.file) f.volume in
@@ -147,10 +155,13 @@ stand_sealed sup old new opened s pair cookie photo at n f there long seals_was 
         solid = solid_seals s.end (needle_total (length photo)) 28 (old file) (new file) f.cells.solid seals;
         gate = gate_seals needle_magic (s.end + needle_total (length photo)) s.end (needle_total (length photo)) 28 (old file) (new file) (omega arith) f.cells.gate seals;
         flags = flags_more (new file) s.cells cell
-            (flags_sealed 64 s.end (needle_total (length photo)) 28 front.0 s.cells (old file) (new file) front.1 (omega (arith, front.2)) seals (flags_first (old file) s.cells (cell ∷ []) f.cells.flags))
+            (flags_sealed 64 s.end (needle_total (length photo)) 28 front.0 s.cells (old file) (new file) front.1 (omega (arith, front.2)) seals
+            (flags_first (old file) s.cells (cell ∷ []) f.cells.flags))
             (seals.free (s.end + 28) (flag_free (old file) s.end (s.cells ++ cell ∷ []) f.cells.flags (has_last s.cells cell)) (inr refl));
       };
-      index = subst (λ (state : FileState). IndexStands sup state (with_cell s pair cookie photo) opened.index.end opened.index.frozen) (sym (others (index_file s.generation) (index_not_volume s.generation))) f.index;
+      index =
+          subst (λ (state : FileState). IndexStands sup state (with_cell s pair cookie photo) opened.index.end opened.index.frozen)
+          (sym (others (index_file s.generation) (index_not_volume s.generation))) f.index;
     }
 
 -- the piece has the needle
@@ -178,7 +189,8 @@ last_sealed Tells sup files opened s pair cookie photo bytes at size n needle f 
 -- A CELL IS FLAGGED
 
 pub record Flags (old new : Files) (file at : ℕ) : Type 0 where
-  pub flagged : (superblock : List ℕ) (cells : List Cell) (end : ℕ) → IsVolume superblock (old file).now cells end → HasPlace at cells → IsVolume superblock (new file).now (with_flag at true cells) end
+  pub flagged : (superblock : List ℕ) (cells : List Cell) (end : ℕ) → IsVolume superblock (old file).now cells end → HasPlace at cells
+      → IsVolume superblock (new file).now (with_flag at true cells) end
   pub solid : IsSolid (new file)
   pub gate : (end : ℕ) → at + 29 ≤ end → IsGate needle_magic end (old file) → IsGate needle_magic end (new file)
   pub changes : Changes (at + 28) 1 (old file) (new file)
@@ -187,7 +199,8 @@ pub record Flags (old new : Files) (file at : ℕ) : Type 0 where
 pub flagged_rows : (at : ℕ) (cells : List Cell) → map cell_record (with_flag at true cells) ≡ map cell_record cells ++ []
 flagged_rows at cells = records_flagged at true cells ∙ sym (append-nil (map cell_record cells))
 
-pub stand_flagged : (sup : Super) (old new : Files) (opened : OpenFiles) (volume : VolumeFile) (s : Stored) (at : ℕ) → FilesStand sup old opened s → HasLive at s.cells → at + 29 ≤ opened.volume.end → volume ≡ opened.volume
+pub stand_flagged : (sup : Super) (old new : Files) (opened : OpenFiles) (volume : VolumeFile) (s : Stored) (at : ℕ) → FilesStand sup old opened s → HasLive at s.cells
+    → at + 29 ≤ opened.volume.end → volume ≡ opened.volume
     → Flags old new opened.volume.file at → FilesStand sup new (record opened { volume = volume }) (without_cell s at)
 stand_flagged sup old new opened volume s at f live low_was stayed made =
     let file : ℕ = volume_file s.generation in
@@ -269,13 +282,23 @@ stand_flushed sup old new opened next s f live a =
 -- how many these were
 pub count_flushed : (sup : Super) (files : Files) (opened : OpenFiles) (s : Stored) (n : ℕ) → FilesStand sup files opened s → n ≡ length opened.index.pending → n + s.records ≡ length s.cells
 count_flushed sup files opened s n f is =
-    omega (arith, is, f.lags, ap length f.noted, ap length (all_records s), length-append (recorded s) (unrecorded s), length-map s.cells cell_record, take_long s.records (map cell_record s.cells) (omega (arith, f.lags, length-map s.cells cell_record)))
+    omega (
+      arith,
+      is,
+      f.lags,
+      ap length f.noted,
+      ap length (all_records s),
+      length-append (recorded s) (unrecorded s),
+      length-map s.cells cell_record,
+      take_long s.records (map cell_record s.cells) (omega (arith, f.lags, length-map s.cells cell_record)),
+    )
   where
     take_long : (n : ℕ) (l : List Record) → n ≤ length l → length (take n l) ≡ n
     take_long n l within = Rattle.std.proofs.lemmas.List.length-take-le n l within
 
 -- a flush that failed
-pub stand_stuck : (sup : Super) (old new : Files) (opened : OpenFiles) (next : IndexFile) (s : Stored) → FilesStand sup old opened s → opened.index.frozen ≡ false → next ≡ record opened.index { frozen = true }
+pub stand_stuck : (sup : Super) (old new : Files) (opened : OpenFiles) (next : IndexFile) (s : Stored) → FilesStand sup old opened s → opened.index.frozen ≡ false
+    → next ≡ record opened.index { frozen = true }
     → KeepsOthers opened.index.file old new
     → ((superblock : List ℕ) (records : List Record) (image : List ℕ) → IsIndex superblock (old opened.index.file).now records opened.index.end → AreInRow 64 (records ++ opened.index.pending)
     → IsSolidIn 0 opened.index.end (old opened.index.file) → IsImage (new opened.index.file) image
@@ -292,7 +315,13 @@ stand_stuck sup old new opened next s f live froze others left =
     let images : IndexStands sup (new (index_file s.generation)) s next.end true = λ image leaves.
     elim (left bytes (recorded s) image was (row_all sup old opened s f) (λ k from to. solid.places k) (subst (λ k. IsImage (new k) image) (sym f.index_number) leaves)) [
       | inl same ↦ record { records = s.records; end = opened.index.end; fewer = omega arith; lags = f.lags; is = same }
-      | inr more ↦ record { records = length s.cells; end = opened.index.end + 16 + 32 * length opened.index.pending; fewer = f.lags; lags = omega arith; is = subst (λ (l : List Record). IsIndex bytes image l (opened.index.end + 16 + 32 * length opened.index.pending)) rows more }
+      | inr more ↦ record {
+        records = length s.cells;
+        end = opened.index.end + 16 + 32 * length opened.index.pending;
+        fewer = f.lags;
+        lags = omega arith;
+        is = subst (λ (l : List Record). IsIndex bytes image l (opened.index.end + 16 + 32 * length opened.index.pending)) rows more;
+      }
     ] in
     let stuck : next.frozen ≡ true = ap (λ (i : IndexFile). i.frozen) froze in
     record {
@@ -311,7 +340,10 @@ pub stand_flag : (sup : Super) (files : Files) (opened : OpenFiles) (s : Stored)
 stand_flag sup files opened s at f live =
     let has = live_place at s.cells live in
     let range = placed 64 at f.cells.is.has.needles s.cells f.cells.is.has.are has in
-    let here : MayFlag (files (volume_file s.generation)) s.end at = record { within = omega (arith, range.1, f.cells.is.has.ends); free = flag_free (files (volume_file s.generation)) at s.cells f.cells.flags has } in
+    let here : MayFlag (files (volume_file s.generation)) s.end at = record {
+      within = omega (arith, range.1, f.cells.is.has.ends);
+      free = flag_free (files (volume_file s.generation)) at s.cells f.cells.flags has;
+    } in
     subst (λ (v : VolumeFile). MayFlag (files v.file) v.end at) (sym f.volume) here
 
 -- what follows where a call did not fail

@@ -42,12 +42,23 @@ pub old_index_apart : (files : Files) (opened : OpenFiles) → FilesReady files 
 old_index_apart files opened r e = let v = r.index_number in omega arith
 
 -- where nothing was switched
-pub unfrozen_stands : (sup : Super) (f0 f1 : Files) (opened new : OpenFiles) (stage : Stage) (s : Stored) → FilesStand sup f0 opened s → KeepsOtherFiles stage.generation f0 f1 → stage.generation ≡ opened.head.generation + 1 → new ≡ record opened { frozen = new.frozen } → FilesStand sup f1 new s
+pub unfrozen_stands : (sup : Super) (f0 f1 : Files) (opened new : OpenFiles) (stage : Stage) (s : Stored) → FilesStand sup f0 opened s → KeepsOtherFiles stage.generation f0 f1
+    → stage.generation ≡ opened.head.generation + 1 → new ≡ record opened { frozen = new.frozen } → FilesStand sup f1 new s
 unfrozen_stands sup f0 f1 opened new stage s f others named is =
     let g = stand_beside sup f0 f1 opened opened s f refl (subst (λ k. KeepsOtherFiles k f0 f1) named others) in
-    subst (λ (o : OpenFiles). FilesStand sup f1 o s) (sym is) (record { generation = g.generation; lags = g.lags; volume = g.volume; index_number = g.index_number; noted = g.noted; head = g.head; cells = g.cells; index = g.index })
+    subst (λ (o : OpenFiles). FilesStand sup f1 o s) (sym is) (record {
+      generation = g.generation;
+      lags = g.lags;
+      volume = g.volume;
+      index_number = g.index_number;
+      noted = g.noted;
+      head = g.head;
+      cells = g.cells;
+      index = g.index;
+    })
 
-pub unfrozen_ready : (f0 f1 : Files) (opened new : OpenFiles) (stage : Stage) → FilesReady f0 opened → KeepsOtherFiles stage.generation f0 f1 → stage.generation ≡ opened.head.generation + 1 → new ≡ record opened { frozen = new.frozen } → FilesReady f1 new
+pub unfrozen_ready : (f0 f1 : Files) (opened new : OpenFiles) (stage : Stage) → FilesReady f0 opened → KeepsOtherFiles stage.generation f0 f1
+    → stage.generation ≡ opened.head.generation + 1 → new ≡ record opened { frozen = new.frozen } → FilesReady f1 new
 unfrozen_ready f0 f1 opened new stage r others named is =
     let g = ready_beside f0 f1 opened opened r refl (subst (λ k. KeepsOtherFiles k f0 f1) named others) in
     subst (λ (o : OpenFiles). FilesReady f1 o) (sym is) (record { volume_number = g.volume_number; index_number = g.index_number; head = g.head; volume = g.volume; index = g.index })
@@ -56,7 +67,8 @@ unfrozen_ready f0 f1 opened new stage r others named is =
 abbrev pub swapped_files : {P : Type 0} → OpenFiles → Finished P → OpenFiles
 swapped_files opened finished = record opened { head = record { generation = opened.head.generation + 1 }; volume = finished.volume; index = finished.index }
 
-index_thawed : {P : Type 0} (Tells : Type 0) (sup : Super) (files : Files) (finished : Finished P) (stage : Stage) (fresh : List Cell) → IsFinished Tells sup files finished stage fresh → finished.index.frozen ≡ false
+index_thawed : {P : Type 0} (Tells : Type 0) (sup : Super) (files : Files) (finished : Finished P) (stage : Stage) (fresh : List Cell)
+    → IsFinished Tells sup files finished stage fresh → finished.index.frozen ≡ false
 index_thawed Tells sup files finished stage fresh fin = ap (λ (i : IndexFile). i.frozen) fin.index_is
 
 pub swap_stands : {P : Type 0} (Tells : Type 0) (sup : Super) (f0 f1 f2 : Files) (opened new : OpenFiles) (s : Stored) (stage : Stage) (fresh : List Cell) (finished : Finished P)
@@ -90,7 +102,8 @@ pub record KeepsMade (f1 f2 : Files) (generation : ℕ) : Type 0 where
   pub volume : f2 (volume_file generation) ≡ f1 (volume_file generation)
   pub index : f2 (index_file generation) ≡ f1 (index_file generation)
 
-pub made_kept : (files f1 f2 : Files) (opened : OpenFiles) (stage : Stage) → FilesReady files opened → stage.generation ≡ opened.head.generation + 1 → KeepsBut opened.volume.file opened.index.file f1 f2 → KeepsMade f1 f2 stage.generation
+pub made_kept : (files f1 f2 : Files) (opened : OpenFiles) (stage : Stage) → FilesReady files opened → stage.generation ≡ opened.head.generation + 1
+    → KeepsBut opened.volume.file opened.index.file f1 f2 → KeepsMade f1 f2 stage.generation
 made_kept files f1 f2 opened stage r named but =
     let v = r.volume_number in
     let i = r.index_number in
@@ -110,23 +123,32 @@ swap_ready Tells sup f1 f2 opened new stage fresh finished named fin is sw made 
       volume_number = file ∙ ap volume_file named;
       index_number = index ∙ ap index_file named;
       head = sw.gate;
-      volume = subst (λ k. IsGate needle_magic finished.volume.end (f2 k)) (sym file) (subst (λ k. IsGate needle_magic k (f2 (volume_file stage.generation))) (sym end) (subst (λ (x : FileState). IsGate needle_magic stage.volume.end x) (sym made.volume) fin.volume_rests.gate));
+      volume =
+          subst (λ k. IsGate needle_magic finished.volume.end (f2 k)) (sym file) (subst (λ k. IsGate needle_magic k (f2 (volume_file stage.generation))) (sym end)
+          (subst (λ (x : FileState). IsGate needle_magic stage.volume.end x) (sym made.volume) fin.volume_rests.gate));
       index = λ live. subst (λ k. IsGate index_magic finished.index.end (f2 k)) (sym index) (subst (λ (x : FileState). IsGate index_magic finished.index.end x) (sym made.index) fin.index_rests.gate);
     })
 
 -- each photo that was copied can be deleted
-flag_place : {P : Type 0} (Tells : Type 0) (sup : Super) (files : Files) (opened : OpenFiles) (t : Stored) (pair : Pair) (last : Option Cell) (x : Place P) → VolumeRests sup (files opened.volume.file) t → opened.volume.end ≡ t.end → last_cell t.cells pair ≡ last → PlaceOf Tells last x → MayFlagPlace files opened x
+flag_place : {P : Type 0} (Tells : Type 0) (sup : Super) (files : Files) (opened : OpenFiles) (t : Stored) (pair : Pair) (last : Option Cell) (x : Place P)
+    → VolumeRests sup (files opened.volume.file) t → opened.volume.end ≡ t.end → last_cell t.cells pair ≡ last → PlaceOf Tells last x → MayFlagPlace files opened x
 flag_place Tells sup files opened t pair (Some cell) (place.Live needle) rests end is fits =
     let has = last_place_of t.cells pair cell is in
     let range = placed 64 cell.at rests.is.has.needles t.cells rests.is.has.are has in
     let ends = rests.is.has.ends in
-    let there : MayFlag (files opened.volume.file) opened.volume.end cell.at = record { within = omega (arith, range.1); free = flag_free (files opened.volume.file) cell.at t.cells rests.flags has } in
+    let there : MayFlag (files opened.volume.file) opened.volume.end cell.at = record {
+      within = omega (arith, range.1);
+      free = flag_free (files opened.volume.file) cell.at t.cells rests.flags has;
+    } in
     subst (λ k. MayFlag (files opened.volume.file) opened.volume.end k) (sym fits.at) there
 flag_place Tells sup files opened t pair (Some cell) (place.Unseen at size) rests end is fits =
     let has = last_place_of t.cells pair cell is in
     let range = placed 64 cell.at rests.is.has.needles t.cells rests.is.has.are has in
     let ends = rests.is.has.ends in
-    let there : MayFlag (files opened.volume.file) opened.volume.end cell.at = record { within = omega (arith, range.1); free = flag_free (files opened.volume.file) cell.at t.cells rests.flags has } in
+    let there : MayFlag (files opened.volume.file) opened.volume.end cell.at = record {
+      within = omega (arith, range.1);
+      free = flag_free (files opened.volume.file) cell.at t.cells rests.flags has;
+    } in
     subst (λ k. MayFlag (files opened.volume.file) opened.volume.end k) (sym fits.0) there
 flag_place Tells sup files opened t pair None (place.Live needle) rests end is fits = absurd fits
 flag_place Tells sup files opened t pair None (place.Unseen at size) rests end is fits = absurd fits
@@ -138,7 +160,8 @@ pub swap_flags : {P : Type 0} (Tells : Type 0) (sup : Super) (f1 f2 : Files) (op
 swap_flags {P = P} Tells sup f1 f2 opened new stage fresh finished pair x fin is made fits =
     let file : finished.volume.file ≡ volume_file stage.generation = ap (λ (v : VolumeFile). v.file) fin.volume_is in
     let end : finished.volume.end ≡ stage.volume.end = ap (λ (v : VolumeFile). v.end) fin.volume_is in
-    let rests : VolumeRests sup (f2 finished.volume.file) (stored_of stage fresh) = subst (λ k. VolumeRests sup (f2 k) (stored_of stage fresh)) (sym file) (subst (λ (s : FileState). VolumeRests sup s (stored_of stage fresh)) (sym made.volume) fin.volume_rests) in
+    let rests : VolumeRests sup (f2 finished.volume.file) (stored_of stage fresh) =
+    subst (λ k. VolumeRests sup (f2 k) (stored_of stage fresh)) (sym file) (subst (λ (s : FileState). VolumeRests sup s (stored_of stage fresh)) (sym made.volume) fin.volume_rests) in
     subst (λ (o : OpenFiles). MayFlagPlace f2 o x) (sym is) (flag_place Tells sup f2 (swapped_files opened finished) (stored_of stage fresh) pair (last_cell fresh pair) x rests end refl fits)
 
 -- Whatever the new files are said to stand for, its cells are those that were copied.
@@ -173,8 +196,11 @@ swap_finds Tells sup f0 f1 f2 opened s stage fresh finished f others named fin l
     let index1 : f2 (index_file stage.generation) ≡ f1 (index_file stage.generation) = rest (index_file stage.generation) (λ e. omega arith) in
     elim (left (super_bytes (head_super sup)) (image 0) was (λ k low high. solid.places k) (leaves 0)) [
       | inl old ↦
-          let r = image_index sup (f0 (index_file g)) s opened.index.end opened.index.frozen (image (index_file g)) f.lags f.index (subst (λ (x : FileState). IsImage x (image (index_file g))) index0 (leaves (index_file g))) in
-          let same : image (volume_file g) ≡ (f0 (volume_file g)).now = solid_whole (f0 (volume_file g)) (image (volume_file g)) f.cells.solid (subst (λ (x : FileState). IsImage x (image (volume_file g))) volume0 (leaves (volume_file g))) in
+          let r =
+          image_index sup (f0 (index_file g)) s opened.index.end opened.index.frozen (image (index_file g)) f.lags f.index
+          (subst (λ (x : FileState). IsImage x (image (index_file g))) index0 (leaves (index_file g))) in
+          let same : image (volume_file g) ≡ (f0 (volume_file g)).now =
+          solid_whole (f0 (volume_file g)) (image (volume_file g)) f.cells.solid (subst (λ (x : FileState). IsImage x (image (volume_file g))) volume0 (leaves (volume_file g))) in
           record {
             found = record s { records = r.records };
             is = record {
@@ -187,8 +213,12 @@ swap_finds Tells sup f0 f1 f2 opened s stage fresh finished f others named fin l
             like = inl (record { cells = refl; end = refl; generation = refl; fewer = r.fewer; same = r.same });
           }
       | inr new ↦
-          let volume_same : image (volume_file stage.generation) ≡ (f1 (volume_file stage.generation)).now = solid_whole (f1 (volume_file stage.generation)) (image (volume_file stage.generation)) fin.volume_rests.solid (subst (λ (x : FileState). IsImage x (image (volume_file stage.generation))) volume1 (leaves (volume_file stage.generation))) in
-          let index_same : image (index_file stage.generation) ≡ (f1 (index_file stage.generation)).now = solid_whole (f1 (index_file stage.generation)) (image (index_file stage.generation)) fin.index_rests.solid (subst (λ (x : FileState). IsImage x (image (index_file stage.generation))) index1 (leaves (index_file stage.generation))) in
+          let volume_same : image (volume_file stage.generation) ≡ (f1 (volume_file stage.generation)).now =
+          solid_whole (f1 (volume_file stage.generation)) (image (volume_file stage.generation)) fin.volume_rests.solid
+          (subst (λ (x : FileState). IsImage x (image (volume_file stage.generation))) volume1 (leaves (volume_file stage.generation))) in
+          let index_same : image (index_file stage.generation) ≡ (f1 (index_file stage.generation)).now =
+          solid_whole (f1 (index_file stage.generation)) (image (index_file stage.generation)) fin.index_rests.solid
+          (subst (λ (x : FileState). IsImage x (image (index_file stage.generation))) index1 (leaves (index_file stage.generation))) in
           record {
             found = t;
             is = record {
@@ -196,14 +226,17 @@ swap_finds Tells sup f0 f1 f2 opened s stage fresh finished f others named fin l
               volume = subst (λ (l : List ℕ). IsVolume (super_bytes (volume_super sup stage.generation)) l fresh stage.volume.end) (sym volume_same) fin.volume_rests.is;
               lags = omega arith;
               index_end = finished.index.end;
-              index = subst (λ (l : List ℕ). IsIndex (super_bytes (index_super sup stage.generation)) l (take (length fresh) (map cell_record fresh)) finished.index.end) (sym index_same) fin.index_rests.is;
+              index =
+                  subst (λ (l : List ℕ). IsIndex (super_bytes (index_super sup stage.generation)) l (take (length fresh) (map cell_record fresh)) finished.index.end)
+                  (sym index_same) fin.index_rests.is;
             };
             like = inr (record { cells = refl; end = refl; generation = refl; fewer = omega arith; same = λ live. refl });
           }
     ]
 
 -- What a run that has examined all cells has copied.
-pub run_swaps : (sup : Super) (files : Files) (opened : OpenFiles) (s : Stored) (run : Run) (stage : Stage) → FilesStand sup files opened s → (r : FilesRun sup files opened s run) → opened.copier ≡ Standing stage → run.left ≡ 0
+pub run_swaps : (sup : Super) (files : Files) (opened : OpenFiles) (s : Stored) (run : Run) (stage : Stage) → FilesStand sup files opened s → (r : FilesRun sup files opened s run)
+    → opened.copier ≡ Standing stage → run.left ≡ 0
     → stage.volume.end ≤ stage.next → Swaps s (stored_of stage r.fresh)
 run_swaps sup files opened s run stage f r is none behind =
     let h = copying_at sup files opened s run stage r is in
@@ -223,7 +256,8 @@ run_swaps sup files opened s run stage f r is none behind =
       shorter = omega arith;
     }
 
-pub run_tight : (sup : Super) (files : Files) (opened : OpenFiles) (s : Stored) (run : Run) (stage : Stage) → (r : FilesRun sup files opened s run) → run.left ≡ 0 → IsTight run s (stored_of stage r.fresh)
+pub run_tight : (sup : Super) (files : Files) (opened : OpenFiles) (s : Stored) (run : Run) (stage : Stage) → (r : FilesRun sup files opened s run) → run.left ≡ 0
+    → IsTight run s (stored_of stage r.fresh)
 run_tight sup files opened s run stage r none = λ yes.
     let left = r.left in
     r.tight yes ∙ ap (map renewed_needle) (all_among r.examined (needles_of s.cells) (omega (arith, length-map s.cells needle_of_cell)))

@@ -22,7 +22,8 @@ ghost use Rattle.hay_physical.specs.Copies.{goal_of, is_frozen, is_stuck, next_o
 ghost use Rattle.hay_physical.specs.Draws.{DrewRecorded};
 ghost use Rattle.hay_physical.specs.Faults.{IsDeleteFault, IsFlushFault, IsPutFault};
 ghost use Rattle.hay_needle.specs.Tables.{pair_eq};
-ghost use Rattle.hay_physical.specs.Replicas.{Anywhere, ApartFrom, ArePlacesApart, HasLive, HasWholeNeedle, Holds, IsApart, IsIdleCopy, IsLike, IsWholeNeedle, KeepsSight, MayDelete, MayDeletePlace, MaySee, MaySeePlace, ShowsCell, Stands, all_recorded, with_cell, without_cell};
+ghost use Rattle.hay_physical.specs.Replicas.{Anywhere, ApartFrom, ArePlacesApart, HasLive, HasWholeNeedle, Holds, IsApart, IsIdleCopy, IsLike, IsWholeNeedle, KeepsSight};
+ghost use Rattle.hay_physical.specs.Replicas.{MayDelete, MayDeletePlace, MaySee, MaySeePlace, ShowsCell, Stands, all_recorded, with_cell, without_cell};
 
 use crate::fault::ReplicaFault;
 use crate::state::{Copier, OpenFiles, Phase};

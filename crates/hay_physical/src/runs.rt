@@ -281,7 +281,8 @@ impl OpenFiles {
         ensures removed { D.Tells → OnOk result (RemovedBoth (D.files disk.new) self.old.volume.file self.old.index.file (D.fault_count disk.old) (D.fault_count disk.new)) }
         ensures kept { D.Tells → (sup : Super) (s : Stored) → self.old.frozen ≡ false → FilesStand sup (D.files disk.old) self.old s →
             OnErr result (self.new.frozen ≡ false → FilesStand sup (D.files disk.new) self.new s) }
-        ensures unsure { D.Tells → (sup : Super) (s : Stored) (run : Run) → self.old.frozen ≡ false → FilesStand sup (D.files disk.old) self.old s → FilesRun sup (D.files disk.old) self.old s run → run.left ≡ 0 →
+        ensures unsure { D.Tells → (sup : Super) (s : Stored) (run : Run) → self.old.frozen ≡ false → FilesStand sup (D.files disk.old) self.old s
+            → FilesRun sup (D.files disk.old) self.old s run → run.left ≡ 0 →
             OnErr result (self.new.frozen ≡ true → (t : Stored) × Swaps s t × IsTight run s t × MayFind sup (D.files disk.new) self.old.index.frozen s t) }
         ensures froze { self.new.frozen ≡ true → self.old.frozen ≡ false → result ≡ Err (ReplicaFault.Failed (D.fault_count disk.new)) }
         ensures same { OnErr result (KeepsFiles self.old (record self.new { frozen = self.old.frozen })) }

@@ -1,5 +1,6 @@
 -- Lists of streams: how many are not ended, and what takes change.
-use Rattle.std.proofs.Common.{◌≡◌, ◌≢◌, ◌⊎◌, ℕ, zero, suc, ◌+◌, ◌<◌, Bool, true, false, List, [], ◌∷◌, ◌++◌, length, replicate, get_or, set, Some, None, slice_get, refl, ap, sym, subst, ◌∙◌, inl, inr, ⊎_elim, arith}
+use Rattle.std.proofs.Common.{◌≡◌, ◌≢◌, ◌⊎◌, ℕ, zero, suc, ◌+◌, ◌<◌, Bool, true, false, List, [], ◌∷◌, ◌++◌, length, replicate, get_or, set, Some, None, slice_get, refl, ap, sym}
+use Rattle.std.proofs.Common.{subst, ◌∙◌, inl, inr, ⊎_elim, arith}
 use Rattle.std.proofs.lemmas.List.{replicate-append-replicate, length-set, length-append}
 use Rattle.std.proofs.lemmas.Option.{slice_get-get_or}
 use Rattle.hay_queue.specs.declared.rule.Stream.{Stream}
@@ -55,7 +56,8 @@ pub no_takes : (ss : List Stream) → TakesEnds ss ss
 no_takes ss = record { clients = refl; each = λ c s t e f. let same : s ≡ t = cc (e, f) in (ap (λ (x : Stream). x.names) (sym same), λ h. ap (λ (x : Stream). x.ended) (sym same) ∙ h) }
 
 -- one end more
-pub end_taken : (old between : List Stream) (client : ℕ) (s t : Stream) → TakesEnds old between → slice_get between client ≡ Some s → t.names ≡ s.names → t.ended ≡ true → TakesEnds old (set between client t)
+pub end_taken : (old between : List Stream) (client : ℕ) (s t : Stream) → TakesEnds old between → slice_get between client ≡ Some s → t.names ≡ s.names → t.ended ≡ true
+    → TakesEnds old (set between client t)
 end_taken old between client s t before at names ended = record {
   clients = length-set between client t ∙ before.clients;
   each = λ c x y e f. ⊎_elim
@@ -67,10 +69,14 @@ end_taken old between client s t before at names ended = record {
 
 module _ (old new : List Stream) (client place : ℕ) where
   pub unended_job : (name : ℕ) → TakesNext old new client place (Some name) → unended_streams new ≡ unended_streams old
-  unended_job name t = let h = unended_set old client t.before (followed t.before (Some name)) t.stands in let e : unended_streams new ≡ unended_streams (set old client (followed t.before (Some name))) = ap unended_streams t.after in omega arith
+  unended_job name t =
+      let h = unended_set old client t.before (followed t.before (Some name)) t.stands in let e : unended_streams new
+      ≡ unended_streams (set old client (followed t.before (Some name))) = ap unended_streams t.after in omega arith
 
   pub unended_end : TakesNext old new client place None → unended_streams new + 1 ≡ unended_streams old
-  unended_end t = let h = unended_set old client t.before (followed t.before None) t.stands in let e : unended_streams new ≡ unended_streams (set old client (followed t.before None)) = ap unended_streams t.after in
+  unended_end t =
+      let h = unended_set old client t.before (followed t.before None) t.stands in let e : unended_streams new
+      ≡ unended_streams (set old client (followed t.before None)) = ap unended_streams t.after in
       let one : if_unended t.before.ended ≡ 1 = ap if_unended t.going_on in omega arith
 
   pub ends_more : (first : List Stream) → TakesEnds first old → TakesNext old new client place None → TakesEnds first new

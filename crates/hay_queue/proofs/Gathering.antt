@@ -11,7 +11,8 @@ use Rattle.hay_queue.proofs.Steps.{got_here}
 same_lane : (a b n : ℕ) → a % n ≡ b % n → a / n ≡ b / n → a ≡ b
 same_lane a b n m d = sym (mod-add-div' a n) ∙ (ap (λ (r : ℕ). r + a / n * n) m ∙ (ap (λ (q : ℕ). b % n + q * n) d ∙ mod-add-div' b n))
 
-module _ {O : Type 0} (kits : List (Kit O)) (seats lane : ℕ) (old new : Kit O) (at : slice_get kits (lane % seats) ≡ Some old) (others : (k : ℕ) → k ≢ lane / seats → slice_get new.outs.items k ≡ slice_get old.outs.items k) where
+module _ {O : Type 0} (kits : List (Kit O)) (seats lane : ℕ) (old new : Kit O) (at : slice_get kits (lane % seats) ≡ Some old)
+    (others : (k : ℕ) → k ≢ lane / seats → slice_get new.outs.items k ≡ slice_get old.outs.items k) where
   got_other : (xs : List (Kit O)) (i j : ℕ) (x : Kit O) → j ≢ i → slice_get (set xs i x) j ≡ slice_get xs j
   got_other [] i j x n = refl
   got_other (y ∷ ys) zero zero x n = absurd (n refl)
@@ -45,9 +46,11 @@ module _ {A : Type 0} where
   got_last (x ∷ xs) a zero e = absurd (omega arith)
   got_last (x ∷ xs) a (suc i) e = got_last xs a i (omega arith)
 
-module _ {O : Type 0} (kits : List (Kit O)) (seats lane : ℕ) (old : Kit O) (at : slice_get kits (lane % seats) ≡ Some old) (answers after : List (Vec O Global)) (outs : Vec O Global) (many : length answers ≡ lane)
+module _ {O : Type 0} (kits : List (Kit O)) (seats lane : ℕ) (old : Kit O) (at : slice_get kits (lane % seats) ≡ Some old) (answers after : List (Vec O Global))
+    (outs : Vec O Global) (many : length answers ≡ lane)
     (more : after ≡ answers ++ outs ∷ []) (taken : slice_get old.outs.items (lane / seats) ≡ Some outs) (other : ℕ) (os : Vec O Global) {First : Type 0} where
-  given_now : (lane ≤ other → First → OutsAt kits seats other os) → (other < lane → First → slice_get answers other ≡ Some os) → other < lane + 1 → First → Dec (other ≡ lane) → slice_get after other ≡ Some os
+  given_now : (lane ≤ other → First → OutsAt kits seats other os) → (other < lane → First → slice_get answers other ≡ Some os) → other < lane + 1 → First → Dec (other ≡ lane)
+      → slice_get after other ≡ Some os
   given_now kept given lt first (no apart) = ap (λ (l : List (Vec O Global)). slice_get l other) more ∙ got_before answers outs os other (given (omega arith) first)
   given_now kept given lt first (yes is) =
       let there = kept (omega arith) first in

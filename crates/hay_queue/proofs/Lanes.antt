@@ -33,7 +33,8 @@ module _ {W J O : Type 0} where
   its_kit : (slot : Option (Bench W J O)) (b : Bench W J O) (k : Kit O) → slot ≡ Some b → Some k ≡ kit_in slot → k ≡ b.kit
   its_kit slot b k is e = let same : Some k ≡ kit_in (Some b) = e ∙ ap kit_in is in cc same
 
-  module _ (seats : ℕ) (jobs : List (Vec J Global)) (workers : List W) (benches : List (Option (Bench W J O))) (many : length workers ≡ seats) (by_worker : map worker_in benches ≡ map (λ w. Some w) workers) where
+  module _ (seats : ℕ) (jobs : List (Vec J Global)) (workers : List W) (benches : List (Option (Bench W J O))) (many : length workers ≡ seats)
+      (by_worker : map worker_in benches ≡ map (λ w. Some w) workers) where
     abbrev lists : List (List J)
     lists = map (λ (v : Vec J Global). v.items) jobs
 
@@ -41,7 +42,8 @@ module _ {W J O : Type 0} where
     worker_at : (seat : ℕ) (slot : Option (Bench W J O)) → slice_get benches seat ≡ Some slot → (b : Bench W J O) × (slot ≡ Some b) × (slice_get workers seat ≡ Some b.worker)
     worker_at seat slot at = let w = beside worker_in (λ (w : W). Some w) benches workers by_worker seat slot at in let b = full slot w.0 w.2 in (b.0, b.1, w.1 ∙ ap (λ (x : W). Some x) b.2)
 
-    pub are_ready : (may_answer : W → ℕ → J → Type 0) (kits : List (Kit O)) → map kit_in benches ≡ map (λ k. Some k) kits → ((seat : ℕ) (kit : Kit O) → slice_get kits seat ≡ Some kit → IsKit seat seats jobs kit)
+    pub are_ready : (may_answer : W → ℕ → J → Type 0) (kits : List (Kit O)) → map kit_in benches ≡ map (λ k. Some k) kits
+        → ((seat : ℕ) (kit : Kit O) → slice_get kits seat ≡ Some kit → IsKit seat seats jobs kit)
         → MayServe may_answer workers lists → (seat : ℕ) (slot : Option (Bench W J O)) → slice_get benches seat ≡ Some slot → IsReady seat seats may_answer jobs slot
     are_ready may_answer kits by_kit are_kits may seat slot at =
         let b = worker_at seat slot at in
@@ -59,7 +61,8 @@ module _ {W J O : Type 0} where
     module _ (answers : W → ℕ → J → W → O → Type 0) (after : List (Option (Bench W J O))) (stay : length after ≡ seats)
         (served : (seat : ℕ) (slot now : Option (Bench W J O)) → slice_get benches seat ≡ Some slot → slice_get after seat ≡ Some now → IsServed seat seats answers jobs slot now) where
       -- what a worker has done
-      pub done : (seat : ℕ) → seat < seats → (b x : Bench W J O) × (slice_get workers seat ≡ Some b.worker) × (slice_get after seat ≡ Some (Some x)) × Served seat seats answers jobs b.worker x.worker x.kit.outs.items
+      pub done : (seat : ℕ) → seat < seats → (b x : Bench W J O) × (slice_get workers seat ≡ Some b.worker) × (slice_get after seat ≡ Some (Some x))
+          × Served seat seats answers jobs b.worker x.worker x.kit.outs.items
       done seat lt =
           let long : length benches ≡ length workers = as_long worker_in (λ (w : W). Some w) benches workers by_worker in
           let slot = item_at benches seat (omega arith) in
@@ -69,9 +72,11 @@ module _ {W J O : Type 0} where
           (b.0, s.0, b.2, now.1 ∙ ap (λ (o : Option (Bench W J O)). Some o) s.1, s.2)
 
       pub all_there : All (λ (slot : Option (Bench W J O)). IsSome slot) after
-      all_there seat d lt = let x = done seat (omega arith) in let same : Some x.1 ≡ get_or after seat d = cc (sym x.3 ∙ slice_get-get_or after seat d lt) in subst (λ (o : Option (Bench W J O)). IsSome o) same refl
+      all_there seat d lt =
+          let x = done seat (omega arith) in let same : Some x.1 ≡ get_or after seat d = cc (sym x.3 ∙ slice_get-get_or after seat d lt) in subst (λ (o : Option (Bench W J O)). IsSome o) same refl
 
-      module _ (workers_now : List W) (kits_now : List (Kit O)) (now_workers : map (λ w. Some w) workers_now ≡ map worker_in after) (now_kits : map (λ k. Some k) kits_now ≡ map kit_in after) (some : 0 < seats) where
+      module _ (workers_now : List W) (kits_now : List (Kit O)) (now_workers : map (λ w. Some w) workers_now ≡ map worker_in after)
+          (now_kits : map (λ k. Some k) kits_now ≡ map kit_in after) (some : 0 < seats) where
         pub kits_many : length kits_now ≡ seats
         kits_many = as_long (λ (k : Kit O). Some k) kit_in kits_now after now_kits ∙ stay
 
@@ -79,11 +84,14 @@ module _ {W J O : Type 0} where
         kit_at seat x at = let k = beside kit_in (λ (k : Kit O). Some k) after kits_now (sym now_kits) seat (Some x) at in let same : k.0 ≡ x.kit = cc k.2 in k.1 ∙ ap (λ (z : Kit O). Some z) same
 
         worker_now : (seat : ℕ) (x : Bench W J O) → slice_get after seat ≡ Some (Some x) → slice_get workers_now seat ≡ Some x.worker
-        worker_now seat x at = let w = beside worker_in (λ (w : W). Some w) after workers_now (sym now_workers) seat (Some x) at in let same : w.0 ≡ x.worker = cc w.2 in w.1 ∙ ap (λ (z : W). Some z) same
+        worker_now seat x at =
+            let w = beside worker_in (λ (w : W). Some w) after workers_now (sym now_workers) seat (Some x) at in let same : w.0 ≡ x.worker = cc w.2 in w.1 ∙ ap (λ (z : W). Some z) same
 
         -- the answers to a lane, and its steps
-        lane_done : (seat : ℕ) (x : Bench W J O) (w : W) (s : Served seat seats answers jobs w x.worker x.kit.outs.items) (lane : ℕ) (js : Vec J Global) → slice_get after seat ≡ Some (Some x) → lane % seats ≡ seat → slice_get jobs lane ≡ Some js
-            → (os : Vec O Global) × OutsAt kits_now seats lane os × (map (λ (y : Step J O). y.out) (steps_of lane s.steps) ≡ os.items) × (map (λ (y : Step J O). y.job) (steps_of lane s.steps) ≡ js.items)
+        lane_done : (seat : ℕ) (x : Bench W J O) (w : W) (s : Served seat seats answers jobs w x.worker x.kit.outs.items) (lane : ℕ) (js : Vec J Global)
+            → slice_get after seat ≡ Some (Some x) → lane % seats ≡ seat → slice_get jobs lane ≡ Some js
+            → (os : Vec O Global) × OutsAt kits_now seats lane os × (map (λ (y : Step J O). y.out) (steps_of lane s.steps) ≡ os.items)
+            × (map (λ (y : Step J O). y.job) (steps_of lane s.steps) ≡ js.items)
         lane_done seat x w s lane js at own here =
             let again : lane_at seat seats (lane / seats) ≡ lane = ap (λ (n : ℕ). lane_at n seats (lane / seats)) (sym own) ∙ lane_again lane seats in
             let h = s.each (lane / seats) js (ap (slice_get jobs) again ∙ here) in (
@@ -94,9 +102,11 @@ module _ {W J O : Type 0} where
             )
 
         pub each_lane : (lane : ℕ) → lane < length jobs → (os : Vec O Global) × OutsAt kits_now seats lane os
-        each_lane lane lt = let seat : ℕ = lane % seats in let x = done seat (mod-lt lane some) in let js = item_at jobs lane lt in let h = lane_done seat x.1 x.0.worker x.4 lane js.0 x.3 refl js.1 in (h.0, h.1)
+        each_lane lane lt =
+            let seat : ℕ = lane % seats in let x = done seat (mod-lt lane some) in let js = item_at jobs lane lt in let h = lane_done seat x.1 x.0.worker x.4 lane js.0 x.3 refl js.1 in (h.0, h.1)
 
-        pub serves_lanes : (outs : List (Vec O Global)) → length outs ≡ length jobs → ((lane : ℕ) (os : Vec O Global) → lane < length jobs → OutsAt kits_now seats lane os → slice_get outs lane ≡ Some os)
+        pub serves_lanes : (outs : List (Vec O Global)) → length outs ≡ length jobs → ((lane : ℕ) (os : Vec O Global) → lane < length jobs → OutsAt kits_now seats lane os
+            → slice_get outs lane ≡ Some os)
             → ServesLanes answers workers lists workers_now (map (λ (v : Vec O Global). v.items) outs)
         serves_lanes outs long given = let items : Vec O Global → List O = λ v. v.items in let lists_of : Vec J Global → List J = λ v. v.items in record {
           workers_stay = as_long (λ (w : W). Some w) worker_in workers_now after now_workers ∙ (stay ∙ sym many);

@@ -1,5 +1,6 @@
 -- Each step keeps the rule.
-use Rattle.std.proofs.Common.{◌≡◌, ◌≢◌, ℕ, zero, suc, ◌<◌, ◌≤◌, ◌==◌, eq-eqb, ne_eqb, Bool, true, false, true≢false, List, [], ◌∷◌, ◌++◌, length, set, Option, Some, None, slice_get, refl, ap, sym, subst, ◌∙◌, ⊎_elim, ◌⊎◌, inl, inr, arith, append_assoc, if◌then◌else◌}
+use Rattle.std.proofs.Common.{◌≡◌, ◌≢◌, ℕ, zero, suc, ◌<◌, ◌≤◌, ◌==◌, eq-eqb, ne_eqb, Bool, true, false, true≢false, List, [], ◌∷◌, ◌++◌, length, set, Option, Some, None}
+use Rattle.std.proofs.Common.{slice_get, refl, ap, sym, subst, ◌∙◌, ⊎_elim, ◌⊎◌, inl, inr, arith, append_assoc, if◌then◌else◌}
 use Rattle.std.proofs.lemmas.List.{append-nil, length-append, length-set, get_or_past, get_or-set_same, get_or-set_other}
 use Rattle.std.proofs.lemmas.Option.{slice_get-get_or, get_or_from_slice_get}
 use mathlib.Core.Option.{some, some-injective, some-ne-none}
@@ -81,7 +82,8 @@ module _ {J : Type 0} (named : J → ℕ) where
   sent_on heard said items m client going from next old c (yes is) =
       let here_now : but said client (followed (said client) (said_of m)) c ≡ followed (said client) (said_of m) = here said client c (followed (said client) (said_of m)) is in
       let mine : entries_of named c (m ∷ []) ≡ entry m ∷ [] = of_one c m [] (from ∙ sym is) in
-      let step : entries_of named c (items ++ m ∷ []) ≡ entries_of named c items ++ entry m ∷ [] = entries_of-append named c items (m ∷ []) ∙ ap (λ (l : List Entry). entries_of named c items ++ l) mine in
+      let step : entries_of named c (items ++ m ∷ []) ≡ entries_of named c items ++ entry m ∷ [] =
+      entries_of-append named c items (m ∷ []) ∙ ap (λ (l : List Entry). entries_of named c items ++ l) mine in
       let whole : entries (stream_at heard c) ++ (entries_of named c items ++ entry m ∷ []) ≡ entries (said c) ++ entry m ∷ [] =
       sym (append_assoc (entries (stream_at heard c)) (entries_of named c items) (entry m ∷ [])) ∙ ap (λ (l : List Entry). l ++ entry m ∷ []) (old c) in
       let more : entries (followed (said client) (said_of m)) ≡ entries (said client) ++ entry m ∷ [] =
@@ -89,7 +91,8 @@ module _ {J : Type 0} (named : J → ℕ) where
       ap (λ (l : List Entry). entries (stream_at heard c) ++ l) step ∙ (whole ∙ (ap (λ (k : ℕ). entries (said k) ++ entry m ∷ []) is ∙ (sym more ∙ ap entries (sym here_now))))
   sent_on heard said items m client going from next old c (no other) =
       let none : entries_of named c (m ∷ []) ≡ [] = of_other c m [] (λ h. other (sym h ∙ from)) in
-      let step : entries_of named c (items ++ m ∷ []) ≡ entries_of named c items = entries_of-append named c items (m ∷ []) ∙ (ap (λ (l : List Entry). entries_of named c items ++ l) none ∙ append-nil (entries_of named c items)) in
+      let step : entries_of named c (items ++ m ∷ []) ≡ entries_of named c items =
+      entries_of-append named c items (m ∷ []) ∙ (ap (λ (l : List Entry). entries_of named c items ++ l) none ∙ append-nil (entries_of named c items)) in
       ap (λ (l : List Entry). entries (stream_at heard c) ++ l) step ∙ (old c ∙ ap entries (sym (elsewhere said client c (followed (said client) (said_of m)) other)))
 
   pub sends : (n port : ℕ) (v : Knows) (m : M) → v.sends ≡ true → v.sent.ended ≡ false → m.from ≡ v.number → m.place ≡ length v.sent.names → Pushes K n port v m (sent named v m)
@@ -106,9 +109,19 @@ module _ {J : Type 0} (named : J → ℕ) where
           said = said;
           heard = h.heard;
           none_else = λ c le. elsewhere h.said v.number c (followed (h.said v.number) (said_of m)) (λ is. let lt = mine.2 in absurd (omega arith)) ∙ h.none_else c le;
-          in_order = λ c. sent_on h.heard h.said items m v.number (ap (λ (s : Stream). s.ended) (sym same) ∙ going) from (next ∙ ap (λ (s : Stream). length s.names) same) h.in_order c (ℕ_discrete c v.number);
+          in_order =
+              λ c. sent_on h.heard h.said items m v.number (ap (λ (s : Stream). s.ended) (sym same) ∙ going) from (next ∙ ap (λ (s : Stream). length s.names) same) h.in_order c
+              (ℕ_discrete c v.number);
           each_pass = all_set (Fits h.worker h.seat said h.heard) views port w
-              (record { takes = fit.takes; sends = λ _. (mine.0, ap (λ (s : Stream). followed s (said_of m)) same ∙ sym (here h.said v.number v.number (followed (h.said v.number) (said_of m)) refl), mine.2) })
+              (record {
+                takes = fit.takes;
+                sends = λ _. (
+                  mine.0,
+                  ap (λ (s : Stream). followed s (said_of m)) same
+                      ∙ sym (here h.said v.number v.number (followed (h.said v.number) (said_of m)) refl),
+                  mine.2,
+                );
+              })
               (λ j u other e. let theirs = h.each_pass j u e in record {
                 takes = theirs.takes;
                 sends = λ p. let t = theirs.sends p in (
@@ -122,7 +135,8 @@ module _ {J : Type 0} (named : J → ℕ) where
       )
 
   -- what was taken of a client, with one entry more
-  taken_on : (heard : List Stream) (said : ℕ → Stream) (items : List M) (m : M) → m.from < length heard → (stream_at heard m.from).ended ≡ false → entry m ≡ entry_at (length (stream_at heard m.from).names) (said_of m)
+  taken_on : (heard : List Stream) (said : ℕ → Stream) (items : List M) (m : M) → m.from < length heard → (stream_at heard m.from).ended ≡ false
+      → entry m ≡ entry_at (length (stream_at heard m.from).names) (said_of m)
       → ((c : ℕ) → entries (stream_at heard c) ++ entries_of named c (m ∷ items) ≡ entries (said c))
       → (c : ℕ) → Dec (c ≡ m.from) → entries (stream_at (set heard m.from (followed (stream_at heard m.from) (said_of m))) c) ++ entries_of named c items ≡ entries (said c)
   taken_on heard said items m within going next old c (yes is) =
@@ -132,7 +146,8 @@ module _ {J : Type 0} (named : J → ℕ) where
       let more : entries (followed s (said_of m)) ≡ entries s ++ entry m ∷ [] = entries-followed s (said_of m) going ∙ ap (λ (e : Entry). entries s ++ e ∷ []) (sym next) in
       let was : entries s ++ (entry m ∷ entries_of named c items) ≡ entries (said c) =
       ap (λ (l : List Entry). entries s ++ l) (sym (of_one c m items (sym is))) ∙ (ap (λ (k : ℕ). entries (stream_at heard k) ++ entries_of named c (m ∷ items)) (sym is) ∙ old c) in
-      ap (λ (t : Stream). entries t ++ entries_of named c items) now ∙ (ap (λ (l : List Entry). l ++ entries_of named c items) more ∙ (append_assoc (entries s) (entry m ∷ []) (entries_of named c items) ∙ was))
+      ap (λ (t : Stream). entries t ++ entries_of named c items) now ∙ (ap (λ (l : List Entry). l ++ entries_of named c items) more
+      ∙ (append_assoc (entries s) (entry m ∷ []) (entries_of named c items) ∙ was))
   taken_on heard said items m within going next old c (no other) =
       let s : Stream = stream_at heard m.from in
       ap (λ (t : Stream). entries t ++ entries_of named c items) (get_or-set_other heard m.from c (followed s (said_of m)) empty other)
@@ -174,7 +189,10 @@ module _ {J : Type 0} (named : J → ℕ) where
           none_else = λ c le. h.none_else c (longer c le);
           in_order = λ c. taken_on h.heard h.said items m within follows.0 (numbered_next m.place (length s.names) (said_of m) place) h.in_order c (ℕ_discrete c m.from);
           each_pass = all_set (Fits h.worker h.seat h.said heard) views port w
-              (record { takes = λ _. (mine.0, ap (λ (l : List Stream). set l m.from (followed s (said_of m))) mine.1); sends = λ p. let t = fit.sends p in (t.0, t.1, shorter h.heard m.from (followed s (said_of m)) v.number t.2) })
+              (record {
+                takes = λ _. (mine.0, ap (λ (l : List Stream). set l m.from (followed s (said_of m))) mine.1);
+                sends = λ p. let t = fit.sends p in (t.0, t.1, shorter h.heard m.from (followed s (said_of m)) v.number t.2);
+              })
               (λ j u other e. let theirs = h.each_pass j u e in record {
                 takes = λ p. absurd (other ((theirs.takes p).0 ∙ sym mine.0));
                 sends = λ p. let t = theirs.sends p in (t.0, t.1, shorter h.heard m.from (followed s (said_of m)) u.number t.2);
@@ -249,7 +267,8 @@ module _ {J : Type 0} (named : J → ℕ) where
       }
 
   -- what was taken of a client and what the queue holds of it is what it sent
-  accounts : (items : List M) (views : List Knows) (worker client : ℕ) (v u : Knows) → K items views → get_elem? views worker ≡ some v → get_elem? views client ≡ some u → v.takes ≡ true → u.sends ≡ true
+  accounts : (items : List M) (views : List Knows) (worker client : ℕ) (v u : Knows) → K items views → get_elem? views worker ≡ some v → get_elem? views client ≡ some u
+      → v.takes ≡ true → u.sends ≡ true
       → entries (stream_at v.heard u.number) ++ entries_of named u.number items ≡ entries u.sent
   accounts items views worker client v u h at_worker at_client may may' =
       let mine = (h.each_pass worker v at_worker).takes may in
@@ -268,12 +287,15 @@ module _ {J : Type 0} (named : J → ℕ) where
       (settled s v.sent (entries_of named v.number items) ended (ap (λ (t : Stream). entries t ++ entries_of named v.number items) (sym (get_or_from_slice_get v.heard v.number s empty at)) ∙ all)).0
 
   -- where a client's end was taken, all that it sent was, and nothing of it is left
-  pub ends_last : (items : List M) (views : List Knows) (worker client : ℕ) (v u : Knows) → K items views → get_elem? views worker ≡ some v → get_elem? views client ≡ some u → v.takes ≡ true → u.sends ≡ true
+  pub ends_last : (items : List M) (views : List Knows) (worker client : ℕ) (v u : Knows) → K items views → get_elem? views worker ≡ some v → get_elem? views client ≡ some u
+      → v.takes ≡ true → u.sends ≡ true
       → (stream_at v.heard u.number).ended ≡ true → (stream_at v.heard u.number ≡ u.sent) × (entries_of named u.number items ≡ [])
-  ends_last items views worker client v u h at_worker at_client may may' ended = settled (stream_at v.heard u.number) u.sent (entries_of named u.number items) ended (accounts items views worker client v u h at_worker at_client may may')
+  ends_last items views worker client v u h at_worker at_client may may' ended =
+      settled (stream_at v.heard u.number) u.sent (entries_of named u.number items) ended (accounts items views worker client v u h at_worker at_client may may')
 
   -- at every moment what was taken of a client is a beginning of what it sent
-  pub taken_begins : (items : List M) (views : List Knows) (worker client : ℕ) (v u : Knows) → K items views → get_elem? views worker ≡ some v → get_elem? views client ≡ some u → v.takes ≡ true → u.sends ≡ true
+  pub taken_begins : (items : List M) (views : List Knows) (worker client : ℕ) (v u : Knows) → K items views → get_elem? views worker ≡ some v → get_elem? views client ≡ some u
+      → v.takes ≡ true → u.sends ≡ true
       → IsPrefix (stream_at v.heard u.number).names u.sent.names
   taken_begins items views worker client v u h at_worker at_client may may' =
       let s : Stream = stream_at v.heard u.number in

@@ -10,7 +10,8 @@ use Rattle.hay_queue.specs.Shares.{lane_at}
 use Rattle.hay_queue.specs.Streams.{stream}
 use Rattle.hay_queue.proofs.Steps.{item_at}
 
-pub are_all : {J : Type 0} (seat seats : ℕ) (desk : DeskId Call) (jobs : List (Vec J Global)) (n m : ℕ) (clients : List (Sent Call)) → m ≡ n → AreSent seat seats desk jobs n clients → AreAll desk m clients
+pub are_all : {J : Type 0} (seat seats : ℕ) (desk : DeskId Call) (jobs : List (Vec J Global)) (n m : ℕ) (clients : List (Sent Call)) → m ≡ n
+    → AreSent seat seats desk jobs n clients → AreAll desk m clients
 are_all seat seats desk jobs n m clients same sent = record {
   own = λ k d lt. let c = item_at clients k lt in
       let at : slice_get clients k ≡ Some (get_or clients k d) = slice_get-get_or clients k d lt in
@@ -27,8 +28,10 @@ module _ {W J O : Type 0} (answers : W → ℕ → J → W → O → Type 0) (se
     each = λ client js at. let lane_in = slice_get_within jobs (lane_at seat seats client) js at in let lt = (none_here client).1 lane_in in absurd (omega arith);
   }
 
-  pub served_all : (streams : List Stream) (after : W) (outs : List (Vec O Global)) (n : ℕ) (desk : DeskId Call) → AreClients seat seats n jobs → length streams ≡ n → Serving seat seats answers jobs w streams after outs
-      → (clients : List (Sent Call)) → AreSent seat seats desk jobs n clients → All (λ (c : Sent Call). slice_get streams c.number ≡ Some (stream c.names true)) clients → Served seat seats answers jobs w after outs
+  pub served_all : (streams : List Stream) (after : W) (outs : List (Vec O Global)) (n : ℕ) (desk : DeskId Call) → AreClients seat seats n jobs → length streams ≡ n
+      → Serving seat seats answers jobs w streams after outs
+      → (clients : List (Sent Call)) → AreSent seat seats desk jobs n clients → All (λ (c : Sent Call). slice_get streams c.number ≡ Some (stream c.names true)) clients
+      → Served seat seats answers jobs w after outs
   served_all streams after outs n desk all many served clients sent settled = record {
     steps = served.steps;
     answered = served.answered;

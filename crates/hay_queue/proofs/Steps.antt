@@ -1,5 +1,6 @@
 -- Steps of a worker, and what it has served of its lanes.
-use Rattle.std.proofs.Common.{◌≡◌, ◌≢◌, ℕ, zero, suc, ◌+◌, ◌*◌, ◌/◌, ◌<◌, ◌≤◌, ◌==◌, eq-eqb, ne_eqb, Bool, true, false, List, [], ◌∷◌, ◌++◌, length, replicate, map, take, get_or, set, All, Vec, Global, Some, slice_get, vec_capacity, refl, ap, sym, subst, ◌∙◌, ⊎_elim, arith, append_assoc, if◌then◌else◌}
+use Rattle.std.proofs.Common.{◌≡◌, ◌≢◌, ℕ, zero, suc, ◌+◌, ◌*◌, ◌/◌, ◌<◌, ◌≤◌, ◌==◌, eq-eqb, ne_eqb, Bool, true, false, List, [], ◌∷◌, ◌++◌, length, replicate, map, take, get_or}
+use Rattle.std.proofs.Common.{set, All, Vec, Global, Some, slice_get, vec_capacity, refl, ap, sym, subst, ◌∙◌, ⊎_elim, arith, append_assoc, if◌then◌else◌}
 use Rattle.std.proofs.lemmas.List.{append-nil, length-append, length-set, length-take-le, length-map, length-replicate, map-append, take_all, take_more}
 use Rattle.std.proofs.lemmas.List.Elements.{All-append}
 use Rattle.std.proofs.lemmas.Option.{slice_get-get_or, slice_get_within, get_or_from_slice_get}
@@ -34,7 +35,8 @@ module _ {A : Type 0} where
 
   -- an item goes from what is left to what is done
   pub moved : (done new rest left all : List A) (x y : A) → new ≡ done ++ y ∷ [] → y ≡ x → left ≡ x ∷ rest → done ++ left ≡ all → new ++ rest ≡ all
-  moved done new rest left all x y e same is old = ap (λ (l : List A). l ++ rest) e ∙ (append_assoc done (y ∷ []) rest ∙ (ap (λ (z : A). done ++ z ∷ rest) same ∙ (ap (λ (l : List A). done ++ l) (sym is) ∙ old)))
+  moved done new rest left all x y e same is old =
+      ap (λ (l : List A). l ++ rest) e ∙ (append_assoc done (y ∷ []) rest ∙ (ap (λ (z : A). done ++ z ∷ rest) same ∙ (ap (λ (l : List A). done ++ l) (sym is) ∙ old)))
 
   pub item_at : (xs : List A) (i : ℕ) → i < length xs → (x : A) × (slice_get xs i ≡ Some x)
   item_at [] i lt = absurd (omega arith)
@@ -42,8 +44,10 @@ module _ {A : Type 0} where
   item_at (x ∷ xs) (suc i) lt = item_at xs i (omega arith)
 
 module _ {A B C : Type 0} (f : A → C) (h : B → C) where
-  pub moved_as : (done new : List A) (rest left all : List B) (x : B) (y : A) → new ≡ done ++ y ∷ [] → left ≡ x ∷ rest → f y ≡ h x → map f done ++ map h left ≡ map h all → map f new ++ map h rest ≡ map h all
-  moved_as done new rest left all x y e is same old = moved (map f done) (map f new) (map h rest) (map h left) (map h all) (h x) (f y) (ap (map f) e ∙ map-append f done (y ∷ [])) same (ap (map h) is) old
+  pub moved_as : (done new : List A) (rest left all : List B) (x : B) (y : A) → new ≡ done ++ y ∷ [] → left ≡ x ∷ rest → f y ≡ h x → map f done ++ map h left ≡ map h all
+      → map f new ++ map h rest ≡ map h all
+  moved_as done new rest left all x y e is same old =
+      moved (map f done) (map f new) (map h rest) (map h left) (map h all) (h x) (f y) (ap (map f) e ∙ map-append f done (y ∷ [])) same (ap (map h) is) old
 
 module _ {J O : Type 0} where
   -- a step more of the same lane, and of another
@@ -106,7 +110,8 @@ module _ {W J O : Type 0} (answers : W → ℕ → J → W → O → Type 0) (se
   }
 
   -- there is room for the answer to the next call
-  pub serving_room : (between : List Stream) (x : W) (outs : List (Vec O Global)) (client place : ℕ) (names : List ℕ) (js : Vec J Global) (os : Vec O Global) → S between x outs → slice_get between client ≡ Some (stream names false) → place ≡ length names
+  pub serving_room : (between : List Stream) (x : W) (outs : List (Vec O Global)) (client place : ℕ) (names : List ℕ) (js : Vec J Global) (os : Vec O Global) → S between x outs
+      → slice_get between client ≡ Some (stream names false) → place ≡ length names
       → slice_get jobs (lane_at seat seats client) ≡ Some js → slice_get outs client ≡ Some os → place < length js.items → length os.items < vec_capacity os
   serving_room between x outs client place names js os served there next at here lt =
       let lane : ℕ = lane_at seat seats client in
@@ -121,7 +126,8 @@ module _ {W J O : Type 0} (answers : W → ℕ → J → W → O → Type 0) (se
   -- one call more
   module _ (between : List Stream) (old new : Bench W J O) (client place name : ℕ) (names : List ℕ) (js : Vec J Global) (os : Vec O Global) (some : 0 < seats)
       (before : S between old.worker old.kit.outs.items) (there : slice_get between client ≡ Some (stream names false)) (next : place ≡ length names)
-      (at : slice_get jobs (lane_at seat seats client) ≡ Some js) (here : slice_get old.kit.outs.items client ≡ Some os) (call : AnswersCall answers (lane_at seat seats client) client place js os old new) where
+      (at : slice_get jobs (lane_at seat seats client) ≡ Some js) (here : slice_get old.kit.outs.items client ≡ Some os)
+      (call : AnswersCall answers (lane_at seat seats client) client place js os old new) where
     abbrev later : List Stream
     later = set between client (stream (names ++ name ∷ []) false)
 
@@ -132,7 +138,8 @@ module _ {W J O : Type 0} (answers : W → ℕ → J → W → O → Type 0) (se
       abbrev step_here : (one : AnswersOne answers (lane_at seat seats client) client job os old new) → Step J O
       step_here one = record { lane = lane_at seat seats client; job = job; out = one.out }
 
-      each_job : (one : AnswersOne answers (lane_at seat seats client) client job os old new) (k : ℕ) (s : Stream) (ks : Vec J Global) (qs : Vec O Global) → slice_get later k ≡ Some s → slice_get jobs (lane_at seat seats k) ≡ Some ks
+      each_job : (one : AnswersOne answers (lane_at seat seats client) client job os old new) (k : ℕ) (s : Stream) (ks : Vec J Global) (qs : Vec O Global)
+          → slice_get later k ≡ Some s → slice_get jobs (lane_at seat seats k) ≡ Some ks
           → slice_get new.kit.outs.items k ≡ Some qs → Dec (k ≡ client)
           → (map (λ (x : Step J O). x.out) (steps_of (lane_at seat seats k) (before.steps ++ step_here one ∷ [])) ≡ qs.items)
           × (map (λ (x : Step J O). x.job) (steps_of (lane_at seat seats k) (before.steps ++ step_here one ∷ [])) ≡ take (length s.names) ks.items)
@@ -140,18 +147,23 @@ module _ {W J O : Type 0} (answers : W → ℕ → J → W → O → Type 0) (se
           let step : Step J O = step_here one in
           let lane : ℕ = lane_at seat seats client in
           let lane_same : lane_at seat seats k ≡ lane = ap (lane_at seat seats) same in
-          let more_steps : steps_of (lane_at seat seats k) (before.steps ++ step ∷ []) ≡ steps_of lane before.steps ++ step ∷ [] = ap (λ (l : ℕ). steps_of l (before.steps ++ step ∷ [])) lane_same ∙ step_of_lane lane before.steps step refl in
+          let more_steps : steps_of (lane_at seat seats k) (before.steps ++ step ∷ []) ≡ steps_of lane before.steps ++ step ∷ [] =
+          ap (λ (l : ℕ). steps_of l (before.steps ++ step ∷ [])) lane_same ∙ step_of_lane lane before.steps step refl in
           let js_same : js ≡ ks = cc (sym at ∙ (ap (slice_get jobs) (sym lane_same) ∙ ka)) in
           let inside : client < length between = slice_get_within between client (stream names false) there in
           let s_same : stream (names ++ name ∷ []) false ≡ s = cc (sym (got_here between client (stream (names ++ name ∷ []) false) inside) ∙ (ap (slice_get later) (sym same) ∙ kt)) in
           let out_inside : client < length old.kit.outs.items = slice_get_within old.kit.outs.items client os here in
-          let q_same : one.more ≡ qs = cc (sym (got_here old.kit.outs.items client one.more out_inside) ∙ (ap (λ (l : List (Vec O Global)). slice_get l client) (sym one.after) ∙ (ap (slice_get new.kit.outs.items) (sym same) ∙ kh))) in
+          let q_same : one.more ≡ qs =
+          cc (sym (got_here old.kit.outs.items client one.more out_inside) ∙ (ap (λ (l : List (Vec O Global)). slice_get l client) (sym one.after)
+          ∙ (ap (slice_get new.kit.outs.items) (sym same) ∙ kh))) in
           let was = before.each client (stream names false) js os there at here in
           let outs : map (λ (x : Step J O). x.out) (steps_of lane before.steps ++ step ∷ []) ≡ qs.items =
-          map-append (λ (x : Step J O). x.out) (steps_of lane before.steps) (step ∷ []) ∙ (ap (λ (l : List O). l ++ one.out ∷ []) was.0 ∙ (sym one.kept.0 ∙ ap (λ (v : Vec O Global). v.items) q_same)) in
+          map-append (λ (x : Step J O). x.out) (steps_of lane before.steps) (step ∷ []) ∙ (ap (λ (l : List O). l ++ one.out ∷ []) was.0
+          ∙ (sym one.kept.0 ∙ ap (λ (v : Vec O Global). v.items) q_same)) in
           let place_in : length names < length js.items = let lt = slice_get_within js.items place job is in omega arith in
           let job_there : get_or js.items (length names) job ≡ job = ap (λ (n : ℕ). get_or js.items n job) (sym next) ∙ get_or_from_slice_get js.items place job job is in
-          let taken : take (length names + 1) js.items ≡ take (length names) js.items ++ job ∷ [] = take_more js.items (length names) job place_in ∙ ap (λ (x : J). take (length names) js.items ++ x ∷ []) job_there in
+          let taken : take (length names + 1) js.items ≡ take (length names) js.items ++ job ∷ [] =
+          take_more js.items (length names) job place_in ∙ ap (λ (x : J). take (length names) js.items ++ x ∷ []) job_there in
           let jobs_now : map (λ (x : Step J O). x.job) (steps_of lane before.steps ++ step ∷ []) ≡ take (length s.names) ks.items =
           map-append (λ (x : Step J O). x.job) (steps_of lane before.steps) (step ∷ []) ∙ (ap (λ (l : List J). l ++ job ∷ []) was.1 ∙ (sym taken ∙ (ap (λ (n : ℕ). take n js.items) (sym longer)
           ∙ (ap (λ (t : Stream). take (length t.names) js.items) s_same ∙ ap (λ (v : Vec J Global). take (length s.names) v.items) js_same)))) in
@@ -160,8 +172,11 @@ module _ {W J O : Type 0} (answers : W → ℕ → J → W → O → Type 0) (se
           let step : Step J O = step_here one in
           let apart : lane_at seat seats client ≢ lane_at seat seats k = λ e. other (sym (two_lanes seat seats client k some e)) in
           let same_steps = step_of_other (lane_at seat seats k) before.steps step apart in
-          let s_was : slice_get between k ≡ Some s = ⊎_elim (λ (h : (k ≡ client) × (stream (names ++ name ∷ []) false ≡ s)). absurd (other h.0)) (λ (h : (k ≢ client) × (slice_get between k ≡ Some s)). h.1) (got_set between client (stream (names ++ name ∷ []) false) k s kt) in
-          let q_was : slice_get old.kit.outs.items k ≡ Some qs = ⊎_elim (λ (h : (k ≡ client) × (one.more ≡ qs)). absurd (other h.0)) (λ (h : (k ≢ client) × (slice_get old.kit.outs.items k ≡ Some qs)). h.1)
+          let s_was : slice_get between k ≡ Some s =
+          ⊎_elim (λ (h : (k ≡ client) × (stream (names ++ name ∷ []) false ≡ s)). absurd (other h.0)) (λ (h : (k ≢ client) × (slice_get between k ≡ Some s)). h.1)
+          (got_set between client (stream (names ++ name ∷ []) false) k s kt) in
+          let q_was : slice_get old.kit.outs.items k ≡ Some qs =
+          ⊎_elim (λ (h : (k ≡ client) × (one.more ≡ qs)). absurd (other h.0)) (λ (h : (k ≢ client) × (slice_get old.kit.outs.items k ≡ Some qs)). h.1)
           (got_set old.kit.outs.items client one.more k qs (ap (λ (l : List (Vec O Global)). slice_get l k) (sym one.after) ∙ kh)) in
           let was = before.each k s ks qs s_was ka q_was in
           (ap (map (λ (x : Step J O). x.out)) same_steps ∙ was.0, ap (map (λ (x : Step J O). x.job)) same_steps ∙ was.1)
@@ -177,10 +192,13 @@ module _ {W J O : Type 0} (answers : W → ℕ → J → W → O → Type 0) (se
           let later_len = length-set between client (stream (names ++ name ∷ []) false) in record {
             steps = before.steps ++ step ∷ [];
             answered = answers_more answers w before.steps old.worker step new.worker before.answered one.answered;
-            own = All-append (λ (s : Step J O). (c : ℕ) × (s.lane ≡ lane_at seat seats c) × (s.lane < length jobs)) before.steps (step ∷ []) before.own (all_one (λ (s : Step J O). (c : ℕ) × (s.lane ≡ lane_at seat seats c) × (s.lane < length jobs)) step (client, refl, lane_in));
+            own =
+                All-append (λ (s : Step J O). (c : ℕ) × (s.lane ≡ lane_at seat seats c) × (s.lane < length jobs)) before.steps (step ∷ []) before.own
+                (all_one (λ (s : Step J O). (c : ℕ) × (s.lane ≡ lane_at seat seats c) × (s.lane < length jobs)) step (client, refl, lane_in));
             many = omega arith;
             room = λ k ks qs ka kh. ⊎_elim
-                (λ (h : (k ≡ client) × (one.more ≡ qs)). let le = before.room k ks os ka (ap (slice_get old.kit.outs.items) h.0 ∙ here) in let cap : vec_capacity qs ≡ vec_capacity os = ap (λ (v : Vec O Global). vec_capacity v) (sym h.1) ∙ one.kept.1 in omega arith)
+                (λ (h : (k ≡ client) × (one.more ≡ qs)). let le = before.room k ks os ka (ap (slice_get old.kit.outs.items) h.0 ∙ here) in let cap : vec_capacity qs
+                ≡ vec_capacity os = ap (λ (v : Vec O Global). vec_capacity v) (sym h.1) ∙ one.kept.1 in omega arith)
                 (λ (h : (k ≢ client) × (slice_get old.kit.outs.items k ≡ Some qs)). before.room k ks qs ka h.1)
                 (got_set old.kit.outs.items client one.more k qs (ap (λ (l : List (Vec O Global)). slice_get l k) (sym one.after) ∙ kh));
             each = λ k s ks qs kt ka kh. each_job one k s ks qs kt ka kh (ℕ_discrete k client);
@@ -192,7 +210,8 @@ module _ {W J O : Type 0} (answers : W → ℕ → J → W → O → Type 0) (se
         let m = before.many in
         let later_len = length-set between client (stream (names ++ name ∷ []) false) in
         let as_long : length new.kit.outs.items ≡ length old.kit.outs.items = ap length same.1 in
-        let was_out : (k : ℕ) (qs : Vec O Global) → slice_get new.kit.outs.items k ≡ Some qs → slice_get old.kit.outs.items k ≡ Some qs = λ k qs kh. ap (λ (l : List (Vec O Global)). slice_get l k) (sym same.1) ∙ kh in record {
+        let was_out : (k : ℕ) (qs : Vec O Global) → slice_get new.kit.outs.items k ≡ Some qs → slice_get old.kit.outs.items k ≡ Some qs =
+        λ k qs kh. ap (λ (l : List (Vec O Global)). slice_get l k) (sym same.1) ∙ kh in record {
           steps = before.steps;
           answered = subst (λ (v : W). AnswersSteps answers w before.steps v) (sym same.0) before.answered;
           own = before.own;
@@ -215,11 +234,14 @@ module _ {W J O : Type 0} (answers : W → ℕ → J → W → O → Type 0) (se
     serving_call (yes lt) = let job = item_at js.items place lt in with_job job.0 job.1
     serving_call (no past) = without_job (omega arith)
 
-  pub serving_taken : (streams after : List Stream) (old new : Bench W J O) (client place name : ℕ) (js : Vec J Global) (os : Vec O Global) → 0 < seats → TakesJob streams after client place name → slice_get jobs (lane_at seat seats client) ≡ Some js
-      → slice_get old.kit.outs.items client ≡ Some os → AnswersCall answers (lane_at seat seats client) client place js os old new → S streams old.worker old.kit.outs.items → S after new.worker new.kit.outs.items
+  pub serving_taken : (streams after : List Stream) (old new : Bench W J O) (client place name : ℕ) (js : Vec J Global) (os : Vec O Global) → 0 < seats
+      → TakesJob streams after client place name → slice_get jobs (lane_at seat seats client) ≡ Some js
+      → slice_get old.kit.outs.items client ≡ Some os → AnswersCall answers (lane_at seat seats client) client place js os old new → S streams old.worker old.kit.outs.items
+      → S after new.worker new.kit.outs.items
   serving_taken streams after old new client place name js os some taken at here call served =
       subst (λ (ss : List Stream). S ss new.worker new.kit.outs.items) (sym taken.after)
-      (serving_call taken.between old new client place name taken.names js os some (serving_ends streams taken.between old.worker old.kit.outs.items taken.ends served) taken.going_on taken.next at here call (dec_lt place (length js.items)))
+      (serving_call taken.between old new client place name taken.names js os some (serving_ends streams taken.between old.worker old.kit.outs.items taken.ends served)
+      taken.going_on taken.next at here call (dec_lt place (length js.items)))
 
 -- a worker that has a client has a seat
 pub some_seat : {J : Type 0} (seat seats n client : ℕ) (jobs : List J) → AreClients seat seats n jobs → client < n → Dec (seats ≡ 0) → 0 < seats
@@ -231,8 +253,10 @@ some_seat seat seats n client jobs all lt (yes none) =
 
 module _ {W J O : Type 0} (may_answer : W → ℕ → J → Type 0) (answers : W → ℕ → J → W → O → Type 0) (seat seats : ℕ) (jobs : List (Vec J Global)) where
   -- a worker may be given after a call what it might be given before
-  pub stays_ready : StaysReady may_answer answers → (old new : Bench W J O) (client place : ℕ) (js : Vec J Global) (os : Vec O Global) → AnswersCall answers (lane_at seat seats client) client place js os old new
+  pub stays_ready : StaysReady may_answer answers → (old new : Bench W J O) (client place : ℕ) (js : Vec J Global) (os : Vec O Global)
+      → AnswersCall answers (lane_at seat seats client) client place js os old new
       → Dec (place < length js.items) → MayAnswerAll seat seats may_answer jobs old.worker → MayAnswerAll seat seats may_answer jobs new.worker
   stays_ready stays old new client place js os call (yes lt) may k ks at i d in_list = let job = item_at js.items place lt in let one = call.some job.0 job.1 in
       stays old.worker new.worker (lane_at seat seats client) (lane_at seat seats k) job.0 (get_or ks.items i d) one.out one.answered (may k ks at i d in_list)
-  stays_ready stays old new client place js os call (no past) may k ks at i d in_list = let same = call.none (omega arith) in subst (λ (v : W). may_answer v (lane_at seat seats k) (get_or ks.items i d)) (sym same.0) (may k ks at i d in_list)
+  stays_ready stays old new client place js os call (no past) may k ks at i d in_list =
+      let same = call.none (omega arith) in subst (λ (v : W). may_answer v (lane_at seat seats k) (get_or ks.items i d)) (sym same.0) (may k ks at i d in_list)

@@ -13,7 +13,9 @@ with_entry-append false e xs ys zs h = h
 module _ {J : Type 0} (named : J → ℕ) where
   pub entries_of-append : (client : ℕ) (xs ys : List (Message J)) → entries_of named client (xs ++ ys) ≡ entries_of named client xs ++ entries_of named client ys
   entries_of-append client [] ys = refl
-  entries_of-append client (m ∷ ms) ys = with_entry-append (m.from == client) (entry_at m.place (name_of named m.job)) (entries_of named client ms) (entries_of named client ys) (entries_of named client (ms ++ ys)) (entries_of-append client ms ys)
+  entries_of-append client (m ∷ ms) ys =
+      with_entry-append (m.from == client) (entry_at m.place (name_of named m.job)) (entries_of named client ms) (entries_of named client ys) (entries_of named client (ms ++ ys))
+      (entries_of-append client ms ys)
 
 numbered-append : (k : ℕ) (names : List ℕ) (name next : ℕ) → next ≡ k + length names → numbered k (names ++ name ∷ []) ≡ numbered k names ++ Some (next, name) ∷ []
 numbered-append k [] name next is = let e : k ≡ next = omega arith in ap (λ (n : ℕ). Some (n, name) ∷ []) e
@@ -24,7 +26,9 @@ open_entries s e = ap (λ (b : Bool). numbered 0 s.names ++ ending b) e ∙ appe
 
 -- what follows in an open stream is the entry of the next place
 pub entries-followed : (s : Stream) (said : Option ℕ) → s.ended ≡ false → entries (followed s said) ≡ entries s ++ entry_at (length s.names) said ∷ []
-entries-followed s (Some name) e = open_entries (stream (s.names ++ name ∷ []) s.ended) e ∙ (numbered-append 0 s.names name (length s.names) (omega arith) ∙ sym (ap (λ (l : List Entry). l ++ Some (length s.names, name) ∷ []) (open_entries s e)))
+entries-followed s (Some name) e =
+    open_entries (stream (s.names ++ name ∷ []) s.ended) e ∙ (numbered-append 0 s.names name (length s.names) (omega arith)
+    ∙ sym (ap (λ (l : List Entry). l ++ Some (length s.names, name) ∷ []) (open_entries s e)))
 entries-followed s None e = sym (ap (λ (l : List Entry). l ++ None ∷ []) (open_entries s e))
 
 module _ (entry : ℕ × ℕ → ℕ) where
@@ -59,7 +63,9 @@ whole_stream k [] [] false ys e = absurd cc
 whole_stream k [] (z ∷ zs) b ys e = absurd cc
 whole_stream k (x ∷ xs) [] true ys e = absurd cc
 whole_stream k (x ∷ xs) [] false ys e = absurd cc
-whole_stream k (x ∷ xs) (z ∷ zs) b ys e = let rest : (numbered (k + 1) xs ++ ending true) ++ ys ≡ numbered (k + 1) zs ++ ending b = cc e in let y : Entry = Some (k, x) in let first : y ≡ Some (k, z) = cc e in let same : x ≡ z = same_name k x z y refl first in let h = whole_stream (k + 1) xs zs b ys rest in
+whole_stream k (x ∷ xs) (z ∷ zs) b ys e =
+    let rest : (numbered (k + 1) xs ++ ending true) ++ ys ≡ numbered (k + 1) zs ++ ending b = cc e in let y : Entry = Some (k, x) in let first : y
+    ≡ Some (k, z) = cc e in let same : x ≡ z = same_name k x z y refl first in let h = whole_stream (k + 1) xs zs b ys rest in
     ((λ i. same i ∷ h.0 i), h.1, h.2)
 
 -- the names of a beginning begin the stream's
@@ -67,7 +73,9 @@ pub prefix_stream : (k : ℕ) (xs zs : List ℕ) (a b : Bool) (ys : List Entry) 
 prefix_stream k [] zs a b ys e = (zs, refl)
 prefix_stream k (x ∷ xs) [] a true ys e = absurd cc
 prefix_stream k (x ∷ xs) [] a false ys e = absurd cc
-prefix_stream k (x ∷ xs) (z ∷ zs) a b ys e = let rest : (numbered (k + 1) xs ++ ending a) ++ ys ≡ numbered (k + 1) zs ++ ending b = cc e in let y : Entry = Some (k, x) in let first : y ≡ Some (k, z) = cc e in let same : x ≡ z = same_name k x z y refl first in let h = prefix_stream (k + 1) xs zs a b ys rest in
+prefix_stream k (x ∷ xs) (z ∷ zs) a b ys e =
+    let rest : (numbered (k + 1) xs ++ ending a) ++ ys ≡ numbered (k + 1) zs ++ ending b = cc e in let y : Entry = Some (k, x) in let first : y ≡ Some (k, z) = cc e in let same : x
+    ≡ z = same_name k x z y refl first in let h = prefix_stream (k + 1) xs zs a b ys rest in
     (h.0, λ i. same i ∷ h.1 i)
 
 -- a client without jobs more in a list

@@ -32,7 +32,8 @@ module _ (seat seats : ℕ) where
     -- of each client an empty list of answers with room for all
     pub record HasRooms (jobs : List (Vec J Global)) (n : ℕ) (outs : List (Vec O Global)) : Type 0 where
       pub many : length outs ≡ n
-      pub room : (client : ℕ) (js : Vec J Global) (os : Vec O Global) → slice_get jobs (lane_at seat seats client) ≡ Some js → slice_get outs client ≡ Some os → (os.items ≡ []) × (length js.items ≤ vec_capacity os)
+      pub room : (client : ℕ) (js : Vec J Global) (os : Vec O Global) → slice_get jobs (lane_at seat seats client) ≡ Some js → slice_get outs client ≡ Some os
+          → (os.items ≡ []) × (length js.items ≤ vec_capacity os)
 
     -- what a worker needs for its lanes. Without a lane it has no desk
     pub record IsKit (jobs : List (Vec J Global)) (kit : Kit O) : Type 0 where
@@ -59,8 +60,10 @@ module _ (seat seats : ℕ) where
     pub own : All (λ (s : Step J O). (client : ℕ) × (s.lane ≡ lane_at seat seats client) × (s.lane < length jobs)) steps
     pub many : length outs ≡ length streams
     pub room : (client : ℕ) (js : Vec J Global) (os : Vec O Global) → slice_get jobs (lane_at seat seats client) ≡ Some js → slice_get outs client ≡ Some os → length js.items ≤ vec_capacity os
-    pub each : (client : ℕ) (s : Stream) (js : Vec J Global) (os : Vec O Global) → slice_get streams client ≡ Some s → slice_get jobs (lane_at seat seats client) ≡ Some js → slice_get outs client ≡ Some os
-        → (map (λ (x : Step J O). x.out) (steps_of (lane_at seat seats client) steps) ≡ os.items) × (map (λ (x : Step J O). x.job) (steps_of (lane_at seat seats client) steps) ≡ take (length s.names) js.items)
+    pub each : (client : ℕ) (s : Stream) (js : Vec J Global) (os : Vec O Global) → slice_get streams client ≡ Some s → slice_get jobs (lane_at seat seats client) ≡ Some js
+        → slice_get outs client ≡ Some os
+        → (map (λ (x : Step J O). x.out) (steps_of (lane_at seat seats client) steps) ≡ os.items)
+        × (map (λ (x : Step J O). x.job) (steps_of (lane_at seat seats client) steps) ≡ take (length s.names) js.items)
 
   -- the worker has answered all jobs of all its lanes
   pub record Served {W J O : Type 0} (answers : W → ℕ → J → W → O → Type 0) (jobs : List (Vec J Global)) (w after : W) (outs : List (Vec O Global)) : Type 0 where
@@ -68,7 +71,8 @@ module _ (seat seats : ℕ) where
     pub answered : AnswersSteps answers w steps after
     pub own : All (λ (s : Step J O). (client : ℕ) × (s.lane ≡ lane_at seat seats client) × (s.lane < length jobs)) steps
     pub each : (client : ℕ) (js : Vec J Global) → slice_get jobs (lane_at seat seats client) ≡ Some js
-        → (os : Vec O Global) × (slice_get outs client ≡ Some os) × (map (λ (x : Step J O). x.out) (steps_of (lane_at seat seats client) steps) ≡ os.items) × (map (λ (x : Step J O). x.job) (steps_of (lane_at seat seats client) steps) ≡ js.items)
+        → (os : Vec O Global) × (slice_get outs client ≡ Some os) × (map (λ (x : Step J O). x.out) (steps_of (lane_at seat seats client) steps) ≡ os.items)
+        × (map (λ (x : Step J O). x.job) (steps_of (lane_at seat seats client) steps) ≡ js.items)
 
 -- a call at a place without a job changes nothing, and else one job of the lane is answered once more
 pub record AnswersOne {W J O : Type 0} (answers : W → ℕ → J → W → O → Type 0) (lane client : ℕ) (job : J) (os : Vec O Global) (old new : Bench W J O) : Type 0 where

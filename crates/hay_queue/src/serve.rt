@@ -110,7 +110,8 @@ fn send_all<J: Sync, R: Threads + Wait + Sync>(
 {
     let one_lane = |client: usize, sender: &mut Client<Call>|
         requires { (lane_at share.seat share.seats client < length jobs.now) × (length jobs.now ≤ 8) × (sender.old ≡ sent_by desk.now client []) }
-        ensures { (sender.new.desk ≡ sender.old.desk) × (sender.new.number ≡ sender.old.number) × ((js : _) → slice_get jobs.entry.now (lane_at share.seat share.seats client) ≡ Some js → length sender.new.names ≡ length js.items) }
+        ensures { (sender.new.desk ≡ sender.old.desk) × (sender.new.number ≡ sender.old.number)
+            × ((js : _) → slice_get jobs.entry.now (lane_at share.seat share.seats client) ≡ Some js → length sender.new.names ≡ length js.items) }
     { send_lane(rt, desk, share, jobs, client, sender) };
     let Senders { mut clients, ended } = senders;
     let threads = clients.len().max(1);
@@ -132,8 +133,10 @@ fn answer_call<W: Work, R: Wait, G: Gate>(
     requires client { (client < vec_len bench.old.kit.outs) × (lane_at share.seat share.seats client < length jobs.now) }
     requires few { length jobs.now ≤ 8 }
     requires may { MayAnswerAll share.seat share.seats W.may_answer jobs.now bench.old.worker }
-    requires next { (js os : _) → slice_get jobs.now (lane_at share.seat share.seats client) ≡ Some js → slice_get bench.old.kit.outs.items client ≡ Some os → place < length js.items → vec_len os < vec_capacity os }
-    ensures { (js os : _) → slice_get jobs.now (lane_at share.seat share.seats client) ≡ Some js → slice_get bench.old.kit.outs.items client ≡ Some os → AnswersCall W.answers (lane_at share.seat share.seats client) client place js os bench.old bench.new }
+    requires next { (js os : _) → slice_get jobs.now (lane_at share.seat share.seats client) ≡ Some js → slice_get bench.old.kit.outs.items client ≡ Some os
+        → place < length js.items → vec_len os < vec_capacity os }
+    ensures { (js os : _) → slice_get jobs.now (lane_at share.seat share.seats client) ≡ Some js → slice_get bench.old.kit.outs.items client ≡ Some os
+        → AnswersCall W.answers (lane_at share.seat share.seats client) client place js os bench.old bench.new }
 {
     let lane = share.lane(client, jobs.len());
     if let Some(job) = jobs[lane].as_slice().get(place) {
@@ -206,8 +209,11 @@ fn serve_bench<W: Work, R: Threads + Wait + Sync, G: Gate + Sync>(
     let ((bench, taker), ended) = thread::join(
         rt,
         move || -> (Bench<W>, Worker<Call>)
-            requires { AreClients share.seat share.seats (vec_len bench.kit.outs) jobs.now × (length jobs.now ≤ 8) × (taker ≡ taken_at shared.now (replicate (vec_len bench.kit.outs) empty)) × HasRooms share.seat share.seats jobs.now (vec_len bench.kit.outs) bench.kit.outs.items × MayAnswerAll share.seat share.seats W.may_answer jobs.now bench.worker × StaysReady W.may_answer W.answers }
-            ensures { (result.1.desk ≡ shared.entry.now) × (length result.1.streams ≡ vec_len bench.kit.outs) × AllEnded result.1.streams × Serving share.seat share.seats W.answers jobs.entry.now bench.worker result.1.streams result.0.worker result.0.kit.outs.items }
+            requires { AreClients share.seat share.seats (vec_len bench.kit.outs) jobs.now × (length jobs.now ≤ 8)
+                × (taker ≡ taken_at shared.now (replicate (vec_len bench.kit.outs) empty)) × HasRooms share.seat share.seats jobs.now (vec_len bench.kit.outs) bench.kit.outs.items
+                × MayAnswerAll share.seat share.seats W.may_answer jobs.now bench.worker × StaysReady W.may_answer W.answers }
+            ensures { (result.1.desk ≡ shared.entry.now) × (length result.1.streams ≡ vec_len bench.kit.outs) × AllEnded result.1.streams
+                × Serving share.seat share.seats W.answers jobs.entry.now bench.worker result.1.streams result.0.worker result.0.kit.outs.items }
         { answer_all(rt, alloc, shared, share, jobs, gate, bench, taker) },
         move || -> Vec<Ended<Call>>
             requires { AreClients share.seat share.seats (vec_len senders.clients) jobs.now × (length jobs.now ≤ 8) × AreReady shared.now senders }

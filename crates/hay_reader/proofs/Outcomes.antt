@@ -95,7 +95,8 @@ zip_or R (x ∷ xs) (y ∷ ys) zero d e last all = all.0
 zip_or R (x ∷ xs) (y ∷ ys) (suc k) d e last all = zip_or R xs ys k d e last all.1
 
 -- the outcome of each place of a row
-means_at : {P : Type 0} (Tells : Type 0) (pair : Pair) (row : List (Place P)) (outcomes : List Outcome) (j : ℕ) → AllZip (MayMean Tells pair) row outcomes → MayMean Tells pair (place_in row j) (get_or outcomes j outcome.Nothing)
+means_at : {P : Type 0} (Tells : Type 0) (pair : Pair) (row : List (Place P)) (outcomes : List Outcome) (j : ℕ) → AllZip (MayMean Tells pair) row outcomes
+    → MayMean Tells pair (place_in row j) (get_or outcomes j outcome.Nothing)
 means_at Tells pair row outcomes j means = zip_or (MayMean Tells pair) row outcomes j place.None outcome.Nothing tt means
 
 all_both : {X : Type 0} (Q R S : X → Type 0) → ((x : X) → Q x → R x → S x) → (xs : List X) → AllByRecursion Q xs → AllByRecursion R xs → AllByRecursion S xs
@@ -114,11 +115,13 @@ from_it before now f (cause.Arm g) rises has = ((rises, has.0.1), has.1)
 from_it before now f (cause.Disk g) rises has = has
 from_it before now f (cause.Damage at) rises has = tt
 
-climbs_on : (before now : ℕ) (why : Cause) (rest : List PassedReplica) → HasArmCause before now why → IsArm why → AllByRecursion (λ p. ArmRises why p.cause) rest → AllByRecursion (λ p. HasArmCause before now p.cause) rest
+climbs_on : (before now : ℕ) (why : Cause) (rest : List PassedReplica) → HasArmCause before now why → IsArm why → AllByRecursion (λ p. ArmRises why p.cause) rest
+    → AllByRecursion (λ p. HasArmCause before now p.cause) rest
     → ((f : ℕ) → f ≤ now → AllByRecursion (λ p. HasArmCause f now p.cause) rest → Climbed (length rest) f now) → Climbed (suc (length rest)) before now
 climbs_on before now (cause.Arm f) rest has arm rises each climbs =
     let others : AllByRecursion (λ p. HasArmCause f now p.cause) rest =
-    all_both (λ (p : PassedReplica). ArmRises (cause.Arm f) p.cause) (λ (p : PassedReplica). HasArmCause before now p.cause) (λ (p : PassedReplica). HasArmCause f now p.cause) (λ p up came. from_it before now f p.cause up came) rest rises each in
+    all_both (λ (p : PassedReplica). ArmRises (cause.Arm f) p.cause) (λ (p : PassedReplica). HasArmCause before now p.cause) (λ (p : PassedReplica). HasArmCause f now p.cause)
+    (λ p up came. from_it before now f p.cause up came) rest rises each in
     elim has.0.0 [
       | inl up ↦ elim (climbs f has.0.1 others) [ inl far ↦ inl (omega arith) | inr top ↦ inr top ]
       | inr top ↦ inr (omega (arith, has.0.1, has.1))
@@ -126,7 +129,8 @@ climbs_on before now (cause.Arm f) rest has arm rises each climbs =
 climbs_on before now (cause.Disk f) rest has arm rises each climbs = absurd has
 climbs_on before now (cause.Damage at) rest has arm rises each climbs = absurd arm
 
-pub climbs : (before now : ℕ) (causes : List PassedReplica) → before ≤ now → AllByRecursion (λ p. HasArmCause before now p.cause) causes → EachPair (λ a b. ArmRises a.cause b.cause) causes → AllByRecursion (λ p. IsArm p.cause) causes
+pub climbs : (before now : ℕ) (causes : List PassedReplica) → before ≤ now → AllByRecursion (λ p. HasArmCause before now p.cause) causes
+    → EachPair (λ a b. ArmRises a.cause b.cause) causes → AllByRecursion (λ p. IsArm p.cause) causes
     → Climbed (length causes) before now
 climbs before now [] later each rises arms = inl (omega arith)
 climbs before now (p ∷ rest) later each rises arms = climbs_on before now p.cause rest each.0 arms.0 rises.0 each.1 (λ f more others. climbs f now rest more others rises.1 arms.1)
@@ -153,7 +157,8 @@ tried_before start replicas tries j passed h earlier is =
     let short : prefix_len (λ i. not (eqb i j)) left ≤ k = short_prefix (λ i. not (eqb i j)) left k 0 (omega arith) stops in
     omega (arith, length-take (prefix_len (λ i. not (eqb i j)) left) left)
 
-passed_before : (start replicas tries j before now : ℕ) (passed : List PassedReplica) → tries < replicas → length passed ≤ tries → j ≡ (start + tries) % replicas → Climbed (tries - length passed) before now
+passed_before : (start replicas tries j before now : ℕ) (passed : List PassedReplica) → tries < replicas → length passed ≤ tries → j ≡ (start + tries) % replicas
+    → Climbed (tries - length passed) before now
     → PassedBefore start replicas passed j before now
 passed_before start replicas tries j before now passed h earlier is climbed =
     let few = tried_before start replicas tries j passed h earlier is in
@@ -161,13 +166,16 @@ passed_before start replicas tries j before now passed h earlier is climbed =
 
 -- A ROW
 
-all_for_arm : {P : Type 0} (Tells : Type 0) (arm : ArmUse) (start : ℕ) (row : List (Place P)) (cookie : Cookie) (passed causes : List PassedReplica) (pair : Pair) (outcomes : List Outcome) → AllZip (MayMean Tells pair) row outcomes
+all_for_arm : {P : Type 0} (Tells : Type 0) (arm : ArmUse) (start : ℕ) (row : List (Place P)) (cookie : Cookie) (passed causes : List PassedReplica) (pair : Pair)
+    (outcomes : List Outcome) → AllZip (MayMean Tells pair) row outcomes
     → PassesRow Tells arm start row cookie passed causes → AllByRecursion (λ p. IsArm p.cause) (passed_now passed causes)
 all_for_arm Tells arm start row cookie passed causes pair outcomes means passes =
     all_weaken (λ (p : PassedReplica). PlaceGives Tells arm.sure cookie [] (place_in row p.replica) (Err p.cause)) (λ (p : PassedReplica). IsArm p.cause)
-    (λ p gives. passed_for_arm Tells arm.sure cookie [] pair (place_in row p.replica) p.cause (get_or outcomes p.replica outcome.Nothing) (means_at Tells pair row outcomes p.replica means) gives) (passed_now passed causes) passes.places
+    (λ p gives. passed_for_arm Tells arm.sure cookie [] pair (place_in row p.replica) p.cause (get_or outcomes p.replica outcome.Nothing)
+    (means_at Tells pair row outcomes p.replica means) gives) (passed_now passed causes) passes.places
 
-shows_outcome : {P : Type 0} (Tells : Type 0) (arm : ArmUse) (start : ℕ) (row : List (Place P)) (cookie : Cookie) (passed causes : List PassedReplica) (put : List ℕ) (j : ℕ) (showing : Shown) (pair : Pair) (outcomes : List Outcome) → arm.before ≤ arm.after
+shows_outcome : {P : Type 0} (Tells : Type 0) (arm : ArmUse) (start : ℕ) (row : List (Place P)) (cookie : Cookie) (passed causes : List PassedReplica) (put : List ℕ) (j : ℕ)
+    (showing : Shown) (pair : Pair) (outcomes : List Outcome) → arm.before ≤ arm.after
     → AllZip (MayMean Tells pair) row outcomes → ShowsPlace Tells arm start row cookie passed causes put j showing
     → (what : Outcome) × Says cookie put showing what × Shows start arm.before arm.after passed outcomes j what
 shows_outcome Tells arm start row cookie passed causes put j showing pair outcomes later means shows =
@@ -189,7 +197,8 @@ shows_outcome Tells arm start row cookie passed causes put j showing pair outcom
     )
 
 -- where each place of a row that was looked at means an outcome, the reply is one of these outcomes
-pub answers_row : {P : Type 0} (Tells : Type 0) (arm : ArmUse) (start : ℕ) (row : List (Place P)) (cookie : Cookie) (passed : List PassedReplica) (put : List ℕ) (read : ReadReply) (pair : Pair) (outcomes : List Outcome) → arm.before ≤ arm.after
+pub answers_row : {P : Type 0} (Tells : Type 0) (arm : ArmUse) (start : ℕ) (row : List (Place P)) (cookie : Cookie) (passed : List PassedReplica) (put : List ℕ) (read : ReadReply)
+    (pair : Pair) (outcomes : List Outcome) → arm.before ≤ arm.after
     → AllZip (MayMean Tells pair) row outcomes → ReadsRow Tells arm start row cookie passed put read → ReadAnswers start cookie arm.before arm.after passed outcomes put read
 answers_row Tells arm start row cookie passed put (reply.Photo j) pair outcomes later means reads =
     let shows = shows_outcome Tells arm start row cookie passed reads.0 put j shown.Photo pair outcomes later means reads.1 in
@@ -204,7 +213,8 @@ answers_row Tells arm start row cookie passed put (reply.Unseen j causes) pair o
 answers_row Tells arm start row cookie passed put (reply.Unreadable causes) pair outcomes later means reads = all_for_arm Tells arm start row cookie passed causes pair outcomes means reads.0
 
 -- each replica that is told of has its cause
-pub has_causes : {P : Type 0} (Tells : Type 0) (arm : ArmUse) (start : ℕ) (row : List (Place P)) (cookie : Cookie) (passed : List PassedReplica) (put : List ℕ) (read : ReadReply) → ReadsRow Tells arm start row cookie passed put read
+pub has_causes : {P : Type 0} (Tells : Type 0) (arm : ArmUse) (start : ℕ) (row : List (Place P)) (cookie : Cookie) (passed : List PassedReplica) (put : List ℕ) (read : ReadReply)
+    → ReadsRow Tells arm start row cookie passed put read
     → HasCauses start row arm.before arm.after passed read
 has_causes Tells arm start row cookie passed put (reply.Photo j) reads = tt
 has_causes Tells arm start row cookie passed put (reply.Gone j) reads = tt
@@ -213,7 +223,8 @@ has_causes Tells arm start row cookie passed put (reply.Unseen j causes) reads =
 has_causes Tells arm start row cookie passed put (reply.Unreadable causes) reads = (reads.0.passes, reads.1)
 
 -- a read that stops at a replica stops at a place that was not looked at yet
-pub stops_unseen : {P : Type 0} (Tells : Type 0) (sure : Bool) (cookie : Cookie) (put : List ℕ) (there : Place P) → PlaceGives Tells sure cookie put there (Ok shown.Unseen) → (at : ℕ) × (size : ℕ) × (there ≡ place.Unseen at size)
+pub stops_unseen : {P : Type 0} (Tells : Type 0) (sure : Bool) (cookie : Cookie) (put : List ℕ) (there : Place P) → PlaceGives Tells sure cookie put there (Ok shown.Unseen)
+    → (at : ℕ) × (size : ℕ) × (there ≡ place.Unseen at size)
 stops_unseen Tells sure cookie put (place.Live needle) gives = absurd gives.0
 stops_unseen Tells sure cookie put place.None gives = absurd cc
 stops_unseen Tells sure cookie put place.Gone gives = absurd cc

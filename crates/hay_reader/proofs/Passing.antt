@@ -72,16 +72,20 @@ no_shorter front xs begins = omega (arith, ap length begins, length-take (length
 now_push : (passed causes : List PassedReplica) (over : PassedReplica) → take (length passed) causes ≡ passed → passed_now passed (causes ++ over ∷ []) ≡ passed_now passed causes ++ over ∷ []
 now_push passed causes over begins = drop-append-le (length passed) causes (over ∷ []) (no_shorter passed causes begins)
 
-passes_later : (start replicas before mid new : ℕ) (passed causes : List PassedReplica) → mid ≤ new → (new ≡ mid) ⊎ (new < 2 ^ 64) → Passes start replicas before mid passed causes → Passes start replicas before new passed causes
+passes_later : (start replicas before mid new : ℕ) (passed causes : List PassedReplica) → mid ≤ new → (new ≡ mid) ⊎ (new < 2 ^ 64) → Passes start replicas before mid passed causes
+    → Passes start replicas before new passed causes
 passes_later start replicas before mid new passed causes later most so_far = record {
   begins = so_far.begins;
   order = so_far.order;
-  each = all_weaken (λ (p : PassedReplica). HasArmCause before mid p.cause) (λ (p : PassedReplica). HasArmCause before new p.cause) (λ p has. cause_later before mid new p.cause later most has) (passed_now passed causes) so_far.each;
+  each =
+      all_weaken (λ (p : PassedReplica). HasArmCause before mid p.cause) (λ (p : PassedReplica). HasArmCause before new p.cause)
+      (λ p has. cause_later before mid new p.cause later most has) (passed_now passed causes) so_far.each;
   rises = so_far.rises;
 }
 
 -- the next replica comes behind those that come first
-pub first_more : (start replicas : ℕ) (causes : List PassedReplica) (over : PassedReplica) → ComeFirst start replicas causes → over.replica ≡ (start + length causes) % replicas → ComeFirst start replicas (causes ++ over ∷ [])
+pub first_more : (start replicas : ℕ) (causes : List PassedReplica) (over : PassedReplica) → ComeFirst start replicas causes → over.replica ≡ (start + length causes) % replicas
+    → ComeFirst start replicas (causes ++ over ∷ [])
 first_more start replicas causes over first is =
     map-append (λ (p : PassedReplica). p.replica) causes (over ∷ [])
     ∙ ap (λ (xs : List ℕ). xs ++ over.replica ∷ []) first
@@ -89,7 +93,8 @@ first_more start replicas causes over first is =
     ∙ sym (map-range_with_len_more (λ (i : ℕ). (start + i) % replicas) 0 (length causes) (length causes) (zero-add (length causes)))
     ∙ ap (λ (tries : ℕ). tried_from start replicas tries) (sym (length-append causes (over ∷ [])))
 
-passes_more : (start replicas before mid new : ℕ) (passed causes : List PassedReplica) (over : PassedReplica) → Passes start replicas before mid passed causes → over.replica ≡ (start + length causes) % replicas → before ≤ mid → mid ≤ new
+passes_more : (start replicas before mid new : ℕ) (passed causes : List PassedReplica) (over : PassedReplica) → Passes start replicas before mid passed causes
+    → over.replica ≡ (start + length causes) % replicas → before ≤ mid → mid ≤ new
     → (new ≡ mid) ⊎ (new < 2 ^ 64) → FailsBy mid new over.cause → Passes start replicas before new passed (causes ++ over ∷ [])
 passes_more start replicas before mid new passed causes over so_far is earlier later most fails =
     let now : List PassedReplica = passed_now passed causes in
@@ -98,11 +103,13 @@ passes_more start replicas before mid new passed causes over so_far is earlier l
       order = first_more start replicas causes over so_far.order is;
       each =
           subst (λ (ps : List PassedReplica). AllByRecursion (λ p. HasArmCause before new p.cause) ps) (sym (now_push passed causes over so_far.begins))
-          (all_push (λ (p : PassedReplica). HasArmCause before new p.cause) now over (passes_later start replicas before mid new passed causes later most so_far).each (cause_now before mid new over.cause earlier most fails));
+          (all_push (λ (p : PassedReplica). HasArmCause before new p.cause) now over (passes_later start replicas before mid new passed causes later most so_far).each
+          (cause_now before mid new over.cause earlier most fails));
       rises =
           subst (λ (ps : List PassedReplica). EachPair (λ a b. ArmRises a.cause b.cause) ps) (sym (now_push passed causes over so_far.begins))
           (each_push (λ a b. ArmRises a.cause b.cause) now over so_far.rises
-          (all_weaken (λ (p : PassedReplica). HasArmCause before mid p.cause) (λ (p : PassedReplica). ArmRises p.cause over.cause) (λ p has. rises_now before mid new p.cause over.cause has fails) now so_far.each));
+          (all_weaken (λ (p : PassedReplica). HasArmCause before mid p.cause) (λ (p : PassedReplica). ArmRises p.cause over.cause)
+          (λ p has. rises_now before mid new p.cause over.cause has fails) now so_far.each));
     }
 
 -- the replica of the next try
@@ -121,7 +128,8 @@ gives_passed Tells sure still cookie put place.None why stays gives = gives
 gives_passed Tells sure still cookie put place.Gone why stays gives = gives
 gives_passed Tells sure still cookie put (place.Unseen at size) why stays gives = gives
 
-gives_shown : {P : Type 0} (Tells : Type 0) (sure still : Bool) (cookie : Cookie) (put : List ℕ) (there : Place P) (what : Shown) → PlaceGives Tells still cookie put there (Ok what) → PlaceGives Tells sure cookie put there (Ok what)
+gives_shown : {P : Type 0} (Tells : Type 0) (sure still : Bool) (cookie : Cookie) (put : List ℕ) (there : Place P) (what : Shown)
+    → PlaceGives Tells still cookie put there (Ok what) → PlaceGives Tells sure cookie put there (Ok what)
 gives_shown Tells sure still cookie put (place.Live needle) what gives = gives
 gives_shown Tells sure still cookie put place.None what gives = gives
 gives_shown Tells sure still cookie put place.Gone what gives = gives
@@ -149,9 +157,12 @@ pub places_none : {P : Type 0} (Tells : Type 0) (sure : Bool) (before start : �
 places_none Tells sure before start row cookie passed first = none_passed Tells (arm_use sure before before) start row cookie passed first
 
 -- one more replica was passed over
-pub places_more : {P : Type 0} (Tells : Type 0) (sure still : Bool) (before mid new start : ℕ) (row : List (Place P)) (cookie : Cookie) (put : List ℕ) (passed causes : List PassedReplica) (over : PassedReplica)
-    → PassesRow Tells (arm_use sure before mid) start row cookie passed causes → over.replica ≡ (start + length causes) % length row → before ≤ mid → mid ≤ new → (new ≡ mid) ⊎ (new < 2 ^ 64) → FailsBy mid new over.cause
-    → (sure ≡ true → still ≡ true) → PlaceGives Tells still cookie put (place_in row over.replica) (Err over.cause) → PassesRow Tells (arm_use sure before new) start row cookie passed (causes ++ over ∷ [])
+pub places_more : {P : Type 0} (Tells : Type 0) (sure still : Bool) (before mid new start : ℕ) (row : List (Place P)) (cookie : Cookie) (put : List ℕ)
+    (passed causes : List PassedReplica) (over : PassedReplica)
+    → PassesRow Tells (arm_use sure before mid) start row cookie passed causes → over.replica ≡ (start + length causes) % length row → before ≤ mid → mid ≤ new
+    → (new ≡ mid) ⊎ (new < 2 ^ 64) → FailsBy mid new over.cause
+    → (sure ≡ true → still ≡ true) → PlaceGives Tells still cookie put (place_in row over.replica) (Err over.cause)
+    → PassesRow Tells (arm_use sure before new) start row cookie passed (causes ++ over ∷ [])
 places_more Tells sure still before mid new start row cookie put passed causes over so_far is earlier later most fails stays gives = record {
   passes = passes_more start (length row) before mid new passed causes over so_far.passes is earlier later most fails;
   places =
@@ -176,7 +187,8 @@ shows_at j causes shown.WrongCookie seen = refl
 shows_at j causes shown.Unseen seen = seen
 
 -- the next replica showed what its place gives
-pub shows_place : {P : Type 0} (Tells : Type 0) (sure still : Bool) (before mid new start : ℕ) (row : List (Place P)) (cookie : Cookie) (put : List ℕ) (passed causes : List PassedReplica) (j : ℕ) (what : Shown)
+pub shows_place : {P : Type 0} (Tells : Type 0) (sure still : Bool) (before mid new start : ℕ) (row : List (Place P)) (cookie : Cookie) (put : List ℕ)
+    (passed causes : List PassedReplica) (j : ℕ) (what : Shown)
     → PassesRow Tells (arm_use sure before mid) start row cookie passed causes → length causes < length row → j ≡ (start + length causes) % length row → mid ≤ new → (new ≡ mid) ⊎ (new < 2 ^ 64)
     → PlaceGives Tells still cookie put (place_in row j) (Ok what) → ReadsRow Tells (arm_use sure before new) start row cookie passed put (reply_at j causes what)
 shows_place {P} Tells sure still before mid new start row cookie put passed causes j what so_far fewer next later most gives =

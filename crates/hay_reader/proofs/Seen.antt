@@ -61,7 +61,8 @@ reads_seen bytes seen cookie put (Err why) but reads = λ needle begins.
     reads there.0 there.1
 
 -- what reading gives of all that was fetched, it gives of the needle
-pub reads_whole : (bytes seen : List ℕ) (count : ℕ) (cookie : Cookie) (put : List ℕ) (r : Result Shown Cause) → IsBut 28 bytes seen → length seen ≤ count → ReadsBytes cookie put (take count seen) r → ReadsBytes cookie put bytes r
+pub reads_whole : (bytes seen : List ℕ) (count : ℕ) (cookie : Cookie) (put : List ℕ) (r : Result Shown Cause) → IsBut 28 bytes seen → length seen ≤ count
+    → ReadsBytes cookie put (take count seen) r → ReadsBytes cookie put bytes r
 reads_whole bytes seen count cookie put r but all reads = reads_seen bytes seen cookie put r but (subst (λ (xs : List ℕ). ReadsBytes cookie put xs r) (take_all count seen all) reads)
 
 -- the try of a needle that was fetched
@@ -99,7 +100,8 @@ same_photo bytes others a b has also there =
     subst (λ (p : Photo). HasPhoto others p) same there
 
 -- what bytes show, others of the same photo show
-shows_same : (cookie : Cookie) (put bytes others : List ℕ) (photo : Photo) (what : Shown) → HasPhoto bytes photo → HasPhoto others photo → ShowsPhoto cookie put bytes what → ShowsPhoto cookie put others what
+shows_same : (cookie : Cookie) (put bytes others : List ℕ) (photo : Photo) (what : Shown) → HasPhoto bytes photo → HasPhoto others photo → ShowsPhoto cookie put bytes what
+    → ShowsPhoto cookie put others what
 shows_same cookie put bytes others photo shown.Photo has there shows = same_photo bytes others photo _ has shows there
 shows_same cookie put bytes others photo shown.WrongCookie has there shows = (shows.0, shows.1, same_photo bytes others photo shows.0 has shows.2 there)
 shows_same cookie put bytes others photo shown.Gone has there shows = absurd shows

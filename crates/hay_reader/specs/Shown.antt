@@ -38,7 +38,8 @@ abbrev pub ShowsRead : {P : Type 0} → Cookie → List ℕ → List ℕ → Lis
 ShowsRead cookie put bytes passed j at read = (what : Shown) × ShowsSeen cookie put bytes at what × (read ≡ reply_at j passed what)
 
 -- The replicas that come before this one were passed over, and its place gives what is shown.
-pub record ShowsPlace {P : Type 0} (Tells : Type 0) (arm : ArmUse) (start : ℕ) (row : List (Place P)) (cookie : Cookie) (passed causes : List PassedReplica) (put : List ℕ) (j : ℕ) (what : Shown) : Type 0 where
+pub record ShowsPlace {P : Type 0} (Tells : Type 0) (arm : ArmUse) (start : ℕ) (row : List (Place P)) (cookie : Cookie) (passed causes : List PassedReplica) (put : List ℕ) (j : ℕ)
+    (what : Shown) : Type 0 where
   pub before : PassesRow Tells arm start row cookie passed causes
   pub fewer : length causes < length row
   pub next : j ≡ (start + length causes) % length row

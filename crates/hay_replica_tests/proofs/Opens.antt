@@ -24,7 +24,8 @@ unfolding OpensAs
 void_opens sup contents void = inl (void, refl)
 
 -- the first cell of a replica can be seen
-pub first_seen : {D : Type 0} (files : D → Files) (r : Copy D) (s : Stored) (cell : Cell) (at size : ℕ) → Stands files r s → s.cells ≡ cell ∷ [] → at ≡ cell.at → length cell.bytes ≡ size → MaySee files r at size
+pub first_seen : {D : Type 0} (files : D → Files) (r : Copy D) (s : Stored) (cell : Cell) (at size : ℕ) → Stands files r s → s.cells ≡ cell ∷ [] → at ≡ cell.at
+    → length cell.bytes ≡ size → MaySee files r at size
 first_seen files r s cell at size stands one place long =
     let all = subst (λ (cells : List Cell). AllByRecursion (ShowsCell files r) cells) one (stands_shows files r s stands) in
     subst (λ k. MaySee files r k size) (sym place) (subst (λ k. MaySee files r cell.at k) long all.0.may)

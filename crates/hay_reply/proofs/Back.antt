@@ -1,5 +1,6 @@
 -- What the text of a reply or a note is read as.
-use Rattle.std.proofs.Common.{◌≡◌, ℕ, ◌<◌, ◌^◌, ◌==◌, ◌&&◌, not, nat_le, Bool, true, false, List, [], ◌∷◌, ◌++◌, length, Some, None, refl, sym, ◌∙◌, ap, subst, arith, if◌then◌else◌, decimal, append_assoc, codes, flat_map, zero, suc, replicate}
+use Rattle.std.proofs.Common.{◌≡◌, ℕ, ◌<◌, ◌^◌, ◌==◌, ◌&&◌, not, nat_le, Bool, true, false, List, [], ◌∷◌, ◌++◌, length, Some, None, refl, sym, ◌∙◌, ap, subst, arith}
+use Rattle.std.proofs.Common.{if◌then◌else◌, decimal, append_assoc, codes, flat_map, zero, suc, replicate}
 use Rattle.std.specs.Prelude.{option_map}
 use Rattle.std.specs.List.{list_all}
 use Rattle.std.specs.Result.{result_ok}
@@ -25,11 +26,15 @@ use Rattle.hay_reply.specs.declared.LineVolume.{LineVolume}
 use Rattle.hay_reply.specs.declared.Note.{Note}
 use Rattle.hay_reply.specs.declared.Note.TheVariants.{Kept, Lost, KeptDir, LostDir, Log, Rows, OpenShelf, OpenFailed, OpenDamaged}
 use Rattle.hay_reply.specs.declared.Reply.{Reply}
-use Rattle.hay_reply.specs.declared.Reply.TheVariants.{Stored, Deleted, Photo, Gone, Absent, WrongCookie, Unknown, Moved, Url, Full, ReadOnly, ReadOnlyDir, Failed, FailedDir, Unreadable, Damaged, Flushed, Begun, Stepped, Compacted, Busy, Idle, Worn, Drained, Undrained, Fused, FusedDir, Nowhere, Restarted, BadLine, NoMem}
+use Rattle.hay_reply.specs.declared.Reply.TheVariants.{Stored, Deleted, Photo, Gone, Absent, WrongCookie, Unknown, Moved, Url, Full, ReadOnly, ReadOnlyDir, Failed, FailedDir}
+use Rattle.hay_reply.specs.declared.Reply.TheVariants.{Unreadable, Damaged, Flushed, Begun, Stepped, Compacted, Busy, Idle, Worn, Drained, Undrained, Fused, FusedDir, Nowhere}
+use Rattle.hay_reply.specs.declared.Reply.TheVariants.{Restarted, BadLine, NoMem}
 use Rattle.hay_reply.specs.Replies.{field, place, sight, reply_text, note_text, refused_text, closed_text, cause_text, passed_text, row_text, data_text}
 use Rattle.hay_reply.specs.Fits.{FitsReply, FitsNote, FitsRefused, FitsClosed, FitsCause, FitsPassed, FitsRow, IsLarge}
-use Rattle.hay_reply.specs.Reading.{is_mark, parts_of, words_of, large, closed_of, two_of, of_replica, reply_of, note_of, refused_of, refused_by, passed_of, passed_by, row_of, row_by, photo_of, run_by, readonly_by, changed_of}
-use Rattle.hay_reply.proofs.Wording.{Plain, first_word, two_words, three_words, four_words, five_words, six_words, plain_decimal, large_back, small_back, place_back, cookie_back, plain_cookie, plain_lower, group_words, all_back}
+use Rattle.hay_reply.specs.Reading.{is_mark, parts_of, words_of, large, closed_of, two_of, of_replica, reply_of, note_of, refused_of, refused_by, passed_of, passed_by, row_of}
+use Rattle.hay_reply.specs.Reading.{row_by, photo_of, run_by, readonly_by, changed_of}
+use Rattle.hay_reply.proofs.Wording.{Plain, first_word, two_words, three_words, four_words, five_words, six_words, plain_decimal, large_back, small_back, place_back, cookie_back}
+use Rattle.hay_reply.proofs.Wording.{plain_cookie, plain_lower, group_words, all_back}
 
 -- TEXTS, WORD BY WORD
 
@@ -75,7 +80,8 @@ words_three head a b c hh ha hb hc =
     ap words_of (three head (codes " ") (decimal a) (decimal b) (decimal c))
     ∙ four_words 32 head (decimal a) (decimal b) (decimal c) hh (spaceless a ha) (spaceless b hb) (spaceless c hc)
 
-words_sight : (head : List ℕ) (a b c d : ℕ) → Plain 32 head → a < 2 ^ 64 → b < 2 ^ 64 → c < 2 ^ 64 → d < 2 ^ 64 → words_of (head ++ sight a b c d) ≡ head ∷ decimal a ∷ decimal b ∷ decimal c ∷ decimal d ∷ []
+words_sight : (head : List ℕ) (a b c d : ℕ) → Plain 32 head → a < 2 ^ 64 → b < 2 ^ 64 → c < 2 ^ 64 → d < 2 ^ 64
+    → words_of (head ++ sight a b c d) ≡ head ∷ decimal a ∷ decimal b ∷ decimal c ∷ decimal d ∷ []
 words_sight head a b c d hh ha hb hc hd =
     ap words_of (seen head (codes " ") (decimal a) (decimal b) (decimal c) (decimal d))
     ∙ five_words 32 head (decimal a) (decimal b) (decimal c) (decimal d) hh (spaceless a ha) (spaceless b hb) (spaceless c hc) (spaceless d hd)
@@ -103,7 +109,8 @@ not_dir v m hv hm = not_dir_by (decimal v ++ 58 ∷ decimal m) (bytes_eq (decima
 two_back : (head : List ℕ) (v m n : ℕ) → bytes_eq head (codes "fused") ≡ false → v < 2 ^ 32 → m < 2 ^ 32 → n < 2 ^ 64 → two_of head (decimal v ++ 58 ∷ decimal m) (decimal n) ≡ of_replica head v m n
 two_back head v m n other hv hm hn = rw (not_dir v m hv hm, other, place_back v m hv hm, large_back n hn) refl
 
-replica_back : (head : List ℕ) (v m n : ℕ) → Plain 32 head → bytes_eq head (codes "fused") ≡ false → ((w : List ℕ) (x : List ℕ) → reply_of (head ∷ w ∷ x ∷ []) ≡ two_of head w x) → v < 2 ^ 32 → m < 2 ^ 32 → n < 2 ^ 64 → reply_of (words_of (head ++ place v m ++ field n)) ≡ of_replica head v m n
+replica_back : (head : List ℕ) (v m n : ℕ) → Plain 32 head → bytes_eq head (codes "fused") ≡ false → ((w : List ℕ) (x : List ℕ) → reply_of (head ∷ w ∷ x ∷ []) ≡ two_of head w x)
+    → v < 2 ^ 32 → m < 2 ^ 32 → n < 2 ^ 64 → reply_of (words_of (head ++ place v m ++ field n)) ≡ of_replica head v m n
 replica_back head v m n hh other by hv hm hn =
     ap reply_of (words_replica head v m n hh hv hm hn) ∙ by (decimal v ++ 58 ∷ decimal m) (decimal n) ∙ two_back head v m n other hv hm hn
 
@@ -200,8 +207,11 @@ plain_url url h =
     let cookie = plain_lower 32 (long_hex url.cookie.0) refl (long_digits url.cookie.0).1 in
     let alt = plain_append 32 (short_hex url.pair.alt) (95 ∷ long_hex url.cookie.0) (plain_lower 32 (short_hex url.pair.alt) refl (short_digits url.pair.alt).1) cookie in
     let key = plain_append 32 (long_hex url.pair.key) (95 ∷ (short_hex url.pair.alt ++ 95 ∷ long_hex url.cookie.0)) (plain_lower 32 (long_hex url.pair.key) refl (long_digits url.pair.key).1) alt in
-    let volume = plain_append 32 (decimal url.volume) (44 ∷ (long_hex url.pair.key ++ 95 ∷ (short_hex url.pair.alt ++ 95 ∷ long_hex url.cookie.0))) (spaceless url.volume (wide url.volume h.volume)) key in
-    let machine : Plain 32 (machine_text url) = plain_append 32 (decimal url.machine) (47 ∷ (decimal url.volume ++ 44 ∷ (long_hex url.pair.key ++ 95 ∷ (short_hex url.pair.alt ++ 95 ∷ long_hex url.cookie.0)))) (spaceless url.machine (wide url.machine h.machine)) volume in
+    let volume =
+    plain_append 32 (decimal url.volume) (44 ∷ (long_hex url.pair.key ++ 95 ∷ (short_hex url.pair.alt ++ 95 ∷ long_hex url.cookie.0))) (spaceless url.volume (wide url.volume h.volume)) key in
+    let machine : Plain 32 (machine_text url) =
+    plain_append 32 (decimal url.machine) (47 ∷ (decimal url.volume ++ 44 ∷ (long_hex url.pair.key ++ 95 ∷ (short_hex url.pair.alt ++ 95 ∷ long_hex url.cookie.0))))
+    (spaceless url.machine (wide url.machine h.machine)) volume in
     subst (Plain 32) (url_text_is url) machine
 
 url_back : (url : UrlParts) → FitsUrl url → url_of (url_text url) ≡ Some url
@@ -283,7 +293,8 @@ back_reply (Deleted v p d) h =
     ap reply_of (words_three (codes "deleted") v p d refl (wide v h.0) h.1 h.2) ∙ rw (small_back v h.0, large_back p h.1, large_back d h.2) refl
 back_reply (Photo v m p d photo) h =
     ap (λ t. reply_of (words_of t)) (shown (codes "photo") (codes " ") (decimal v) (decimal m) (decimal p) (decimal d) (data_text photo))
-    ∙ ap reply_of (six_words 32 (codes "photo") (decimal v) (decimal m) (decimal p) (decimal d) (data_text photo) refl (spaceless v (wide v h.0)) (spaceless m (wide m h.1)) (spaceless p h.2) (spaceless d h.3) (plain_photo photo h.4 h.5))
+    ∙ ap reply_of (six_words 32 (codes "photo") (decimal v) (decimal m) (decimal p) (decimal d) (data_text photo) refl (spaceless v (wide v h.0)) (spaceless m (wide m h.1))
+    (spaceless p h.2) (spaceless d h.3) (plain_photo photo h.4 h.5))
     ∙ rw (small_back v h.0, small_back m h.1, large_back p h.2, large_back d h.3, photo_back photo h.4 h.5) refl
 back_reply (Gone v m p d) h =
     ap reply_of (words_sight (codes "gone") v m p d refl (wide v h.0) (wide m h.1) h.2 h.3) ∙ rw (small_back v h.0, small_back m h.1, large_back p h.2, large_back d h.3) refl
@@ -291,7 +302,8 @@ back_reply (Absent v p d) h =
     ap reply_of (words_three (codes "gone") v p d refl (wide v h.0) h.1 h.2) ∙ rw (small_back v h.0, large_back p h.1, large_back d h.2) refl
 back_reply (WrongCookie v m p d) h =
     ap (λ t. reply_of (words_of t)) (wrong (codes "wrong") (codes " ") (codes "cookie") (decimal v) (decimal m) (decimal p) (decimal d))
-    ∙ ap reply_of (six_words 32 (codes "wrong") (codes "cookie") (decimal v) (decimal m) (decimal p) (decimal d) refl refl (spaceless v (wide v h.0)) (spaceless m (wide m h.1)) (spaceless p h.2) (spaceless d h.3))
+    ∙ ap reply_of (six_words 32 (codes "wrong") (codes "cookie") (decimal v) (decimal m) (decimal p) (decimal d) refl refl (spaceless v (wide v h.0)) (spaceless m (wide m h.1))
+    (spaceless p h.2) (spaceless d h.3))
     ∙ rw (small_back v h.0, small_back m h.1, large_back p h.2, large_back d h.3) refl
 back_reply (Unknown d) h = ap reply_of (two_words 32 (codes "unknown") (decimal d) refl (spaceless d h)) ∙ rw (large_back d h) refl
 back_reply (Moved v d) h =

@@ -14,7 +14,8 @@ use Rattle.hay_reply.specs.Reading.{number}
 pub own : IsNumeralModel (λ ds. list_all is_ascii_digit ds ≡ true) (digits_value 10)
 own = numerals_by_value _ (search rules)
 
-ok_number : {E : Type 0} (k : ℕ) (text : List ℕ) (r : Result ℕ E) → 0 < length text → list_all is_ascii_digit text ≡ true → OkIff r ((0 < length text) × (digits_value 10 text < 2 ^ k)) (digits_value 10 text) → result_ok r ≡ number (2 ^ k) text
+ok_number : {E : Type 0} (k : ℕ) (text : List ℕ) (r : Result ℕ E) → 0 < length text → list_all is_ascii_digit text ≡ true
+    → OkIff r ((0 < length text) × (digits_value 10 text < 2 ^ k)) (digits_value 10 text) → result_ok r ≡ number (2 ^ k) text
 ok_number k text (Ok x) low all h = grind (arith, nat_tests)
 ok_number k text (Err e) low all h = grind (arith, nat_tests)
 

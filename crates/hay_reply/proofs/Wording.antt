@@ -1,5 +1,6 @@
 -- The words of what is written word by word, and what they are read as.
-use Rattle.std.proofs.Common.{◌≡◌, ℕ, ◌<◌, ◌^◌, ◌&&◌, not, nat_lt, Bool, true, false, List, [], ◌∷◌, ◌++◌, length, Option, Some, refl, sym, ◌∙◌, ap, arith, decimal, append-nil, map, flat_map, zero, suc}
+use Rattle.std.proofs.Common.{◌≡◌, ℕ, ◌<◌, ◌^◌, ◌&&◌, not, nat_lt, Bool, true, false, List, [], ◌∷◌, ◌++◌, length, Option, Some, refl, sym, ◌∙◌, ap, arith, decimal, append-nil}
+use Rattle.std.proofs.Common.{map, flat_map, zero, suc}
 use Rattle.std.specs.Char.{is_ascii_digit, digit_value}
 use Rattle.std.specs.Int.{w64, to_be_bytes, bytes_high_first, byte_at}
 use Rattle.std.specs.List.{list_all, AllByRecursion}
@@ -55,21 +56,25 @@ three_words mark a b c h k l = first_word mark a (b ++ mark ∷ c) h ∙ ap (λ 
 pub four_words : (mark : ℕ) (a b c d : List ℕ) → Plain mark a → Plain mark b → Plain mark c → Plain mark d → parts_of mark (a ++ mark ∷ (b ++ mark ∷ (c ++ mark ∷ d))) ≡ a ∷ b ∷ c ∷ d ∷ []
 four_words mark a b c d h k l m = first_word mark a (b ++ mark ∷ (c ++ mark ∷ d)) h ∙ ap (λ ps. a ∷ ps) (three_words mark b c d k l m)
 
-pub five_words : (mark : ℕ) (a b c d e : List ℕ) → Plain mark a → Plain mark b → Plain mark c → Plain mark d → Plain mark e → parts_of mark (a ++ mark ∷ (b ++ mark ∷ (c ++ mark ∷ (d ++ mark ∷ e)))) ≡ a ∷ b ∷ c ∷ d ∷ e ∷ []
+pub five_words : (mark : ℕ) (a b c d e : List ℕ) → Plain mark a → Plain mark b → Plain mark c → Plain mark d → Plain mark e
+    → parts_of mark (a ++ mark ∷ (b ++ mark ∷ (c ++ mark ∷ (d ++ mark ∷ e)))) ≡ a ∷ b ∷ c ∷ d ∷ e ∷ []
 five_words mark a b c d e h k l m n = first_word mark a (b ++ mark ∷ (c ++ mark ∷ (d ++ mark ∷ e))) h ∙ ap (λ ps. a ∷ ps) (four_words mark b c d e k l m n)
 
-pub six_words : (mark : ℕ) (a b c d e f : List ℕ) → Plain mark a → Plain mark b → Plain mark c → Plain mark d → Plain mark e → Plain mark f → parts_of mark (a ++ mark ∷ (b ++ mark ∷ (c ++ mark ∷ (d ++ mark ∷ (e ++ mark ∷ f))))) ≡ a ∷ b ∷ c ∷ d ∷ e ∷ f ∷ []
+pub six_words : (mark : ℕ) (a b c d e f : List ℕ) → Plain mark a → Plain mark b → Plain mark c → Plain mark d → Plain mark e → Plain mark f
+    → parts_of mark (a ++ mark ∷ (b ++ mark ∷ (c ++ mark ∷ (d ++ mark ∷ (e ++ mark ∷ f))))) ≡ a ∷ b ∷ c ∷ d ∷ e ∷ f ∷ []
 six_words mark a b c d e f h k l m n o = first_word mark a (b ++ mark ∷ (c ++ mark ∷ (d ++ mark ∷ (e ++ mark ∷ f)))) h ∙ ap (λ ps. a ∷ ps) (five_words mark b c d e f k l m n o)
 
 -- the words of groups, each behind a space
-pub group_words : {X : Type 0} (Fit : X → Type 0) (text word : X → List ℕ) (head : List ℕ) (xs : List X) → ((x : X) → text x ≡ 32 ∷ word x) → ((x : X) → Fit x → Plain 32 (word x)) → Plain 32 head → AllByRecursion Fit xs → parts_of 32 (head ++ flat_map text xs) ≡ head ∷ map word xs
+pub group_words : {X : Type 0} (Fit : X → Type 0) (text word : X → List ℕ) (head : List ℕ) (xs : List X) → ((x : X) → text x ≡ 32 ∷ word x) → ((x : X) → Fit x → Plain 32 (word x))
+    → Plain 32 head → AllByRecursion Fit xs → parts_of 32 (head ++ flat_map text xs) ≡ head ∷ map word xs
 group_words Fit text word head [] spaced plain here all = ap (parts_of 32) (append-nil head) ∙ last_word 32 head here
 group_words Fit text word head (x ∷ xs) spaced plain here all =
     ap (λ t. parts_of 32 (head ++ (t ++ flat_map text xs))) (spaced x)
     ∙ first_word 32 head (word x ++ flat_map text xs) here
     ∙ ap (λ ps. head ∷ ps) (group_words Fit text word (word x) xs spaced plain (plain x all.0) all.1)
 
-pub all_back : {X : Type 0} (Fit : X → Type 0) (read : List ℕ → Option X) (word : X → List ℕ) (xs : List X) → ((x : X) → Fit x → read (word x) ≡ Some x) → AllByRecursion Fit xs → all_of read (map word xs) ≡ Some xs
+pub all_back : {X : Type 0} (Fit : X → Type 0) (read : List ℕ → Option X) (word : X → List ℕ) (xs : List X) → ((x : X) → Fit x → read (word x) ≡ Some x) → AllByRecursion Fit xs
+    → all_of read (map word xs) ≡ Some xs
 all_back Fit read word [] back all = refl
 all_back Fit read word (x ∷ xs) back all = rw (back x all.0, all_back Fit read word xs back all.1) refl
 

@@ -18,7 +18,9 @@ use Rattle.hay_reply.specs.declared.Cause.TheVariants.{Arm, Disk, Damage}
 use Rattle.hay_reply.specs.declared.Passed.{Passed}
 use Rattle.hay_reply.specs.declared.LineVolume.{LineVolume}
 use Rattle.hay_reply.specs.declared.Reply.{Reply}
-use Rattle.hay_reply.specs.declared.Reply.TheVariants.{Stored, Deleted, Photo, Gone, Absent, WrongCookie, Unknown, Moved, Url, Full, ReadOnly, ReadOnlyDir, Failed, FailedDir, Unreadable, Damaged, Flushed, Begun, Stepped, Compacted, Busy, Idle, Worn, Drained, Undrained, Fused, FusedDir, Nowhere, Restarted, BadLine, NoMem}
+use Rattle.hay_reply.specs.declared.Reply.TheVariants.{Stored, Deleted, Photo, Gone, Absent, WrongCookie, Unknown, Moved, Url, Full, ReadOnly, ReadOnlyDir, Failed, FailedDir}
+use Rattle.hay_reply.specs.declared.Reply.TheVariants.{Unreadable, Damaged, Flushed, Begun, Stepped, Compacted, Busy, Idle, Worn, Drained, Undrained, Fused, FusedDir, Nowhere}
+use Rattle.hay_reply.specs.declared.Reply.TheVariants.{Restarted, BadLine, NoMem}
 use Rattle.hay_reply.specs.declared.Note.{Note}
 use Rattle.hay_reply.specs.declared.Note.TheVariants.{Kept, Lost, KeptDir, LostDir, Log, Rows, OpenShelf, OpenFailed, OpenDamaged}
 
@@ -139,7 +141,8 @@ deleted_of (v ∷ p ∷ d ∷ more) = with_three Deleted (small v) (large p) (la
 deleted_of _ = None
 
 abbrev pub photo_reply_of : List (List ℕ) → Option Reply
-photo_reply_of (v ∷ m ∷ p ∷ d ∷ photo ∷ more) = option_and_then (λ x. option_and_then (λ y. option_and_then (λ z. option_and_then (λ w. option_map (Photo x y z w) (photo_of photo)) (large d)) (large p)) (small m)) (small v)
+photo_reply_of (v ∷ m ∷ p ∷ d ∷ photo ∷ more) =
+    option_and_then (λ x. option_and_then (λ y. option_and_then (λ z. option_and_then (λ w. option_map (Photo x y z w) (photo_of photo)) (large d)) (large p)) (small m)) (small v)
 photo_reply_of _ = None
 
 abbrev pub gone_of : List (List ℕ) → Option Reply

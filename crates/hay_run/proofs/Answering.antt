@@ -89,7 +89,8 @@ module _ (lanes : ℕ) (lines : List InBlock) (jobs : List (Vec Job Global)) (pl
       → IfOk told (λ own. Each (TellsRowsOf home (all_jobs jobs)) own.items) → NotesOf settings.volumes home (map job_of lines) told
   notes_told settings home told are rows =
       notes_of_told settings.volumes home (map job_of lines) told are
-      (IfOk-weaker told (λ own. Each (TellsRowsOf home (all_jobs jobs)) own.items) (λ own. Each (TellsRowsOf home (map job_of lines)) own.items) (λ own. rows_asked lanes lines jobs d.jobs_are home own.items) rows)
+      (IfOk-weaker told (λ own. Each (TellsRowsOf home (all_jobs jobs)) own.items) (λ own. Each (TellsRowsOf home (map job_of lines)) own.items)
+      (λ own. rows_asked lanes lines jobs d.jobs_are home own.items) rows)
 
   -- the lines with their replies
   module _ (replies : List (Vec Reply Global)) (same : AllZip (λ (js : Vec Job Global) (rs : Vec Reply Global). length js.items ≡ length rs.items) jobs replies) where
@@ -104,7 +105,8 @@ module _ (lanes : ℕ) (lines : List InBlock) (jobs : List (Vec Job Global)) (pl
     pub items_differ : (items : List LaneItem) → AreAnswered lines (own_replies replies) items → EachPair (λ a b. a.line ≢ b.line) items
     items_differ items are = distinct_items items lines are.asked d.block.distinct
 
-    pub items_fit : (items : List LaneItem) → AreAnswered lines (own_replies replies) items → Each (λ (rs : Vec Reply Global). Each FitsReply rs.items) replies → Each (λ answered. FitsReply answered.reply) items
+    pub items_fit : (items : List LaneItem) → AreAnswered lines (own_replies replies) items → Each (λ (rs : Vec Reply Global). Each FitsReply rs.items) replies
+        → Each (λ answered. FitsReply answered.reply) items
     items_fit items are fits =
         each_reply FitsReply lines (own_replies replies) items (each_mapped (λ (own : Vec Reply Global). own.items) (λ (own : List Reply). Each FitsReply own) replies fits) are
 
@@ -115,7 +117,8 @@ module _ (lanes : ℕ) (lines : List InBlock) (jobs : List (Vec Job Global)) (pl
     zip_many R (x ∷ xs) (y ∷ ys) all = let rest = zip_many R xs ys all.1 in omega (arith, rest)
 
     -- their text, whatever the disks tell
-    pub text_told : (items : List LaneItem) (told : Result (Vec Note Global) NoMemory) → AreAnswered lines (own_replies replies) items → Each (λ (rs : Vec Reply Global). Each FitsReply rs.items) replies
+    pub text_told : (items : List LaneItem) (told : Result (Vec Note Global) NoMemory) → AreAnswered lines (own_replies replies) items
+        → Each (λ (rs : Vec Reply Global). Each FitsReply rs.items) replies
         → AllZip (λ (js : Vec Job Global) (rs : Vec Reply Global). AllZip AnswersBad js.items rs.items) jobs replies → (settings : Settings) (home : Pair → Option ℕ)
         → AllZip (λ (js : Vec Job Global) (rs : Vec Reply Global). AllZip (AnswersSuited settings) js.items rs.items) jobs replies → (n : NotesOf settings.volumes home (map job_of lines) told)
         → IsBlockText settings home lines (answered_text items n.notes)
@@ -124,7 +127,8 @@ module _ (lanes : ℕ) (lines : List InBlock) (jobs : List (Vec Job Global)) (pl
         block_told settings home lanes lines (own_jobs jobs) (own_replies replies) items told d.jobs_are
         (zip_many (λ (js : List Job) (rs : List Reply). AllZip AnswersBad js rs) (own_jobs jobs) (own_replies replies) answers) are
         (each_mapped (λ (own : Vec Reply Global). own.items) (λ (own : List Reply). Each FitsReply own) replies fits)
-        (zip_mapped (λ (own : Vec Job Global). own.items) (λ (own : Vec Reply Global). own.items) (λ (js : List Job) (rs : List Reply). AllZip (AnswersSuited settings) js rs) jobs replies suits) answers n
+        (zip_mapped (λ (own : Vec Job Global). own.items) (λ (own : Vec Reply Global). own.items) (λ (js : List Job) (rs : List Reply). AllZip (AnswersSuited settings) js rs) jobs
+        replies suits) answers n
 
 -- ANSWERED AND WRITTEN
 
@@ -133,7 +137,8 @@ err_by P (Ok x) by = tt
 err_by P (Err e) by = by e refl
 
 -- where the disks tell
-module _ {D P A : Type 0} (files : D → Files) (DiskTells Tells : Type 0) (faults fuses : D → ℕ) (arm_faults : A → ℕ) (lines : List InBlock) (items : List LaneItem) (told : Result (Vec Note Global) NoMemory)
+module _ {D P A : Type 0} (files : D → Files) (DiskTells Tells : Type 0) (faults fuses : D → ℕ) (arm_faults : A → ℕ) (lines : List InBlock) (items : List LaneItem)
+    (told : Result (Vec Note Global) NoMemory)
     (written written' : Option (List ℕ)) (store store' : Open D P A) (asked : map line_asked items ≡ lines) (fits : Each (λ answered. FitsReply answered.reply) items)
     (legal : DiskTells → (k : Known) → Stands files Tells faults fuses arm_faults store k → RanBlock files Tells faults fuses arm_faults k items told store') where
   pub block_whole : {X : Type 0} (r : Result X Stop) → ((notes : List Note) → IfOk told (λ (own : Vec Note Global). own.items ≡ notes) → OnOk r (Wrote written (answered_text items notes) written'))
@@ -143,16 +148,19 @@ module _ {D P A : Type 0} (files : D → Files) (DiskTells Tells : Type 0) (faul
       block_ran files Tells faults fuses arm_faults (Stands files Tells faults fuses arm_faults) IsGoingOn block_goes_on Wrote k lines items told written written' store' ran asked fits ran.stands
       (ok_here (Wrote written (answered_text items (block_notes ran.logs ran.rows)) written') r x is (wrote (block_notes ran.logs ran.rows) ran.notes_are)))
 
-  pub block_part : {X : Type 0} (r : Result X Stop) → ((notes : List Note) → IfOk told (λ (own : Vec Note Global). own.items ≡ notes) → OnErr r (WrotePart written (answered_text items notes) written'))
+  pub block_part : {X : Type 0} (r : Result X Stop) → ((notes : List Note) → IfOk told (λ (own : Vec Note Global). own.items ≡ notes)
+      → OnErr r (WrotePart written (answered_text items notes) written'))
       → OnErr r (AnswersPart DiskTells (Stands files Tells faults fuses arm_faults) (Holds files faults fuses arm_faults) (Block lines ∷ []) store written store' written')
-  block_part r part = err_by (AnswersPart DiskTells (Stands files Tells faults fuses arm_faults) (Holds files faults fuses arm_faults) (Block lines ∷ []) store written store' written') r (λ e is tells k stands.
+  block_part r part =
+      err_by (AnswersPart DiskTells (Stands files Tells faults fuses arm_faults) (Holds files faults fuses arm_faults) (Block lines ∷ []) store written store' written') r (λ e is tells k stands.
       let ran = legal tells k stands in
       block_ran files Tells faults fuses arm_faults (Holds files faults fuses arm_faults) AnyTurn (λ items logs rows after. tt) WrotePart k lines items told written written' store' ran asked fits
       (stands_holds files Tells faults fuses arm_faults store' ran.known ran.stands)
       (err_here (WrotePart written (answered_text items (block_notes ran.logs ran.rows)) written') r e is (part (block_notes ran.logs ran.rows) ran.notes_are)))
 
 -- whatever they tell
-module _ (Tells : Type 0) (settings : Settings) (before after : Tally) (lines : List InBlock) (text : List ℕ) (written written' : Option (List ℕ)) (later : IsLaterTally before after) (is : IsBlockText settings (home_seen after.seen) lines text) where
+module _ (Tells : Type 0) (settings : Settings) (before after : Tally) (lines : List InBlock) (text : List ℕ) (written written' : Option (List ℕ))
+    (later : IsLaterTally before after) (is : IsBlockText settings (home_seen after.seen) lines text) where
   pub block_caused : {X : Type 0} (r : Result X Stop) → OnOk r (Wrote written text written') → OnOk r (Caused Tells Wrote settings before after (Block lines ∷ []) written written')
   block_caused r wrote = on_ok_weaker r (λ whole. caused_one Tells Wrote settings before after (Block lines) text written written' later is whole) wrote
 

@@ -1,5 +1,6 @@
 -- What one line after another asks for.
-use Rattle.std.proofs.Common.{◌≡◌, ◌≢◌, ◌⊎◌, inl, inr, ℕ, suc, ◌+◌, ◌<◌, ◌≤◌, Bool, true, false, List, [], ◌∷◌, ◌++◌, length, Option, Some, None, refl, sym, ap, subst, ◌∙◌, append_assoc, length-append, arith}
+use Rattle.std.proofs.Common.{◌≡◌, ◌≢◌, ◌⊎◌, inl, inr, ℕ, suc, ◌+◌, ◌<◌, ◌≤◌, Bool, true, false, List, [], ◌∷◌, ◌++◌, length, Option, Some, None, refl, sym, ap, subst, ◌∙◌}
+use Rattle.std.proofs.Common.{append_assoc, length-append, arith}
 use Rattle.std.specs.List.{onto_first}
 use Rattle.std.proofs.lemmas.Bool.{false≢true}
 use Rattle.std.proofs.lemmas.Grind.{common_steps}
@@ -33,8 +34,10 @@ whole_items_from-append [] more number held = ap (λ (n : ℕ). whole_items_from
 whole_items_from-append (text ∷ texts) more number held =
     ap (λ (items : List Asked). (by_line number held text).0 ++ items)
     (whole_items_from-append texts more (number + 1) (by_line number held text).1
-    ∙ ap (λ (n : ℕ). whole_items_from (number + 1) (by_line number held text).1 texts ++ whole_items_from n (block_behind (number + 1) (by_line number held text).1 texts) more) (number_next number texts))
-    ∙ sym (append_assoc (by_line number held text).0 (whole_items_from (number + 1) (by_line number held text).1 texts) (whole_items_from (number + suc (length texts)) (block_behind (number + 1) (by_line number held text).1 texts) more))
+    ∙ ap (λ (n : ℕ). whole_items_from (number + 1) (by_line number held text).1 texts ++ whole_items_from n (block_behind (number + 1) (by_line number held text).1 texts) more)
+    (number_next number texts))
+    ∙ sym (append_assoc (by_line number held text).0 (whole_items_from (number + 1) (by_line number held text).1 texts)
+    (whole_items_from (number + suc (length texts)) (block_behind (number + 1) (by_line number held text).1 texts) more))
 
 pub block_behind-append : (texts more : List (List ℕ)) (number : ℕ) (held : Option OpenBlock)
     → block_behind number held (texts ++ more) ≡ block_behind (number + length texts) (block_behind number held texts) more
@@ -50,7 +53,8 @@ items_from-append (text ∷ texts) more number held =
     ap (λ (items : List Asked). (by_line number held text).0 ++ items)
     (items_from-append texts more (number + 1) (by_line number held text).1
     ∙ ap (λ (n : ℕ). whole_items_from (number + 1) (by_line number held text).1 texts ++ items_from n (block_behind (number + 1) (by_line number held text).1 texts) more) (number_next number texts))
-    ∙ sym (append_assoc (by_line number held text).0 (whole_items_from (number + 1) (by_line number held text).1 texts) (items_from (number + suc (length texts)) (block_behind (number + 1) (by_line number held text).1 texts) more))
+    ∙ sym (append_assoc (by_line number held text).0 (whole_items_from (number + 1) (by_line number held text).1 texts)
+    (items_from (number + suc (length texts)) (block_behind (number + 1) (by_line number held text).1 texts) more))
 
 pub items_from-behind : (texts : List (List ℕ)) (number : ℕ) (held : Option OpenBlock) → items_from number held texts ≡ whole_items_from number held texts ++ at_end (block_behind number held texts)
 items_from-behind texts number held =
@@ -73,7 +77,8 @@ asked_more texts text number next held behind said asked items after whole is_be
       block_behind-append texts (text ∷ []) number held ∙ ap (λ (p : List Asked × Option OpenBlock). p.1) by,
     )
 
-pub lines_more : (texts : List (List ℕ)) (text : List ℕ) (before mid after : Option (List ℕ)) (ended : Bool) → TookFeds before texts mid → TookLine mid text after ended → TookLines before (texts ++ text ∷ []) after ended
+pub lines_more : (texts : List (List ℕ)) (text : List ℕ) (before mid after : Option (List ℕ)) (ended : Bool) → TookFeds before texts mid → TookLine mid text after ended
+    → TookLines before (texts ++ text ∷ []) after ended
 lines_more texts text before mid after ended feeds (inl w) = inl (took_fed_more texts before mid after text feeds w.0, w.1)
 lines_more texts text before mid after ended feeds (inr w) = inr (took_last_more texts before mid after text feeds w.0, w.1)
 
@@ -102,7 +107,8 @@ some_end [] before after h = some_all before after [] h
 some_end (text ∷ texts) before after (inl w) = some_all before after text w.0.all
 some_end (text ∷ texts) before after (inr (mid, fed, rest)) = some_more before mid after (fed.bytes ++ 10 ∷ [], fed.took) (some_end texts mid after rest)
 
-pub some_items : (number : ℕ) (held : Option OpenBlock) (before after : Option (List ℕ)) (asked : List Asked) (next : ℕ) (ended : Bool) → TookItems number held before asked next after ended → TookSome before after
+pub some_items : (number : ℕ) (held : Option OpenBlock) (before after : Option (List ℕ)) (asked : List Asked) (next : ℕ) (ended : Bool)
+    → TookItems number held before asked next after ended → TookSome before after
 some_items number held before after asked next ended took = by took.lines
   where
     by : TookLines before took.texts after ended → TookSome before after
@@ -162,7 +168,8 @@ pub outside-none : (number : ℕ) (said : Line) → (said ≡ line.Skip) ⊎ ((l
 outside-none number said (inl e) = rw e refl
 outside-none number said (inr (lanes, e)) = rw e refl
 
-pub outside-bad : (number : ℕ) (said : Line) → (said ≡ line.Bad) ⊎ (said ≡ line.End) ⊎ ((lane : ℕ) × (command : Command) × (said ≡ line.InLane lane command)) → (outside number said).0 ≡ Alone number item.Bad ∷ []
+pub outside-bad : (number : ℕ) (said : Line) → (said ≡ line.Bad) ⊎ (said ≡ line.End) ⊎ ((lane : ℕ) × (command : Command) × (said ≡ line.InLane lane command))
+    → (outside number said).0 ≡ Alone number item.Bad ∷ []
 outside-bad number said (inl e) = rw e refl
 outside-bad number said (inr (inl e)) = rw e refl
 outside-bad number said (inr (inr e)) = rw e.2 refl
@@ -198,11 +205,13 @@ items_none number before after ended over = record {
 
 -- A BLOCK WITH THE LINE THAT OPENS IT
 
-lines_first : (text : List ℕ) (texts : List (List ℕ)) (before mid after : Option (List ℕ)) (ended : Bool) → TookFed before text mid → TookLines mid texts after ended → TookLines before (text ∷ texts) after ended
+lines_first : (text : List ℕ) (texts : List (List ℕ)) (before mid after : Option (List ℕ)) (ended : Bool) → TookFed before text mid → TookLines mid texts after ended
+    → TookLines before (text ∷ texts) after ended
 lines_first text texts before mid after ended fed (inl w) = inl ((mid, fed, w.0), w.1)
 lines_first text texts before mid after ended fed (inr w) = inr (inr (mid, fed, w.0), w.1)
 
-asks_first : (number lanes : ℕ) (text : List ℕ) (texts : List (List ℕ)) (asked : List Asked) (ended : Bool) → line.Lanes lanes ≡ line_of None text → Asks (number + 1) (Some (empty_block lanes)) texts asked ended → Asks number None (text ∷ texts) asked ended
+asks_first : (number lanes : ℕ) (text : List ℕ) (texts : List (List ℕ)) (asked : List Asked) (ended : Bool) → line.Lanes lanes ≡ line_of None text
+    → Asks (number + 1) (Some (empty_block lanes)) texts asked ended → Asks number None (text ∷ texts) asked ended
 asks_first number lanes text texts asked ended says (inl w) = inl (rw (← says) w.0, rw (← says) w.1)
 asks_first number lanes text texts asked ended says (inr w) = inr (rw (← says) w.0, w.1)
 
@@ -365,7 +374,8 @@ pub fed_lines : (before after : Option (List ℕ)) (texts : List (List ℕ)) →
 fed_lines before after texts (inl w) = w.0
 fed_lines before after texts (inr w) = absurd (false≢true w.1)
 
-lines_append : (texts more : List (List ℕ)) (before mid after : Option (List ℕ)) (ended : Bool) → TookFeds before texts mid → TookLines mid more after ended → TookLines before (texts ++ more) after ended
+lines_append : (texts more : List (List ℕ)) (before mid after : Option (List ℕ)) (ended : Bool) → TookFeds before texts mid → TookLines mid more after ended
+    → TookLines before (texts ++ more) after ended
 lines_append texts more before mid after ended feeds (inl w) = inl (feeds_append texts more before mid after feeds w.0, w.1)
 lines_append texts more before mid after ended feeds (inr w) = inr (feeds_end texts more before mid after feeds w.0, w.1)
 
@@ -416,7 +426,8 @@ long_script limit script mid after first held h long at_first =
 pub taken_nothing : (limit : ℕ) (left : Option (List ℕ)) → TookAtMost limit left left
 taken_nothing limit left script told = (script, told, omega arith)
 
-pub taken_most : (limit : ℕ) (left mid after : Option (List ℕ)) (first held held' : Held) → Accounts left first mid held → Accounts mid held after held' → first.taken ≡ 0 → held'.taken ≤ limit → TookAtMost limit left after
+pub taken_most : (limit : ℕ) (left mid after : Option (List ℕ)) (first held held' : Held) → Accounts left first mid held → Accounts mid held after held' → first.taken ≡ 0
+    → held'.taken ≤ limit → TookAtMost limit left after
 taken_most limit left mid after first held held' h k at_first small script told =
     let all = accounts_more left mid after first held held' h k in
     let made : Accounts (Some script) first after held' = rw told at all in (made.0, made.1, omega (arith, made.2, at_first, small))

@@ -54,7 +54,8 @@ block_text items logs rows after =
     ap (λ (text : List ℕ). flat_map answered_line items ++ text) (notes_text logs rows) ∙ sym (append_assoc (flat_map answered_line items) (flat_map log_line logs) (row_line rows.from rows.rows))
 
 pub block_ran : {D P A : Type 0} (files : D → Files) (Tells : Type 0) (faults fuses : D → ℕ) (arm_faults : A → ℕ) (Left : Standing D P A) (Is : Turn → Type 0)
-    → ((items : List LaneItem) (logs : List LogNote) (rows : RowNote) (after : Known) → Is (Lanes items logs rows after)) → (Writes : Writing) (k : Known) (lines : List InBlock) (items : List LaneItem)
+    → ((items : List LaneItem) (logs : List LogNote) (rows : RowNote) (after : Known) → Is (Lanes items logs rows after))
+    → (Writes : Writing) (k : Known) (lines : List InBlock) (items : List LaneItem)
     (told : Result (Vec Note Global) NoMemory) (written written' : Option (List ℕ)) (store : Open D P A) (ran : RanBlock files Tells faults fuses arm_faults k items told store)
     → map line_asked items ≡ lines → Each (λ answered. FitsReply answered.reply) items → Left store ran.known → Writes written (answered_text items (block_notes ran.logs ran.rows)) written'
     → AnswersTurns Is Writes Left k (Block lines ∷ []) written store written'
@@ -87,8 +88,10 @@ each_of_three : (P Q R : LaneItem → Type 0) (items : List LaneItem) → Each P
 each_of_three P Q R [] p q r = tt
 each_of_three P Q R (item ∷ items) p q r = ((p.0, q.0, r.0), each_of_three P Q R items p.1 q.1 r.1)
 
-pub block_told : (settings : Settings) (home : Pair → Option ℕ) (lanes : ℕ) (lines : List InBlock) (jobs : List (List Job)) (replies : List (List Reply)) (items : List LaneItem) (told : Result (Vec Note Global) NoMemory)
-    → AreJobs lanes lines jobs → length jobs ≡ length replies → AreAnswered lines replies items → Each (λ own. Each FitsReply own) replies → AllZip (λ js rs. AllZip (AnswersSuited settings) js rs) jobs replies
+pub block_told : (settings : Settings) (home : Pair → Option ℕ) (lanes : ℕ) (lines : List InBlock) (jobs : List (List Job)) (replies : List (List Reply)) (items : List LaneItem)
+    (told : Result (Vec Note Global) NoMemory)
+    → AreJobs lanes lines jobs → length jobs ≡ length replies → AreAnswered lines replies items → Each (λ own. Each FitsReply own) replies
+    → AllZip (λ js rs. AllZip (AnswersSuited settings) js rs) jobs replies
     → AllZip (λ js rs. AllZip AnswersBad js rs) jobs replies → (n : NotesOf settings.volumes home (map job_of lines) told) → IsBlockText settings home lines (answered_text items n.notes)
 block_told settings home lanes lines jobs replies items told are long answered fits suits bad n = record {
   items = items;
@@ -106,8 +109,10 @@ block_told settings home lanes lines jobs replies items told are long answered f
 
 -- BEFORE A BLOCK
 
-pub wanted_block : {D P A : Type 0} (DiskTells : Type 0) (files : D → Files) (Tells : Type 0) (drawn : D → ℕ → ℕ) (faults fuses : D → ℕ) (arm_faults : A → ℕ) (sure : A → Bool) (lines : List InBlock) (store store' : Open D P A)
-    → StaysAs DiskTells files Tells faults fuses arm_faults store store' → WantedBlock (tally_of files drawn faults fuses arm_faults sure store) (tally_of files drawn faults fuses arm_faults sure store') (Block lines ∷ [])
+pub wanted_block : {D P A : Type 0} (DiskTells : Type 0) (files : D → Files) (Tells : Type 0) (drawn : D → ℕ → ℕ) (faults fuses : D → ℕ) (arm_faults : A → ℕ) (sure : A → Bool)
+    (lines : List InBlock) (store store' : Open D P A)
+    → StaysAs DiskTells files Tells faults fuses arm_faults store store' → WantedBlock (tally_of files drawn faults fuses arm_faults sure store)
+    (tally_of files drawn faults fuses arm_faults sure store') (Block lines ∷ [])
 wanted_block DiskTells files Tells drawn faults fuses arm_faults sure lines store store' same = record {
   lines = lines;
   block = refl;

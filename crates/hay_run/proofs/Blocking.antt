@@ -7,7 +7,8 @@ use Rattle.std.specs.Str.Parse.{digits_value}
 use Rattle.hay_script.specs.declared.Command.{Command}
 use Rattle.hay_script.specs.declared.Command.TheVariants as command
 use Rattle.hay_script.specs.declared.Line.TheVariants as line
-use Rattle.hay_script.specs.Script.{IsWithin, below, by_place, command_of, command_of_one, from_one, inside_line, is_fair, is_skipped, lane_line, lanes_by, line_of, may_stand_in_lane, outside_line, plain_by, words_of}
+use Rattle.hay_script.specs.Script.{IsWithin, below, by_place, command_of, command_of_one, from_one, inside_line, is_fair, is_skipped, lane_line, lanes_by, line_of}
+use Rattle.hay_script.specs.Script.{may_stand_in_lane, outside_line, plain_by, words_of}
 use Rattle.hay_legal.specs.declared.turn.Item.{Item}
 use Rattle.hay_legal.specs.declared.turn.Item.TheVariants as item
 use Rattle.hay_legal.specs.Items.{InBlock, OpenBlock, with_bad, with_command}
@@ -29,11 +30,13 @@ and_last false q e = absurd cc
 below_limit : (limit : ℕ) (text : List ℕ) (n : ℕ) → below limit text ≡ Some n → n < limit
 below_limit limit text n is =
     let tests = if_some (nat_lt 0 (length text) && nat_le (length text) 20 && list_all is_ascii_digit text && nat_lt (digits_value 10 text) limit) (digits_value 10 text) n is in
-    let last : nat_lt (digits_value 10 text) limit ≡ true = and_last (nat_lt 0 (length text) && nat_le (length text) 20 && list_all is_ascii_digit text) (nat_lt (digits_value 10 text) limit) tests.0 in
+    let last : nat_lt (digits_value 10 text) limit ≡ true =
+    and_last (nat_lt 0 (length text) && nat_le (length text) 20 && list_all is_ascii_digit text) (nat_lt (digits_value 10 text) limit) tests.0 in
     subst (λ (k : ℕ). k < limit) tests.1 (ltb-true (digits_value 10 text) limit last)
 
 -- a line of a lane: its lane is one of the block's, and its command may stand in one
-lane_by : (lanes : ℕ) (word : List ℕ) (asked : Option Command) (lane : ℕ) (command : Command) → line.InLane lane command ≡ lane_line (below lanes word) asked → (lane < lanes) × (may_stand_in_lane command ≡ true)
+lane_by : (lanes : ℕ) (word : List ℕ) (asked : Option Command) (lane : ℕ) (command : Command) → line.InLane lane command ≡ lane_line (below lanes word) asked
+    → (lane < lanes) × (may_stand_in_lane command ≡ true)
 lane_by lanes word asked lane command is = by (below lanes word) asked (below_limit lanes word) is
   where
     by : (found : Option ℕ) (asked : Option Command) → ((n : ℕ) → found ≡ Some n → n < lanes) → line.InLane lane command ≡ lane_line found asked → (lane < lanes) × (may_stand_in_lane command ≡ true)
@@ -61,7 +64,8 @@ inside_lane lanes (word ∷ other ∷ words) lane command is = lane_by lanes wor
 pub in_lane : (lanes : ℕ) (text : List ℕ) (lane : ℕ) (command : Command) → line.InLane lane command ≡ line_of (Some lanes) text → (lane < lanes) × (may_stand_in_lane command ≡ true)
 in_lane lanes text lane command is = by (is_skipped (words_of text)) (is_fair text) is
   where
-    by : (skipped fair : Bool) → line.InLane lane command ≡ (if skipped then line.Skip else if fair then by_place (Some lanes) (words_of text) else line.Bad) → (lane < lanes) × (may_stand_in_lane command ≡ true)
+    by : (skipped fair : Bool) → line.InLane lane command ≡ (if skipped then line.Skip else if fair then by_place (Some lanes) (words_of text) else line.Bad)
+        → (lane < lanes) × (may_stand_in_lane command ≡ true)
     by true fair e = absurd cc
     by false true e = inside_lane lanes (words_of text) lane command e
     by false false e = absurd cc
@@ -155,7 +159,8 @@ lines_more next lane asked lanes lines low served is before = record {
   distinct = pairs_behind lines (record { line = next; lane = lane; item = asked }) is.distinct before;
 }
 
-before_more : (next lane : ℕ) (asked : Item) (lines : List InBlock) → Each (λ line. line.line < next) lines → Each (λ line. line.line < next + 1) (lines ++ record { line = next; lane = lane; item = asked } ∷ [])
+before_more : (next lane : ℕ) (asked : Item) (lines : List InBlock) → Each (λ line. line.line < next) lines
+    → Each (λ line. line.line < next + 1) (lines ++ record { line = next; lane = lane; item = asked } ∷ [])
 before_more next lane asked lines before =
     each_pushed (λ (l : InBlock). l.line < next + 1) lines (record { line = next; lane = lane; item = asked }) (later next lines before) (omega arith)
 

@@ -1,7 +1,8 @@
 -- How long the script of a drill may be.
 use Rattle.std.specs.Prelude.{flat_map, if◌then◌else◌}
 use Rattle.std.specs.List.{range_with_len}
-use Rattle.std.proofs.Common.{◌≡◌, ℕ, zero, suc, ◌+◌, ◌*◌, ◌-◌, ◌/◌, ◌%◌, ◌^◌, ◌≤◌, ◌<◌, ◌==◌, Bool, true, false, List, [], ◌∷◌, ◌++◌, length, length-append, Option, Some, None, refl, sym, ap, ◌∙◌, arith, lit≤, decimal, codes}
+use Rattle.std.proofs.Common.{◌≡◌, ℕ, zero, suc, ◌+◌, ◌*◌, ◌-◌, ◌/◌, ◌%◌, ◌^◌, ◌≤◌, ◌<◌, ◌==◌, Bool, true, false, List, [], ◌∷◌, ◌++◌, length, length-append, Option, Some, None}
+use Rattle.std.proofs.Common.{refl, sym, ap, ◌∙◌, arith, lit≤, decimal, codes}
 use Rattle.std.proofs.Math.Nat.{suc-mul}
 use Rattle.std.proofs.lemmas.List.FromFn.{length-range_with_len}
 use Rattle.std.specs.Fmt.{digit_glyph, digits, digits_onto}
@@ -9,7 +10,8 @@ use Rattle.hex.specs.Hex.{encode_lower, lower_digits}
 use Rattle.hex.proofs.HexLemmas.{length-encode_with}
 use Rattle.hay_url.specs.Url.{cookie_of}
 use Rattle.hay_url.proofs.Digits.{long_digits}
-use Rattle.hay_drill.specs.Script.{alts, block, del_line, deletion, drill_script, each_photo, each_replica, key_of, lane_reads, lane_text, put_line, read_line, reads, replacement, replica_line, settings, size_of, uploads, volume_lines}
+use Rattle.hay_drill.specs.Script.{alts, block, del_line, deletion, drill_script, each_photo, each_replica, key_of, lane_reads, lane_text, put_line, read_line, reads, replacement}
+use Rattle.hay_drill.specs.Script.{replica_line, settings, size_of, uploads, volume_lines}
 
 -- DECIMALS
 

@@ -1,5 +1,6 @@
 -- From texts that have their causes to a whole run.
-use Rattle.std.proofs.Common.{◌≡◌, ◌≢◌, ◌⊎◌, inl, inr, ℕ, ◌+◌, ◌<◌, ◌≤◌, false, List, [], ◌∷◌, ◌++◌, length, take, Option, Some, None, refl, sym, ap, subst, ◌∙◌, append_assoc, length-append, arith, lit≤}
+use Rattle.std.proofs.Common.{◌≡◌, ◌≢◌, ◌⊎◌, inl, inr, ℕ, ◌+◌, ◌<◌, ◌≤◌, false, List, [], ◌∷◌, ◌++◌, length, take, Option, Some, None, refl, sym, ap, subst, ◌∙◌, append_assoc}
+use Rattle.std.proofs.Common.{length-append, arith, lit≤}
 use Rattle.std.specs.Prelude.{Bool, Result, Ok, Err, OnOk}
 use Rattle.std.proofs.lemmas.List.{append-nil}
 use Rattle.hay_disk.specs.Streams.{Wrote, WrotePart}
@@ -20,7 +21,8 @@ use Rattle.hay_cluster.specs.declared.fault.ClusterFault.{ClusterFault}
 use Rattle.hay_cluster.specs.declared.fault.ClusterFault.TheVariants as refusal
 use Rattle.hay_run.specs.declared.stops.Stop.{Stop}
 use Rattle.hay_run.specs.declared.stops.Stop.TheVariants as stop
-use Rattle.hay_run.specs.Causing.{Tally, Caused, ToldRefusal, ToldWanting, IsUnopenedFront, StopCaused, TookLastItem, StopTook, AllCaused, CausedUntil, AsksBy, IsPartBehind, StandsBehind, BeginsAt, EndsAt, CausedRun, ending_in}
+use Rattle.hay_run.specs.Causing.{Tally, Caused, ToldRefusal, ToldWanting, IsUnopenedFront, StopCaused, TookLastItem, StopTook, AllCaused, CausedUntil, AsksBy, IsPartBehind}
+use Rattle.hay_run.specs.Causing.{StandsBehind, BeginsAt, EndsAt, CausedRun, ending_in}
 use Rattle.hay_run.specs.Items.{TookItems}
 use Rattle.hay_run.specs.Runs.{IsFirstRefusal, ReadBytes}
 use Rattle.hay_run.specs.Stops.{ending_of, note_of}
@@ -88,7 +90,8 @@ module _ (Tells : Type 0) where
   PartOf ending settings before after last base written' = (part : List ℕ) × (written' ≡ Some (base ++ part)) × StandsBehind Tells ending settings before after last part
 
   part_of : (settings : Settings) (before after : Tally) (last : List Asked) (base : List ℕ) (written' : Option (List ℕ))
-      → Caused Tells WrotePart settings before after last (Some base) written' ⊎ ToldWanting before after last (Some base) written' ⊎ ToldRefusal Tells WrotePart settings before after last (Some base) written'
+      → Caused Tells WrotePart settings before after last (Some base) written' ⊎ ToldWanting before after last (Some base) written'
+      ⊎ ToldRefusal Tells WrotePart settings before after last (Some base) written'
       → (part : List ℕ) × (written' ≡ Some (base ++ part)) × IsPartBehind Tells settings before after last part
   part_of settings before after last base written' (inl c) =
       let n = c.wrote.0 in (take n c.text, c.wrote.1, inl (c.text, c.answers, front_take n c.text))
@@ -120,7 +123,8 @@ module _ (Tells : Type 0) where
 
   module _ (settings : Settings) (script : List ℕ) (left : Option (List ℕ)) (taken given : Outside) (sure : ℕ → Bool) (disks disks' : ℕ → HeldDisk) (held : List ℕ) (written' : Option (List ℕ)) where
     module _ (old new : Tally) (begins : BeginsAt Tells settings taken sure old) (ends : EndsAt Tells settings new given) (sound : Tells → IsUndamaged settings (read_contents taken)) where
-      pub all_caused : AllCaused Tells settings old new (Some script) (Some (held ++ header_line settings)) written' → left ≡ Some [] → CausedRun Tells settings ReadAll script left taken given sure disks disks' held written'
+      pub all_caused : AllCaused Tells settings old new (Some script) (Some (held ++ header_line settings)) written' → left ≡ Some []
+          → CausedRun Tells settings ReadAll script left taken given sure disks disks' held written'
       all_caused a over = record {
         read = script;
         bytes = (refl, over);
@@ -145,7 +149,8 @@ module _ (Tells : Type 0) where
       }
 
       pub until_caused : (why : Stop) → (why ≡ stop.TooLong → (end : List ℕ) → left ≡ Some end → length script ≡ 1073741825 + length end)
-          → CausedUntil Tells settings old new why (Some script) (Some (held ++ header_line settings)) left written' → CausedRun Tells settings (ending_of why) script left taken given sure disks disks' held written'
+          → CausedUntil Tells settings old new why (Some script) (Some (held ++ header_line settings)) left written'
+          → CausedRun Tells settings (ending_of why) script left taken given sure disks disks' held written'
       until_caused why full u =
           let t = u.stops in
           let base = (held ++ header_line settings) ++ u.caused.text in
@@ -183,12 +188,25 @@ module _ (Tells : Type 0) where
       Behind text = (written' ≡ Some (held ++ text)) × IsUnopenedFront Tells settings taken given text
 
       output_front : (text : List ℕ) → Behind text → left ≡ Some script → CausedRun Tells settings OutputFault script left taken given sure disks disks' held written'
-      output_front text (wrote, front) told = record { read = []; bytes = (script, refl, told); text = text; wrote = wrote; causes = inr (record { unread = refl; kept = kept; arms = arms; fuses = fuses; told = front }) }
+      output_front text (wrote, front) told = record {
+        read = [];
+        bytes = (script, refl, told);
+        text = text;
+        wrote = wrote;
+        causes = inr (record { unread = refl; kept = kept; arms = arms; fuses = fuses; told = front });
+      }
 
       memory_front : (text : List ℕ) → Behind text → left ≡ Some script → CausedRun Tells settings NoMemory script left taken given sure disks disks' held written'
-      memory_front text (wrote, front) told = record { read = []; bytes = (script, refl, told); text = text; wrote = wrote; causes = inr (record { unread = refl; kept = kept; arms = arms; fuses = fuses; told = front }) }
+      memory_front text (wrote, front) told = record {
+        read = [];
+        bytes = (script, refl, told);
+        text = text;
+        wrote = wrote;
+        causes = inr (record { unread = refl; kept = kept; arms = arms; fuses = fuses; told = front });
+      }
 
-      store_told : (note : Note) → FitsNote note → IsFirstRefusal Tells settings taken given note → Wrote (Some (held ++ header_line settings)) (note_line note) written' → left ≡ Some script → CausedRun Tells settings NotOpened script left taken given sure disks disks' held written'
+      store_told : (note : Note) → FitsNote note → IsFirstRefusal Tells settings taken given note → Wrote (Some (held ++ header_line settings)) (note_line note) written'
+          → left ≡ Some script → CausedRun Tells settings NotOpened script left taken given sure disks disks' held written'
       store_told note fits why wrote told = record {
         read = [];
         bytes = (script, refl, told);
@@ -209,9 +227,13 @@ module _ (Tells : Type 0) where
       pub header_caused : (r : Result (Unit {0}) Stop) → (r ≡ Err stop.Output) ⊎ (r ≡ Err stop.NoMemory) → WrotePart (Some held) (header_line settings) written' → left ≡ Some script
           → CausedRun Tells settings (ending_in r) script left taken given sure disks disks' held written'
       header_caused r (inl e) wrote told =
-          let part = header_part wrote in subst (λ (w : Result (Unit {0}) Stop). CausedRun Tells settings (ending_in w) script left taken given sure disks disks' held written') (sym e) (output_front part.0 part.1 told)
+          let part =
+          header_part wrote in subst (λ (w : Result (Unit {0}) Stop). CausedRun Tells settings (ending_in w) script left taken given sure disks disks' held written') (sym e)
+          (output_front part.0 part.1 told)
       header_caused r (inr e) wrote told =
-          let part = header_part wrote in subst (λ (w : Result (Unit {0}) Stop). CausedRun Tells settings (ending_in w) script left taken given sure disks disks' held written') (sym e) (memory_front part.0 part.1 told)
+          let part =
+          header_part wrote in subst (λ (w : Result (Unit {0}) Stop). CausedRun Tells settings (ending_in w) script left taken given sure disks disks' held written') (sym e)
+          (memory_front part.0 part.1 told)
 
       -- the first opening was refused
       module _ (why : Stop) where
@@ -236,9 +258,12 @@ module _ (Tells : Type 0) where
 
         refused_part : (fault : ClusterFault) → FitsFor fault → Because fault → why ≢ stop.Store → (note_of fault ≡ None → (why ≡ stop.NoMemory) × (written' ≡ Some (held ++ header_line settings)))
             → ((note : Note) → note_of fault ≡ Some note → PartOfNote note) → (text : List ℕ) × Behind text
-        refused_part (refusal.Shelf count) fits because other wanting part = note_part (OpenShelf count) (fits (OpenShelf count) refl) (because (OpenShelf count) refl) other (part (OpenShelf count) refl)
-        refused_part (refusal.Failed slot count) fits because other wanting part = note_part (OpenFailed slot count) (fits (OpenFailed slot count) refl) (because (OpenFailed slot count) refl) other (part (OpenFailed slot count) refl)
-        refused_part (refusal.Damaged slot file at) fits because other wanting part = note_part (OpenDamaged slot file at) (fits (OpenDamaged slot file at) refl) (because (OpenDamaged slot file at) refl) other (part (OpenDamaged slot file at) refl)
+        refused_part (refusal.Shelf count) fits because other wanting part =
+            note_part (OpenShelf count) (fits (OpenShelf count) refl) (because (OpenShelf count) refl) other (part (OpenShelf count) refl)
+        refused_part (refusal.Failed slot count) fits because other wanting part =
+            note_part (OpenFailed slot count) (fits (OpenFailed slot count) refl) (because (OpenFailed slot count) refl) other (part (OpenFailed slot count) refl)
+        refused_part (refusal.Damaged slot file at) fits because other wanting part =
+            note_part (OpenDamaged slot file at) (fits (OpenDamaged slot file at) refl) (because (OpenDamaged slot file at) refl) other (part (OpenDamaged slot file at) refl)
         refused_part refusal.NoMemory fits because other wanting part = (header_line settings, ((wanting refl).1, inl ([], sym (append-nil (header_line settings)))))
 
         pub refused_caused : (fault : ClusterFault) → FitsFor fault → Because fault
@@ -255,4 +280,5 @@ module _ (Tells : Type 0) where
             subst (λ (w : Stop). CausedRun Tells settings (ending_of w) script left taken given sure disks disks' held written') (sym e) (memory_front p.0 p.1 unread)
         refused_caused fault fits because told part wanting (inr (inr e)) unread =
             let note = told e in
-            subst (λ (w : Stop). CausedRun Tells settings (ending_of w) script left taken given sure disks disks' held written') (sym e) (store_told note.0 (fits note.0 note.1) (because note.0 note.1) note.2 unread)
+            subst (λ (w : Stop). CausedRun Tells settings (ending_of w) script left taken given sure disks disks' held written') (sym e)
+            (store_told note.0 (fits note.0 note.1) (because note.0 note.1) note.2 unread)

@@ -29,7 +29,8 @@ use Rattle.hay_cluster.specs.Seen.{Answers, OpensSeen, TellsSeen}
 use Rattle.hay_cluster.specs.Sights.{LeavesSights}
 use Rattle.hay_run.specs.declared.stops.Stop.{Stop}
 use Rattle.hay_run.specs.declared.stops.Stop.TheVariants as stop
-use Rattle.hay_run.specs.Causing.{IsLaterTally, IsTextOf, AnswerTexts, Caused, IsNoteCaused, IsRestart, NotReopened, ToldRefusal, ToldWanting, StopCaused, TookLastItem, TurnStops, HasSureArm, Tally, plain_tag}
+use Rattle.hay_run.specs.Causing.{IsLaterTally, IsTextOf, AnswerTexts, Caused, IsNoteCaused, IsRestart, NotReopened, ToldRefusal, ToldWanting, StopCaused, TookLastItem, TurnStops}
+use Rattle.hay_run.specs.Causing.{HasSureArm, Tally, plain_tag}
 use Rattle.hay_run.specs.Items.{TookOpen}
 use Rattle.hay_lines.specs.Lines.{TookPart, TookOver, TookSome}
 use Rattle.hay_run.specs.Stops.{note_of}
@@ -114,7 +115,8 @@ module _ (Tells : Type 0) where
       → IsLaterTally before after → after.fuses ≡ before.fuses → after.counts.arms ≡ before.counts.arms → FitsReply (Restarted rows)
       → TellsSeen settings before.seen after.seen notes → AllByRecursion FitsNote notes
       → OpensSeen settings after.seen → rows ≡ (after.seen).directory.rows
-      → (Tells → IsUndamaged settings after.contents × PendingTold settings after.contents before.seen after.seen) → Writes written (numbered_line number (Restarted rows) ++ flat_map note_line notes) written'
+      → (Tells → IsUndamaged settings after.contents × PendingTold settings after.contents before.seen after.seen)
+      → Writes written (numbered_line number (Restarted rows) ++ flat_map note_line notes) written'
       → Caused Tells Writes settings before after (Alone number (item.Command (asks.Restart pick)) ∷ []) written written'
   caused_restart Writes settings before after number pick rows notes written written' none fuses arms large tells fits opens many sound wrote =
       caused_one Writes settings before after (Alone number (item.Command (asks.Restart pick))) (numbered_line number (Restarted rows) ++ flat_map note_line notes) written written' none
@@ -133,14 +135,16 @@ module _ (Tells : Type 0) where
       subst (λ (w : Stop). StopCaused Tells settings before after w asked written written') (same_stop r why stop.NoMemory is e) (inl caused)
 
   pub part_stops : {T : Type 0} (settings : Settings) (before after : Tally) (asked : List Asked) (written written' : Option (List ℕ)) (r : Result T Stop) (why : Stop) → r ≡ Err why
-      → OnErr r ((r ≡ Err stop.Output) ⊎ (r ≡ Err stop.NoMemory)) → OnErr r (Caused Tells WrotePart settings before after asked written written') → StopCaused Tells settings before after why asked written written'
+      → OnErr r ((r ≡ Err stop.Output) ⊎ (r ≡ Err stop.NoMemory)) → OnErr r (Caused Tells WrotePart settings before after asked written written')
+      → StopCaused Tells settings before after why asked written written'
   part_stops settings before after asked written written' r why is kinds part =
       part_by settings before after asked written written' r why is
       (IfErr-at_err (λ (w : Stop). (r ≡ Err stop.Output) ⊎ (r ≡ Err stop.NoMemory)) is kinds)
       (IfErr-at_err (λ (w : Stop). Caused Tells WrotePart settings before after asked written written') is part)
 
   -- a restart that was refused
-  module _ (settings : Settings) (before after : Tally) (number pick : ℕ) (written written' : Option (List ℕ)) (why : Stop) (back : NotReopened before after (Alone number (item.Command (asks.Restart pick)) ∷ [])) where
+  module _ (settings : Settings) (before after : Tally) (number pick : ℕ) (written written' : Option (List ℕ)) (why : Stop)
+      (back : NotReopened before after (Alone number (item.Command (asks.Restart pick)) ∷ [])) where
     abbrev FitsFor : ClusterFault → Type 0
     FitsFor fault = (note : Note) → note_of fault ≡ Some note → FitsNote note
 
@@ -160,7 +164,8 @@ module _ (Tells : Type 0) where
     PlaceFor fault = Tells → (slot file at : ℕ) → fault ≡ refusal.Damaged slot file at
         → IsDamagedDisk settings after.contents slot file at × AreSoundBelow settings slot after.contents
 
-    note_caused : (fault : ClusterFault) → HasFaultCause settings before.counts.disks after.counts.disks fault → LowestFor fault → PlaceFor fault → (note : Note) → note_of fault ≡ Some note → IsNoteCaused Tells settings before after note
+    note_caused : (fault : ClusterFault) → HasFaultCause settings before.counts.disks after.counts.disks fault → LowestFor fault → PlaceFor fault → (note : Note)
+        → note_of fault ≡ Some note → IsNoteCaused Tells settings before after note
     note_caused (refusal.Shelf count) cause lowest place note is = absurd cause
     note_caused (refusal.Failed slot count) cause lowest place note is =
         let same : note ≡ OpenFailed slot count = cc in subst (λ (n : Note). IsNoteCaused Tells settings before after n) (sym same) (cause.0, (cause.1, cause.2), λ tells. lowest tells slot count refl)
@@ -169,7 +174,9 @@ module _ (Tells : Type 0) where
     note_caused refusal.NoMemory cause lowest place note is = cc
 
     abbrev Told : Type 0
-    Told = Caused Tells WrotePart settings before after RestartAsked written written' ⊎ ToldWanting before after RestartAsked written written' ⊎ ToldRefusal Tells WrotePart settings before after RestartAsked written written'
+    Told =
+        Caused Tells WrotePart settings before after RestartAsked written written' ⊎ ToldWanting before after RestartAsked written written'
+        ⊎ ToldRefusal Tells WrotePart settings before after RestartAsked written written'
 
     wanting_told : Told → StopCaused Tells settings before after stop.NoMemory RestartAsked written written'
     wanting_told (inl c) = inl c
@@ -186,7 +193,8 @@ module _ (Tells : Type 0) where
     part_refused (refusal.Shelf count) fits cause lowest place other wanting part = absurd cause
     part_refused (refusal.Failed slot count) fits cause lowest place other wanting part =
         refusal_part (OpenFailed slot count) other (fits (OpenFailed slot count) refl) (cause.0, (cause.1, cause.2), λ tells. lowest tells slot count refl) (part (OpenFailed slot count) refl)
-    part_refused (refusal.Damaged slot file at) fits cause lowest place other wanting part = refusal_part (OpenDamaged slot file at) other (fits (OpenDamaged slot file at) refl) (cause, λ tells. place tells slot file at refl) (part (OpenDamaged slot file at) refl)
+    part_refused (refusal.Damaged slot file at) fits cause lowest place other wanting part =
+        refusal_part (OpenDamaged slot file at) other (fits (OpenDamaged slot file at) refl) (cause, λ tells. place tells slot file at refl) (part (OpenDamaged slot file at) refl)
     part_refused refusal.NoMemory fits cause lowest place other wanting part =
         let same : back.restart.0 ≡ number = restart_number back.restart in
         inr (inl (back, subst (λ (n : ℕ). WrotePart written (numbered_line n NoMem) written') (sym same) (wanting refl).1))
@@ -202,7 +210,8 @@ module _ (Tells : Type 0) where
         subst (λ (w : Stop). StopCaused Tells settings before after w RestartAsked written written') (sym e) (wanting_told (part_refused fault fits cause lowest place (λ is. cc) wanting part))
     refused_stops fault fits cause lowest place wanting told part (inr (inr e)) =
         let note = told e in
-        subst (λ (w : Stop). StopCaused Tells settings before after w RestartAsked written written') (sym e) (back, (note.0, fits note.0 note.1, note_caused fault cause lowest place note.0 note.1, note.2))
+        subst (λ (w : Stop). StopCaused Tells settings before after w RestartAsked written written') (sym e)
+        (back, (note.0, fits note.0 note.1, note_caused fault cause lowest place note.0 note.1, note.2))
 
   -- HOW A TURN STOPS
 
@@ -227,7 +236,8 @@ module _ (Tells : Type 0) where
   -- an item was read
   module _ {T : Type 0} (settings : Settings) (old new : Tally) (number : ℕ) (asked : List Asked) (before after written written' : Option (List ℕ)) (r : Result T Stop) (why : Stop) (is : r ≡ Err why)
       (took : TookLastItem number asked before after) where
-    item_by : (r ≡ Err stop.Output) ⊎ (r ≡ Err stop.NoMemory) ⊎ (r ≡ Err stop.Store) → StopCaused Tells settings old new why asked written written' → TurnStops Tells settings old new why number before written after written'
+    item_by : (r ≡ Err stop.Output) ⊎ (r ≡ Err stop.NoMemory) ⊎ (r ≡ Err stop.Store) → StopCaused Tells settings old new why asked written written'
+        → TurnStops Tells settings old new why number before written after written'
     item_by (inl e) caused =
         subst (λ (w : Stop). StopCaused Tells settings old new w asked written written' → TurnStops Tells settings old new w number before written after written') (same_stop r why stop.Output is e)
         (λ h. record { asked = asked; took = took; caused = h }) caused

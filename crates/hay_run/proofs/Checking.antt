@@ -1,5 +1,6 @@
 -- Laws of what a check tells.
-use Rattle.std.proofs.Common.{◌≡◌, ◌⊎◌, ◌<◌, ◌≤◌, ◌+◌, ℕ, Bool, true, false, List, [], ◌∷◌, ◌++◌, length, take, Option, Some, None, Result, Ok, Err, refl, sym, ap, subst, ◌∙◌, append_assoc, arith, inl, inr, ◌||◌}
+use Rattle.std.proofs.Common.{◌≡◌, ◌⊎◌, ◌<◌, ◌≤◌, ◌+◌, ℕ, Bool, true, false, List, [], ◌∷◌, ◌++◌, length, take, Option, Some, None, Result, Ok, Err, refl, sym, ap, subst, ◌∙◌}
+use Rattle.std.proofs.Common.{append_assoc, arith, inl, inr, ◌||◌}
 use Rattle.std.specs.List.{list_any}
 use Rattle.std.specs.Prelude.{IfOk}
 use Rattle.std.proofs.lemmas.Bool.{cases_lt}
@@ -163,7 +164,8 @@ module _ (Tells : Type 0) (settings : Settings) (taken given : Outside) (before 
   breaks slot shelf disk refusal.NoMemory within later same fits why = inl refl
 
   -- the disk behind those that were checked was not
-  pub ends_refused : (verdicts : List Verdict) → AreVerdicts Tells settings (read_contents taken) verdicts → (slot : ℕ) → length verdicts ≡ slot → (mid : Option (List ℕ)) → Wrote before (check_text settings verdicts) mid
+  pub ends_refused : (verdicts : List Verdict) → AreVerdicts Tells settings (read_contents taken) verdicts → (slot : ℕ) → length verdicts ≡ slot → (mid : Option (List ℕ))
+      → Wrote before (check_text settings verdicts) mid
       → (fault : ClusterFault) → Breaks slot fault → (why : Stop)
       → (why ≡ stop.Store → (note : Note) × (note_of fault ≡ Some note) × Wrote mid (note_line note) after)
       → ((note : Note) → note_of fault ≡ Some note → (why ≡ stop.Store) ⊎ WrotePart mid (note_line note) after)

@@ -1,5 +1,6 @@
 -- The lines of a block, dealt out to their lanes and brought together again.
-use Rattle.std.proofs.Common.{◌≡◌, ◌≢◌, ◌⊎◌, inl, inr, ℕ, zero, suc, ◌+◌, ◌<◌, ◌≤◌, ◌==◌, Bool, true, false, cond, List, [], ◌∷◌, ◌++◌, map, length, take, Some, refl, sym, ap, subst, ◌∙◌, arith, append_assoc, eq-eqb, ne_eqb, length-append}
+use Rattle.std.proofs.Common.{◌≡◌, ◌≢◌, ◌⊎◌, inl, inr, ℕ, zero, suc, ◌+◌, ◌<◌, ◌≤◌, ◌==◌, Bool, true, false, cond, List, [], ◌∷◌, ◌++◌, map, length, take, Some, refl, sym, ap}
+use Rattle.std.proofs.Common.{subst, ◌∙◌, arith, append_assoc, eq-eqb, ne_eqb, length-append}
 use Rattle.std.specs.Prelude.{Vec, filter, slice_get, slice_index_or, slice_set}
 use Rattle.std.specs.Global.{Global}
 use Rattle.std.specs.List.{AllByRecursion as Each, AllZip}
@@ -221,12 +222,14 @@ map_set [] i new = refl
 map_set (own ∷ jobs) zero new = refl
 map_set (own ∷ jobs) (suc i) new = ap (λ (l : List (List Job)). own.items ∷ l) (map_set jobs i new)
 
-read_mapped : {X : Type 0} (lists : List (Vec X Global)) (i : ℕ) (own : Vec X Global) → i < length lists → own ≡ slice_index_or lists i own → slice_index_or (map (λ own. own.items) lists) i [] ≡ own.items
+read_mapped : {X : Type 0} (lists : List (Vec X Global)) (i : ℕ) (own : Vec X Global) → i < length lists → own ≡ slice_index_or lists i own
+    → slice_index_or (map (λ own. own.items) lists) i [] ≡ own.items
 read_mapped [] i own below is = absurd (omega (arith, below))
 read_mapped (first ∷ lists) zero own below is = ap (λ (v : Vec _ Global). v.items) (sym is)
 read_mapped (first ∷ lists) (suc i) own below is = read_mapped lists i own (let less : i < length lists = omega (arith, below) in less) is
 
-pub dealt_more : (jobs : List (Vec Job Global)) (lane : ℕ) (line : InBlock) (own new : Vec Job Global) → lane ≡ line.lane → line.lane < length jobs → own ≡ slice_index_or jobs lane own → new.items ≡ own.items ++ job_of line ∷ []
+pub dealt_more : (jobs : List (Vec Job Global)) (lane : ℕ) (line : InBlock) (own new : Vec Job Global) → lane ≡ line.lane → line.lane < length jobs
+    → own ≡ slice_index_or jobs lane own → new.items ≡ own.items ++ job_of line ∷ []
     → map (λ own. own.items) (slice_set jobs lane new) ≡ with_job (map (λ own. own.items) jobs) line
 dealt_more jobs lane line own new same below is more =
     ap (λ (n : ℕ). map (λ own. own.items) (slice_set jobs n new)) same ∙ map_set jobs line.lane new
@@ -343,7 +346,8 @@ answered_by lanes lines jobs replies low are same =
 -- WHAT EACH LINE WAS ANSWERED
 
 -- the lane's reply at the place of a line is what it was answered
-pub reply_at : (lines : List InBlock) (replies : List (List Reply)) (items : List LaneItem) (i : ℕ) (item : LaneItem) (own : List Reply) → AreAnswered lines replies items → slice_get items i ≡ Some item
+pub reply_at : (lines : List InBlock) (replies : List (List Reply)) (items : List LaneItem) (i : ℕ) (item : LaneItem) (own : List Reply) → AreAnswered lines replies items
+    → slice_get items i ≡ Some item
     → slice_get replies item.lane ≡ Some own → slice_get own (length (lane_lines item.lane (take i lines))) ≡ Some item.reply
 reply_at lines replies items i item own are at lane_at =
     subst (λ (l : List Reply). slice_get l (length (lane_lines item.lane (take i lines))) ≡ Some item.reply) (are.each item.lane own lane_at)
@@ -373,13 +377,16 @@ reply_at lines replies items i item own are at lane_at =
 asked_kept : (lane : ℕ) (items : List LaneItem) → map line_asked (filter (λ item. item.lane == lane) items) ≡ lane_lines lane (map line_asked items)
 asked_kept lane items = sym (filter_mapped line_asked (λ (l : InBlock). l.lane == lane) items)
 
-lane_items : (lane : ℕ) (items : List LaneItem) → filter (λ item. item.lane == lane) items ≡ answered_lines lane (map job_of (map line_asked (filter (λ item. item.lane == lane) items))) (map (λ item. item.reply) (filter (λ item. item.lane == lane) items))
+lane_items : (lane : ℕ) (items : List LaneItem) → filter (λ item. item.lane == lane) items
+    ≡ answered_lines lane (map job_of (map line_asked (filter (λ item. item.lane == lane) items))) (map (λ item. item.reply) (filter (λ item. item.lane == lane) items))
 lane_items lane [] = refl
 lane_items lane (item ∷ items) = by (cases_eq item.lane lane) (lane_items lane items)
   where
     by : (item.lane ≡ lane) ⊎ (item.lane ≢ lane)
-        → filter (λ (i : LaneItem). i.lane == lane) items ≡ answered_lines lane (map job_of (map line_asked (filter (λ (i : LaneItem). i.lane == lane) items))) (map (λ (i : LaneItem). i.reply) (filter (λ (i : LaneItem). i.lane == lane) items))
-        → filter (λ (i : LaneItem). i.lane == lane) (item ∷ items) ≡ answered_lines lane (map job_of (map line_asked (filter (λ (i : LaneItem). i.lane == lane) (item ∷ items)))) (map (λ (i : LaneItem). i.reply) (filter (λ (i : LaneItem). i.lane == lane) (item ∷ items)))
+        → filter (λ (i : LaneItem). i.lane == lane) items ≡ answered_lines lane (map job_of (map line_asked (filter (λ (i : LaneItem). i.lane == lane) items)))
+        (map (λ (i : LaneItem). i.reply) (filter (λ (i : LaneItem). i.lane == lane) items))
+        → filter (λ (i : LaneItem). i.lane == lane) (item ∷ items) ≡ answered_lines lane (map job_of (map line_asked (filter (λ (i : LaneItem). i.lane == lane) (item ∷ items))))
+        (map (λ (i : LaneItem). i.reply) (filter (λ (i : LaneItem). i.lane == lane) (item ∷ items)))
     by (inl same) rest =
         rw (eq-eqb item.lane lane same) (
         ap (λ (n : ℕ). record { line = item.line; lane = n; item = item.item; reply = item.reply } ∷ filter (λ (i : LaneItem). i.lane == lane) items) same
@@ -387,12 +394,14 @@ lane_items lane (item ∷ items) = by (cases_eq item.lane lane) (lane_items lane
         )
     by (inr differs) rest = rw (ne_eqb item.lane lane differs) rest
 
-pub are_items : (lanes : ℕ) (lines : List InBlock) (jobs : List (List Job)) (replies : List (List Reply)) (items : List LaneItem) → Each (λ line. line.lane < lanes) lines → AreJobs lanes lines jobs → AreAnswered lines replies items → AreItems jobs replies items
+pub are_items : (lanes : ℕ) (lines : List InBlock) (jobs : List (List Job)) (replies : List (List Reply)) (items : List LaneItem) → Each (λ line. line.lane < lanes) lines
+    → AreJobs lanes lines jobs → AreAnswered lines replies items → AreItems jobs replies items
 are_items lanes lines jobs replies items low are answered = record {
   low = subst (λ (n : ℕ). Each (λ item. item.lane < n) items) (sym are.many) (low_items lanes items lines answered.asked low);
   each = λ lane js rs at_js at_rs.
       lane_items lane items
-      ∙ ap (λ (l : List InBlock). answered_lines lane (map job_of l) (map (λ (i : LaneItem). i.reply) (filter (λ (i : LaneItem). i.lane == lane) items))) (asked_kept lane items ∙ ap (λ (l : List InBlock). lane_lines lane l) answered.asked)
+      ∙ ap (λ (l : List InBlock). answered_lines lane (map job_of l) (map (λ (i : LaneItem). i.reply) (filter (λ (i : LaneItem). i.lane == lane) items)))
+      (asked_kept lane items ∙ ap (λ (l : List InBlock). lane_lines lane l) answered.asked)
       ∙ ap (λ (l : List Job). answered_lines lane l (map (λ (i : LaneItem). i.reply) (filter (λ (i : LaneItem). i.lane == lane) items))) (sym (are.each lane js at_js))
       ∙ ap (λ (l : List Reply). answered_lines lane js l) (answered.each lane rs at_rs);
 }
@@ -425,14 +434,16 @@ each_kept P p (x ∷ xs) each = by (p x) refl (each_kept P p xs each.1)
     by false is rest = rw is rest
 
 -- each job is that of a line
-pub each_job : (P : Item → Type 0) (lanes : ℕ) (lines : List InBlock) (jobs : List (List Job)) → Each (λ line. P line.item) lines → AreJobs lanes lines jobs → Each (λ own. Each (λ job. P job.item) own) jobs
+pub each_job : (P : Item → Type 0) (lanes : ℕ) (lines : List InBlock) (jobs : List (List Job)) → Each (λ line. P line.item) lines → AreJobs lanes lines jobs
+    → Each (λ own. Each (λ job. P job.item) own) jobs
 each_job P lanes lines jobs each are =
     each_by (λ (own : List Job). Each (λ job. P job.item) own) jobs (λ lane own at.
     subst (λ (l : List Job). Each (λ job. P job.item) l) (sym (are.each lane own at))
     (each_mapped job_of (λ (job : Job). P job.item) (lane_lines lane lines) (each_kept (λ (line : InBlock). P line.item) (λ line. line.lane == lane) lines each)))
 
 -- so each reply is that to a line
-pub each_reply : (P : Reply → Type 0) (lines : List InBlock) (replies : List (List Reply)) (items : List LaneItem) → Each (λ own. Each P own) replies → AreAnswered lines replies items → Each (λ item. P item.reply) items
+pub each_reply : (P : Reply → Type 0) (lines : List InBlock) (replies : List (List Reply)) (items : List LaneItem) → Each (λ own. Each P own) replies
+    → AreAnswered lines replies items → Each (λ item. P item.reply) items
 each_reply P lines replies items each are =
     each_by (λ (item : LaneItem). P item.reply) items (λ i item at.
     let below : item.lane < length replies = each_at (λ (x : LaneItem). x.lane < length replies) items i item are.low at in
@@ -456,7 +467,8 @@ zip_at R (a ∷ xs) (b ∷ ys) (suc n) x y all at_x at_y = zip_at R xs ys n x y 
 
 -- what holds of each job and its reply holds of each line
 pub each_answer : (R : Job → Reply → Type 0) (lanes : ℕ) (lines : List InBlock) (jobs : List (List Job)) (replies : List (List Reply)) (items : List LaneItem)
-    → AllZip (λ js rs. AllZip R js rs) jobs replies → AreJobs lanes lines jobs → length jobs ≡ length replies → AreAnswered lines replies items → Each (λ item. R (job_of (line_asked item)) item.reply) items
+    → AllZip (λ js rs. AllZip R js rs) jobs replies → AreJobs lanes lines jobs → length jobs ≡ length replies → AreAnswered lines replies items
+    → Each (λ item. R (job_of (line_asked item)) item.reply) items
 each_answer R lanes lines jobs replies items all are long answered =
     each_by (λ (item : LaneItem). R (job_of (line_asked item)) item.reply) items (λ i item at.
     let below : item.lane < length replies = each_at (λ (x : LaneItem). x.lane < length replies) items i item answered.low at in
@@ -496,7 +508,8 @@ found lines places replies items i item place are answered at place_at =
       reply = reply_is;
     })
 
-pub same_many : (lines : List InBlock) (places : List Place) (replies : List (List Reply)) (items : List LaneItem) → ArePlaces lines places → AreAnswered lines replies items → length items ≡ length places
+pub same_many : (lines : List InBlock) (places : List Place) (replies : List (List Reply)) (items : List LaneItem) → ArePlaces lines places → AreAnswered lines replies items
+    → length items ≡ length places
 same_many lines places replies items are answered = sym (length_mapped line_asked items) ∙ ap length answered.asked ∙ sym are.many
 
 some_at : {X : Type 0} (xs : List X) (i : ℕ) → i < length xs → (x : X) × (slice_get xs i ≡ Some x)
@@ -520,7 +533,8 @@ answered_at lines places replies items i place are answered at =
     record { item = line.0; here = line.1; found = found lines places replies items i line.0 place are answered line.1 at }
 
 -- lists of replies as vectors have them
-pub lane_there : (places : List Place) (replies : List (Vec Reply Global)) (items : List LaneItem) (i : ℕ) (place : Place) → Answered places (map (λ own. own.items) replies) items i place → place.lane < length replies
+pub lane_there : (places : List Place) (replies : List (Vec Reply Global)) (items : List LaneItem) (i : ℕ) (place : Place)
+    → Answered places (map (λ own. own.items) replies) items i place → place.lane < length replies
 lane_there places replies items i place line = let low = (line.found).lane in let long = length_mapped (λ (own : Vec Reply Global). own.items) replies in omega (arith, low, long)
 
 pub reply_there : (places : List Place) (replies : List (Vec Reply Global)) (items : List LaneItem) (i : ℕ) (place : Place) (own : Vec Reply Global) → own ≡ slice_index_or replies place.lane own
@@ -529,7 +543,8 @@ reply_there places replies items i place own is line =
     subst (λ (l : List Reply). place.nth < length l) (read_mapped replies place.lane own (lane_there places replies items i place line) is) (line.found).nth
 
 -- so its text is that of the reply at its place
-pub line_text : (places : List Place) (replies : List (Vec Reply Global)) (items : List LaneItem) (i : ℕ) (place : Place) (own : Vec Reply Global) (reply : Reply) → own ≡ slice_index_or replies place.lane own
+pub line_text : (places : List Place) (replies : List (Vec Reply Global)) (items : List LaneItem) (i : ℕ) (place : Place) (own : Vec Reply Global) (reply : Reply)
+    → own ≡ slice_index_or replies place.lane own
     → reply ≡ slice_index_or own.items place.nth reply → (line : Answered places (map (λ own. own.items) replies) items i place) → numbered_line place.line reply ≡ answered_line line.item
 line_text places replies items i place own reply is here line =
     let item = line.item in

@@ -13,7 +13,8 @@ use Rattle.hay_run.proofs.Asking.{took_items_more}
 use Rattle.hay_run.proofs.Reading.{front_read, rest_none}
 
 -- a store that is asked for nothing stays as it was opened
-pub nothing_asked : (Tells : Type 0) (settings : Settings) (old new : Tally) (script written written' : Option (List ℕ)) → AllCaused Tells settings old new script written written' → AsksNothing script → new ≡ old
+pub nothing_asked : (Tells : Type 0) (settings : Settings) (old new : Tally) (script written written' : Option (List ℕ)) → AllCaused Tells settings old new script written written'
+    → AsksNothing script → new ≡ old
 nothing_asked Tells settings old new script written written' all (bytes, told, none) =
     let asks : all.asked ≡ items_of bytes = subst (λ (s : Option (List ℕ)). AsksAll s all.asked) told all.all in
     let answers : AnswerTexts Tells settings old new [] (all.caused).text = subst (λ (l : List Asked). AnswerTexts Tells settings old new l (all.caused).text) (asks ∙ none) (all.caused).answers in
@@ -59,7 +60,8 @@ module _ (Tells : Type 0) (settings : Settings) where
   module _ (script : List ℕ) (none : items_of script ≡ []) (asked : List Asked) (number : ℕ) (rest : Option (List ℕ)) (took : TookItems 1 None (Some script) asked number rest false) where
     whole_none : asked ≡ []
     whole_none =
-        let here : TookItems 1 None (Some script) asked number (rest_of rest held_none) false = subst (λ (r : Option (List ℕ)). TookItems 1 None (Some script) asked number r false) (sym (rest_none rest held_none refl)) took in
+        let here : TookItems 1 None (Some script) asked number (rest_of rest held_none) false =
+        subst (λ (r : Option (List ℕ)). TookItems 1 None (Some script) asked number r false) (sym (rest_none rest held_none refl)) took in
         let front = (front_read script asked number rest held_none false here).whole in
         none_front asked front.0 (sym none ∙ front.1)
 
@@ -69,7 +71,8 @@ module _ (Tells : Type 0) (settings : Settings) where
           let front = (front_read script (asked ++ last) next left held ended (took_items_more 1 number next (Some script) rest (rest_of left held) asked last ended took t)).whole in
           (none_first asked last front.0 (sym none ∙ front.1)).1
 
-      stop_none : (why : Stop) (before after : Tally) (last : List Asked) (written written' : Option (List ℕ)) → StopTook why number last rest (rest_of left held) → StopCaused Tells settings before after why last written written' → last ≡ []
+      stop_none : (why : Stop) (before after : Tally) (last : List Asked) (written written' : Option (List ℕ)) → StopTook why number last rest (rest_of left held)
+          → StopCaused Tells settings before after why last written written' → last ≡ []
       stop_none stop.Input before after last written written' t caused = caused.0
       stop_none stop.TooLong before after last written written' t caused = caused.0
       stop_none stop.Output before after last written written' t caused = last_none last t
@@ -77,7 +80,8 @@ module _ (Tells : Type 0) (settings : Settings) where
       stop_none stop.NoMemory before after last written written' (inr (is, t)) caused = is
       stop_none stop.Store before after last written written' t caused = last_none last t
 
-  nothing_stopped : (old new : Tally) (why : Stop) (script written left written' : Option (List ℕ)) → CausedUntil Tells settings old new why script written left written' → AsksNothing script → new ≡ old
+  nothing_stopped : (old new : Tally) (why : Stop) (script written left written' : Option (List ℕ)) → CausedUntil Tells settings old new why script written left written'
+      → AsksNothing script → new ≡ old
   nothing_stopped old new why script written left written' u (bytes, told, none) =
       let took : TookItems 1 None (Some bytes) u.asked u.number u.rest false = subst (λ (s : Option (List ℕ)). TookItems 1 None s u.asked u.number u.rest false) told u.took in
       let t = u.stops in

@@ -3,7 +3,8 @@ use Rattle.std.proofs.Common.{◌≡◌, ◌≤◌, ◌+◌, ◌-◌, ℕ, List,
 use Rattle.std.proofs.lemmas.List.{take_at, drop-drop, length-take-le}
 
 -- what is left of a list is what is copied of it next, and what is left then
-pub next_part : (taken count : ℕ) (bytes held copied tail : List ℕ) → held ≡ bytes → copied ≡ take (taken + count - taken) (drop taken held) → taken + count ≤ length bytes → drop taken bytes ≡ take count (copied ++ tail) ++ drop (taken + count) bytes
+pub next_part : (taken count : ℕ) (bytes held copied tail : List ℕ) → held ≡ bytes → copied ≡ take (taken + count - taken) (drop taken held) → taken + count ≤ length bytes
+    → drop taken bytes ≡ take count (copied ++ tail) ++ drop (taken + count) bytes
 next_part taken count bytes held copied tail same is inside =
     let rest = drop taken bytes in
     let plain : taken + count - taken ≡ count = omega arith in

@@ -83,7 +83,8 @@ module _ (Tells : Type 0) (store : Settings) where
 abbrev pub EndsWithNote : List ℕ → Type 0
 EndsWithNote text = (note : Note) × (front : List ℕ) × IsLines front × (text ≡ front ++ note_line note)
 
-module _ (Tells : Type 0) (store : Settings) (script : List ℕ) (left : Option (List ℕ)) (taken given : Outside) (sure : ℕ → Bool) (disks disks' : ℕ → HeldDisk) (held : List ℕ) (written : Option (List ℕ)) where
+module _ (Tells : Type 0) (store : Settings) (script : List ℕ) (left : Option (List ℕ)) (taken given : Outside) (sure : ℕ → Bool) (disks disks' : ℕ → HeldDisk) (held : List ℕ)
+    (written : Option (List ℕ)) where
   ends_with_note : (run : CausedRun Tells store NotOpened script left taken given sure disks disks' held written) → EndsWithNote run.text
   ends_with_note run =
       (elim run.causes [
@@ -104,7 +105,8 @@ TriedLast transcript written before why = (front line : List ℕ) → IsOneLine 
 only_store : (one other : Stop) → one ≡ stop.Store → one ≡ stop.Output → ⊥
 only_store one other a b = cc
 
-module _ (Tells : Type 0) (count first : ℕ) (left : Option (List ℕ)) (taken given : Outside) (sure : ℕ → Bool) (disks disks' : ℕ → HeldDisk) (transcript : List ℕ) (before written : Option (List ℕ)) where
+module _ (Tells : Type 0) (count first : ℕ) (left : Option (List ℕ)) (taken given : Outside) (sure : ℕ → Bool) (disks disks' : ℕ → HeldDisk) (transcript : List ℕ)
+    (before written : Option (List ℕ)) where
   abbrev pub CausedBy : Stop → Type 0
   CausedBy why = CausedRun Tells settings (ending_of why) (drill_script count first) left taken given sure disks disks' [] (Some transcript)
 
@@ -145,7 +147,8 @@ module _ (Tells : Type 0) (count first : ℕ) (left : Option (List ℕ)) (taken 
   refused_run why result caused (inr told) is = absurd (no_memory result told.0 is)
 
 -- a run over a source and a sink in memory
-pub held_causes : (Tells : Type 0) (count first : ℕ) (left : Option (List ℕ)) (taken given : Outside) (sure : ℕ → Bool) (disks disks' : ℕ → HeldDisk) (transcript : List ℕ) (why : Stop) (store : Settings)
+pub held_causes : (Tells : Type 0) (count first : ℕ) (left : Option (List ℕ)) (taken given : Outside) (sure : ℕ → Bool) (disks disks' : ℕ → HeldDisk) (transcript : List ℕ)
+    (why : Stop) (store : Settings)
     (script : List ℕ) (written : Option (List ℕ)) → store ≡ settings → script ≡ drill_script count first → written ≡ Some transcript
     → CausedRun Tells store (ending_of why) script left taken given sure disks disks' [] written
     → CausedRun Tells settings (ending_of why) (drill_script count first) left taken given sure disks disks' [] (Some transcript)

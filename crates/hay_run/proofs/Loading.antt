@@ -57,13 +57,14 @@ loaded_past_damage Tells settings status slot file at disks disks' arms arms' sh
 pub failed_on_its_line : (Tells : Type 0) (settings : Settings) (status : ℕ) (line more rest bytes : List ℕ) (pair : Pair) (disks disks' : ℕ → HeldDisk) (arms arms' : ℕ → HeldArm) (shelf shelf' : ℕ)
     (before after : Option (List ℕ)) → status ≡ 6 → NoFeed line → says (fed_text line) ≡ said.Plain (command.Put pair bytes) → 0 < length more → length more ≤ length rest
     → length rest < length (line ++ 10 ∷ more) → IsLoad Tells settings status disks disks' arms arms' shelf shelf' (Some (line ++ 10 ∷ more)) (Some rest) before after → ⊥
-failed_on_its_line Tells settings status line more rest bytes pair disks disks' arms arms' shelf shelf' before after six free is some short read load = elim ((load.loaded (line ++ 10 ∷ more) refl).store six) [
-  | inl refuses ↦
-      let same : rest ≡ line ++ 10 ∷ more = (let unread = refuses.unread in cc) in
-      let long = ap (λ (l : List ℕ). length l) same in
-      absurd (omega (arith, long, read))
-  | inr breaks ↦ broke_on_its_line Tells settings line more rest bytes disks disks' shelf shelf' before after pair WroteBoth free is some short breaks
-]
+failed_on_its_line Tells settings status line more rest bytes pair disks disks' arms arms' shelf shelf' before after six free is some short read load =
+    elim ((load.loaded (line ++ 10 ∷ more) refl).store six) [
+      | inl refuses ↦
+          let same : rest ≡ line ++ 10 ∷ more = (let unread = refuses.unread in cc) in
+          let long = ap (λ (l : List ℕ). length l) same in
+          absurd (omega (arith, long, read))
+      | inr breaks ↦ broke_on_its_line Tells settings line more rest bytes disks disks' shelf shelf' before after pair WroteBoth free is some short breaks
+    ]
 
 -- memory was wanting for the words
 pub load_nothing : (Tells : Type 0) (settings : Settings) (status : ℕ) (disks : ℕ → HeldDisk) (arms : ℕ → HeldArm) (shelf : ℕ) (left before : Option (List ℕ))

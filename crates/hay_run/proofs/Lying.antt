@@ -26,7 +26,8 @@ module _ (Tells : Type 0) (settings : Settings) where
   text_lies before after (Block lines) text alone told lie = absurd alone
 
   -- so it is behind one text after another
-  pub texts_lie : (before after : Tally) (asked : List Asked) (text : List ℕ) → AllByRecursion StandsAlone asked → AnswerTexts Tells settings before after asked text → PlacesLie before.seen → PlacesLie after.seen
+  pub texts_lie : (before after : Tally) (asked : List Asked) (text : List ℕ) → AllByRecursion StandsAlone asked → AnswerTexts Tells settings before after asked text
+      → PlacesLie before.seen → PlacesLie after.seen
   texts_lie before after [] text alone (none, same) lie = subst (λ (t : Tally). PlacesLie t.seen) (sym same) lie
   texts_lie before after (asked ∷ others) text alone told lie =
       texts_lie told.0 after others told.2 alone.1 told.6 (text_lies before told.0 asked told.1 alone.0 told.5 lie)

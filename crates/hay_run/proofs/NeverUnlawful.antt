@@ -120,7 +120,8 @@ module _ (settings : Settings) (faults fuses arms : List ℕ) (disks : length fa
       )
 
   -- where they are all items they fit as a whole
-  all_fit : (items : List Asked) (n : ℕ) → asked_of turns ≡ items → AreBeforeOpen items (transcript_text settings turns) n → n ≡ length items → FitsWhole settings items (transcript_text settings turns)
+  all_fit : (items : List Asked) (n : ℕ) → asked_of turns ≡ items → AreBeforeOpen items (transcript_text settings turns) n → n ≡ length items
+      → FitsWhole settings items (transcript_text settings turns)
   all_fit items n are before all =
       let transcript = transcript_text settings turns in
       let whole : take n items ≡ items = ap (λ (i : ℕ). take i items) all ∙ take_all items in
@@ -140,7 +141,8 @@ module _ (settings : Settings) (faults fuses arms : List ℕ) (disks : length fa
 -- WHAT A RUN HAS WRITTEN
 
 -- an opening leaves a new store new
-opened_fresh : (settings : Settings) (faults fuses arms : List ℕ) (opened : Known) → FaultsRose (fresh settings faults fuses arms) opened → opened ≡ fresh settings opened.faults opened.fuses opened.arms
+opened_fresh : (settings : Settings) (faults fuses arms : List ℕ) (opened : Known) → FaultsRose (fresh settings faults fuses arms) opened
+    → opened ≡ fresh settings opened.faults opened.fuses opened.arms
 opened_fresh settings faults fuses arms opened rose =
     let by : List VolumeKnown → DirKnown → List Bool → Known = λ volumes directory drained.
     record { volumes = volumes; directory = directory; drained = drained; faults = opened.faults; arms = opened.arms; fuses = opened.fuses } in

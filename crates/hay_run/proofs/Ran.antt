@@ -1,5 +1,6 @@
 -- From what was served to a whole run.
-use Rattle.std.proofs.Common.{◌≡◌, ◌⊎◌, inl, inr, ℕ, ◌+◌, ◌<◌, ◌≤◌, false, List, [], ◌∷◌, ◌++◌, map, length, take, drop, Option, Some, None, refl, sym, ap, subst, ◌∙◌, append_assoc, length-append, arith, lit≤}
+use Rattle.std.proofs.Common.{◌≡◌, ◌⊎◌, inl, inr, ℕ, ◌+◌, ◌<◌, ◌≤◌, false, List, [], ◌∷◌, ◌++◌, map, length, take, drop, Option, Some, None, refl, sym, ap, subst, ◌∙◌}
+use Rattle.std.proofs.Common.{append_assoc, length-append, arith, lit≤}
 use Rattle.std.specs.Prelude.{flat_map}
 use Rattle.std.specs.List.{AllByRecursion}
 use Rattle.std.proofs.lemmas.Grind.{flat_map-append}
@@ -222,7 +223,8 @@ module _ {D P A : Type 0} (Tells : Type 0) (Begins Left : Standing D P A) (setti
           subst P mid_text wrote.1 ∙ ap (λ (l : List ℕ). Some l) (append_assoc held (transcript_text settings answers.turns) (take n bytes)),
         )
 
-    pub ran_open : HoldsNone stop.Input holding → TookOpen TookPart number None rest (rest_of left holding) → store' ≡ mid → written' ≡ text → RanTo settings k InputFault script left taken given held written'
+    pub ran_open : HoldsNone stop.Input holding → TookOpen TookPart number None rest (rest_of left holding) → store' ≡ mid → written' ≡ text
+        → RanTo settings k InputFault script left taken given held written'
     ran_open none broke same same_text =
         let off = breaks_off script asked number rest (rest_of left holding) took broke in
         record {
@@ -331,7 +333,8 @@ module _ {D P A : Type 0} (Tells : Type 0) (Begins Left : Standing D P A) (setti
             one = one;
             wrote = (take wrote.0 (flat_map turn_text last.turns), refl);
             no_more = subst R (sym (transcript_more settings answers.turns last.turns))
-                (front_behind (transcript_text settings answers.turns) (take wrote.0 (flat_map turn_text last.turns)) (flat_map turn_text last.turns) (front_take wrote.0 (flat_map turn_text last.turns)));
+                (front_behind (transcript_text settings answers.turns) (take wrote.0 (flat_map turn_text last.turns)) (flat_map turn_text last.turns)
+                (front_take wrote.0 (flat_map turn_text last.turns)));
             stands = closed last.t last.left;
           });
         }

@@ -55,7 +55,8 @@ untouched settings taken k is = record {
 }
 
 -- what an opening finds is not damaged
-pub not_damaged : (settings : Settings) → 1 ≤ settings.replicas → (taken : Outside) (k : Known) → IsTaken settings taken k → (slot file at : ℕ) → IsDamagedDisk settings (read_contents taken) slot file at → ⊥
+pub not_damaged : (settings : Settings) → 1 ≤ settings.replicas → (taken : Outside) (k : Known) → IsTaken settings taken k → (slot file at : ℕ)
+    → IsDamagedDisk settings (read_contents taken) slot file at → ⊥
 not_damaged settings some taken k is zero file at damaged = damaged.not_whole.directory refl k.directory.rows is.found.directory
 not_damaged settings some taken k is (suc n) file at damaged =
     let there = slot_found settings n some damaged.within in
@@ -75,7 +76,8 @@ sound_as settings slot a b below_same sound = record {
   undamaged = undamaged_as settings slot a b below_same sound.undamaged;
 }
 
-damaged_as : (settings : Settings) (slot file at : ℕ) (a b : ℕ → Contents) → a slot ≡ b slot → ((lower : ℕ) → lower < slot → a lower ≡ b lower) → IsDamagedDisk settings a slot file at → IsDamagedDisk settings b slot file at
+damaged_as : (settings : Settings) (slot file at : ℕ) (a b : ℕ → Contents) → a slot ≡ b slot → ((lower : ℕ) → lower < slot → a lower ≡ b lower)
+    → IsDamagedDisk settings a slot file at → IsDamagedDisk settings b slot file at
 damaged_as settings slot file at a b same below_same d = record {
   within = d.within;
   not_whole = subst (λ (c : Contents). IsNotWhole settings slot c) same d.not_whole;
@@ -129,7 +131,8 @@ module _ (settings : Settings) (shelf shelf' : ℕ) (disks disks' : ℕ → Held
 
   module _ (script held : List ℕ) (written' : Option (List ℕ)) where
     -- a note was written behind the header, or a front of it
-    noted : (note : Note) → statuses.TellsFirst settings k (outside_of shelf disks arms) (outside_of shelf' disks' arms') note → WrotePart (Some (held ++ header_line settings)) (note_line note) written'
+    noted : (note : Note) → statuses.TellsFirst settings k (outside_of shelf disks arms) (outside_of shelf' disks' arms') note
+        → WrotePart (Some (held ++ header_line settings)) (note_line note) written'
         → RanPart settings k script (Some script) (outside_of shelf disks arms) (outside_of shelf' disks' arms') held written'
     noted note tells wrote = record {
       read = [];
@@ -174,7 +177,8 @@ module _ (settings : Settings) (shelf shelf' : ℕ) (disks disks' : ℕ → Held
       ends = inr (inl (record { none = refl; unread = refl; wrote = ([], refl); left = unopened }));
     }
 
-    note_whole : (note : Note) → statuses.TellsFirst settings k (outside_of shelf disks arms) (outside_of shelf' disks' arms') note → Wrote (Some (held ++ header_line settings)) (note_line note) written'
+    note_whole : (note : Note) → statuses.TellsFirst settings k (outside_of shelf disks arms) (outside_of shelf' disks' arms') note
+        → Wrote (Some (held ++ header_line settings)) (note_line note) written'
         → RanTo settings k NotOpened script (Some script) (outside_of shelf disks arms) (outside_of shelf' disks' arms') held written'
     note_whole note tells wrote = record {
       read = [];
@@ -295,7 +299,8 @@ module _ (Tells : Type 0) (settings : Settings) (taken given : Outside) where
             count,
             is,
             within,
-            subst (λ n. Rose (taken.faults slot) n) (sym (back slot within)) (rose_more (taken.faults slot) (slice_index (counts_of faults store) slot) (slice_index (counts_of faults store') slot) (later slot within) rose),
+            subst (λ n. Rose (taken.faults slot) n) (sym (back slot within)) (rose_more (taken.faults slot) (slice_index (counts_of faults store) slot)
+                (slice_index (counts_of faults store') slot) (later slot within) rose),
             count_is ∙ sym (back slot within),
           ),
           λ tells. sound_as settings slot (contents_in files store') (read_contents given) (λ lower low. sym (contents tells lower (omega (arith, low, within))))
@@ -319,7 +324,8 @@ module _ (Tells : Type 0) (settings : Settings) (taken given : Outside) where
               ),
         )
 
-    pub refused_later : (left left' written written' : Option (List ℕ)) → (IsUnread left left' → ⊥) → Halts Tells Begins files faults store store' written written' → RefusedLater Tells settings taken given left left' written written'
+    pub refused_later : (left left' written written' : Option (List ℕ)) → (IsUnread left left' → ⊥) → Halts Tells Begins files faults store store' written written'
+        → RefusedLater Tells settings taken given left left' written written'
     refused_later left left' written written' read h = record { note = h.note; why = cause_later h.note h.why; told = h.told; read = read }
 
 -- what was written behind the header

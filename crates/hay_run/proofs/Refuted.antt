@@ -60,7 +60,8 @@ use Rattle.hay_cluster.specs.Leaving.{AnySlot, IsApartOn, KeepsIn, LeavesByPut, 
 use Rattle.hay_cluster.specs.Maintenance.{IsRefusedAs}
 use Rattle.hay_cluster.specs.Needles.{AreToldAs, DeletesAsTold, FileAt, FreezesAt, IsDamagedLookOn, LacksFor, LacksPlace, MeetsNeedles, TellsDamage}
 use Rattle.hay_cluster.specs.Passing.{CauseCameUp, PassesBefore, PassesOver, StandsFor, TriesTo}
-use Rattle.hay_cluster.specs.Seen.{Answers, AnswersPut, Closes, GetsHome, IsFrozenBy, IsThawed, MovesVolume, OpensSeen, OpensVolumeSeen, PlacesLie, RefusesPhoto, StoreSeen, TakesPhotoAt, VolumeAt, home_seen, is_drained}
+use Rattle.hay_cluster.specs.Seen.{Answers, AnswersPut, Closes, GetsHome, IsFrozenBy, IsThawed, MovesVolume, OpensSeen, OpensVolumeSeen, PlacesLie, RefusesPhoto, StoreSeen}
+use Rattle.hay_cluster.specs.Seen.{TakesPhotoAt, VolumeAt, home_seen, is_drained}
 use Rattle.hay_cluster.specs.Sights.{ChangesPhotos, IsAbsent, LeavesSights, SeesOn}
 use Rattle.hay_cluster.specs.Store.{IsBuilt}
 use Rattle.hay_cluster.proofs.Machines.{replica_found, same_machine}
@@ -105,7 +106,8 @@ pub restart_with_an_arm : (Tells : Type 0) (settings : Settings) (before after :
 restart_with_an_arm Tells settings before after pick number text used (p, rows, notes, asked, large, tells, fits, opens, many, arms, is, sound) = used arms
 
 -- a fuse of the Directory's disk that was told, and not set
-pub fused_without_a_fuse : (Tells : Type 0) (settings : Settings) (taken : Outside) (sure : ℕ → Bool) (before after : Tally) (calls : ℕ) → BeginsAt Tells settings taken sure before → slice_index before.fuses 0 < 2 ^ 64 - 1
+pub fused_without_a_fuse : (Tells : Type 0) (settings : Settings) (taken : Outside) (sure : ℕ → Bool) (before after : Tally) (calls : ℕ) → BeginsAt Tells settings taken sure before
+    → slice_index before.fuses 0 < 2 ^ 64 - 1
     → after.fuses ≡ before.fuses → LeavesFuses settings (asks.FuseDir calls) before.fuses after.fuses → ⊥
 fused_without_a_fuse Tells settings taken sure before after calls begins low same (n, next, set) = unset before.fuses begins.fused (sym same ∙ set) low next
   where
@@ -117,10 +119,12 @@ fused_without_a_fuse Tells settings taken sure before after calls begins low sam
         elim next [ inl more ↦ omega (arith, more, here) | inr end ↦ omega (arith, end, here, low) ]
 
 -- damage of a disk that the store has not
-pub damage_outside : (Tells : Type 0) (settings : Settings) (before after : Tally) (slot file at : ℕ) → disk_count settings ≤ slot → IsNoteCaused Tells settings before after (OpenDamaged slot file at) → ⊥
+pub damage_outside : (Tells : Type 0) (settings : Settings) (before after : Tally) (slot file at : ℕ) → disk_count settings ≤ slot
+    → IsNoteCaused Tells settings before after (OpenDamaged slot file at) → ⊥
 damage_outside Tells settings before after slot file at high cause = let within = (cause.0).0 in omega (arith, within, high)
 
-pub damage_outside_at_first : (Tells : Type 0) (settings : Settings) (taken given : Outside) (slot file at : ℕ) → disk_count settings ≤ slot → IsFirstRefusal Tells settings taken given (OpenDamaged slot file at) → ⊥
+pub damage_outside_at_first : (Tells : Type 0) (settings : Settings) (taken given : Outside) (slot file at : ℕ) → disk_count settings ≤ slot
+    → IsFirstRefusal Tells settings taken given (OpenDamaged slot file at) → ⊥
 damage_outside_at_first Tells settings taken given slot file at high (inl (count, is, rose, told)) = cc
 damage_outside_at_first Tells settings taken given slot file at high (inr (inl (other, (count, is, within, rose, told), lowest))) = cc
 damage_outside_at_first Tells settings taken given slot file at high (inr (inr (other, f, a, is, within, why))) =
@@ -137,10 +141,12 @@ damage_in_another_file_at_first Tells settings taken given file at other (inr (i
     let here : slot ≡ 0 = cc in let same : file ≡ f = cc in other (same ∙ within.1.0 here)
 
 -- damage of a replica's disk behind the files of the last generation
-pub damage_past_the_last : (Tells : Type 0) (settings : Settings) (before after : Tally) (slot file at : ℕ) → 0 < slot → 131072 < file → IsNoteCaused Tells settings before after (OpenDamaged slot file at) → ⊥
+pub damage_past_the_last : (Tells : Type 0) (settings : Settings) (before after : Tally) (slot file at : ℕ) → 0 < slot → 131072 < file
+    → IsNoteCaused Tells settings before after (OpenDamaged slot file at) → ⊥
 damage_past_the_last Tells settings before after slot file at behind far cause = past_the_last file far ((cause.0).1.1 behind)
 
-pub damage_past_the_last_at_first : (Tells : Type 0) (settings : Settings) (taken given : Outside) (slot file at : ℕ) → 0 < slot → 131072 < file → IsFirstRefusal Tells settings taken given (OpenDamaged slot file at) → ⊥
+pub damage_past_the_last_at_first : (Tells : Type 0) (settings : Settings) (taken given : Outside) (slot file at : ℕ) → 0 < slot → 131072 < file
+    → IsFirstRefusal Tells settings taken given (OpenDamaged slot file at) → ⊥
 damage_past_the_last_at_first Tells settings taken given slot file at behind far (inl (count, is, rose, told)) = cc
 damage_past_the_last_at_first Tells settings taken given slot file at behind far (inr (inl (other, (count, is, within, rose, told), lowest))) = cc
 damage_past_the_last_at_first Tells settings taken given slot file at behind far (inr (inr (other, f, a, is, within, why))) =
@@ -175,7 +181,8 @@ answers_so Tells settings before after command number said (large, told) =
 contents_so : (Tells : Type 0) (settings : Settings) (before after : Tally) (command : Command) (number : ℕ) (said : Reply) → Tells → Says Tells settings before after command number said
     → LeavesContents settings command said (before.seen).volumes (after.seen).volumes before.contents after.contents
 contents_so Tells settings before after command number said tells (large, told) =
-    subst (λ (r : Reply). LeavesContents settings command r (before.seen).volumes (after.seen).volumes before.contents after.contents) (sym (same_reply number said told.said large told.fits told.is)) (told.contents tells)
+    subst (λ (r : Reply). LeavesContents settings command r (before.seen).volumes (after.seen).volumes before.contents after.contents)
+    (sym (same_reply number said told.said large told.fits told.is)) (told.contents tells)
 
 -- and what is seen of photos
 sights_so : (Tells : Type 0) (settings : Settings) (before after : Tally) (command : Command) (number : ℕ) (said : Reply) → Says Tells settings before after command number said
@@ -205,7 +212,8 @@ takes settings pair size v old new (inr ((before, refused, after, tries, aside, 
 pub stored_on_a_drained_machine : (Tells : Type 0) (settings : Settings) (before after : Tally) (pair : Pair) (photo : List ℕ) (number v p d j : ℕ) (cookie : Cookie)
     → j < settings.replicas → is_drained before.seen (machine_of settings v j) ≡ true → Says Tells settings before after (asks.Put pair photo) number (Stored v p d cookie) → ⊥
 stored_on_a_drained_machine Tells settings before after pair photo number v p d j cookie within drained says =
-    let answers : AnswersPut settings (plain_tag number) pair (length photo) (Stored v p d cookie) before.seen after.seen = answers_so Tells settings before after (asks.Put pair photo) number (Stored v p d cookie) says in
+    let answers : AnswersPut settings (plain_tag number) pair (length photo) (Stored v p d cookie) before.seen after.seen =
+    answers_so Tells settings before after (asks.Put pair photo) number (Stored v p d cookie) says in
     let took = takes settings pair (length photo) v before.seen answers.0.0 answers.0.1 in
     let undrained = took.0.1 j within in cc
 
@@ -220,7 +228,8 @@ settled_at seen v volume there (other, at, (thawed, settled)) =
 pub pending_twice : (Tells : Type 0) (settings : Settings) (before after : Tally) (pair : Pair) (photo : List ℕ) (number v m n : ℕ) (volume : VolumeSeen) (u : Unsure)
     → At (before.seen).volumes v volume → volume.unsure ≡ Some u → Says Tells settings before after (asks.Put pair photo) number (Failed v m n) → ⊥
 pending_twice Tells settings before after pair photo number v m n volume u there pends says =
-    let answers : AnswersPut settings (plain_tag number) pair (length photo) (Failed v m n) before.seen after.seen = answers_so Tells settings before after (asks.Put pair photo) number (Failed v m n) says in
+    let answers : AnswersPut settings (plain_tag number) pair (length photo) (Failed v m n) before.seen after.seen =
+    answers_so Tells settings before after (asks.Put pair photo) number (Failed v m n) says in
     let took = takes settings pair (length photo) v before.seen answers.0 answers.1 in
     let settled : volume.unsure ≡ None = settled_at before.seen v volume there took.0.0 in cc
 
@@ -244,7 +253,8 @@ nothing_closes settings seen v m opens (inr (thawed, first)) =
 pub readonly_with_nothing_closed : (Tells : Type 0) (settings : Settings) (before after : Tally) (pair : Pair) (photo : List ℕ) (number : ℕ) (by : ClosedBy) (tries : List ClosedBy)
     → OpensSeen settings before.seen → Says Tells settings before after (asks.Put pair photo) number (ReadOnly (by ∷ tries)) → ⊥
 readonly_with_nothing_closed Tells settings before after pair photo number by tries opens says =
-    let answers : AnswersPut settings (plain_tag number) pair (length photo) (ReadOnly (by ∷ tries)) before.seen after.seen = answers_so Tells settings before after (asks.Put pair photo) number (ReadOnly (by ∷ tries)) says in
+    let answers : AnswersPut settings (plain_tag number) pair (length photo) (ReadOnly (by ∷ tries)) before.seen after.seen =
+    answers_so Tells settings before after (asks.Put pair photo) number (ReadOnly (by ∷ tries)) says in
     first (tries_by settings pair (home_seen before.seen pair)) answers.1
   where
     first : (tried : List ℕ) → AllZip (RefusesPhoto settings before.seen (length photo)) tried (map as_closed (by ∷ tries)) → ⊥
@@ -256,7 +266,8 @@ pub full_with_room : (Tells : Type 0) (settings : Settings) (before after : Tall
     → At (before.seen).volumes v volume → RoomSeen settings (length photo) volume
     → Says Tells settings before after (asks.Put pair photo) number (Full (NoRoom v m end need ∷ [])) → ⊥
 full_with_room Tells settings before after pair photo number v m end need volume there room says =
-    let answers : AnswersPut settings (plain_tag number) pair (length photo) (Full (NoRoom v m end need ∷ [])) before.seen after.seen = answers_so Tells settings before after (asks.Put pair photo) number (Full (NoRoom v m end need ∷ [])) says in
+    let answers : AnswersPut settings (plain_tag number) pair (length photo) (Full (NoRoom v m end need ∷ [])) before.seen after.seen =
+    answers_so Tells settings before after (asks.Put pair photo) number (Full (NoRoom v m end need ∷ [])) says in
     first (tries_by settings pair (home_seen before.seen pair)) answers.1
   where
     lacks : (r : ReplicaSeen) → SeesRoom settings.capacity (length photo) r → settings.capacity < r.end + needle_total (length photo) + 8 → ⊥
@@ -274,7 +285,8 @@ full_with_room Tells settings before after pair photo number v m end need volume
 pub stored_at_another_position : (Tells : Type 0) (settings : Settings) (before after : Tally) (pair : Pair) (photo : List ℕ) (number v p d : ℕ) (cookie : Cookie) (volume : VolumeSeen)
     → At (before.seen).volumes v volume → (p ≡ volume.front + 1 → ⊥) → Says Tells settings before after (asks.Put pair photo) number (Stored v p d cookie) → ⊥
 stored_at_another_position Tells settings before after pair photo number v p d cookie volume there other says =
-    let answers : AnswersPut settings (plain_tag number) pair (length photo) (Stored v p d cookie) before.seen after.seen = answers_so Tells settings before after (asks.Put pair photo) number (Stored v p d cookie) says in
+    let answers : AnswersPut settings (plain_tag number) pair (length photo) (Stored v p d cookie) before.seen after.seen =
+    answers_so Tells settings before after (asks.Put pair photo) number (Stored v p d cookie) says in
     at answers.0.0 answers.0.1 answers.0.2
   where
     kept : (mid : StoreSeen) → GetsHome settings pair (length photo) v before.seen mid → mid.volumes ≡ (before.seen).volumes
@@ -649,7 +661,8 @@ absent_where_it_stands Tells settings before after pair v f d j number within li
         finds.none (j, within, still_live ((before.seen).places v pair j) ((after.seen).places v pair j) live ((finds.looks).each j))
 
 -- a deletion of a photo of which it is known that it stands on no replica
-pub deleted_where_none_stands : (Tells : Type 0) (settings : Settings) (before after : Tally) (pair : Pair) (v p d number : ℕ) → ((j : ℕ) → j < settings.replicas → IsAbsent ((before.seen).places v pair j))
+pub deleted_where_none_stands : (Tells : Type 0) (settings : Settings) (before after : Tally) (pair : Pair) (v p d number : ℕ)
+    → ((j : ℕ) → j < settings.replicas → IsAbsent ((before.seen).places v pair j))
     → Says Tells settings before after (asks.Del pair) number (Deleted v p d) → ⊥
 deleted_where_none_stands Tells settings before after pair v p d number none says = found (sights_so Tells settings before after (asks.Del pair) number (Deleted v p d) says)
   where
@@ -660,7 +673,8 @@ deleted_where_none_stands Tells settings before after pair v p d number none say
         still_none ((before.seen).places v pair live.0) (deletes.found pair live.0) (none live.0 live.1) (((deletes.finds).looks).each live.0) live.2
 
 -- a deletion that failed behind its looks, and left the volume open
-pub failed_delete_leaves_it_open : (Tells : Type 0) (settings : Settings) (before after : Tally) (pair : Pair) (v m n number : ℕ) (volume : VolumeSeen) → SeesAll pair settings.replicas ((before.seen).places v)
+pub failed_delete_leaves_it_open : (Tells : Type 0) (settings : Settings) (before after : Tally) (pair : Pair) (v m n number : ℕ) (volume : VolumeSeen)
+    → SeesAll pair settings.replicas ((before.seen).places v)
     → At (after.seen).volumes v volume → volume.frozen ≡ None → Says Tells settings before after (asks.Del pair) number (Failed v m n) → ⊥
 failed_delete_leaves_it_open Tells settings before after pair v m n number volume seen there thawed says = failed (sights_so Tells settings before after (asks.Del pair) number (Failed v m n) says)
   where
@@ -784,7 +798,8 @@ tried_first f zero j front rest some is = absurd (omega (arith, some))
 tried_first f (suc n) j [] rest some is = inl cc
 tried_first f (suc n) j (i ∷ front) rest some is = inr (front, (let same : i ≡ f 0 = cc in ap (λ k. k ∷ front) same))
 
-first_cause : (Tells : Type 0) (A B C : Passed → Type 0) (m : ℕ) (ms : List ℕ) (causes : List Passed) → map (λ passed. passed.machine) causes ≡ m ∷ ms → AllByRecursion A causes → AllByRecursion B causes
+first_cause : (Tells : Type 0) (A B C : Passed → Type 0) (m : ℕ) (ms : List ℕ) (causes : List Passed) → map (λ passed. passed.machine) causes ≡ m ∷ ms → AllByRecursion A causes
+    → AllByRecursion B causes
     → (Tells → AllByRecursion C causes) → (cause : Passed) × (cause.machine ≡ m) × A cause × B cause × (Tells → C cause)
 first_cause Tells A B C m ms [] order each stood lacks = absurd cc
 first_cause Tells A B C m ms (cause ∷ causes) order each stood lacks = (cause, cc, each.0, stood.0, λ tells. (lacks tells).0)
@@ -796,7 +811,8 @@ pub record PassesFirst (Tells : Type 0) (settings : Settings) (Sure : Type 0) (c
   pub stood : StandsFor cause (seen.places v pair start)
   pub lacks : Tells → LacksFor settings contents seen v pair start cause
 
-passes_first : (Tells : Type 0) (settings : Settings) (Sure : Type 0) (contents : ℕ → Contents) (lane start v m j : ℕ) (pair : Pair) (before after : Counts) (seen : StoreSeen) → IsBuilt settings → v < settings.volumes
+passes_first : (Tells : Type 0) (settings : Settings) (Sure : Type 0) (contents : ℕ → Contents) (lane start v m j : ℕ) (pair : Pair) (before after : Counts) (seen : StoreSeen)
+    → IsBuilt settings → v < settings.volumes
     → start < settings.replicas → replica_on settings v m ≡ Some j → j ≢ start → TriesTo Tells settings Sure contents lane start v m pair before after seen
     → PassesFirst Tells settings Sure contents lane start v pair before after seen
 passes_first Tells settings Sure contents lane start v m j pair before after seen built volume within on other tries =
@@ -816,7 +832,8 @@ passes_first Tells settings Sure contents lane start v m j pair before after see
         let passes = tries.passes in
         let order : map (λ passed. passed.machine) tries.causes ≡ machine_of settings v ((start + 0) % settings.replicas) ∷ map (machine_of settings v) others =
         passes.order ∙ ap (λ (js : List ℕ). map (machine_of settings v) js) is in
-        let one = first_cause Tells (λ passed. CauseCameUp settings Sure lane v before after passed.machine passed.cause) (λ passed. SeesOn settings v pair (StandsFor passed.cause) seen passed.machine)
+        let one =
+        first_cause Tells (λ passed. CauseCameUp settings Sure lane v before after passed.machine passed.cause) (λ passed. SeesOn settings v pair (StandsFor passed.cause) seen passed.machine)
         (λ passed. (k : ℕ) × (replica_on settings v passed.machine ≡ Some k) × LacksFor settings contents seen v pair k passed.cause)
         (machine_of settings v ((start + 0) % settings.replicas)) (map (machine_of settings v) others) tries.causes order passes.each passes.stood passes.lacks in
         let machine : (one.0).machine ≡ machine_of settings v start = one.1 ∙ ap (machine_of settings v) first in
@@ -865,7 +882,8 @@ photo_behind_a_replica_without_one Tells settings before after pair cookie v m f
         let some = built.some_replicas in
         let passed = passes_first Tells settings (HasSureArm before 0) after.contents 0 start v m j pair before.counts after.counts after.seen built volume
         (mod-lt number (omega (arith, some))) on other tries in
-        none_stands passed.cause ((after.seen).places v pair start) (still_absent ((before.seen).places v pair start) ((after.seen).places v pair start) none ((looked.changes).each start)) passed.stood
+        none_stands passed.cause ((after.seen).places v pair start) (still_absent ((before.seen).places v pair start) ((after.seen).places v pair start) none
+        ((looked.changes).each start)) passed.stood
 
 -- a photo that another replica showed than the first in the order of the line, whose photo was looked at, though no fetch of the arm failed
 pub photo_behind_a_whole_needle : (Tells : Type 0) (settings : Settings) (before after : Tally) (pair : Pair) (cookie : Cookie) (v m f d j number : ℕ) (photo : List ℕ) → Tells
@@ -904,7 +922,8 @@ photo_behind_a_whole_needle Tells settings before after pair cookie v m f d j nu
         let some = built.some_replicas in
         let passed = passes_first Tells settings (HasSureArm before 0) after.contents 0 start v m j pair before.counts after.counts after.seen built volume
         (mod-lt number (omega (arith, some))) on other tries in
-        never passed.cause ((after.seen).places v pair start) (still_live ((before.seen).places v pair start) ((after.seen).places v pair start) live ((looked.changes).each start)) passed.came passed.stood refl
+        never passed.cause ((after.seen).places v pair start) (still_live ((before.seen).places v pair start) ((after.seen).places v pair start) live ((looked.changes).each start))
+        passed.came passed.stood refl
         (passed.lacks tells)
 
 -- so of a get that another machine than the URL's answered
@@ -927,7 +946,8 @@ photo_of_a_url_behind_a_replica_without_one Tells settings before after url m f 
 pub unreadable_for_a_sure_arm : (Tells : Type 0) (settings : Settings) (before after : Tally) (pair : Pair) (cookie : Cookie) (v f d m n number : ℕ) (causes : List Passed)
     → HasSureArm before 0 → Says Tells settings before after (asks.Read pair cookie) number (Unreadable v f d (record { machine = m; cause = Arm n } ∷ causes)) → ⊥
 unreadable_for_a_sure_arm Tells settings before after pair cookie v f d m n number causes sure says =
-    let passes : PassesOver Tells settings (HasSureArm before 0) after.contents 0 v pair before.counts after.counts after.seen (order_from settings (start_at settings number)) (record { machine = m; cause = Arm n } ∷ causes) =
+    let passes : PassesOver Tells settings (HasSureArm before 0) after.contents 0 v pair before.counts after.counts after.seen (order_from settings (start_at settings number))
+    (record { machine = m; cause = Arm n } ∷ causes) =
     passes_so Tells settings before after (asks.Read pair cookie) number (Unreadable v f d (record { machine = m; cause = Arm n } ∷ causes)) says in
     passes.each.0.0 sure
 
@@ -936,7 +956,8 @@ pub unreadable_for_an_arm_that_did_not_fail : (Tells : Type 0) (settings : Setti
     → slice_index after.counts.arms 0 ≡ slice_index before.counts.arms 0 → slice_index before.counts.arms 0 < 2 ^ 64 - 1
     → Says Tells settings before after (asks.Read pair cookie) number (Unreadable v f d (record { machine = m; cause = Arm n } ∷ causes)) → ⊥
 unreadable_for_an_arm_that_did_not_fail Tells settings before after pair cookie v f d m n number causes same low says =
-    let passes : PassesOver Tells settings (HasSureArm before 0) after.contents 0 v pair before.counts after.counts after.seen (order_from settings (start_at settings number)) (record { machine = m; cause = Arm n } ∷ causes) =
+    let passes : PassesOver Tells settings (HasSureArm before 0) after.contents 0 v pair before.counts after.counts after.seen (order_from settings (start_at settings number))
+    (record { machine = m; cause = Arm n } ∷ causes) =
     passes_so Tells settings before after (asks.Read pair cookie) number (Unreadable v f d (record { machine = m; cause = Arm n } ∷ causes)) says in
     came (slice_index before.counts.arms 0) (slice_index after.counts.arms 0) same low passes.each.0.1
   where
@@ -949,7 +970,8 @@ pub unreadable_for_a_disk_that_did_not_fail : (Tells : Type 0) (settings : Setti
     → replica_on settings v m ≡ Some j → (Rose (slice_index before.counts.disks (slot_of settings v j)) (slice_index after.counts.disks (slot_of settings v j)) → ⊥)
     → Says Tells settings before after (asks.Read pair cookie) number (Unreadable v f d (record { machine = m; cause = Disk n } ∷ causes)) → ⊥
 unreadable_for_a_disk_that_did_not_fail Tells settings before after pair cookie v f d m j n number causes on still says =
-    let passes : PassesOver Tells settings (HasSureArm before 0) after.contents 0 v pair before.counts after.counts after.seen (order_from settings (start_at settings number)) (record { machine = m; cause = Disk n } ∷ causes) =
+    let passes : PassesOver Tells settings (HasSureArm before 0) after.contents 0 v pair before.counts after.counts after.seen (order_from settings (start_at settings number))
+    (record { machine = m; cause = Disk n } ∷ causes) =
     passes_so Tells settings before after (asks.Read pair cookie) number (Unreadable v f d (record { machine = m; cause = Disk n } ∷ causes)) says in
     let rose = passes.each.0 in
     let same : Some rose.replica ≡ Some j = sym rose.there ∙ on in
@@ -1104,7 +1126,8 @@ first_passed Tells settings before after pair cookie v f d m j number cause caus
     said : Reply
     said = Unreadable v f d (record { machine = m; cause = cause } ∷ causes)
 
-    read : PassesOver Tells settings (HasSureArm before 0) after.contents 0 v pair before.counts after.counts after.seen (order_from settings (start_at settings number)) (record { machine = m; cause = cause } ∷ causes)
+    read : PassesOver Tells settings (HasSureArm before 0) after.contents 0 v pair before.counts after.counts after.seen (order_from settings (start_at settings number))
+        (record { machine = m; cause = cause } ∷ causes)
         → StandsFor cause ((after.seen).places v pair j)
     read passes =
         let sees = passes.stood.0 in
@@ -1134,7 +1157,8 @@ first_lacks Tells settings before after pair cookie v f d m j number cause cause
     said : Reply
     said = Unreadable v f d (record { machine = m; cause = cause } ∷ causes)
 
-    read : PassesOver Tells settings (HasSureArm before 0) after.contents 0 v pair before.counts after.counts after.seen (order_from settings (start_at settings number)) (record { machine = m; cause = cause } ∷ causes)
+    read : PassesOver Tells settings (HasSureArm before 0) after.contents 0 v pair before.counts after.counts after.seen (order_from settings (start_at settings number))
+        (record { machine = m; cause = cause } ∷ causes)
         → LacksFor settings after.contents after.seen v pair j cause
     read passes =
         let first = (passes.lacks tells).0 in
@@ -1161,8 +1185,10 @@ unreadable_where_a_photo_was_looked_at Tells settings before after pair cookie v
         (first_lacks Tells settings before after pair cookie v f d m j number (Damage place) causes tells on says)
 
 -- a read that names damage where the needle stands that is recorded
-pub unreadable_where_the_needle_stands : (Tells : Type 0) (settings : Settings) (before after : Tally) (pair : Pair) (cookie : Cookie) (v f d m j at size place number : ℕ) (r : ReplicaSeen) (causes : List Passed)
-    → Tells → v < settings.volumes → j < settings.replicas → replica_on settings v m ≡ Some j → VolumeAt v (λ volume. At volume.replicas j r) before.seen → (before.seen).places v pair j ≡ Unseen at size
+pub unreadable_where_the_needle_stands : (Tells : Type 0) (settings : Settings) (before after : Tally) (pair : Pair) (cookie : Cookie) (v f d m j at size place number : ℕ)
+    (r : ReplicaSeen) (causes : List Passed)
+    → Tells → v < settings.volumes → j < settings.replicas → replica_on settings v m ≡ Some j → VolumeAt v (λ volume. At volume.replicas j r) before.seen
+    → (before.seen).places v pair j ≡ Unseen at size
     → HasNeedleAt (before.contents (slot_of settings v j) (volume_file r.generation)) at size
     → Says Tells settings before after (asks.Read pair cookie) number (Unreadable v f d (record { machine = m; cause = Damage place } ∷ causes)) → ⊥
 unreadable_where_the_needle_stands Tells settings before after pair cookie v f d m j at size place number r causes tells volume within on (w, there, is) unseen stands says =
@@ -1243,7 +1269,8 @@ unreadable_for_a_look_that_was_not_taken Tells settings before after pair cookie
         (first_passed Tells settings before after pair cookie v f d m j number (Disk count) causes on says)
 
 -- a flush that tells more cells, right behind an opening, than have room before the end of the replica's cells
-pub flushed_more_than_stand : (Tells : Type 0) (settings : Settings) (before after : Tally) (v m n number : ℕ) (r : ReplicaSeen) → OpensSeen settings before.seen → SeesReplica settings before.seen v m r
+pub flushed_more_than_stand : (Tells : Type 0) (settings : Settings) (before after : Tally) (v m n number : ℕ) (r : ReplicaSeen) → OpensSeen settings before.seen
+    → SeesReplica settings before.seen v m r
     → r.end < 64 + n * needle_total 0 → Says Tells settings before after (asks.Flush v m) number (Flushed v m n) → ⊥
 flushed_more_than_stand Tells settings before after v m n number r opens sees full says =
     flushed_another_number Tells settings before after v m n number r sees
@@ -1307,12 +1334,14 @@ pub record LacksRecorded (settings : Settings) (tally : Tally) (v j : ℕ) (pair
 stays_unseen : (settings : Settings) (before : Tally) (v j : ℕ) (pair : Pair) (behind : Sights) → LacksRecorded settings before v j pair → AreToldAs settings before.contents before.seen v pair behind
     → Looks ((before.seen).places v pair j) (behind pair j) → AwaitsLook (behind pair j)
 stays_unseen settings before v j pair behind lacks told looks =
-    stays (behind pair j) (subst (λ (s : Sight). Looks s (behind pair j)) lacks.unseen looks) (subst (λ (s : Sight). IsToldBy (file lacks.replica) s (behind pair j)) lacks.unseen (here (told j lacks.within)))
+    stays (behind pair j) (subst (λ (s : Sight). Looks s (behind pair j)) lacks.unseen looks)
+    (subst (λ (s : Sight). IsToldBy (file lacks.replica) s (behind pair j)) lacks.unseen (here (told j lacks.within)))
   where
     file : ReplicaSeen → List ℕ
     file o = before.contents (slot_of settings v j) (volume_file o.generation)
 
-    here : FileAt settings before.contents before.seen v j (λ r bytes. IsToldBy bytes ((before.seen).places v pair j) (behind pair j)) → IsToldBy (file lacks.replica) ((before.seen).places v pair j) (behind pair j)
+    here : FileAt settings before.contents before.seen v j (λ r bytes. IsToldBy bytes ((before.seen).places v pair j) (behind pair j))
+        → IsToldBy (file lacks.replica) ((before.seen).places v pair j) (behind pair j)
     here (volume, there, (r, is, so)) =
         let one : Some volume ≡ Some lacks.volume = sym there ∙ lacks.there in
         let same : volume ≡ lacks.volume = cc in
@@ -1428,7 +1457,8 @@ stepped_over_a_broken_body Tells settings before after v m cells n j number at v
     says
 
 -- one that wanted memory behind it
-pub stepped_partly_over_a_broken_body : (Tells : Type 0) (settings : Settings) (before after : Tally) (v m cells j number at : ℕ) (volume behind : VolumeSeen) (r r' : ReplicaSeen) (front : List CellHead) → Tells
+pub stepped_partly_over_a_broken_body : (Tells : Type 0) (settings : Settings) (before after : Tally) (v m cells j number at : ℕ) (volume behind : VolumeSeen) (r r' : ReplicaSeen)
+    (front : List CellHead) → Tells
     → replica_on settings v m ≡ Some j → At (before.seen).volumes v volume → At volume.replicas j r → At (after.seen).volumes v behind → At behind.replicas j r'
     → BreaksBehind ((before.seen).places v) j r.next at (before.contents (slot_of settings v j) (volume_file r.generation)) front → at < r'.next
     → Says Tells settings before after (asks.Step v m cells) number NoMem → ⊥
@@ -1518,11 +1548,13 @@ module _ (Tells : Type 0) (settings : Settings) (before after : Tally) (v m f j 
 -- RESTARTS OVER DAMAGED DISKS
 
 -- a delete that was told as lost on a replica since its place was not looked at, though a needle of its size stands there
-pub lost_over_a_needle : (Tells : Type 0) (settings : Settings) (before after : Tally) (pick number v j at size : ℕ) (deleted : Bool) (pair : Pair) (tag : CoreTag) (text : List ℕ) (old now : VolumeSeen) (r : ReplicaSeen) → Tells
+pub lost_over_a_needle : (Tells : Type 0) (settings : Settings) (before after : Tally) (pick number v j at size : ℕ) (deleted : Bool) (pair : Pair) (tag : CoreTag) (text : List ℕ)
+    (old now : VolumeSeen) (r : ReplicaSeen) → Tells
     → At (before.seen).volumes v old → old.unsure ≡ Some (record { tag = tag; change = change.Delete pair }) → j < settings.replicas
     → At (after.seen).volumes v now → At now.replicas j r → (after.seen).places v pair j ≡ Unseen at size
     → HasNeedleOf size deleted at (after.contents (slot_of settings v j) (volume_file r.generation)) → IsRestartText Tells settings before after (asks.Restart pick) number text → ⊥
-lost_over_a_needle Tells settings before after pick number v j at size deleted pair tag text old now r tells was pending within is there unseen has (p, rows, notes, asked, large, tells_all, fits, opens, many, arms, text_is, sound) =
+lost_over_a_needle Tells settings before after pick number v j at size deleted pair tag text old now r tells was pending within is there unseen has
+    (p, rows, notes, asked, large, tells_all, fits, opens, many, arms, text_is, sound) =
     met ((sound tells).1 v j old was within)
   where
     file : List ℕ

@@ -42,7 +42,8 @@ pub kept_behind_a_block : (settings : Settings) (home : Pair → Option ℕ) (li
 kept_behind_a_block settings home lines text block v m line among = each_in (TellsRowsOf home (map job_of lines)) block.notes (Kept v m line) block.rows among
 
 -- a row of a line that put no pair of this home
-pub row_of_another_pair : (settings : Settings) (home : Pair → Option ℕ) (lines : List InBlock) (text : List ℕ) (block : IsBlockText settings home lines text) (from : ℕ) (rows : List LineVolume) (row : LineVolume)
+pub row_of_another_pair : (settings : Settings) (home : Pair → Option ℕ) (lines : List InBlock) (text : List ℕ) (block : IsBlockText settings home lines text) (from : ℕ)
+    (rows : List LineVolume) (row : LineVolume)
     → Contains block.notes (Rows from rows) → Contains rows row
     → ((job : Job) (pair : Pair) → Contains (map job_of lines) job → job.line ≡ row.line → pair_of job.item ≡ Some pair → home pair ≢ Some row.volume) → ⊥
 row_of_another_pair settings home lines text block from rows row among told none =

@@ -30,7 +30,8 @@ more_photos_than_needles Tells settings contents generation cells live records e
     let most = (are.kinds.1.0.replica (omega arith)).1 in omega (arith, most, more)
 
 -- one whose needles end before they can
-pub needles_before_their_end : (Tells : Type 0) (settings : Settings) (contents : ℕ → Contents) (generation cells live records end old : ℕ) (first : Verdict) (others : List Verdict) → end < 64 + cells * 48
+pub needles_before_their_end : (Tells : Type 0) (settings : Settings) (contents : ℕ → Contents) (generation cells live records end old : ℕ) (first : Verdict)
+    (others : List Verdict) → end < 64 + cells * 48
     → AreVerdicts Tells settings contents (first ∷ Whole generation cells live records end old ∷ others) → ⊥
 needles_before_their_end Tells settings contents generation cells live records end old first others low are =
     let from = (are.kinds.1.0.replica (omega arith)).4 in omega (arith, from, low)

@@ -15,7 +15,8 @@ use Rattle.hay_legal.specs.Suiting.{Suits, SuitsItem, SuitsRead}
 use Rattle.hay_history.proofs.Lists.{each_in}
 use Rattle.hay_run.specs.Blocks.{FitsLine, IsBlockText}
 
-module _ (settings : Settings) (home : Pair → Option ℕ) (lines : List InBlock) (text : List ℕ) (block : IsBlockText settings home lines text) (answered : LaneItem) (among : Contains block.items answered) where
+module _ (settings : Settings) (home : Pair → Option ℕ) (lines : List InBlock) (text : List ℕ) (block : IsBlockText settings home lines text) (answered : LaneItem)
+    (among : Contains block.items answered) where
   suits : (command : Command) (reply : Reply) → answered.item ≡ item.Command command → answered.reply ≡ reply → Suits settings answered.line command reply
   suits command reply asked said =
       let so : SuitsItem settings answered.line answered.item answered.reply = (each_in (FitsLine settings) block.items answered block.fits among).1 in

@@ -51,12 +51,14 @@ holds_counts files faults fuses arm_faults store k holds = holds.fault_counts
 -- the reply to a restart, with its notes
 pub restarted : {D P A : Type 0} (Left : Standing D P A) (Is : Turn → Type 0) → ((line pick d : ℕ) (notes : List Note) (after : Known) → Is (Restart line pick (Restarted d) notes after))
     → (Writes : Writing) (k t : Known) (number pick rows count : ℕ) (notes slice : List Note) (written written' : Option (List ℕ)) (store : Open D P A)
-    → IsRestarted store.settings k count notes t → rows < 2 ^ 64 → AllByRecursion FitsNote notes → rows ≡ count → slice ≡ notes → Left store t → Writes written (numbered_line number (Restarted rows) ++ flat_map note_line slice) written'
+    → IsRestarted store.settings k count notes t → rows < 2 ^ 64 → AllByRecursion FitsNote notes → rows ≡ count → slice ≡ notes → Left store t
+    → Writes written (numbered_line number (Restarted rows) ++ flat_map note_line slice) written'
     → AnswersTurns Is Writes Left k (Alone number (item.Command (asks.Restart pick)) ∷ []) written store written'
 restarted Left Is is_one Writes k t number pick rows count notes slice written written' store is large fits same_rows same_notes left wrote =
     let P : ℕ → Type 0 = λ d. IsRestarted store.settings k d notes t in
     let Q : List Note → Type 0 = λ told. Writes written (numbered_line number (Restarted rows) ++ flat_map note_line told) written' in
-    answers_restart Left Is Writes k t number pick (Restarted rows) notes written written' store (is_one number pick rows notes t) (large, fits) (subst P (sym same_rows) is) left (subst Q same_notes wrote)
+    answers_restart Left Is Writes k t number pick (Restarted rows) notes written written' store (is_one number pick rows notes t) (large, fits) (subst P (sym same_rows) is) left
+    (subst Q same_notes wrote)
 
 -- WHAT A REFUSAL LEAVES
 
@@ -69,7 +71,8 @@ pub rose_came_up : (before after count : ℕ) → Rose before after → count �
 rose_came_up before after count (inl less) same = (inl (omega (arith, less, same)), omega (arith, same))
 rose_came_up before after count (inr most) same = (inr (same ∙ most), omega (arith, same))
 
-module _ {D P A : Type 0} (Tells : Type 0) (Begins Left : Standing D P A) (files : D → Files) (faults : D → ℕ) (store store' : Open D P A) (number pick : ℕ) (written written' : Option (List ℕ)) (why : Stop)
+module _ {D P A : Type 0} (Tells : Type 0) (Begins Left : Standing D P A) (files : D → Files) (faults : D → ℕ) (store store' : Open D P A) (number pick : ℕ)
+    (written written' : Option (List ℕ)) (why : Stop)
     (same : store'.settings ≡ store.settings)
     (counted : (k : Known) → Begins store k → k.faults ≡ counts_of faults store)
     (counted' : (t : Known) → Left store' t → t.faults ≡ counts_of faults store')
@@ -171,7 +174,8 @@ module _ {D P A : Type 0} (Tells : Type 0) (Begins Left : Standing D P A) (files
         subst (λ (bytes : List ℕ). written' ≡ Some (bytes ++ note_line note)) (sym (append-nil held)) behind),
   )
 
-  pub halts : (fault : ClusterFault) → CauseOf fault → DamagedFor fault → PlaceFor fault → LowestFor fault → (fault ≡ refusal.NoMemory → ⊥) → ToldFor fault → Halts Tells Begins files faults store store' written written'
+  pub halts : (fault : ClusterFault) → CauseOf fault → DamagedFor fault → PlaceFor fault → LowestFor fault → (fault ≡ refusal.NoMemory → ⊥) → ToldFor fault
+      → Halts Tells Begins files faults store store' written written'
   halts (refusal.Shelf count) cause damaged place lowest some told = absurd cause
   halts (refusal.Failed slot count) cause damaged place lowest some told = record {
     note = OpenFailed slot count;

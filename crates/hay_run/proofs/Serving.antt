@@ -47,7 +47,8 @@ holds_none r held stop.Output is none = tt
 holds_none r held stop.NoMemory is none = tt
 holds_none r held stop.Store is none = tt
 
-refused_more : {D P A : Type 0} (Tells : Type 0) (Stands : Standing D P A) (files : D → Files) (faults : D → ℕ) (asked : List Asked) (written written' : Option (List ℕ)) (store mid store' : Open D P A) (told : Note)
+refused_more : {D P A : Type 0} (Tells : Type 0) (Stands : Standing D P A) (files : D → Files) (faults : D → ℕ) (asked : List Asked) (written written' : Option (List ℕ))
+    (store mid store' : Open D P A) (told : Note)
     → mid.settings ≡ store.settings → NoneFalls (counts_of faults store) (counts_of faults mid) → AnswersAll Tells Stands asked store written mid written'
     → RefusedFor Tells Stands files faults mid store' told → RefusedFor Tells Stands files faults store store' told
 refused_more Tells Stands files faults asked written written' store mid store' told same later answers (inl (slot, count, is, below, rose, count_is, lowest)) =
@@ -75,7 +76,8 @@ refused_more Tells Stands files faults asked written written' store mid store' t
       ),
     )
 
-pub halts_more : {D P A : Type 0} (Tells : Type 0) (Stands : Standing D P A) (files : D → Files) (faults : D → ℕ) (asked : List Asked) (written written' written'' : Option (List ℕ)) (store mid store' : Open D P A)
+pub halts_more : {D P A : Type 0} (Tells : Type 0) (Stands : Standing D P A) (files : D → Files) (faults : D → ℕ) (asked : List Asked)
+    (written written' written'' : Option (List ℕ)) (store mid store' : Open D P A)
     → mid.settings ≡ store.settings → NoneFalls (counts_of faults store) (counts_of faults mid) → Appends written written' → AnswersAll Tells Stands asked store written mid written'
     → Halts Tells Stands files faults mid store' written' written'' → Halts Tells Stands files faults store store' written written''
 halts_more Tells Stands files faults asked written written' written'' store mid store' same later appends answers h = record {

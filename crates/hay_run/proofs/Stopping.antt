@@ -40,7 +40,8 @@ never_store r kinds is = by (IfErr-at_err (λ (w : Stop). (r ≡ Err stop.Output
     by (inr e) = cc
 
 -- what stops an answer stops no reading, and the other way round
-pub not_reading : {T : Type 0} (r : Result T Stop) (why : Stop) → OnErr r ((r ≡ Err stop.Output) ⊎ (r ≡ Err stop.NoMemory) ⊎ (r ≡ Err stop.Store)) → r ≡ Err why → (why ≡ stop.Input) ⊎ (why ≡ stop.TooLong) → ⊥
+pub not_reading : {T : Type 0} (r : Result T Stop) (why : Stop) → OnErr r ((r ≡ Err stop.Output) ⊎ (r ≡ Err stop.NoMemory) ⊎ (r ≡ Err stop.Store)) → r ≡ Err why
+    → (why ≡ stop.Input) ⊎ (why ≡ stop.TooLong) → ⊥
 not_reading r why kinds is reads = by (IfErr-at_err (λ (w : Stop). (r ≡ Err stop.Output) ⊎ (r ≡ Err stop.NoMemory) ⊎ (r ≡ Err stop.Store)) is kinds) reads
   where
     by : (r ≡ Err stop.Output) ⊎ (r ≡ Err stop.NoMemory) ⊎ (r ≡ Err stop.Store) → (why ≡ stop.Input) ⊎ (why ≡ stop.TooLong) → ⊥
@@ -51,7 +52,8 @@ not_reading r why kinds is reads = by (IfErr-at_err (λ (w : Stop). (r ≡ Err s
     by (inr (inr e)) (inl f) = cc
     by (inr (inr e)) (inr f) = cc
 
-pub not_answering : {T : Type 0} (r : Result T Stop) (why : Stop) → OnErr r ((r ≡ Err stop.Input) ⊎ (r ≡ Err stop.NoMemory) ⊎ (r ≡ Err stop.TooLong)) → r ≡ Err why → (why ≡ stop.Output) ⊎ (why ≡ stop.Store) → ⊥
+pub not_answering : {T : Type 0} (r : Result T Stop) (why : Stop) → OnErr r ((r ≡ Err stop.Input) ⊎ (r ≡ Err stop.NoMemory) ⊎ (r ≡ Err stop.TooLong)) → r ≡ Err why
+    → (why ≡ stop.Output) ⊎ (why ≡ stop.Store) → ⊥
 not_answering r why kinds is answers = by (IfErr-at_err (λ (w : Stop). (r ≡ Err stop.Input) ⊎ (r ≡ Err stop.NoMemory) ⊎ (r ≡ Err stop.TooLong)) is kinds) answers
   where
     by : (r ≡ Err stop.Input) ⊎ (r ≡ Err stop.NoMemory) ⊎ (r ≡ Err stop.TooLong) → (why ≡ stop.Output) ⊎ (why ≡ stop.Store) → ⊥
@@ -67,7 +69,8 @@ three_kinds r (inl e) = inl e
 three_kinds r (inr e) = inr (inl e)
 
 module _ {D P A : Type 0} (Tells : Type 0) where
-  pub refused_asked : (Writes : Writing) (Begins Left : Standing D P A) (number next : ℕ) (asked : List Asked) (store store' : Open D P A) (written written' before after : Option (List ℕ)) (ended : Bool)
+  pub refused_asked : (Writes : Writing) (Begins Left : Standing D P A) (number next : ℕ) (asked : List Asked) (store store' : Open D P A)
+      (written written' before after : Option (List ℕ)) (ended : Bool)
       → TookItems number None before asked next after ended → RefusedAsked Tells Writes Begins Left number asked store written store' written'
       → RefusesRestart Tells Writes Begins Left store number before written store' after written'
   refused_asked Writes Begins Left number next asked store store' written written' before after ended took refused =

@@ -195,7 +195,8 @@ module _ (count first : ℕ) (k : Known) (left : Option (List ℕ)) (taken given
 
   -- what is told of a run that stopped
   pub stop_told : (before : Option (List ℕ)) → before ≡ Some held → (why result : Stop) → RunOf (ending_of why) → (why ≡ stop.Input → ⊥) → (why ≡ stop.TooLong → ⊥)
-      → ((why ≡ stop.Store) × TriedLast transcript written before result) ⊎ ((result ≡ stop.NoMemory) × (written ≡ before) × (why ≡ stop.Store → ⊥)) → DrillsTo count first k (ending_of result) taken given held written
+      → ((why ≡ stop.Store) × TriedLast transcript written before result) ⊎ ((result ≡ stop.NoMemory) × (written ≡ before) × (why ≡ stop.Store → ⊥))
+      → DrillsTo count first k (ending_of result) taken given held written
   stop_told before same why result ran no_fault no_longer (inl told) =
       last_told before same result (subst (λ (s : Stop). RunOf (ending_of s)) told.0 ran) told.1
   stop_told before same why result ran no_fault no_longer (inr told) =

@@ -64,7 +64,8 @@ rises_same k = record { volumes = refl; directory = refl; drained = refl; fuses 
 
 -- one turn behind others
 
-pub legal_more : (settings : Settings) (k : Known) (turns : List Turn) (mid : Known) (more : List Turn) (t : Known) → Legal settings k turns mid → Legal settings mid more t → Legal settings k (turns ++ more) t
+pub legal_more : (settings : Settings) (k : Known) (turns : List Turn) (mid : Known) (more : List Turn) (t : Known) → Legal settings k turns mid → Legal settings mid more t
+    → Legal settings k (turns ++ more) t
 legal_more settings k [] mid more t h legal = let P : Known → Type 0 = λ known. Legal settings known more t in subst P h legal
 legal_more settings k (first ∷ turns) mid more t h legal = (h.0, legal_more settings (known_after first) turns mid more t h.1 legal)
 
@@ -124,7 +125,8 @@ module _ {D P A : Type 0} (Left : Standing D P A) where
     wrote = wrote_nothing written;
   }
 
-  pub answers_bad : (Is : Turn → Type 0) → ((line : ℕ) (item : Item) (reply : Reply) (after : Known) → Is (Plain line item reply after)) → (Writes : Writing) (k : Known) (number : ℕ) (written written' : Option (List ℕ)) (store : Open D P A)
+  pub answers_bad : (Is : Turn → Type 0) → ((line : ℕ) (item : Item) (reply : Reply) (after : Known) → Is (Plain line item reply after))
+      → (Writes : Writing) (k : Known) (number : ℕ) (written written' : Option (List ℕ)) (store : Open D P A)
       → Left store k → Writes written (numbered_line number BadLine) written'
       → AnswersTurns Is Writes Left k (Alone number item.Bad ∷ []) written store written'
   answers_bad Is is Writes k number written written' store left wrote =
@@ -140,7 +142,8 @@ module _ {D P A : Type 0} (Left : Standing D P A) where
         wrote = subst P (sym (append-nil (numbered_line number BadLine))) wrote;
       }
 
-  pub answers_plain : (Is : Turn → Type 0) → ((line : ℕ) (item : Item) (reply : Reply) (after : Known) → Is (Plain line item reply after)) → (Writes : Writing) (k t : Known) (number : ℕ) (command : Command) (reply : Reply) (written written' : Option (List ℕ)) (store : Open D P A)
+  pub answers_plain : (Is : Turn → Type 0) → ((line : ℕ) (item : Item) (reply : Reply) (after : Known) → Is (Plain line item reply after))
+      → (Writes : Writing) (k t : Known) (number : ℕ) (command : Command) (reply : Reply) (written written' : Option (List ℕ)) (store : Open D P A)
       → FitsReply reply → LegalCommand store.settings k (record { lane = 0; line = number }) command reply t → Left store t → Writes written (numbered_line number reply) written'
       → AnswersTurns Is Writes Left k (Alone number (item.Command command) ∷ []) written store written'
   answers_plain Is is Writes k t number command reply written written' store fits legal left wrote =
@@ -173,9 +176,11 @@ module _ {D P A : Type 0} (Left : Standing D P A) where
         wrote = subst P (sym (append-nil (numbered_line number reply ++ flat_map note_line notes))) wrote;
       }
 
-  pub answers_block : (Is : Turn → Type 0) → ((items : List LaneItem) (logs : List LogNote) (rows : RowNote) (after : Known) → Is (Lanes items logs rows after)) → (Writes : Writing) (k t : Known) (lines : List InBlock)
+  pub answers_block : (Is : Turn → Type 0) → ((items : List LaneItem) (logs : List LogNote) (rows : RowNote) (after : Known) → Is (Lanes items logs rows after))
+      → (Writes : Writing) (k t : Known) (lines : List InBlock)
       (items : List LaneItem) (logs : List LogNote) (rows : RowNote) (written written' : Option (List ℕ)) (store : Open D P A)
-      → map line_asked items ≡ lines → AllByRecursion (λ answered. FitsReply answered.reply) items → LegalBlock store.settings k items logs rows t → Left store t → Writes written (turn_text (Lanes items logs rows t)) written'
+      → map line_asked items ≡ lines → AllByRecursion (λ answered. FitsReply answered.reply) items → LegalBlock store.settings k items logs rows t → Left store t
+      → Writes written (turn_text (Lanes items logs rows t)) written'
       → AnswersTurns Is Writes Left k (Block lines ∷ []) written store written'
   answers_block Is is Writes k t lines items logs rows written written' store asked fits legal left wrote =
       let P : List ℕ → Type 0 = λ text. Writes written text written' in
@@ -207,5 +212,7 @@ answers_more Stands k asked more written written' written'' store store' same fi
       items = map-append item_of_turn first.turns next.turns ∙ ap (λ (items : List Asked). items ++ map item_of_turn next.turns) first.items ∙ ap (λ (items : List Asked). asked ++ items) next.items;
       legal = legal_more store'.settings k first.turns first.t next.turns next.t (subst P (sym same) first.legal) next.legal;
       left = next.left;
-      wrote = subst Q (sym (flat_map-append turn_text first.turns next.turns)) (wrote_more written written' written'' (flat_map turn_text first.turns) (flat_map turn_text next.turns) first.wrote next.wrote);
+      wrote =
+          subst Q (sym (flat_map-append turn_text first.turns next.turns)) (wrote_more written written' written'' (flat_map turn_text first.turns) (flat_map turn_text next.turns)
+          first.wrote next.wrote);
     }

@@ -51,7 +51,8 @@ in_order counts n = map counts (range_with_len 0 n)
 abbrev pub fresh_on : Settings → Outside → Known
 fresh_on settings taken = fresh settings (in_order taken.faults (disk_count settings)) (in_order taken.fuses (disk_count settings)) (in_order taken.arms 8)
 
-pub void_disks_hold_a_fresh_store : (settings : Settings) (taken : Outside) → ((slot : ℕ) → slot < disk_count settings → IsVoid (read_contents taken slot)) → IsTaken settings taken (fresh_on settings taken)
+pub void_disks_hold_a_fresh_store : (settings : Settings) (taken : Outside) → ((slot : ℕ) → slot < disk_count settings → IsVoid (read_contents taken slot))
+    → IsTaken settings taken (fresh_on settings taken)
 void_disks_hold_a_fresh_store settings taken void =
     let disks = disk_count settings in
     let faults = in_order taken.faults disks in

@@ -44,7 +44,8 @@ pub wrote_next : {X : Type 0} (text : X → List ℕ) (xs : List X) (i : ℕ) (x
     → Wrote before (flat_map text (take i xs)) mid → Wrote mid (text x) after → Wrote before (flat_map text (take (i + 1) xs)) after
 wrote_next text xs i x before mid after at first wrote =
     let next : i + 1 ≡ suc i = omega arith in
-    subst (λ (l : List ℕ). Wrote before l after) (sym (ap (λ (n : ℕ). flat_map text (take n xs)) next ∙ texts_next text xs i x at)) (wrote_more before mid after (flat_map text (take i xs)) (text x) first wrote)
+    subst (λ (l : List ℕ). Wrote before l after) (sym (ap (λ (n : ℕ). flat_map text (take n xs)) next ∙ texts_next text xs i x at))
+    (wrote_more before mid after (flat_map text (take i xs)) (text x) first wrote)
 
 -- or only a front of it
 pub part_next : {X : Type 0} (text : X → List ℕ) (xs : List X) (i : ℕ) (x : X) (before mid after : Option (List ℕ)) → slice_get xs i ≡ Some x

@@ -140,8 +140,10 @@ pub record NotReopened (before after : Tally) (asked : List Asked) : Type 0 wher
 -- a note tells why: the disk in a slot failed, and its count rose to the one that is told; or the disk in a slot is damaged at the place
 -- that is told; each in a lower slot is formatted and not damaged
 abbrev pub IsNoteCaused : Type 0 → Settings → Tally → Tally → Note → Type 0
-IsNoteCaused Tells settings before after (OpenFailed slot count) = (slot < disk_count settings) × RoseIn slot before.counts.disks after.counts.disks count × (Tells → AreSoundBelow settings slot after.contents)
-IsNoteCaused Tells settings before after (OpenDamaged slot file at) = HasFile settings slot file × (Tells → IsDamagedDisk settings after.contents slot file at × AreSoundBelow settings slot after.contents)
+IsNoteCaused Tells settings before after (OpenFailed slot count) =
+    (slot < disk_count settings) × RoseIn slot before.counts.disks after.counts.disks count × (Tells → AreSoundBelow settings slot after.contents)
+IsNoteCaused Tells settings before after (OpenDamaged slot file at) =
+    HasFile settings slot file × (Tells → IsDamagedDisk settings after.contents slot file at × AreSoundBelow settings slot after.contents)
 IsNoteCaused Tells settings before after (OpenShelf count) = ⊥
 IsNoteCaused Tells settings before after (Kept v m line) = ⊥
 IsNoteCaused Tells settings before after (Lost v m line) = ⊥
@@ -198,7 +200,8 @@ pub record TurnStops (Tells : Type 0) (settings : Settings) (old new : Tally) (w
 -- TURN AFTER TURN
 
 -- lines were taken, of which the first has this number, and what they ask for was answered
-pub record TurnCaused (Tells : Type 0) (settings : Settings) (old new : Tally) (number : ℕ) (before written : Option (List ℕ)) (next : ℕ) (after : Option (List ℕ)) (ended : Bool) (written' : Option (List ℕ)) : Type 0 where
+pub record TurnCaused (Tells : Type 0) (settings : Settings) (old new : Tally) (number : ℕ) (before written : Option (List ℕ)) (next : ℕ) (after : Option (List ℕ)) (ended : Bool)
+    (written' : Option (List ℕ)) : Type 0 where
   pub asked : List Asked
   pub took : TookItems number None before asked next after ended
   pub caused : Caused Tells Wrote settings old new asked written written'
@@ -316,7 +319,8 @@ pub record UnopenedText (Tells : Type 0) (settings : Settings) (taken given : Ou
   pub told : ToldUnopened Tells settings taken given ending text
 
 -- what a run read, and what it wrote behind what the sink held
-pub record CausedRun (Tells : Type 0) (settings : Settings) (ending : Ending) (script : List ℕ) (left : Option (List ℕ)) (taken given : Outside) (sure : ℕ → Bool) (disks disks' : ℕ → HeldDisk) (held : List ℕ) (written : Option (List ℕ)) : Type 0 where
+pub record CausedRun (Tells : Type 0) (settings : Settings) (ending : Ending) (script : List ℕ) (left : Option (List ℕ)) (taken given : Outside) (sure : ℕ → Bool)
+    (disks disks' : ℕ → HeldDisk) (held : List ℕ) (written : Option (List ℕ)) : Type 0 where
   pub read : List ℕ
   pub bytes : ReadBytes ending script read left
   pub text : List ℕ

@@ -50,7 +50,8 @@ FitsAnswers (Lanes items logs rows after) = AllByRecursion (λ item. FitsReply i
 FitsAnswers (Restart line pick reply notes after) = FitsReply reply × AllByRecursion FitsNote notes
 
 -- Turns of this kind, legal from k, answer these items, and the store is left at what the last one left. Their text was written.
-pub record AnswersTurns {D P A : Type 0} (Is : Turn → Type 0) (Writes : Writing) (Left : Standing D P A) (k : Known) (asked : List Asked) (written : Option (List ℕ)) (store : Open D P A) (written' : Option (List ℕ)) : Type 0 where
+pub record AnswersTurns {D P A : Type 0} (Is : Turn → Type 0) (Writes : Writing) (Left : Standing D P A) (k : Known) (asked : List Asked) (written : Option (List ℕ))
+    (store : Open D P A) (written' : Option (List ℕ)) : Type 0 where
   pub turns : List Turn
   pub t : Known
   pub each : AllByRecursion Is turns
@@ -76,13 +77,15 @@ Appends before after = (held : List ℕ) → before ≡ Some held → (text : Li
 
 -- Lines were taken, of which the first has this number, and what they ask for was answered. The next line has the other
 -- number.
-pub record Turned {D P A : Type 0} (Tells : Type 0) (Stands : Standing D P A) (store : Open D P A) (number : ℕ) (before written : Option (List ℕ)) (store' : Open D P A) (next : ℕ) (after : Option (List ℕ)) (ended : Bool) (written' : Option (List ℕ)) : Type 0 where
+pub record Turned {D P A : Type 0} (Tells : Type 0) (Stands : Standing D P A) (store : Open D P A) (number : ℕ) (before written : Option (List ℕ)) (store' : Open D P A) (next : ℕ)
+    (after : Option (List ℕ)) (ended : Bool) (written' : Option (List ℕ)) : Type 0 where
   pub asked : List Asked
   pub took : TookItems number None before asked next after ended
   pub answers : AnswersAll Tells Stands asked store written store' written'
 
 -- All that a script asks for was answered.
-pub record Serves {D P A : Type 0} (Tells : Type 0) (Stands : Standing D P A) (script : Option (List ℕ)) (store : Open D P A) (written : Option (List ℕ)) (store' : Open D P A) (written' : Option (List ℕ)) : Type 0 where
+pub record Serves {D P A : Type 0} (Tells : Type 0) (Stands : Standing D P A) (script : Option (List ℕ)) (store : Open D P A) (written : Option (List ℕ)) (store' : Open D P A)
+    (written' : Option (List ℕ)) : Type 0 where
   pub asked : List Asked
   pub all : AsksAll script asked
   pub answers : AnswersAll Tells Stands asked store written store' written'
@@ -94,7 +97,8 @@ IsFormatted files store = (slot : ℕ) → slot < disk_count store.settings → 
 -- HOW A TURN STOPS
 
 -- A turn was answered, and only a front of its text was written.
-pub record TurnedPart {D P A : Type 0} (Tells : Type 0) (Stands Left : Standing D P A) (store : Open D P A) (number : ℕ) (before written : Option (List ℕ)) (store' : Open D P A) (after written' : Option (List ℕ)) : Type 0 where
+pub record TurnedPart {D P A : Type 0} (Tells : Type 0) (Stands Left : Standing D P A) (store : Open D P A) (number : ℕ) (before written : Option (List ℕ)) (store' : Open D P A)
+    (after written' : Option (List ℕ)) : Type 0 where
   pub asked : List Asked
   pub one : length asked ≤ 1
   pub next : ℕ
@@ -114,7 +118,8 @@ pub record Refused {D P A : Type 0} (Writes : Writing) (Left : Standing D P A) (
   pub came : CameUp (fault_count k slot) count (fault_count t slot)
   pub wrote : Writes written (note_line (OpenFailed slot count)) written'
 
-pub record RefusesRestart {D P A : Type 0} (Tells : Type 0) (Writes : Writing) (Stands Left : Standing D P A) (store : Open D P A) (number : ℕ) (before written : Option (List ℕ)) (store' : Open D P A) (after written' : Option (List ℕ)) : Type 0 where
+pub record RefusesRestart {D P A : Type 0} (Tells : Type 0) (Writes : Writing) (Stands Left : Standing D P A) (store : Open D P A) (number : ℕ) (before written : Option (List ℕ))
+    (store' : Open D P A) (after written' : Option (List ℕ)) : Type 0 where
   pub pick : ℕ
   pub next : ℕ
   pub ended : Bool
@@ -154,7 +159,8 @@ HoldsNone stop.NoMemory held = Unit {0}
 HoldsNone stop.Store held = Unit {0}
 
 -- Turn after turn was answered, and then the run stopped.
-pub record ServedUntil {D P A : Type 0} (Tells : Type 0) (Stands Left : Standing D P A) (why : Stop) (script : Option (List ℕ)) (store : Open D P A) (written : Option (List ℕ)) (script' : Option (List ℕ)) (store' : Open D P A) (written' : Option (List ℕ)) : Type 0 where
+pub record ServedUntil {D P A : Type 0} (Tells : Type 0) (Stands Left : Standing D P A) (why : Stop) (script : Option (List ℕ)) (store : Open D P A) (written : Option (List ℕ))
+    (script' : Option (List ℕ)) (store' : Open D P A) (written' : Option (List ℕ)) : Type 0 where
   pub asked : List Asked
   pub number : ℕ
   pub rest : Option (List ℕ)

@@ -150,7 +150,8 @@ fn read_lines<S: Source>(
     requires few { number + budget SCRIPT script.old < 2 ^ 64 }
     requires below { IsBlockBelow number block }
     ensures lines { IfOk result (λ read. IsBlockOf block.lanes read.0.lines × (read.0.lanes ≡ block.lanes)) }
-    ensures read { IfOk result (λ read. TookItems number (Some block) (rest_of (S.left source.old) script.old) (Block read.0.lines ∷ []) read.1 (rest_of (S.left source.new) script.new) script.new.ended) }
+    ensures read { IfOk result (λ read. TookItems number (Some block) (rest_of (S.left source.old) script.old) (Block read.0.lines ∷ []) read.1
+        (rest_of (S.left source.new) script.new) script.new.ended) }
     ensures few { IfOk result (λ read. read.1 + budget SCRIPT script.new ≤ number + budget SCRIPT script.old) }
     ensures accounts { OnOk result (Accounts (S.left source.old) script.old (S.left source.new) script.new) }
     ensures stopped_accounts { (IsErrOf result Stop.Input ⊎ IsErrOf result Stop.NoMemory) → Accounts (S.left source.old) script.old (S.left source.new) script.new }
@@ -194,7 +195,8 @@ pub fn read_block<S: Source>(
     requires some { 0 < lanes }
     requires most { lanes ≤ 8 }
     ensures lines { IfOk result (λ read. IsBlockOf lanes read.0.lines × (read.0.lanes ≡ lanes)) }
-    ensures read { script.old.ended ≡ false → IfOk result (λ read. TookItems number (Some (empty_block lanes)) (rest_of (S.left source.old) script.old) (Block read.0.lines ∷ []) read.1 (rest_of (S.left source.new) script.new) script.new.ended) }
+    ensures read { script.old.ended ≡ false → IfOk result (λ read. TookItems number (Some (empty_block lanes)) (rest_of (S.left source.old) script.old) (Block read.0.lines ∷ [])
+        read.1 (rest_of (S.left source.new) script.new) script.new.ended) }
     ensures empty { script.old.ended ≡ true → IfOk result (λ read. (read.0.lines ≡ []) × (read.1 ≡ number) × (source.new ≡ source.old) × (script.new ≡ script.old)) }
     ensures few { IfOk result (λ read. read.1 + budget SCRIPT script.new ≤ number + budget SCRIPT script.old) }
     ensures accounts { OnOk result (Accounts (S.left source.old) script.old (S.left source.new) script.new) }

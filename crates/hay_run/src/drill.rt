@@ -211,7 +211,8 @@ fn behind_first(text: &[u8]) -> &[u8]
 
 /// The summary of a transcript, whose first line is the header.
 fn summary_of(alloc: Global, transcript: &[u8]) -> Result<Summary, NoMemory>
-    ensures { (settings : Settings) (turns : List Turn) → AllByRecursion FitsAnswers turns → transcript.now ≡ transcript_text settings turns → IfOk result (λ summary. summary ≡ drills.summary_of turns) }
+    ensures { (settings : Settings) (turns : List Turn) → AllByRecursion FitsAnswers turns → transcript.now ≡ transcript_text settings turns
+        → IfOk result (λ summary. summary ≡ drills.summary_of turns) }
 {
     let mut tally = count_lines(alloc, behind_first(transcript))?;
     tally.summary.rows = tally.rows;

@@ -45,12 +45,18 @@ where
     R: Threads + Wait + Sync,
     requires up { IsUp cluster }
     requires block { IsBlockOf block.lanes block.lines }
-    ensures answers { OnOk result.1 (AnswersAll D.Tells (Stands D.files D.Piece.Tells D.fault_count D.fuse_count A.fault_count) (Block block.lines ∷ []) cluster (K.written sink.old) result.0 (K.written sink.new)) }
-    ensures part { IsErrOf result.1 Stop.Output → AnswersPart D.Tells (Stands D.files D.Piece.Tells D.fault_count D.fuse_count A.fault_count) (Holds D.files D.fault_count D.fuse_count A.fault_count) (Block block.lines ∷ []) cluster (K.written sink.old) result.0 (K.written sink.new) }
-    ensures memory { IsErrOf result.1 Stop.NoMemory → AnswersPart D.Tells (Stands D.files D.Piece.Tells D.fault_count D.fuse_count A.fault_count) (Holds D.files D.fault_count D.fuse_count A.fault_count) (Block block.lines ∷ []) cluster (K.written sink.old) result.0 (K.written sink.new)
+    ensures answers { OnOk result.1 (AnswersAll D.Tells (Stands D.files D.Piece.Tells D.fault_count D.fuse_count A.fault_count) (Block block.lines ∷ []) cluster
+        (K.written sink.old) result.0 (K.written sink.new)) }
+    ensures part { IsErrOf result.1 Stop.Output → AnswersPart D.Tells (Stands D.files D.Piece.Tells D.fault_count D.fuse_count A.fault_count)
+        (Holds D.files D.fault_count D.fuse_count A.fault_count) (Block block.lines ∷ []) cluster (K.written sink.old) result.0 (K.written sink.new) }
+    ensures memory { IsErrOf result.1 Stop.NoMemory → AnswersPart D.Tells (Stands D.files D.Piece.Tells D.fault_count D.fuse_count A.fault_count)
+        (Holds D.files D.fault_count D.fuse_count A.fault_count) (Block block.lines ∷ []) cluster (K.written sink.old) result.0 (K.written sink.new)
         ⊎ (Keeps D.Tells (Stands D.files D.Piece.Tells D.fault_count D.fuse_count A.fault_count) cluster result.0 × (sink.new ≡ sink.old)) }
-    ensures caused { OnOk result.1 (Caused D.Tells Wrote cluster.settings (tally_of D.files D.drawn D.fault_count D.fuse_count A.fault_count A.is_sure cluster) (tally_of D.files D.drawn D.fault_count D.fuse_count A.fault_count A.is_sure result.0) (Block block.lines ∷ []) (K.written sink.old) (K.written sink.new)) }
-    ensures stop_caused { (stop : Stop) → result.1 ≡ Err stop → StopCaused D.Tells cluster.settings (tally_of D.files D.drawn D.fault_count D.fuse_count A.fault_count A.is_sure cluster) (tally_of D.files D.drawn D.fault_count D.fuse_count A.fault_count A.is_sure result.0) stop (Block block.lines ∷ []) (K.written sink.old) (K.written sink.new) }
+    ensures caused { OnOk result.1 (Caused D.Tells Wrote cluster.settings (tally_of D.files D.drawn D.fault_count D.fuse_count A.fault_count A.is_sure cluster)
+        (tally_of D.files D.drawn D.fault_count D.fuse_count A.fault_count A.is_sure result.0) (Block block.lines ∷ []) (K.written sink.old) (K.written sink.new)) }
+    ensures stop_caused { (stop : Stop) → result.1 ≡ Err stop → StopCaused D.Tells cluster.settings
+        (tally_of D.files D.drawn D.fault_count D.fuse_count A.fault_count A.is_sure cluster) (tally_of D.files D.drawn D.fault_count D.fuse_count A.fault_count A.is_sure result.0)
+        stop (Block block.lines ∷ []) (K.written sink.old) (K.written sink.new) }
     ensures stops { OnErr result.1 ((result.1 ≡ Err Stop.Output) ⊎ (result.1 ≡ Err Stop.NoMemory)) }
     ensures cause { IsErrOf result.1 Stop.Output → Rose (K.fault_count sink.old) (K.fault_count sink.new) }
     ensures count { K.fault_count sink.old ≤ K.fault_count sink.new }

@@ -226,7 +226,8 @@ where
         DrillsTo count first k (ending_in result) (outside_of (H.fault_count shelf.old) (H.disks shelf.old) (H.arms shelf.old))
         (outside_of (H.fault_count shelf.new) (H.disks shelf.new) (H.arms shelf.new)) held (K.written sink.new) }
     ensures refused { IsErrOf result Stop.Store → RefusedRun H.Disk.Tells count first (outside_of (H.fault_count shelf.old) (H.disks shelf.old) (H.arms shelf.old))
-        (outside_of (H.fault_count shelf.new) (H.disks shelf.new) (H.arms shelf.new)) (λ lane. (H.arms shelf.old lane).is_sure) (H.disks shelf.old) (H.disks shelf.new) (K.written sink.old) (K.written sink.new) }
+        (outside_of (H.fault_count shelf.new) (H.disks shelf.new) (H.arms shelf.new)) (λ lane. (H.arms shelf.old lane).is_sure) (H.disks shelf.old) (H.disks shelf.new)
+        (K.written sink.old) (K.written sink.new) }
     ensures sound { H.Disk.Tells → OnOk result (IsUndamaged day_settings (λ slot. read_of (H.disks shelf.old slot))) }
     ensures formatted { H.Disk.Tells → OnOk result ((k : Known) →
         IsTaken day_settings (outside_of (H.fault_count shelf.old) (H.disks shelf.old) (H.arms shelf.old)) k → (slot : ℕ) → slot < disk_count day_settings →
@@ -302,7 +303,8 @@ where
         DrillsTo count first k ending (outside_of (H.fault_count shelf.old) (H.disks shelf.old) (H.arms shelf.old))
         (outside_of (H.fault_count shelf.new) (H.disks shelf.new) (H.arms shelf.new)) held (K.written sink.new) }
     ensures refused { result ≡ 6 → RefusedRun H.Disk.Tells count first (outside_of (H.fault_count shelf.old) (H.disks shelf.old) (H.arms shelf.old))
-        (outside_of (H.fault_count shelf.new) (H.disks shelf.new) (H.arms shelf.new)) (λ lane. (H.arms shelf.old lane).is_sure) (H.disks shelf.old) (H.disks shelf.new) (K.written sink.old) (K.written sink.new) }
+        (outside_of (H.fault_count shelf.new) (H.disks shelf.new) (H.arms shelf.new)) (λ lane. (H.arms shelf.old lane).is_sure) (H.disks shelf.old) (H.disks shelf.new)
+        (K.written sink.old) (K.written sink.new) }
     ensures sound { H.Disk.Tells → result ≡ 0 → IsUndamaged day_settings (λ slot. read_of (H.disks shelf.old slot)) }
     ensures formatted { H.Disk.Tells → result ≡ 0 → (k : Known) →
         IsTaken day_settings (outside_of (H.fault_count shelf.old) (H.disks shelf.old) (H.arms shelf.old)) k → (slot : ℕ) → slot < disk_count day_settings →
@@ -400,7 +402,8 @@ where
     // Whatever the disks tell, why its store was not opened.
     ensures drill_refused { result ≡ 6 → (count first : ℕ) → SaysDrill (map string_bytes words.now) count first →
         RefusedRun H.Disk.Tells count first (outside_of (H.fault_count shelf.old) (H.disks shelf.old) (H.arms shelf.old))
-        (outside_of (H.fault_count shelf.new) (H.disks shelf.new) (H.arms shelf.new)) (λ lane. (H.arms shelf.old lane).is_sure) (H.disks shelf.old) (H.disks shelf.new) (K.written sink.old) (K.written sink.new) }
+        (outside_of (H.fault_count shelf.new) (H.disks shelf.new) (H.arms shelf.new)) (λ lane. (H.arms shelf.old lane).is_sure) (H.disks shelf.old) (H.disks shelf.new)
+        (K.written sink.old) (K.written sink.new) }
     // Behind a drill that was answered to its end, nothing of what was read of the disks was damaged, and each disk is given back formatted.
     ensures drill_sound { H.Disk.Tells → result ≡ 0 → IsDrill (map string_bytes words.now) → IsUndamaged day_settings (λ slot. read_of (H.disks shelf.old slot)) }
     ensures drill_formatted { H.Disk.Tells → result ≡ 0 → IsDrill (map string_bytes words.now) → (k : Known) →
@@ -424,7 +427,8 @@ where
         (outside_of (H.fault_count shelf.old) (H.disks shelf.old) (H.arms shelf.old))
         (outside_of (H.fault_count shelf.new) (H.disks shelf.new) (H.arms shelf.new)) (S.left source.old) (S.left source.new) (K.written sink.old) (K.written sink.new) }
     // Behind an opening that succeeded, nothing of what was read of the disks is damaged.
-    ensures sound { H.Disk.Tells → (result ≡ 0) ⊎ (result ≡ 4) ⊎ (result ≡ 7) ⊎ WasRead (S.left source.old) (S.left source.new) → (settings : Settings) → SaysRun (map string_bytes words.now) settings →
+    ensures sound { H.Disk.Tells → (result ≡ 0) ⊎ (result ≡ 4) ⊎ (result ≡ 7) ⊎ WasRead (S.left source.old) (S.left source.new) → (settings : Settings)
+        → SaysRun (map string_bytes words.now) settings →
         IsUndamaged settings (λ slot. read_of (H.disks shelf.old slot)) }
     // Behind such an opening each disk is given back formatted.
     ensures formatted { H.Disk.Tells → (result ≡ 0) ⊎ (result ≡ 4) ⊎ (result ≡ 7) ⊎ WasRead (S.left source.old) (S.left source.new) →

@@ -39,19 +39,26 @@ where
     K: Sink,
     R: Threads + Wait + Sync,
     requires up { IsUp cluster }
-    ensures served { OnOk result.1 (Serves D.Tells (Stands D.files D.Piece.Tells D.fault_count D.fuse_count A.fault_count) (S.left source.old) cluster (K.written sink.old) result.0 (K.written sink.new)) }
-    ensures stopped { (stop : Stop) → result.1 ≡ Err stop → ServedUntil D.Tells (Stands D.files D.Piece.Tells D.fault_count D.fuse_count A.fault_count) (Holds D.files D.fault_count D.fuse_count A.fault_count) stop (S.left source.old) cluster (K.written sink.old) (S.left source.new) result.0 (K.written sink.new) }
-    ensures caused { OnOk result.1 (AllCaused D.Tells cluster.settings (tally_of D.files D.drawn D.fault_count D.fuse_count A.fault_count A.is_sure cluster) (tally_of D.files D.drawn D.fault_count D.fuse_count A.fault_count A.is_sure result.0) (S.left source.old) (K.written sink.old) (K.written sink.new)) }
-    ensures stop_caused { (stop : Stop) → result.1 ≡ Err stop → CausedUntil D.Tells cluster.settings (tally_of D.files D.drawn D.fault_count D.fuse_count A.fault_count A.is_sure cluster) (tally_of D.files D.drawn D.fault_count D.fuse_count A.fault_count A.is_sure result.0) stop (S.left source.old) (K.written sink.old) (S.left source.new) (K.written sink.new) }
+    ensures served { OnOk result.1 (Serves D.Tells (Stands D.files D.Piece.Tells D.fault_count D.fuse_count A.fault_count) (S.left source.old) cluster (K.written sink.old) result.0
+        (K.written sink.new)) }
+    ensures stopped { (stop : Stop) → result.1 ≡ Err stop → ServedUntil D.Tells (Stands D.files D.Piece.Tells D.fault_count D.fuse_count A.fault_count)
+        (Holds D.files D.fault_count D.fuse_count A.fault_count) stop (S.left source.old) cluster (K.written sink.old) (S.left source.new) result.0 (K.written sink.new) }
+    ensures caused { OnOk result.1 (AllCaused D.Tells cluster.settings (tally_of D.files D.drawn D.fault_count D.fuse_count A.fault_count A.is_sure cluster)
+        (tally_of D.files D.drawn D.fault_count D.fuse_count A.fault_count A.is_sure result.0) (S.left source.old) (K.written sink.old) (K.written sink.new)) }
+    ensures stop_caused { (stop : Stop) → result.1 ≡ Err stop → CausedUntil D.Tells cluster.settings
+        (tally_of D.files D.drawn D.fault_count D.fuse_count A.fault_count A.is_sure cluster) (tally_of D.files D.drawn D.fault_count D.fuse_count A.fault_count A.is_sure result.0)
+        stop (S.left source.old) (K.written sink.old) (S.left source.new) (K.written sink.new) }
     ensures ended { OnOk result.1 (IsReadToEnd (S.left source.old) (S.left source.new)) }
     ensures short { OnOk result.1 ((script : List ℕ) → S.left source.old ≡ Some script → length script ≤ SCRIPT) }
-    ensures long { IsErrOf result.1 Stop.TooLong → (script : List ℕ) → S.left source.old ≡ Some script → (rest : List ℕ) × (S.left source.new ≡ Some rest) × (length script ≡ SCRIPT + 1 + length rest) }
+    ensures long { IsErrOf result.1 Stop.TooLong → (script : List ℕ) → S.left source.old ≡ Some script
+        → (rest : List ℕ) × (S.left source.new ≡ Some rest) × (length script ≡ SCRIPT + 1 + length rest) }
     ensures taken { (IsErrOf result.1 Stop.TooLong → ⊥) → TookAtMost SCRIPT (S.left source.old) (S.left source.new) }
     ensures source { IsErrOf result.1 Stop.Input → Rose (S.fault_count source.old) (S.fault_count source.new) }
     ensures source_count { S.fault_count source.old ≤ S.fault_count source.new }
     ensures sink { IsErrOf result.1 Stop.Output → Rose (K.fault_count sink.old) (K.fault_count sink.new) }
     ensures sink_count { K.fault_count sink.old ≤ K.fault_count sink.new }
-    ensures halted { IsErrOf result.1 Stop.Store → Halts D.Tells (Stands D.files D.Piece.Tells D.fault_count D.fuse_count A.fault_count) D.files D.fault_count cluster result.0 (K.written sink.old) (K.written sink.new) }
+    ensures halted { IsErrOf result.1 Stop.Store → Halts D.Tells (Stands D.files D.Piece.Tells D.fault_count D.fuse_count A.fault_count) D.files D.fault_count cluster result.0
+        (K.written sink.old) (K.written sink.new) }
     ensures faults { NoneFalls (map D.fault_count (disks_of cluster)) (map D.fault_count (disks_of result.0)) }
     ensures arm_faults { NoneFalls (map A.fault_count cluster.arms) (map A.fault_count result.0.arms) }
     ensures sure_arms { StaySure A.is_sure A.fault_count cluster.arms result.0.arms }

@@ -53,10 +53,15 @@ fn plain<D: Disk, A: Arm<D::Piece>, K: Sink, G: Gate>(
     requires within { IsWithin command.now }
     requires goes_on { (pick : ℕ) → command.now ≢ asks.Restart pick }
     requires up { IsUp cluster.old }
-    ensures answers { OnOk result (AnswersAll D.Tells (Stands D.files D.Piece.Tells D.fault_count D.fuse_count A.fault_count) (Alone number (item.Command command.now) ∷ []) cluster.old (K.written sink.old) cluster.new (K.written sink.new)) }
-    ensures part { OnErr result (AnswersPart D.Tells (Stands D.files D.Piece.Tells D.fault_count D.fuse_count A.fault_count) (Holds D.files D.fault_count D.fuse_count A.fault_count) (Alone number (item.Command command.now) ∷ []) cluster.old (K.written sink.old) cluster.new (K.written sink.new)) }
-    ensures caused { OnOk result (Caused D.Tells Wrote cluster.old.settings (tally_of D.files D.drawn D.fault_count D.fuse_count A.fault_count A.is_sure cluster.old) (tally_of D.files D.drawn D.fault_count D.fuse_count A.fault_count A.is_sure cluster.new) (Alone number (item.Command command.now) ∷ []) (K.written sink.old) (K.written sink.new)) }
-    ensures stop_caused { (stop : Stop) → result ≡ Err stop → StopCaused D.Tells cluster.old.settings (tally_of D.files D.drawn D.fault_count D.fuse_count A.fault_count A.is_sure cluster.old) (tally_of D.files D.drawn D.fault_count D.fuse_count A.fault_count A.is_sure cluster.new) stop (Alone number (item.Command command.now) ∷ []) (K.written sink.old) (K.written sink.new) }
+    ensures answers { OnOk result (AnswersAll D.Tells (Stands D.files D.Piece.Tells D.fault_count D.fuse_count A.fault_count) (Alone number (item.Command command.now) ∷ [])
+        cluster.old (K.written sink.old) cluster.new (K.written sink.new)) }
+    ensures part { OnErr result (AnswersPart D.Tells (Stands D.files D.Piece.Tells D.fault_count D.fuse_count A.fault_count)
+        (Holds D.files D.fault_count D.fuse_count A.fault_count) (Alone number (item.Command command.now) ∷ []) cluster.old (K.written sink.old) cluster.new (K.written sink.new)) }
+    ensures caused { OnOk result (Caused D.Tells Wrote cluster.old.settings (tally_of D.files D.drawn D.fault_count D.fuse_count A.fault_count A.is_sure cluster.old)
+        (tally_of D.files D.drawn D.fault_count D.fuse_count A.fault_count A.is_sure cluster.new) (Alone number (item.Command command.now) ∷ []) (K.written sink.old) (K.written sink.new)) }
+    ensures stop_caused { (stop : Stop) → result ≡ Err stop → StopCaused D.Tells cluster.old.settings
+        (tally_of D.files D.drawn D.fault_count D.fuse_count A.fault_count A.is_sure cluster.old)
+        (tally_of D.files D.drawn D.fault_count D.fuse_count A.fault_count A.is_sure cluster.new) stop (Alone number (item.Command command.now) ∷ []) (K.written sink.old) (K.written sink.new) }
     ensures stops { OnErr result ((result ≡ Err Stop.Output) ⊎ (result ≡ Err Stop.NoMemory)) }
     ensures cause { IsErrOf result Stop.Output → Rose (K.fault_count sink.old) (K.fault_count sink.new) }
     ensures count { K.fault_count sink.old ≤ K.fault_count sink.new }
@@ -108,12 +113,20 @@ fn restart<D: Disk, A: Arm<D::Piece>, K: Sink, G: Gate>(
     gate: &G,
 ) -> Result<(), Stop>
     requires up { IsUp cluster.old }
-    ensures answers { OnOk result (AnswersAll D.Tells (Stands D.files D.Piece.Tells D.fault_count D.fuse_count A.fault_count) (Alone number (item.Command (asks.Restart pick)) ∷ []) cluster.old (K.written sink.old) cluster.new (K.written sink.new)) }
-    ensures broke { (IsErrOf result Stop.Output ⊎ IsErrOf result Stop.NoMemory) → BrokeAsked D.Tells (Stands D.files D.Piece.Tells D.fault_count D.fuse_count A.fault_count) (Holds D.files D.fault_count D.fuse_count A.fault_count) number (Alone number (item.Command (asks.Restart pick)) ∷ []) cluster.old (K.written sink.old) cluster.new (K.written sink.new) }
-    ensures refused { IsErrOf result Stop.Store → RefusedAsked D.Tells Wrote (Stands D.files D.Piece.Tells D.fault_count D.fuse_count A.fault_count) (Holds D.files D.fault_count D.fuse_count A.fault_count) number (Alone number (item.Command (asks.Restart pick)) ∷ []) cluster.old (K.written sink.old) cluster.new (K.written sink.new) }
-    ensures halted { IsErrOf result Stop.Store → Halts D.Tells (Stands D.files D.Piece.Tells D.fault_count D.fuse_count A.fault_count) D.files D.fault_count cluster.old cluster.new (K.written sink.old) (K.written sink.new) }
-    ensures caused { OnOk result (Caused D.Tells Wrote cluster.old.settings (tally_of D.files D.drawn D.fault_count D.fuse_count A.fault_count A.is_sure cluster.old) (tally_of D.files D.drawn D.fault_count D.fuse_count A.fault_count A.is_sure cluster.new) (Alone number (item.Command (asks.Restart pick)) ∷ []) (K.written sink.old) (K.written sink.new)) }
-    ensures stop_caused { (stop : Stop) → result ≡ Err stop → StopCaused D.Tells cluster.old.settings (tally_of D.files D.drawn D.fault_count D.fuse_count A.fault_count A.is_sure cluster.old) (tally_of D.files D.drawn D.fault_count D.fuse_count A.fault_count A.is_sure cluster.new) stop (Alone number (item.Command (asks.Restart pick)) ∷ []) (K.written sink.old) (K.written sink.new) }
+    ensures answers { OnOk result (AnswersAll D.Tells (Stands D.files D.Piece.Tells D.fault_count D.fuse_count A.fault_count) (Alone number (item.Command (asks.Restart pick)) ∷ [])
+        cluster.old (K.written sink.old) cluster.new (K.written sink.new)) }
+    ensures broke { (IsErrOf result Stop.Output ⊎ IsErrOf result Stop.NoMemory) → BrokeAsked D.Tells (Stands D.files D.Piece.Tells D.fault_count D.fuse_count A.fault_count)
+        (Holds D.files D.fault_count D.fuse_count A.fault_count) number (Alone number (item.Command (asks.Restart pick)) ∷ []) cluster.old (K.written sink.old) cluster.new (K.written sink.new) }
+    ensures refused { IsErrOf result Stop.Store → RefusedAsked D.Tells Wrote (Stands D.files D.Piece.Tells D.fault_count D.fuse_count A.fault_count)
+        (Holds D.files D.fault_count D.fuse_count A.fault_count) number (Alone number (item.Command (asks.Restart pick)) ∷ []) cluster.old (K.written sink.old) cluster.new (K.written sink.new) }
+    ensures halted { IsErrOf result Stop.Store → Halts D.Tells (Stands D.files D.Piece.Tells D.fault_count D.fuse_count A.fault_count) D.files D.fault_count cluster.old cluster.new
+        (K.written sink.old) (K.written sink.new) }
+    ensures caused { OnOk result (Caused D.Tells Wrote cluster.old.settings (tally_of D.files D.drawn D.fault_count D.fuse_count A.fault_count A.is_sure cluster.old)
+        (tally_of D.files D.drawn D.fault_count D.fuse_count A.fault_count A.is_sure cluster.new) (Alone number (item.Command (asks.Restart pick)) ∷ []) (K.written sink.old) (K.written sink.new)) }
+    ensures stop_caused { (stop : Stop) → result ≡ Err stop → StopCaused D.Tells cluster.old.settings
+        (tally_of D.files D.drawn D.fault_count D.fuse_count A.fault_count A.is_sure cluster.old)
+        (tally_of D.files D.drawn D.fault_count D.fuse_count A.fault_count A.is_sure cluster.new) stop (Alone number (item.Command (asks.Restart pick)) ∷ []) (K.written sink.old)
+        (K.written sink.new) }
     ensures stops { OnErr result ((result ≡ Err Stop.Output) ⊎ (result ≡ Err Stop.NoMemory) ⊎ (result ≡ Err Stop.Store)) }
     ensures cause { IsErrOf result Stop.Output → Rose (K.fault_count sink.old) (K.fault_count sink.new) }
     ensures count { K.fault_count sink.old ≤ K.fault_count sink.new }
@@ -146,12 +159,19 @@ fn respond<D: Disk, A: Arm<D::Piece>, K: Sink, G: Gate>(
 ) -> Result<(), Stop>
     requires within { IsWithinLine said }
     requires up { IsUp cluster.old }
-    ensures answers { OnOk result (AnswersAll D.Tells (Stands D.files D.Piece.Tells D.fault_count D.fuse_count A.fault_count) (outside number said).0 cluster.old (K.written sink.old) cluster.new (K.written sink.new)) }
-    ensures broke { (IsErrOf result Stop.Output ⊎ IsErrOf result Stop.NoMemory) → BrokeAsked D.Tells (Stands D.files D.Piece.Tells D.fault_count D.fuse_count A.fault_count) (Holds D.files D.fault_count D.fuse_count A.fault_count) number (outside number said).0 cluster.old (K.written sink.old) cluster.new (K.written sink.new) }
-    ensures refused { IsErrOf result Stop.Store → RefusedAsked D.Tells Wrote (Stands D.files D.Piece.Tells D.fault_count D.fuse_count A.fault_count) (Holds D.files D.fault_count D.fuse_count A.fault_count) number (outside number said).0 cluster.old (K.written sink.old) cluster.new (K.written sink.new) }
-    ensures halted { IsErrOf result Stop.Store → Halts D.Tells (Stands D.files D.Piece.Tells D.fault_count D.fuse_count A.fault_count) D.files D.fault_count cluster.old cluster.new (K.written sink.old) (K.written sink.new) }
-    ensures caused { OnOk result (Caused D.Tells Wrote cluster.old.settings (tally_of D.files D.drawn D.fault_count D.fuse_count A.fault_count A.is_sure cluster.old) (tally_of D.files D.drawn D.fault_count D.fuse_count A.fault_count A.is_sure cluster.new) (outside number said).0 (K.written sink.old) (K.written sink.new)) }
-    ensures stop_caused { (stop : Stop) → result ≡ Err stop → StopCaused D.Tells cluster.old.settings (tally_of D.files D.drawn D.fault_count D.fuse_count A.fault_count A.is_sure cluster.old) (tally_of D.files D.drawn D.fault_count D.fuse_count A.fault_count A.is_sure cluster.new) stop (outside number said).0 (K.written sink.old) (K.written sink.new) }
+    ensures answers { OnOk result (AnswersAll D.Tells (Stands D.files D.Piece.Tells D.fault_count D.fuse_count A.fault_count) (outside number said).0 cluster.old
+        (K.written sink.old) cluster.new (K.written sink.new)) }
+    ensures broke { (IsErrOf result Stop.Output ⊎ IsErrOf result Stop.NoMemory) → BrokeAsked D.Tells (Stands D.files D.Piece.Tells D.fault_count D.fuse_count A.fault_count)
+        (Holds D.files D.fault_count D.fuse_count A.fault_count) number (outside number said).0 cluster.old (K.written sink.old) cluster.new (K.written sink.new) }
+    ensures refused { IsErrOf result Stop.Store → RefusedAsked D.Tells Wrote (Stands D.files D.Piece.Tells D.fault_count D.fuse_count A.fault_count)
+        (Holds D.files D.fault_count D.fuse_count A.fault_count) number (outside number said).0 cluster.old (K.written sink.old) cluster.new (K.written sink.new) }
+    ensures halted { IsErrOf result Stop.Store → Halts D.Tells (Stands D.files D.Piece.Tells D.fault_count D.fuse_count A.fault_count) D.files D.fault_count cluster.old cluster.new
+        (K.written sink.old) (K.written sink.new) }
+    ensures caused { OnOk result (Caused D.Tells Wrote cluster.old.settings (tally_of D.files D.drawn D.fault_count D.fuse_count A.fault_count A.is_sure cluster.old)
+        (tally_of D.files D.drawn D.fault_count D.fuse_count A.fault_count A.is_sure cluster.new) (outside number said).0 (K.written sink.old) (K.written sink.new)) }
+    ensures stop_caused { (stop : Stop) → result ≡ Err stop → StopCaused D.Tells cluster.old.settings
+        (tally_of D.files D.drawn D.fault_count D.fuse_count A.fault_count A.is_sure cluster.old)
+        (tally_of D.files D.drawn D.fault_count D.fuse_count A.fault_count A.is_sure cluster.new) stop (outside number said).0 (K.written sink.old) (K.written sink.new) }
     ensures stops { OnErr result ((result ≡ Err Stop.Output) ⊎ (result ≡ Err Stop.NoMemory) ⊎ (result ≡ Err Stop.Store)) }
     ensures cause { IsErrOf result Stop.Output → Rose (K.fault_count sink.old) (K.fault_count sink.new) }
     ensures count { K.fault_count sink.old ≤ K.fault_count sink.new }
@@ -235,14 +255,22 @@ where
     R: Threads + Wait + Sync,
     requires fits { FitsRead read }
     requires up { IsUp cluster }
-    ensures answers { OnOk result.1 (AnswersAll D.Tells (Stands D.files D.Piece.Tells D.fault_count D.fuse_count A.fault_count) (items_asked number read) cluster (K.written sink.old) result.0 (K.written sink.new)) }
-    ensures broke { IsErrOf result.1 Stop.Output → BrokeAsked D.Tells (Stands D.files D.Piece.Tells D.fault_count D.fuse_count A.fault_count) (Holds D.files D.fault_count D.fuse_count A.fault_count) number (items_asked number read) cluster (K.written sink.old) result.0 (K.written sink.new) }
-    ensures memory { IsErrOf result.1 Stop.NoMemory → BrokeAsked D.Tells (Stands D.files D.Piece.Tells D.fault_count D.fuse_count A.fault_count) (Holds D.files D.fault_count D.fuse_count A.fault_count) number (items_asked number read) cluster (K.written sink.old) result.0 (K.written sink.new)
+    ensures answers { OnOk result.1 (AnswersAll D.Tells (Stands D.files D.Piece.Tells D.fault_count D.fuse_count A.fault_count) (items_asked number read) cluster
+        (K.written sink.old) result.0 (K.written sink.new)) }
+    ensures broke { IsErrOf result.1 Stop.Output → BrokeAsked D.Tells (Stands D.files D.Piece.Tells D.fault_count D.fuse_count A.fault_count)
+        (Holds D.files D.fault_count D.fuse_count A.fault_count) number (items_asked number read) cluster (K.written sink.old) result.0 (K.written sink.new) }
+    ensures memory { IsErrOf result.1 Stop.NoMemory → BrokeAsked D.Tells (Stands D.files D.Piece.Tells D.fault_count D.fuse_count A.fault_count)
+        (Holds D.files D.fault_count D.fuse_count A.fault_count) number (items_asked number read) cluster (K.written sink.old) result.0 (K.written sink.new)
         ⊎ (Keeps D.Tells (Stands D.files D.Piece.Tells D.fault_count D.fuse_count A.fault_count) cluster result.0 × (sink.new ≡ sink.old)) }
-    ensures refused { IsErrOf result.1 Stop.Store → RefusedAsked D.Tells Wrote (Stands D.files D.Piece.Tells D.fault_count D.fuse_count A.fault_count) (Holds D.files D.fault_count D.fuse_count A.fault_count) number (items_asked number read) cluster (K.written sink.old) result.0 (K.written sink.new) }
-    ensures halted { IsErrOf result.1 Stop.Store → Halts D.Tells (Stands D.files D.Piece.Tells D.fault_count D.fuse_count A.fault_count) D.files D.fault_count cluster result.0 (K.written sink.old) (K.written sink.new) }
-    ensures caused { OnOk result.1 (Caused D.Tells Wrote cluster.settings (tally_of D.files D.drawn D.fault_count D.fuse_count A.fault_count A.is_sure cluster) (tally_of D.files D.drawn D.fault_count D.fuse_count A.fault_count A.is_sure result.0) (items_asked number read) (K.written sink.old) (K.written sink.new)) }
-    ensures stop_caused { (stop : Stop) → result.1 ≡ Err stop → StopCaused D.Tells cluster.settings (tally_of D.files D.drawn D.fault_count D.fuse_count A.fault_count A.is_sure cluster) (tally_of D.files D.drawn D.fault_count D.fuse_count A.fault_count A.is_sure result.0) stop (items_asked number read) (K.written sink.old) (K.written sink.new) }
+    ensures refused { IsErrOf result.1 Stop.Store → RefusedAsked D.Tells Wrote (Stands D.files D.Piece.Tells D.fault_count D.fuse_count A.fault_count)
+        (Holds D.files D.fault_count D.fuse_count A.fault_count) number (items_asked number read) cluster (K.written sink.old) result.0 (K.written sink.new) }
+    ensures halted { IsErrOf result.1 Stop.Store → Halts D.Tells (Stands D.files D.Piece.Tells D.fault_count D.fuse_count A.fault_count) D.files D.fault_count cluster result.0
+        (K.written sink.old) (K.written sink.new) }
+    ensures caused { OnOk result.1 (Caused D.Tells Wrote cluster.settings (tally_of D.files D.drawn D.fault_count D.fuse_count A.fault_count A.is_sure cluster)
+        (tally_of D.files D.drawn D.fault_count D.fuse_count A.fault_count A.is_sure result.0) (items_asked number read) (K.written sink.old) (K.written sink.new)) }
+    ensures stop_caused { (stop : Stop) → result.1 ≡ Err stop → StopCaused D.Tells cluster.settings
+        (tally_of D.files D.drawn D.fault_count D.fuse_count A.fault_count A.is_sure cluster) (tally_of D.files D.drawn D.fault_count D.fuse_count A.fault_count A.is_sure result.0)
+        stop (items_asked number read) (K.written sink.old) (K.written sink.new) }
     ensures stops { OnErr result.1 ((result.1 ≡ Err Stop.Output) ⊎ (result.1 ≡ Err Stop.NoMemory) ⊎ (result.1 ≡ Err Stop.Store)) }
     ensures cause { IsErrOf result.1 Stop.Output → Rose (K.fault_count sink.old) (K.fault_count sink.new) }
     ensures count { K.fault_count sink.old ≤ K.fault_count sink.new }
@@ -287,24 +315,39 @@ where
     requires open { script.old.ended ≡ false }
     requires few { number + budget SCRIPT script.old < 2 ^ 64 }
     requires up { IsUp cluster }
-    ensures turned { IfOk result.1 (λ next. Turned D.Tells (Stands D.files D.Piece.Tells D.fault_count D.fuse_count A.fault_count) cluster number (rest_of (S.left source.old) script.old) (K.written sink.old) result.0 next (rest_of (S.left source.new) script.new) script.new.ended (K.written sink.new)) }
+    ensures turned { IfOk result.1 (λ next. Turned D.Tells (Stands D.files D.Piece.Tells D.fault_count D.fuse_count A.fault_count) cluster number
+        (rest_of (S.left source.old) script.old) (K.written sink.old) result.0 next (rest_of (S.left source.new) script.new) script.new.ended (K.written sink.new)) }
     ensures few { IfOk result.1 (λ next. next + budget SCRIPT script.new ≤ number + budget SCRIPT script.old) }
     ensures accounts { OnOk result.1 (Accounts (S.left source.old) script.old (S.left source.new) script.new) }
-    ensures stopped_accounts { (IsErrOf result.1 Stop.Input ⊎ IsErrOf result.1 Stop.NoMemory ⊎ IsErrOf result.1 Stop.Output ⊎ IsErrOf result.1 Stop.Store) → Accounts (S.left source.old) script.old (S.left source.new) script.new }
+    ensures stopped_accounts { (IsErrOf result.1 Stop.Input ⊎ IsErrOf result.1 Stop.NoMemory ⊎ IsErrOf result.1 Stop.Output ⊎ IsErrOf result.1 Stop.Store)
+        → Accounts (S.left source.old) script.old (S.left source.new) script.new }
     ensures left { OnOk result.1 (budget SCRIPT script.new < budget SCRIPT script.old) }
     ensures limit { script.new.taken ≤ SCRIPT }
 
     // What was taken and written where the run stops here.
     ensures none_held { (IsErrOf result.1 Stop.Input ⊎ IsErrOf result.1 Stop.TooLong) → script.new.bytes ≡ [] }
-    ensures input { IsErrOf result.1 Stop.Input → TookOpen TookPart number None (rest_of (S.left source.old) script.old) (rest_of (S.left source.new) script.new) × (result.0 ≡ cluster) × (sink.new ≡ sink.old) }
-    ensures over { IsErrOf result.1 Stop.TooLong → TookOpen TookOver number None (rest_of (S.left source.old) script.old) (rest_of (S.left source.new) script.new) × (result.0 ≡ cluster) × (sink.new ≡ sink.old) }
-    ensures output { IsErrOf result.1 Stop.Output → Broke D.Tells (Stands D.files D.Piece.Tells D.fault_count D.fuse_count A.fault_count) (Holds D.files D.fault_count D.fuse_count A.fault_count) cluster number (rest_of (S.left source.old) script.old) (K.written sink.old) result.0 (rest_of (S.left source.new) script.new) (K.written sink.new) }
-    ensures memory { IsErrOf result.1 Stop.NoMemory → (TookSome (rest_of (S.left source.old) script.old) (rest_of (S.left source.new) script.new) × Keeps D.Tells (Stands D.files D.Piece.Tells D.fault_count D.fuse_count A.fault_count) cluster result.0 × (sink.new ≡ sink.old)) ⊎ Broke D.Tells (Stands D.files D.Piece.Tells D.fault_count D.fuse_count A.fault_count) (Holds D.files D.fault_count D.fuse_count A.fault_count) cluster number (rest_of (S.left source.old) script.old) (K.written sink.old) result.0 (rest_of (S.left source.new) script.new) (K.written sink.new) }
-    ensures store { IsErrOf result.1 Stop.Store → RefusesRestart D.Tells Wrote (Stands D.files D.Piece.Tells D.fault_count D.fuse_count A.fault_count) (Holds D.files D.fault_count D.fuse_count A.fault_count) cluster number (rest_of (S.left source.old) script.old) (K.written sink.old) result.0 (rest_of (S.left source.new) script.new) (K.written sink.new) }
+    ensures input { IsErrOf result.1 Stop.Input → TookOpen TookPart number None (rest_of (S.left source.old) script.old) (rest_of (S.left source.new) script.new)
+        × (result.0 ≡ cluster) × (sink.new ≡ sink.old) }
+    ensures over { IsErrOf result.1 Stop.TooLong → TookOpen TookOver number None (rest_of (S.left source.old) script.old) (rest_of (S.left source.new) script.new)
+        × (result.0 ≡ cluster) × (sink.new ≡ sink.old) }
+    ensures output { IsErrOf result.1 Stop.Output → Broke D.Tells (Stands D.files D.Piece.Tells D.fault_count D.fuse_count A.fault_count)
+        (Holds D.files D.fault_count D.fuse_count A.fault_count) cluster number (rest_of (S.left source.old) script.old) (K.written sink.old) result.0
+        (rest_of (S.left source.new) script.new) (K.written sink.new) }
+    ensures memory { IsErrOf result.1 Stop.NoMemory → (TookSome (rest_of (S.left source.old) script.old) (rest_of (S.left source.new) script.new)
+        × Keeps D.Tells (Stands D.files D.Piece.Tells D.fault_count D.fuse_count A.fault_count) cluster result.0 × (sink.new ≡ sink.old))
+        ⊎ Broke D.Tells (Stands D.files D.Piece.Tells D.fault_count D.fuse_count A.fault_count) (Holds D.files D.fault_count D.fuse_count A.fault_count) cluster number
+        (rest_of (S.left source.old) script.old) (K.written sink.old) result.0 (rest_of (S.left source.new) script.new) (K.written sink.new) }
+    ensures store { IsErrOf result.1 Stop.Store → RefusesRestart D.Tells Wrote (Stands D.files D.Piece.Tells D.fault_count D.fuse_count A.fault_count)
+        (Holds D.files D.fault_count D.fuse_count A.fault_count) cluster number (rest_of (S.left source.old) script.old) (K.written sink.old) result.0
+        (rest_of (S.left source.new) script.new) (K.written sink.new) }
 
     // What was written has its causes, whatever the disks tell.
-    ensures caused { IfOk result.1 (λ next. TurnCaused D.Tells cluster.settings (tally_of D.files D.drawn D.fault_count D.fuse_count A.fault_count A.is_sure cluster) (tally_of D.files D.drawn D.fault_count D.fuse_count A.fault_count A.is_sure result.0) number (rest_of (S.left source.old) script.old) (K.written sink.old) next (rest_of (S.left source.new) script.new) script.new.ended (K.written sink.new)) }
-    ensures stop_caused { (stop : Stop) → result.1 ≡ Err stop → TurnStops D.Tells cluster.settings (tally_of D.files D.drawn D.fault_count D.fuse_count A.fault_count A.is_sure cluster) (tally_of D.files D.drawn D.fault_count D.fuse_count A.fault_count A.is_sure result.0) stop number (rest_of (S.left source.old) script.old) (K.written sink.old) (rest_of (S.left source.new) script.new) (K.written sink.new) }
+    ensures caused { IfOk result.1 (λ next. TurnCaused D.Tells cluster.settings (tally_of D.files D.drawn D.fault_count D.fuse_count A.fault_count A.is_sure cluster)
+        (tally_of D.files D.drawn D.fault_count D.fuse_count A.fault_count A.is_sure result.0) number (rest_of (S.left source.old) script.old) (K.written sink.old) next
+        (rest_of (S.left source.new) script.new) script.new.ended (K.written sink.new)) }
+    ensures stop_caused { (stop : Stop) → result.1 ≡ Err stop → TurnStops D.Tells cluster.settings
+        (tally_of D.files D.drawn D.fault_count D.fuse_count A.fault_count A.is_sure cluster) (tally_of D.files D.drawn D.fault_count D.fuse_count A.fault_count A.is_sure result.0)
+        stop number (rest_of (S.left source.old) script.old) (K.written sink.old) (rest_of (S.left source.new) script.new) (K.written sink.new) }
 
     // The causes of each stop.
     ensures long { IsErrOf result.1 Stop.TooLong → IsTooLong SCRIPT (S.left source.old) script.old (S.left source.new) }
@@ -312,7 +355,8 @@ where
     ensures source_count { S.fault_count source.old ≤ S.fault_count source.new }
     ensures sink { IsErrOf result.1 Stop.Output → Rose (K.fault_count sink.old) (K.fault_count sink.new) }
     ensures sink_count { K.fault_count sink.old ≤ K.fault_count sink.new }
-    ensures halted { IsErrOf result.1 Stop.Store → Halts D.Tells (Stands D.files D.Piece.Tells D.fault_count D.fuse_count A.fault_count) D.files D.fault_count cluster result.0 (K.written sink.old) (K.written sink.new) }
+    ensures halted { IsErrOf result.1 Stop.Store → Halts D.Tells (Stands D.files D.Piece.Tells D.fault_count D.fuse_count A.fault_count) D.files D.fault_count cluster result.0
+        (K.written sink.old) (K.written sink.new) }
     ensures up { OnOk result.1 (IsUp result.0) }
     ensures faults { NoneFalls (map D.fault_count (disks_of cluster)) (map D.fault_count (disks_of result.0)) }
     ensures arm_faults { NoneFalls (map A.fault_count cluster.arms) (map A.fault_count result.0.arms) }

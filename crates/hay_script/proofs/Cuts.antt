@@ -105,7 +105,8 @@ not_other : (b : Bool) → not b ≡ true → b ≡ false
 not_other true h = cc
 not_other false h = refl
 
-pub first_word : (xs : List ℕ) (i n : ℕ) → Some i ≡ position is_other xs → n ≡ unwrap_or (position is_blank (drop i xs)) (length (drop i xs)) → words_of xs ≡ take n (drop i xs) ∷ words_of (drop n (drop i xs))
+pub first_word : (xs : List ℕ) (i n : ℕ) → Some i ≡ position is_other xs → n ≡ unwrap_or (position is_blank (drop i xs)) (length (drop i xs))
+    → words_of xs ≡ take n (drop i xs) ∷ words_of (drop n (drop i xs))
 first_word xs i n h e =
     let at = found (position_or_len is_other xs) (length xs) i h in
     let other : is_other (get_or xs i 32) ≡ true = rw (at.1) (passes_at_first is_other xs 32 at.0) in
@@ -154,8 +155,12 @@ by_none true v o e = cc
 by_none false v o e = refl
 
 pub no_byte : (count digits : List ℕ) → byte_of digits ≡ None → run_of_parts (count ∷ slice_split is_colon digits) ≡ None
-no_byte count digits e = run_split count digits ∙ by_none (length digits == 2 && list_all is_hex_digit digits) (digits_value 16 digits) (option_map (λ n. replicate n (digits_value 16 digits)) (from_one (MAX_PHOTO + 1) count)) e
+no_byte count digits e =
+    run_split count digits ∙ by_none (length digits == 2 && list_all is_hex_digit digits) (digits_value 16 digits)
+    (option_map (λ n. replicate n (digits_value 16 digits)) (from_one (MAX_PHOTO + 1) count)) e
 
-pub some_run : (count digits : List ℕ) (byte n : ℕ) → Some byte ≡ byte_of digits → Some n ≡ from_one (MAX_PHOTO + 1) count → run_of_parts (count ∷ slice_split is_colon digits) ≡ Some (replicate n byte)
+pub some_run : (count digits : List ℕ) (byte n : ℕ) → Some byte ≡ byte_of digits → Some n ≡ from_one (MAX_PHOTO + 1) count
+    → run_of_parts (count ∷ slice_split is_colon digits) ≡ Some (replicate n byte)
 some_run count digits byte n e h =
-    run_split count digits ∙ by_byte (length digits == 2 && list_all is_hex_digit digits) (digits_value 16 digits) byte (λ v. option_map (λ n. replicate n v) (from_one (MAX_PHOTO + 1) count)) e ∙ ap (option_map (λ n. replicate n byte)) (sym h)
+    run_split count digits ∙ by_byte (length digits == 2 && list_all is_hex_digit digits) (digits_value 16 digits) byte
+    (λ v. option_map (λ n. replicate n v) (from_one (MAX_PHOTO + 1) count)) e ∙ ap (option_map (λ n. replicate n byte)) (sym h)

@@ -48,13 +48,16 @@ got_ok (Ok x) n small h = ap Some h.1
 got_ok (Err e) n small h = absurd (h small)
 
 -- what is read of hexadecimal digits that are not too many is their number
-pub hex_number : (most : ℕ) (text : List ℕ) (r : Option ℕ) → length text ≤ most → 16 ^ most ≤ 2 ^ 64 → list_all is_hex_digit text ≡ true → r ≡ (if nat_lt (digits_value 16 text) (2 ^ 64) then Some (digits_value 16 text) else None) → r ≡ Some (digits_value 16 text)
+pub hex_number : (most : ℕ) (text : List ℕ) (r : Option ℕ) → length text ≤ most → 16 ^ most ≤ 2 ^ 64 → list_all is_hex_digit text ≡ true
+    → r ≡ (if nat_lt (digits_value 16 text) (2 ^ 64) then Some (digits_value 16 text) else None) → r ≡ Some (digits_value 16 text)
 hex_number most text r short fits all e =
     let below = below_sixteenths most text short all in
     e ∙ small_number (digits_value 16 text) (2 ^ 64) (omega arith)
 
 -- The byte of two digits, as a number that was read and tried.
-pub two_digits : {E : Type 0} (text : List ℕ) (n : ℕ) (tried : Result ℕ E) (r : Option ℕ) → length text ≡ 2 → list_all is_hex_digit text ≡ true → Some n ≡ (if nat_lt (digits_value 16 text) (2 ^ 64) then Some (digits_value 16 text) else None) → OkIff tried (n < 256) n → r ≡ result_ok tried → r ≡ (if length text == 2 && list_all is_hex_digit text then Some (digits_value 16 text) else None)
+pub two_digits : {E : Type 0} (text : List ℕ) (n : ℕ) (tried : Result ℕ E) (r : Option ℕ) → length text ≡ 2 → list_all is_hex_digit text ≡ true
+    → Some n ≡ (if nat_lt (digits_value 16 text) (2 ^ 64) then Some (digits_value 16 text) else None) → OkIff tried (n < 256) n → r ≡ result_ok tried
+    → r ≡ (if length text == 2 && list_all is_hex_digit text then Some (digits_value 16 text) else None)
 two_digits text n tried r two all e fits ok =
     let below = below_sixteenths 2 text (omega arith) all in
     let same : Some n ≡ Some (digits_value 16 text) = hex_number 2 text (Some n) (omega arith) (omega arith) all e in

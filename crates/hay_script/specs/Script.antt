@@ -1,5 +1,6 @@
 -- The grammar of a script: its lines, and what each says.
-use Rattle.std.specs.Prelude.{ℕ, ◌+◌, ◌*◌, ◌^◌, ◌==◌, ◌&&◌, ◌||◌, nat_lt, nat_le, ◌≤◌, Bool, true, false, List, [], ◌∷◌, length, replicate, filter, drop, Option, Some, None, option_and_then, option_map, if◌then◌else◌, codes, bytes_eq}
+use Rattle.std.specs.Prelude.{ℕ, ◌+◌, ◌*◌, ◌^◌, ◌==◌, ◌&&◌, ◌||◌, nat_lt, nat_le, ◌≤◌, Bool, true, false, List, [], ◌∷◌, length, replicate, filter, drop, Option, Some, None}
+use Rattle.std.specs.Prelude.{option_and_then, option_map, if◌then◌else◌, codes, bytes_eq}
 use Rattle.std.specs.Char.{is_ascii_digit}
 use Rattle.std.specs.List.{slice_split, onto_first, list_all, starts_with}
 use Rattle.std.specs.Str.Parse.{digits_value}

@@ -47,7 +47,8 @@ lines_entered (act ∷ acts) =
       | Some change ↦ ap (λ l. (act.tag).line ∷ l) rest
     ]
 
-module _ {D P : Type 0} {shared : SharedVolume D P} {settings : Settings} {number room : ℕ} {volume : Volume D P} {seats : List (Seated D P)} (made : IsMadeOf shared room volume settings number (length seats)) where
+module _ {D P : Type 0} {shared : SharedVolume D P} {settings : Settings} {number room : ℕ} {volume : Volume D P} {seats : List (Seated D P)}
+    (made : IsMadeOf shared room volume settings number (length seats)) where
   -- these are all seats of the lock
   pub all_seated : {other : Settings} {v : ℕ} → AreSeated (IsSeatOf v) shared other (length seats) seats → opening.AreSeated shared.lock made.opened seats
   all_seated sits = record {
@@ -68,7 +69,8 @@ module _ {D P : Type 0} {shared : SharedVolume D P} {settings : Settings} {numbe
     within =
         let all : length after.replicas ≡ (after.settings).replicas = subst (λ (v : Volume D P). length v.replicas ≡ (v.settings).replicas) closes.is ((closes.stands).is_open).all in
         let same : (after.settings).replicas ≡ (shared.settings).replicas =
-        ap (λ (s : Settings). s.replicas) (subst (λ (v : Volume D P). v.settings ≡ ((made.opened).volume).settings) closes.is (closes.stands).same_settings ∙ opened_settings ∙ sym made.settings_are) in
+        ap (λ (s : Settings). s.replicas) (subst (λ (v : Volume D P). v.settings ≡ ((made.opened).volume).settings) closes.is (closes.stands).same_settings ∙ opened_settings
+        ∙ sym made.settings_are) in
         omega (arith, all, same)
 
     pub is_volume_of : HasSupers after → IsVolumeOf after settings number
@@ -86,10 +88,14 @@ module _ {D P : Type 0} {shared : SharedVolume D P} {settings : Settings} {numbe
         let kept = closes.stands in
         let low : (j : ℕ) → j < (((made.opened).volume).settings).replicas → count_of faults (closes.kept).logical j ≤ 2 ^ 64 - 1 =
         λ j below. subst (λ (v : Volume D P). count_of faults v j ≤ 2 ^ 64 - 1) (sym closes.is) (small j (subst (λ (s : Settings). j < s.replicas) opened_settings below)) in
-        subst (λ (v : Volume D P). LeavesVolume (λ (seat : Seated D P). seat.sight) (VolumeStands Tells files PieceTells) (count_of faults) (count_of fuses) settings number v seats after tags) made.volume_is
-        (subst (λ n. LeavesVolume (λ (seat : Seated D P). seat.sight) (VolumeStands Tells files PieceTells) (count_of faults) (count_of fuses) settings n (made.opened).volume seats after tags) opened_number
-        (subst (λ (s : Settings). LeavesVolume (λ (seat : Seated D P). seat.sight) (VolumeStands Tells files PieceTells) (count_of faults) (count_of fuses) s ((made.opened).volume).number (made.opened).volume seats after tags) opened_settings
-        (subst (λ (v : Volume D P). LeavesVolume (λ (seat : Seated D P). seat.sight) (VolumeStands Tells files PieceTells) (count_of faults) (count_of fuses) ((made.opened).volume).settings ((made.opened).volume).number (made.opened).volume seats v tags) closes.is (record {
+        subst (λ (v : Volume D P). LeavesVolume (λ (seat : Seated D P). seat.sight) (VolumeStands Tells files PieceTells) (count_of faults) (count_of fuses) settings number v seats
+        after tags) made.volume_is
+        (subst (λ n. LeavesVolume (λ (seat : Seated D P). seat.sight) (VolumeStands Tells files PieceTells) (count_of faults) (count_of fuses) settings n (made.opened).volume seats
+        after tags) opened_number
+        (subst (λ (s : Settings). LeavesVolume (λ (seat : Seated D P). seat.sight) (VolumeStands Tells files PieceTells) (count_of faults) (count_of fuses) s
+        ((made.opened).volume).number (made.opened).volume seats after tags) opened_settings
+        (subst (λ (v : Volume D P). LeavesVolume (λ (seat : Seated D P). seat.sight) (VolumeStands Tells files PieceTells) (count_of faults) (count_of fuses)
+        ((made.opened).volume).settings ((made.opened).volume).number (made.opened).volume seats v tags) closes.is (record {
           history = closes.history;
           ended = ended_by volume_lock (λ (seat : Seated D P). seat.sight) seats closes.history closes.own closes.below closes.seen closes.shown;
           sized = kept.sized;

@@ -21,7 +21,8 @@ module _ {D P : Type 0} (shared : SharedVolume D P) (volume : Volume D P) (lanes
   first_start : (shared.first).value.start ≡ Some new.opened
   first_start = ap (λ (s : Seated D P). s.start) first_is
 
-  pub is_made_of : (settings : Settings) (room number : ℕ) → shared.settings ≡ settings → room ≡ lanes → 0 < lanes → IsVolumeOf volume settings number → IsMadeOf shared room volume settings number lanes
+  pub is_made_of : (settings : Settings) (room number : ℕ) → shared.settings ≡ settings → room ≡ lanes → 0 < lanes → IsVolumeOf volume settings number
+      → IsMadeOf shared room volume settings number lanes
   is_made_of settings room number same room_is some of = record {
     of = of;
     settings_are = same;

@@ -130,7 +130,8 @@ module _ (settings : Settings) (v : ℕ) where
     end_done g false r is = subst (NamesCompaction settings v) (sym is) tt
     end_done g true r is = subst (NamesCompaction settings v) (sym is) tt
 
-    end_refused : (fault : LogicalFault) (frozen : Option ℕ) (r : Compaction) → IsCompaction (Err (lost.Unfinished (record { fault = fault; frozen = frozen }))) r → RefusesRun settings v j fault → NamesCompaction settings v r
+    end_refused : (fault : LogicalFault) (frozen : Option ℕ) (r : Compaction) → IsCompaction (Err (lost.Unfinished (record { fault = fault; frozen = frozen }))) r
+        → RefusesRun settings v j fault → NamesCompaction settings v r
     end_refused (ReadOnly m) frozen r is from = subst (NamesCompaction settings v) (sym is) from
     end_refused (Full m end need capacity) frozen r is from = absurd from
     end_refused (Gone front) frozen r is from = absurd from

@@ -50,6 +50,7 @@ module _ {P : Type 0} where
   bytes_show DiskTells Tells old bytes there empty (inl same) = inl (same ∙ empty)
   bytes_show DiskTells Tells old bytes there empty (inr seen) = inr (can_show DiskTells Tells bytes there seen)
 
-  pub bytes_tell : (DiskTells Tells : Type 0) (old bytes : List ℕ) (there : Place P) → old ≡ [] → DiskTells → (bytes ≡ old) ⊎ IsSeenBy DiskTells Tells bytes there → (bytes ≡ []) ⊎ HasItsPhoto bytes there
+  pub bytes_tell : (DiskTells Tells : Type 0) (old bytes : List ℕ) (there : Place P) → old ≡ [] → DiskTells → (bytes ≡ old) ⊎ IsSeenBy DiskTells Tells bytes there
+      → (bytes ≡ []) ⊎ HasItsPhoto bytes there
   bytes_tell DiskTells Tells old bytes there empty tells (inl same) = inl (same ∙ empty)
   bytes_tell DiskTells Tells old bytes there empty tells (inr seen) = inr (its_photo DiskTells Tells bytes there tells seen)

@@ -53,7 +53,8 @@ put_total pair photo (e ∷ es) =
 makes_from : (entry : Entry) (s t : Stored) → Makes entry s t → t.end ≡ end_of t.cells → 64 ≤ s.end
 makes_from (Put pair cookie bytes) s t makes ends =
     let photo : Photo = record { cookie = cookie; bytes = bytes } in
-    let low : 64 + needle_total (length bytes) ≤ live_end (with_photo (table_of (needles_of s.cells)) pair photo) = let total = put_total pair photo (table_of (needles_of s.cells)) in omega (arith, total) in
+    let low : 64 + needle_total (length bytes) ≤ live_end (with_photo (table_of (needles_of s.cells)) pair photo) =
+    let total = put_total pair photo (table_of (needles_of s.cells)) in omega (arith, total) in
     let held : 64 + needle_total (length bytes) ≤ live_end (table_of (needles_of t.cells)) = subst (λ (x : Table). 64 + needle_total (length bytes) ≤ live_end x) (sym makes.table) low in
     let whole = photos_end t.cells in
     let more : t.end ≡ s.end + needle_total (length bytes) = makes.end in

@@ -82,7 +82,8 @@ module _ (D P : RattleType) (d : disk.Ghosts D.Denot P.Denot) (p : piece.Ghosts 
   act_send : IsSend (Act.the_row D P d p)
   act_send = search (crosses, past.crosses, sendable) depth 60 fits 20000
 
-  abbrev rows : view.Ghosts (Places.the_row D P d p).Denot (Pair.the_row).Denot (Row.the_row P p).Denot (Published.the_row P p).Denot (Published.the_row P p).Denot (Places.the_row D P d p).Denot (Logical.the_row D P d p).Denot
+  abbrev rows : view.Ghosts (Places.the_row D P d p).Denot (Pair.the_row).Denot (Row.the_row P p).Denot (Published.the_row P p).Denot (Published.the_row P p).Denot
+      (Places.the_row D P d p).Denot (Logical.the_row D P d p).Denot
   rows = places.ghosts D P d no_dict p no_dict no_dict no_dict
 
   rows_front_send : IsSend P → IsSync P

@@ -75,7 +75,9 @@ impl<D: Disk<Piece = P>, P: Piece> SharedVolume<D, P> {
         ensures made { IfOk result (λ made. (number : ℕ) → IsVolumeOf volume settings number → IsMadeOf made.0 made.2 volume settings number lanes) }
         ensures seated { IfOk result (λ made. (number : ℕ) → IsVolumeOf volume settings number → AreSeated (IsSeatOf number) made.0 settings lanes made.1.items) }
         ensures unseen { IfOk result (λ made. AreUnseen sight_of made.1.items) }
-        ensures told { IfOk result (λ made. (number : ℕ) → IsVolumeOf volume settings number → AreAt (WasAt D.Tells D.files P.Tells D.fault_count D.fuse_count) (VolumeStands D.Tells D.files P.Tells) (count_of D.fault_count) (count_of D.fuse_count) settings number volume made.1.items) }
+        ensures told { IfOk result (λ made. (number : ℕ) → IsVolumeOf volume settings number
+            → AreAt (WasAt D.Tells D.files P.Tells D.fault_count D.fuse_count) (VolumeStands D.Tells D.files P.Tells) (count_of D.fault_count) (count_of D.fuse_count) settings
+            number volume made.1.items) }
         ensures regular { (number : ℕ) → IsVolumeOf volume settings number → (known : VolumeKnown) → VolumeStands D.Tells D.files P.Tells volume known → IsRegularVolume settings known }
         ensures refused { IfErr result (λ back. back.0 ≡ volume) }
     {

@@ -61,7 +61,8 @@ impl<D: Disk<Piece = P>, P: Piece> SharedVolume<D, P> {
         ensures long { (v : ℕ) (settings : Settings) (lane : ℕ) → IsSeatOf v self.now settings lane seat.old → IfOk result (λ looked. length looked.row ≡ settings.replicas) }
         ensures seen { IfOk result (λ looked. WasSeen (place_in looked.row replica)) }
         ensures needle { IfOk result (λ looked. (out.new.items ≡ []) ⊎ CanShow out.new.items (place_in looked.row replica)) }
-        ensures tells { (volume : StoreVolume) → WasAt D.Tells D.files P.Tells D.fault_count D.fuse_count seat.old volume → SeeTells P.Tells volume pair tag replica out.new.items result seat.old.sight seat.new.sight }
+        ensures tells { (volume : StoreVolume) → WasAt D.Tells D.files P.Tells D.fault_count D.fuse_count seat.old volume
+            → SeeTells P.Tells volume pair tag replica out.new.items result seat.old.sight seat.new.sight }
     {
         match self.lock.see(rt, seat, tag, pair, replica, out) {
             Ok(looked) => Ok(looked_of(looked)),
@@ -112,7 +113,8 @@ impl<D: Disk<Piece = P>, P: Piece> SharedVolume<D, P> {
         requires size { length bytes.now ≤ MAX_PHOTO }
         ensures stays { (v : ℕ) → Stays (IsSeatOf v) (WasAt D.Tells D.files P.Tells D.fault_count D.fuse_count) self.now seat.old seat.new }
         ensures names { (v : ℕ) (settings : Settings) → IsSeatOf v self.now settings tag.lane seat.old → NamesPut settings v result }
-        ensures tells { (volume : StoreVolume) → WasAt D.Tells D.files P.Tells D.fault_count D.fuse_count seat.old volume → PutTells volume tag pair cookie bytes.now result seat.old.sight seat.new.sight }
+        ensures tells { (volume : StoreVolume) → WasAt D.Tells D.files P.Tells D.fault_count D.fuse_count seat.old volume
+            → PutTells volume tag pair cookie bytes.now result seat.old.sight seat.new.sight }
     {
         put_of(
             self.lock

@@ -3,7 +3,9 @@ ghost use Rattle.std.specs.Prelude.{◌≡◌, ℕ, IfErr, IfSome};
 ghost use Rattle.hay_needle.specs.declared.settings.Settings.{Settings};
 ghost use Rattle.hay_logical.specs.Answers.{IsRoomFault};
 ghost use Rattle.hay_volume_lock.specs.Refusing.{RefusesBegin, RefusesDelete, RefusesEnd, RefusesFlush, RefusesPut, RefusesRun, RefusesSight};
-ghost use Rattle.hay_shared_volume.specs.Answers.{IsBegin, IsBeginRefused, IsCompaction, IsDelete, IsDeleteRefused, IsEndDone, IsEndRefused, IsFinish, IsFinishDone, IsFinishRefused, IsFlush, IsFlushRefused, IsLost, IsPut, IsPutRefused, IsRoom, IsRoomRefused, IsSightFault, IsStep, IsStepHalted, looked_as};
+ghost use Rattle.hay_shared_volume.specs.Answers.{IsBegin, IsBeginRefused, IsCompaction, IsDelete, IsDeleteRefused, IsEndDone, IsEndRefused, IsFinish, IsFinishDone};
+ghost use Rattle.hay_shared_volume.specs.Answers.{IsFinishRefused, IsFlush, IsFlushRefused, IsLost, IsPut, IsPutRefused, IsRoom, IsRoomRefused, IsSightFault, IsStep, IsStepHalted};
+ghost use Rattle.hay_shared_volume.specs.Answers.{looked_as};
 
 use crate::answers::{
     Begin, Compaction, Delete, Finish, Flush, Looked, Put, Room, SightFault, Step,

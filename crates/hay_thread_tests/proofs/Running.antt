@@ -1,5 +1,6 @@
 -- From what each lane was answered to the whole history.
-use Rattle.std.proofs.Common.{◌≡◌, ℕ, zero, suc, ◌<◌, false, List, [], ◌∷◌, ◌++◌, map, length, replicate, get_or, All, Option, Some, None, Result, Ok, Err, slice_get, refl, sym, ap, ◌∙◌, subst, arith, append_assoc, append-nil}
+use Rattle.std.proofs.Common.{◌≡◌, ℕ, zero, suc, ◌<◌, false, List, [], ◌∷◌, ◌++◌, map, length, replicate, get_or, All, Option, Some, None, Result, Ok, Err, slice_get, refl, sym}
+use Rattle.std.proofs.Common.{ap, ◌∙◌, subst, arith, append_assoc, append-nil}
 use Rattle.std.proofs.lemmas.List.{length-map}
 use Rattle.std.proofs.lemmas.Option.{slice_get-get_or, slice_get_within, get_or_from_slice_get}
 use Rattle.std.specs.Result.{MatchResult, IfOk, IfErr}
@@ -29,8 +30,15 @@ copied (suc n) x (suc i) y e = copied n x i y e
 
 -- new seats are all seats of their lock, and none holds it
 pub all_new : (t : TurnId) (b : Option Shown) (n : ℕ) (sits : List Seated) → AreNew t b n sits → length sits ≡ n → 0 < n → AreAll t sits
-all_new t b n sits fresh many some =
-    (omega (arith, many), λ i s at. let new : s ≡ new_seat t b n i = fresh i s at in (ap (λ (z : Seated). z.turn) new, ap (λ (z : Seated). z.number) new, ap (λ (z : Seated). z.seats) new ∙ sym many, ap (λ (z : Seated). z.holds) new))
+all_new t b n sits fresh many some = (
+  omega (arith, many),
+  λ i s at. let new : s ≡ new_seat t b n i = fresh i s at in (
+    ap (λ (z : Seated). z.turn) new,
+    ap (λ (z : Seated). z.number) new,
+    ap (λ (z : Seated). z.seats) new ∙ sym many,
+    ap (λ (z : Seated). z.holds) new,
+  ),
+)
 
 module _ {C : Type 0} (turn_of : C → TurnId) (seat_of : C → Seated) (view_of : C → Shown) where
   abbrev pub Answers : C → ℕ → Line → C → Option Posted → Type 0
@@ -58,7 +66,8 @@ module _ {C : Type 0} (turn_of : C → TurnId) (seat_of : C → Seated) (view_of
   grown lane worker [] after outs a = ([], append-nil (seat_of worker).seen ∙ ap (λ (c : C). (seat_of c).seen) (sym a.0))
   grown lane worker (line ∷ lines) after outs a = prefix_trans (seat_of worker).seen (seat_of a.0).seen (seat_of after).seen a.4.seen (grown lane a.0 lines after a.2 a.5)
 
-  one_place : (lane : ℕ) (line : Line) (worker mid : C) (out : Option Posted) (posted : Posted) → Answers worker lane line mid out → out ≡ Some posted → slice_get (seat_of mid).seen posted.place ≡ Some (act_of lane line)
+  one_place : (lane : ℕ) (line : Line) (worker mid : C) (out : Option Posted) (posted : Posted) → Answers worker lane line mid out → out ≡ Some posted
+      → slice_get (seat_of mid).seen posted.place ≡ Some (act_of lane line)
   one_place lane line worker mid None posted a e = absurd (cc e)
   one_place lane line worker mid (Some p) posted a e = let same : p ≡ posted = cc e in subst (λ (q : Posted). slice_get (seat_of mid).seen q.place ≡ Some (act_of lane line)) same a.placed
 
@@ -69,7 +78,8 @@ module _ {C : Type 0} (turn_of : C → TurnId) (seat_of : C → Seated) (view_of
       let same : l ≡ line = cc at_line in let out : a.1 ≡ Some posted = cc (a.3, at_out) in
       prefix_get (seat_of a.0).seen (seat_of after).seen posted.place (act_of lane line) (grown lane a.0 lines after a.2 a.5)
       (one_place lane line worker a.0 a.1 posted (subst (λ (z : Line). Answers worker lane z a.0 a.1) same a.4) out)
-  places lane worker (l ∷ lines) after outs a (suc k) line posted at_line at_out = places lane a.0 lines after a.2 a.5 k line posted at_line (ap (λ (os : List (Option Posted)). slice_get os (suc k)) (sym a.3) ∙ at_out)
+  places lane worker (l ∷ lines) after outs a (suc k) line posted at_line at_out =
+      places lane a.0 lines after a.2 a.5 k line posted at_line (ap (λ (os : List (Option Posted)). slice_get os (suc k)) (sym a.3) ∙ at_out)
 
   module _ (t : TurnId) (b : Shown) (n : ℕ) (workers after : List C) (sits : List Seated) (jobs : List (List Line)) (outs : List (List (Option Posted))) where
     -- the seat of a lane that has done all its lines
@@ -103,10 +113,12 @@ module _ {C : Type 0} (turn_of : C → TurnId) (seat_of : C → Seated) (view_of
           holds = ap (λ (z : Seated). z.holds) (sym is ∙ all) ∙ ap (λ (z : Seated). z.holds) new;
           start = ap (λ (z : Seated). z.start) (sym is ∙ all) ∙ ap (λ (z : Seated). z.start) new;
           own = λ ls os l o. let le : lines ≡ ls = cc (lines_at, l) in let oe : each.1 ≡ os = cc (each.3, o) in
-              ap (λ (z : Seated). z.own) (sym is ∙ all) ∙ (ap (λ (z : Seated). z.own ++ all_made lane lines each.1) new ∙ (ap (λ (z : List Line). all_made lane z each.1) le ∙ ap (λ (z : List (Option Posted)). all_made lane ls z) oe));
+              ap (λ (z : Seated). z.own) (sym is ∙ all) ∙ (ap (λ (z : Seated). z.own ++ all_made lane lines each.1) new
+              ∙ (ap (λ (z : List Line). all_made lane z each.1) le ∙ ap (λ (z : List (Option Posted)). all_made lane ls z) oe));
         }
 
-    pub are_all : map seat_of workers ≡ sits → AreNew t (Some b) n sits → length sits ≡ length jobs → length jobs ≡ n → 0 < n → AnswersLanes Answers workers jobs after outs → AreAll t (map seat_of after)
+    pub are_all : map seat_of workers ≡ sits → AreNew t (Some b) n sits → length sits ≡ length jobs → length jobs ≡ n → 0 < n → AnswersLanes Answers workers jobs after outs
+        → AreAll t (map seat_of after)
     are_all same fresh many sized some answered =
         let len : length (map seat_of after) ≡ n = length-map after seat_of ∙ (answered.workers_stay ∙ (sym (length-map workers seat_of) ∙ (ap length same ∙ (many ∙ sized)))) in
         (omega (arith, len), λ i s at. let d = dones same fresh many answered i s at in (d.turn, d.number, d.seats ∙ sym len, d.holds))
@@ -124,7 +136,8 @@ module _ {C : Type 0} (turn_of : C → TurnId) (seat_of : C → Seated) (view_of
         λ k line posted at_line at_out. prefix_get (seat_of each.0).seen history posted.place (act_of lane line) whole
         (places lane at.0 lines each.0 each.1 each.4 k line posted at_line (ap (λ (os : List (Option Posted)). slice_get os k) is ∙ at_out))
 
-    pub told : (history : List Act) (log : List Tag) (front : BoardFront) (posts : ℕ) → map seat_of workers ≡ sits → AreNew t (Some b) n sits → length sits ≡ length jobs → 0 < length jobs → AnswersLanes Answers workers jobs after outs
+    pub told : (history : List Act) (log : List Tag) (front : BoardFront) (posts : ℕ) → map seat_of workers ≡ sits → AreNew t (Some b) n sits → length sits ≡ length jobs
+        → 0 < length jobs → AnswersLanes Answers workers jobs after outs
         → ((i : ℕ) (s : Seated) → slice_get (map seat_of after) i ≡ Some s → acts_of (λ act. act.tag.seat) i history ≡ s.own)
         → AllBelow (λ act. act.tag.seat) (length (map seat_of after)) history
         → ((s : Seated) → slice_get (map seat_of after) 0 ≡ Some s → (start : Shown) → s.start ≡ Some start → IsOf start front posts history)
@@ -156,15 +169,19 @@ module _ {C : Type 0} (turn_of : C → TurnId) (seat_of : C → Seated) (view_of
         subst (AreAll t) (sym (ap (λ w. map seat_of (items w)) here.0 ∙ (ap (map seat_of) refused ∙ same))) (all_new t (Some b) n sits fresh (many ∙ sized) some)
 
   -- with answers told, the lanes were answered
-  pub were_answered : {W O E : Type 0} → (workers : List C) (jobs : List (List Line)) (items : W → List C) (outs_of : O → List (List (Option Posted))) (ran : Result (W × O) (W × E)) (back : W) (told : Result O E) (outs : O)
+  pub were_answered : {W O E : Type 0} → (workers : List C) (jobs : List (List Line)) (items : W → List C) (outs_of : O → List (List (Option Posted)))
+      (ran : Result (W × O) (W × E)) (back : W) (told : Result O E) (outs : O)
       → MatchResult ran (λ r. (back ≡ r.0) × (told ≡ Ok r.1)) (λ r. (back ≡ r.0) × (told ≡ Err r.1))
       → IfOk ran (λ r. AnswersLanes Answers workers jobs (items r.0) (outs_of r.1)) → told ≡ Ok outs → AnswersLanes Answers workers jobs (items back) (outs_of outs)
   were_answered workers jobs items outs_of (Ok r) back told outs here answered is =
-      let same : r.1 ≡ outs = cc (here.1, is) in subst (λ o. AnswersLanes Answers workers jobs (items back) (outs_of o)) same (subst (λ w. AnswersLanes Answers workers jobs (items w) (outs_of r.1)) (sym here.0) answered)
+      let same : r.1 ≡ outs =
+      cc (here.1, is) in subst (λ o. AnswersLanes Answers workers jobs (items back) (outs_of o)) same (subst (λ w. AnswersLanes Answers workers jobs (items w) (outs_of r.1)) (sym here.0) answered)
   were_answered workers jobs items outs_of (Err r) back told outs here answered is = absurd (cc (here.1, is))
 
-  pub ready : (t : TurnId) (b shown : Shown) (n m : ℕ) (workers : List C) (sits : List Seated) (views : List Shown) → map seat_of workers ≡ sits → map view_of workers ≡ views → AreNew t (Some b) n sits
-      → views ≡ replicate m shown → shown.front ≡ b.front → All (λ worker. turn_of worker ≡ t) workers → (lane : ℕ) (worker : C) → slice_get workers lane ≡ Some worker → IsAt lane (turn_of worker) (seat_of worker) (view_of worker)
+  pub ready : (t : TurnId) (b shown : Shown) (n m : ℕ) (workers : List C) (sits : List Seated) (views : List Shown) → map seat_of workers ≡ sits → map view_of workers ≡ views
+      → AreNew t (Some b) n sits
+      → views ≡ replicate m shown → shown.front ≡ b.front → All (λ worker. turn_of worker ≡ t) workers → (lane : ℕ) (worker : C) → slice_get workers lane ≡ Some worker
+      → IsAt lane (turn_of worker) (seat_of worker) (view_of worker)
   ready t b shown n m workers sits views same as_views fresh all_views front turns lane worker at =
       let new : seat_of worker ≡ new_seat t (Some b) n lane = fresh lane (seat_of worker) (ap (λ (ss : List Seated). slice_get ss lane) (sym same) ∙ mapped seat_of workers lane worker at) in
       let view : view_of worker ≡ shown = copied m shown lane (view_of worker) (ap (λ (vs : List Shown). slice_get vs lane) (sym all_views ∙ sym as_views) ∙ mapped view_of workers lane worker at) in

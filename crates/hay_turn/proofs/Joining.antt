@@ -75,27 +75,29 @@ module _ {T B E : Type 0} (by : E → ℕ) (stands : B → List E → T → Type
   }
 
   pub learns : (slots id : ℕ) (me : Me (Slot T E) K) → me.0.stage ≡ Idle → Allows R slots id me 0 (λ n. n) (LearnsStart stands (step slots 0 0 0 none) me)
-  learns slots id me rest s r _ at _ = let v : K = me.0 in let f = r.each_view id v at in let w : K = after_learn v r.start in let sum = total_set ticket_count s.views id v w at in let c = r.count in (
-    w,
-    keeps,
-    tt,
-    placed by stands seats s r id v w at _ s.homes r.drawn r.served r.history (same_word by stands seats s r 0 (omega arith) ∙ r.words) r.below
-        (record { from = f.from; shares = λ b e. cc e; sized = f.sized; own = f.own; seen = f.seen; told = f.told; alone = f.alone; in_line = f.in_line; in_turn = f.in_turn; holding = f.holding })
-        (λ j u ne e. r.each_view j u e)
-        (λ j u ne e. let a = r.apart id j v u at e (λ z. ne (sym z)) in record { numbers = a.numbers; tickets = a.tickets })
-        (omega arith)
-        refl
-        (⊎_elim inl (λ out. inr (still_out by stands seats s.homes s.views id v w at (λ e. absurd (cc (ap holds (sym rest ∙ e)))) out)) r.slot)
-        r.stood,
-    λ x e. (r.start, f.from x e, refl),
-  )
+  learns slots id me rest s r _ at _ =
+      let v : K = me.0 in let f = r.each_view id v at in let w : K = after_learn v r.start in let sum = total_set ticket_count s.views id v w at in let c = r.count in (
+        w,
+        keeps,
+        tt,
+        placed by stands seats s r id v w at _ s.homes r.drawn r.served r.history (same_word by stands seats s r 0 (omega arith) ∙ r.words) r.below
+            (record { from = f.from; shares = λ b e. cc e; sized = f.sized; own = f.own; seen = f.seen; told = f.told; alone = f.alone; in_line = f.in_line; in_turn = f.in_turn; holding = f.holding })
+            (λ j u ne e. r.each_view j u e)
+            (λ j u ne e. let a = r.apart id j v u at e (λ z. ne (sym z)) in record { numbers = a.numbers; tickets = a.tickets })
+            (omega arith)
+            refl
+            (⊎_elim inl (λ out. inr (still_out by stands seats s.homes s.views id v w at (λ e. absurd (cc (ap holds (sym rest ∙ e)))) out)) r.slot)
+            r.stood,
+        λ x e. (r.start, f.from x e, refl),
+      )
 
   split_placed : (s : St) (r : R s) (id : ℕ) (v left right : K) → get_elem? s.views id ≡ some v → F r.drawn r.served r.start r.history s.homes left → F r.drawn r.served r.start r.history s.homes right
       → ((j : ℕ) (u : K) → j ≢ id → get_elem? s.views j ≡ some u → Apart left u × Apart right u) → Apart left right
       → ticket_count left + ticket_count right ≡ ticket_count v → length left.owns + length right.owns ≡ length v.owns → v.stage ≢ Holding
       → R record { words = s.words; homes = s.homes; views = set s.views id left ++ right ∷ [] }
   split_placed s r id v left right at fl fr others both q l rests = let views = set s.views id left in let here = set_there s.views id v left at in
-      let with_right : (i : ℕ) (u : K) → get_elem? views i ≡ some u → Apart right u = λ i u e. ⊎_elim (λ t. subst (Apart right) t.1 (apart_sym by stands seats left right both)) (λ t. (others i u t.0 t.1).1) (at_set s.views id i left u e) in
+      let with_right : (i : ℕ) (u : K) → get_elem? views i ≡ some u → Apart right u =
+      λ i u e. ⊎_elim (λ t. subst (Apart right) t.1 (apart_sym by stands seats left right both)) (λ t. (others i u t.0 t.1).1) (at_set s.views id i left u e) in
       let old : (i j : ℕ) (x y : K) → get_elem? views i ≡ some x → get_elem? views j ≡ some y → i ≢ j → Apart x y = λ i j x y e f ne. ⊎_elim
       (λ t. ⊎_elim (λ p. absurd (ne (t.0 ∙ sym p.0))) (λ p. subst (λ (z : K). Apart z y) t.1 (others j y p.0 p.1).0) (at_set s.views id j left y f))
       (λ t. ⊎_elim (λ p. subst (λ (z : K). Apart x z) p.1 (apart_sym by stands seats left x (others i x t.0 t.1).0)) (λ p. r.apart i j x y t.1 p.1 ne) (at_set s.views id j left y f))
@@ -125,8 +127,31 @@ module _ {T B E : Type 0} (by : E → ℕ) (stands : B → List E → T → Type
   splits id v rest more s r at = let f = r.each_view id v at in let z = f.sized (omega arith) in let fits = z.1 in let off : waits v.stage ≡ 0 = ap waits rest in
       let parts = cut v.owns more in
       split_placed s r id v (later_seats v) (first_seat v) at
-      (record { from = f.from; shares = f.shares; sized = λ _. (z.0, omega (arith, parts.0)); own = λ k lt. let e : (v.first + 1) + k ≡ v.first + suc k = omega arith in ap (λ (n : ℕ). acts_of by n r.history) e ∙ (f.own (suc k) (omega (arith, parts.0)) ∙ parts.2 k); seen = f.seen; told = f.told; alone = λ q. absurd (omega (arith, q, off)); in_line = f.in_line; in_turn = f.in_turn; holding = f.holding })
-      (record { from = λ x e. absurd (cc e); shares = f.shares; sized = λ _. (z.0, omega (arith, parts.1)); own = λ k lt. let e : k ≡ 0 = omega (arith, parts.1) in f.own k (omega arith) ∙ parts.3 k e; seen = f.seen; told = f.told; alone = λ q. absurd (cc q); in_line = λ q. absurd (cc q); in_turn = λ q. absurd (cc q); holding = λ q. absurd (cc (ap holds q)) })
+      (record {
+        from = f.from;
+        shares = f.shares;
+        sized = λ _. (z.0, omega (arith, parts.0));
+        own = λ k lt. let e : (v.first + 1) + k ≡ v.first + suc k = omega arith in ap (λ (n : ℕ). acts_of by n r.history) e
+            ∙ (f.own (suc k) (omega (arith, parts.0)) ∙ parts.2 k);
+        seen = f.seen;
+        told = f.told;
+        alone = λ q. absurd (omega (arith, q, off));
+        in_line = f.in_line;
+        in_turn = f.in_turn;
+        holding = f.holding;
+      })
+      (record {
+        from = λ x e. absurd (cc e);
+        shares = f.shares;
+        sized = λ _. (z.0, omega (arith, parts.1));
+        own = λ k lt. let e : k ≡ 0 = omega (arith, parts.1) in f.own k (omega arith) ∙ parts.3 k e;
+        seen = f.seen;
+        told = f.told;
+        alone = λ q. absurd (cc q);
+        in_line = λ q. absurd (cc q);
+        in_turn = λ q. absurd (cc q);
+        holding = λ q. absurd (cc (ap holds q));
+      })
       (λ j u ne e. let a = r.apart id j v u at e (λ z. ne (sym z)) in (
         record { numbers = λ n h k. a.numbers n (omega arith) (omega (arith, parts.0)); tickets = λ q. absurd (omega (arith, q, off)) },
         record { numbers = λ n h k. a.numbers n h (omega (arith, parts.1)); tickets = λ q. absurd (cc q) },
@@ -136,14 +161,26 @@ module _ {T B E : Type 0} (by : E → ℕ) (stands : B → List E → T → Type
       (omega (arith, parts.0, parts.1))
       (λ e. absurd (cc (ap holds (sym rest ∙ e))))
     where
-      cut : (os : List (List E)) → 1 < length os → (length (drop 1 os) + 1 ≡ length os) × (length (take 1 os) ≡ 1) × ((k : ℕ) → get_or os (suc k) [] ≡ get_or (drop 1 os) k []) × ((k : ℕ) → k ≡ 0 → get_or os k [] ≡ get_or (take 1 os) k [])
+      cut : (os : List (List E)) → 1 < length os → (length (drop 1 os) + 1 ≡ length os) × (length (take 1 os) ≡ 1) × ((k : ℕ) → get_or os (suc k) [] ≡ get_or (drop 1 os) k [])
+          × ((k : ℕ) → k ≡ 0 → get_or os k [] ≡ get_or (take 1 os) k [])
       cut [] lt = absurd (omega arith)
       cut (o ∷ os) lt = (omega arith, refl, (λ k. refl), λ k e. subst (λ (n : ℕ). get_or (o ∷ os) n [] ≡ get_or (o ∷ []) n []) (sym e) refl)
 
   pub notes : (id : ℕ) (v : K) → v.stage ≡ Idle → Splits R id v v (note_of v)
   notes id v rest s r at = let f = r.each_view id v at in
       split_placed s r id v v (note_of v) at f
-      (record { from = λ x e. absurd (cc e); shares = λ b e. absurd (cc e); sized = λ q. absurd (omega arith); own = λ k q. absurd (omega arith); seen = f.seen; told = (r.history, refl); alone = λ q. absurd (cc q); in_line = λ q. absurd (cc q); in_turn = λ q. absurd (cc q); holding = λ q. absurd (cc (ap holds q)) })
+      (record {
+        from = λ x e. absurd (cc e);
+        shares = λ b e. absurd (cc e);
+        sized = λ q. absurd (omega arith);
+        own = λ k q. absurd (omega arith);
+        seen = f.seen;
+        told = (r.history, refl);
+        alone = λ q. absurd (cc q);
+        in_line = λ q. absurd (cc q);
+        in_turn = λ q. absurd (cc q);
+        holding = λ q. absurd (cc (ap holds q));
+      })
       (λ j u ne e. (r.apart id j v u at e (λ z. ne (sym z)), apart_empty (note_of v) u refl refl))
       (apart_sym by stands seats (note_of v) v (apart_empty (note_of v) v refl refl))
       (omega arith)
@@ -151,7 +188,18 @@ module _ {T B E : Type 0} (by : E → ℕ) (stands : B → List E → T → Type
       (λ e. absurd (cc (ap holds (sym rest ∙ e))))
 
   fits_nobody : (drawn served : ℕ) (start : B) (h : List E) (homes : List (maybe.Option (Slot T E))) → F drawn served start h homes no_seat
-  fits_nobody drawn served start h homes = record { from = λ x e. absurd (cc e); shares = λ b e. absurd (cc e); sized = λ q. absurd (omega arith); own = λ k q. absurd (omega arith); seen = (h, refl); told = (h, refl); alone = λ q. absurd (cc q); in_line = λ q. absurd (cc q); in_turn = λ q. absurd (cc q); holding = λ q. absurd (cc (ap holds q)) }
+  fits_nobody drawn served start h homes = record {
+    from = λ x e. absurd (cc e);
+    shares = λ b e. absurd (cc e);
+    sized = λ q. absurd (omega arith);
+    own = λ k q. absurd (omega arith);
+    seen = (h, refl);
+    told = (h, refl);
+    alone = λ q. absurd (cc q);
+    in_line = λ q. absurd (cc q);
+    in_turn = λ q. absurd (cc q);
+    holding = λ q. absurd (cc (ap holds q));
+  }
 
   -- one seat becomes both, and the other nobody
   join_placed : (s : St) (r : R s) (id other : ℕ) (v w both : K) → get_elem? s.views id ≡ some v → other ≢ id → get_elem? s.views other ≡ some w → F r.drawn r.served r.start r.history s.homes both
@@ -177,7 +225,8 @@ module _ {T B E : Type 0} (by : E → ℕ) (stands : B → List E → T → Type
             (at_set one other i no_seat u e);
         apart = λ i j x y e f nij. ⊎_elim
             (λ t. subst (λ (z : K). Apart z y) t.1 (apart_empty no_seat y refl refl))
-            (λ t. ⊎_elim (λ p. subst (λ (z : K). Apart x z) p.1 (apart_sym by stands seats no_seat x (apart_empty no_seat x refl refl))) (λ p. left i j x y t.1 p.1 t.0 p.0 nij) (at_set one other j no_seat y f))
+            (λ t. ⊎_elim (λ p. subst (λ (z : K). Apart x z) p.1 (apart_sym by stands seats no_seat x (apart_empty no_seat x refl refl))) (λ p. left i j x y t.1 p.1 t.0 p.0 nij)
+            (at_set one other j no_seat y f))
             (at_set one other i no_seat x e);
         count = let a = total_set ticket_count s.views id v both at in let b = total_set ticket_count one other w no_seat there' in let c = r.count in omega arith;
         seats_are = let a = total_set seat_count s.views id v both at in let b = total_set seat_count one other w no_seat there' in let c = r.seats_are in omega arith;
@@ -211,7 +260,8 @@ module _ {T B E : Type 0} (by : E → ℕ) (stands : B → List E → T → Type
         own = λ k lt. dite (dec_lt k (length v.owns))
             (λ low. f.own k low ∙ sym (get_or_append_left v.owns w.owns [] k low))
             (λ high. let e : v.first + k ≡ w.first + (k - length v.owns) = omega arith in let e' : length v.owns + (k - length v.owns) ≡ k = omega arith in
-            ap (λ (n : ℕ). acts_of by n r.history) e ∙ (g.own (k - length v.owns) (omega (arith, len)) ∙ (sym (get_or-append-add v.owns w.owns (k - length v.owns) []) ∙ ap (λ (n : ℕ). get_or (v.owns ++ w.owns) n []) e')));
+            ap (λ (n : ℕ). acts_of by n r.history) e ∙ (g.own (k - length v.owns) (omega (arith, len))
+            ∙ (sym (get_or-append-add v.owns w.owns (k - length v.owns) []) ∙ ap (λ (n : ℕ). get_or (v.owns ++ w.owns) n []) e')));
         seen = f.seen;
         told = g.seen;
         alone = λ q. absurd (omega (arith, q, off'));
@@ -229,25 +279,37 @@ module _ {T B E : Type 0} (by : E → ℕ) (stands : B → List E → T → Type
       (λ e. absurd (cc (ap holds (sym calm ∙ e))))
 
   pub looks : (slots id : ℕ) (me : Me (Slot T E) K) → me.0.stage ≡ Idle → 0 < length me.0.owns → Allows R slots id me 1 (λ n. n) (SeesHistory by stands (step slots 1 0 0 none) me)
-  looks slots id me rest some_own s r _ at _ = let v : K = me.0 in let f = r.each_view id v at in let w : K = record v { seen = r.history } in let sum = total_set ticket_count s.views id v w at in let c = r.count in (
-    w,
-    keeps,
-    tt,
-    placed by stands seats s r id v w at _ s.homes r.drawn r.served r.history (same_word by stands seats s r 1 (omega arith) ∙ r.words) r.below
-        (record { from = f.from; shares = f.shares; sized = f.sized; own = f.own; seen = ([], append-nil r.history); told = f.told; alone = f.alone; in_line = f.in_line; in_turn = f.in_turn; holding = λ e. absurd (cc (ap holds (sym rest ∙ e))) })
-        (λ j u ne e. r.each_view j u e)
-        (λ j u ne e. let a = r.apart id j v u at e (λ z. ne (sym z)) in record { numbers = a.numbers; tickets = a.tickets })
-        (omega arith)
-        refl
-        (⊎_elim inl (λ out. inr (still_out by stands seats s.homes s.views id v w at (λ e. absurd (cc (ap holds (sym rest ∙ e)))) out)) r.slot)
-        r.stood,
-    (
-      r.history,
-      refl,
-      f.seen,
-      f.told,
-      own_first by stands seats s r id v at,
-      subst (λ (n : ℕ). AllBelow by n r.history) (sym (f.sized some_own).0) r.below,
-      λ b e. let x = r.stood in (x.0, subst (λ (z : B). stands z r.history x.0) (sym (f.shares b e)) x.1),
-    ),
-  )
+  looks slots id me rest some_own s r _ at _ =
+      let v : K = me.0 in let f = r.each_view id v at in let w : K = record v { seen = r.history } in let sum = total_set ticket_count s.views id v w at in let c = r.count in (
+        w,
+        keeps,
+        tt,
+        placed by stands seats s r id v w at _ s.homes r.drawn r.served r.history (same_word by stands seats s r 1 (omega arith) ∙ r.words) r.below
+            (record {
+              from = f.from;
+              shares = f.shares;
+              sized = f.sized;
+              own = f.own;
+              seen = ([], append-nil r.history);
+              told = f.told;
+              alone = f.alone;
+              in_line = f.in_line;
+              in_turn = f.in_turn;
+              holding = λ e. absurd (cc (ap holds (sym rest ∙ e)));
+            })
+            (λ j u ne e. r.each_view j u e)
+            (λ j u ne e. let a = r.apart id j v u at e (λ z. ne (sym z)) in record { numbers = a.numbers; tickets = a.tickets })
+            (omega arith)
+            refl
+            (⊎_elim inl (λ out. inr (still_out by stands seats s.homes s.views id v w at (λ e. absurd (cc (ap holds (sym rest ∙ e)))) out)) r.slot)
+            r.stood,
+        (
+          r.history,
+          refl,
+          f.seen,
+          f.told,
+          own_first by stands seats s r id v at,
+          subst (λ (n : ℕ). AllBelow by n r.history) (sym (f.sized some_own).0) r.below,
+          λ b e. let x = r.stood in (x.0, subst (λ (z : B). stands z r.history x.0) (sym (f.shares b e)) x.1),
+        ),
+      )

@@ -1,5 +1,6 @@
 -- Numbers without leading zeros, and the mark behind them.
-use Rattle.std.proofs.Common.{◌≡◌, ◌≢◌, ℕ, ◌+◌, ◌-◌, ◌*◌, ◌/◌, ◌%◌, ◌^◌, ◌<◌, ◌≤◌, zero, suc, List, [], ◌∷◌, ◌++◌, length, take, drop, get_or, refl, sym, ◌∙◌, ap, subst, arith, append_assoc, length-append, decimal, inl, inr, Bool, true, nat_lt, drop-cons}
+use Rattle.std.proofs.Common.{◌≡◌, ◌≢◌, ℕ, ◌+◌, ◌-◌, ◌*◌, ◌/◌, ◌%◌, ◌^◌, ◌<◌, ◌≤◌, zero, suc, List, [], ◌∷◌, ◌++◌, length, take, drop, get_or, refl, sym, ◌∙◌, ap, subst, arith}
+use Rattle.std.proofs.Common.{append_assoc, length-append, decimal, inl, inr, Bool, true, nat_lt, drop-cons}
 use Rattle.std.specs.Char.{digit_value}
 use Rattle.std.specs.Str.Parse.{AllDigits, digits_value}
 use Rattle.std.proofs.lemmas.Bool.{cases_lt}
@@ -62,7 +63,8 @@ beyond_first mark b [] s x some e = absurd (omega arith)
 beyond_first mark b (d ∷ q) s x some e = (q, cc)
 
 -- a byte that is no digit's mark, or has no digits before it
-beyond_digits : (mark b : ℕ) → mark < 48 → (p q s x : List ℕ) → (0 < length p → b ≢ mark) → 0 < length q → AllDigits 10 p → AllDigits 10 q → p ++ b ∷ s ≡ q ++ mark ∷ x → (r : List ℕ) × (q ≡ p ++ b ∷ r)
+beyond_digits : (mark b : ℕ) → mark < 48 → (p q s x : List ℕ) → (0 < length p → b ≢ mark) → 0 < length q → AllDigits 10 p → AllDigits 10 q → p ++ b ∷ s ≡ q ++ mark ∷ x
+    → (r : List ℕ) × (q ≡ p ++ b ∷ r)
 beyond_digits mark b low [] q s x other some h k e = beyond_first mark b q s x some e
 beyond_digits mark b low (c ∷ p) q s x other some h k e = beyond mark b low (other (omega arith)) (c ∷ p) q s x h k e
 
@@ -138,7 +140,8 @@ goes_on p s v b n started begun reading small e =
       fits = omega (arith, (digits_so_far p v reading).1, value_of n small);
     }
 
-none_stuck : (mark : ℕ) → mark < 48 → (p s : List ℕ) (v b : ℕ) (started : Bool) → (started ≡ true → 0 < length p) → Reading p v → (0 < length p → b ≢ mark) → (GoesOn started v b → ⊥) → (part rest : List ℕ) → Number mark part → part ++ rest ≡ p ++ b ∷ s → ⊥
+none_stuck : (mark : ℕ) → mark < 48 → (p s : List ℕ) (v b : ℕ) (started : Bool) → (started ≡ true → 0 < length p) → Reading p v → (0 < length p → b ≢ mark)
+    → (GoesOn started v b → ⊥) → (part rest : List ℕ) → Number mark part → part ++ rest ≡ p ++ b ∷ s → ⊥
 none_stuck mark low p s v b started begun reading other stop part rest h e =
     let whole : part ++ rest ≡ decimal h.0 ++ mark ∷ rest = rw h.2 (behind_mark (decimal h.0) rest mark) in
     let further = beyond_digits mark b low p (decimal h.0) s rest other (decimal_nonempty h.0 (omega arith)) (digits_so_far p v reading).0 (digits_of h.0 h.1) (sym e ∙ whole) in
@@ -147,7 +150,8 @@ none_stuck mark low p s v b started begun reading other stop part rest h e =
 cut_behind : (p s more : List ℕ) (b j : ℕ) → take (length p + suc j) (p ++ b ∷ s) ++ more ≡ p ++ b ∷ (take j s ++ more)
 cut_behind p s more b j = rw take-append-add (append_assoc p (b ∷ take j s) more)
 
-longest_stuck : (mark : ℕ) → mark < 48 → (p s : List ℕ) (v b : ℕ) (started : Bool) → (started ≡ true → 0 < length p) → Reading p v → (0 < length p → b ≢ mark) → (GoesOn started v b → ⊥) → (k : ℕ) (part rest more : List ℕ) → Number mark part → part ++ rest ≡ take k (p ++ b ∷ s) ++ more → k ≤ length p
+longest_stuck : (mark : ℕ) → mark < 48 → (p s : List ℕ) (v b : ℕ) (started : Bool) → (started ≡ true → 0 < length p) → Reading p v → (0 < length p → b ≢ mark)
+    → (GoesOn started v b → ⊥) → (k : ℕ) (part rest more : List ℕ) → Number mark part → part ++ rest ≡ take k (p ++ b ∷ s) ++ more → k ≤ length p
 longest_stuck mark low p s v b started begun reading other stop k part rest more h e =
     elim (cases_lt (length p) k) [
       | inr short ↦ short
@@ -162,7 +166,8 @@ number_begins mark p v (none_yet e z) = rw e (decimal 0 ++ mark ∷ [], (0, omeg
 number_begins mark p v (so_far l e small) = (mark ∷ [], (v, small, ap (λ t. t ++ mark ∷ []) e))
 
 -- where a number with its mark does not go on
-pub stuck : (mark : ℕ) → mark < 48 → (p s : List ℕ) (v b : ℕ) (started : Bool) → (started ≡ true → 0 < length p) → Reading p v → (0 < length p → b ≢ mark) → (GoesOn started v b → ⊥) → PartFault (Number mark) (p ++ b ∷ s) (length p)
+pub stuck : (mark : ℕ) → mark < 48 → (p s : List ℕ) (v b : ℕ) (started : Bool) → (started ≡ true → 0 < length p) → Reading p v → (0 < length p → b ≢ mark)
+    → (GoesOn started v b → ⊥) → PartFault (Number mark) (p ++ b ∷ s) (length p)
 stuck mark low p s v b started begun reading other stop = record {
   none = λ part rest h e. none_stuck mark low p s v b started begun reading other stop part rest h e;
   within = omega (arith, length-append p (b ∷ s));
@@ -190,7 +195,8 @@ number_read mark p v l (none_yet e z) = absurd (omega (arith, ap length e))
 number_read mark p v l (so_far k e small) = (e, small)
 
 -- what stands behind a number with its mark
-pub behind_number : (mark : ℕ) → mark < 48 → (L : List ℕ → Type 0) (text : List ℕ) (n used at : ℕ) → n < 2 ^ 32 → used ≤ length text → take used text ≡ decimal n ++ mark ∷ [] → Fault L (drop used text) at → Fault (After (Number mark) L) text (used + at)
+pub behind_number : (mark : ℕ) → mark < 48 → (L : List ℕ → Type 0) (text : List ℕ) (n used at : ℕ) → n < 2 ^ 32 → used ≤ length text → take used text ≡ decimal n ++ mark ∷ []
+    → Fault L (drop used text) at → Fault (After (Number mark) L) text (used + at)
 behind_number mark low L text n used at small within front fault =
     let size : length (take used text) ≡ used = length-take-le used text within in
     let whole : take used text ++ drop used text ≡ text = take-append-drop used text in
@@ -211,13 +217,15 @@ begun_to : (at : ℕ) (p : List ℕ) → length p ≡ at → 0 < length p → na
 begun_to at p size h = grind (arith, nat_tests)
 
 -- the same of a text and a place in it
-pub stuck_at : (mark : ℕ) → mark < 48 → (text : List ℕ) (at n : ℕ) → at < length text → Reading (take at text) n → (0 < at → get_or text at 0 ≢ mark) → (GoesOn (nat_lt 0 at) n (get_or text at 0) → ⊥) → PartFault (Number mark) text at
+pub stuck_at : (mark : ℕ) → mark < 48 → (text : List ℕ) (at n : ℕ) → at < length text → Reading (take at text) n → (0 < at → get_or text at 0 ≢ mark)
+    → (GoesOn (nat_lt 0 at) n (get_or text at 0) → ⊥) → PartFault (Number mark) text at
 stuck_at mark low text at n within reading other stop =
     let size : length (take at text) ≡ at = length-take-le at text (omega arith) in
     let fault = stuck mark low (take at text) (drop (suc at) text) n (get_or text at 0) (nat_lt 0 at) (begun_from at (take at text) size) reading (λ some. other (omega arith)) stop in
     rw (parts_at text at within, size) at fault
 
-pub go_on_at : (text : List ℕ) (at n : ℕ) → at < length text → Reading (take at text) n → GoesOn (nat_lt 0 at) n (get_or text at 0) → Reading (take (at + 1) text) (n * 10 + digit_value (get_or text at 0))
+pub go_on_at : (text : List ℕ) (at n : ℕ) → at < length text → Reading (take at text) n → GoesOn (nat_lt 0 at) n (get_or text at 0)
+    → Reading (take (at + 1) text) (n * 10 + digit_value (get_or text at 0))
 go_on_at text at n within reading goes =
     let size : length (take at text) ≡ at = length-take-le at text (omega arith) in
     rw (take_more text at 0 within) (go_on (take at text) n (get_or text at 0) (nat_lt 0 at) (begun_to at (take at text) size) reading goes)

@@ -1,5 +1,6 @@
 -- Lower-case hexadecimal digits.
-use Rattle.std.proofs.Common.{◌≡◌, ℕ, ◌+◌, ◌*◌, ◌/◌, ◌%◌, ◌^◌, ◌<◌, ◌≤◌, ◌==◌, ◌&&◌, ◌||◌, not, zero, suc, Bool, true, false, List, [], ◌∷◌, length, take, get_or, slice_index, refl, sym, ◌∙◌, ap, arith, inl, inr}
+use Rattle.std.proofs.Common.{◌≡◌, ℕ, ◌+◌, ◌*◌, ◌/◌, ◌%◌, ◌^◌, ◌<◌, ◌≤◌, ◌==◌, ◌&&◌, ◌||◌, not, zero, suc, Bool, true, false, List, [], ◌∷◌, length, take, get_or, slice_index}
+use Rattle.std.proofs.Common.{refl, sym, ◌∙◌, ap, arith, inl, inr}
 use Rattle.std.specs.Char.{digit_value}
 use Rattle.std.specs.Int.{w32, w64, to_be_bytes, from_be_bytes, bytes_high_first, byte_at}
 use Rattle.std.specs.List.{list_all}
@@ -53,13 +54,16 @@ or_second false b h e = cc
 
 -- a digit is the one of its value
 glyph : (c : ℕ) → is_lower_hex c ≡ true → slice_index lower_digits (digit_value c) ≡ c
-glyph c h = eqb-true (slice_index lower_digits (digit_value c)) c (or_second (is_lower_hex c) (slice_index lower_digits (digit_value c) == c) h (at_below writes_back 103 c all_write_back (low_code c h)))
+glyph c h =
+    eqb-true (slice_index lower_digits (digit_value c)) c (or_second (is_lower_hex c) (slice_index lower_digits (digit_value c) == c) h (at_below writes_back 103 c all_write_back (low_code c h)))
 
 lower_glyph : (d : ℕ) → d < 16 → is_lower_hex (slice_index lower_digits d) ≡ true
 lower_glyph d lt = (and_parts (is_lower_hex (slice_index lower_digits d)) (digit_value (slice_index lower_digits d) == d) (at_below reads_back 16 d all_read_back lt)).0
 
 value_glyph : (d : ℕ) → d < 16 → digit_value (slice_index lower_digits d) ≡ d
-value_glyph d lt = eqb-true (digit_value (slice_index lower_digits d)) d (and_parts (is_lower_hex (slice_index lower_digits d)) (digit_value (slice_index lower_digits d) == d) (at_below reads_back 16 d all_read_back lt)).1
+value_glyph d lt =
+    eqb-true (digit_value (slice_index lower_digits d)) d (and_parts (is_lower_hex (slice_index lower_digits d)) (digit_value (slice_index lower_digits d) == d)
+    (at_below reads_back 16 d all_read_back lt)).1
 
 pub lower_value : (c : ℕ) → is_lower_hex c ≡ true → digit_value c < 16
 lower_value c h = grind (arith, nat_tests)
@@ -80,7 +84,8 @@ bytes_more : (b : ℕ) (bytes : List ℕ) → b < 256 → IsBytes bytes → IsBy
 bytes_more b bytes here rest zero = here
 bytes_more b bytes here rest (suc i) = rest i
 
-pair_text : (h l b : ℕ) (bytes digits : List ℕ) → slice_index lower_digits (b / 16) ≡ h → slice_index lower_digits (b % 16) ≡ l → encode_lower bytes ≡ digits → encode_lower (b ∷ bytes) ≡ h ∷ l ∷ digits
+pair_text : (h l b : ℕ) (bytes digits : List ℕ) → slice_index lower_digits (b / 16) ≡ h → slice_index lower_digits (b % 16) ≡ l → encode_lower bytes ≡ digits
+    → encode_lower (b ∷ bytes) ≡ h ∷ l ∷ digits
 unfolding encode_with
 pair_text h l b bytes digits e f g = ap (λ x. x ∷ slice_index lower_digits (b % 16) ∷ encode_lower bytes) e ∙ ap (λ y. h ∷ y ∷ encode_lower bytes) f ∙ ap (λ t. h ∷ l ∷ t) g
 
@@ -160,7 +165,8 @@ hex_below most digits short all =
     let power : 16 ^ length digits ≤ 16 ^ most = pow-le-pow_right (omega arith) short in
     omega arith
 
-pub hex_more_below : (digits : List ℕ) (i : ℕ) → length digits ≤ 16 → i < length digits → list_all is_lower_hex digits ≡ true → digits_value 16 (take i digits) * 16 + digit_value (get_or digits i 0) < 2 ^ 64
+pub hex_more_below : (digits : List ℕ) (i : ℕ) → length digits ≤ 16 → i < length digits → list_all is_lower_hex digits ≡ true
+    → digits_value 16 (take i digits) * 16 + digit_value (get_or digits i 0) < 2 ^ 64
 hex_more_below digits i short lt all =
     omega (arith, hex_below 16 digits short all, digits_value-take-le 16 digits (i + 1) (omega arith), digits_value_more 16 digits i lt)
 

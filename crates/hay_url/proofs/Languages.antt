@@ -25,7 +25,8 @@ longest_behind A L code part rest at j is_part fault within begins =
     let same = code after.part part after.rest (take j rest ++ begins.0) after.is_part is_part (after.all ∙ cut) in
     fault.longest j within (begins.0, subst L same.1 after.is_rest)
 
-longest_by : (A L : List ℕ → Type 0) → IsCode A → (part rest : List ℕ) (at k : ℕ) → A part → Fault L rest at → k ≤ length (part ++ rest) → Begins (After A L) (take k (part ++ rest)) → k ≤ length part + at
+longest_by : (A L : List ℕ → Type 0) → IsCode A → (part rest : List ℕ) (at k : ℕ) → A part → Fault L rest at → k ≤ length (part ++ rest)
+    → Begins (After A L) (take k (part ++ rest)) → k ≤ length part + at
 longest_by A L code part rest at k is_part fault within begins =
     elim (cases_lt (length part) k) [
       | inr short ↦ omega arith

@@ -1,5 +1,6 @@
 -- Texts as a template.
-use Rattle.std.proofs.Common.{◌≡◌, ℕ, ◌+◌, ◌==◌, ◌&&◌, ◌<◌, ◌≤◌, zero, suc, Bool, true, false, List, [], ◌∷◌, ◌++◌, length, take, drop, Option, Some, None, refl, sym, ◌∙◌, ap, arith, if◌then◌else◌, unwrap_or, not, get_or, drop-cons}
+use Rattle.std.proofs.Common.{◌≡◌, ℕ, ◌+◌, ◌==◌, ◌&&◌, ◌<◌, ◌≤◌, zero, suc, Bool, true, false, List, [], ◌∷◌, ◌++◌, length, take, drop, Option, Some, None, refl, sym, ◌∙◌, ap}
+use Rattle.std.proofs.Common.{arith, if◌then◌else◌, unwrap_or, not, get_or, drop-cons}
 use Rattle.std.specs.List.{list_all}
 use Rattle.std.proofs.lemmas.List.{drop_all}
 use Rattle.std.specs.Prelude.{option_map}
@@ -80,7 +81,8 @@ none_more want b template text at fault (a ∷ part) rest h e =
     let same : part ++ rest ≡ text = cc in
     fault.none part rest (and_true (fits_byte want a) (fits template part) h).1 same
 
-longest_more : (want b : ℕ) (template text : List ℕ) (at : ℕ) → PartFault (Fits template) text at → (k : ℕ) (part rest more : List ℕ) → k ≤ length (b ∷ text) → Fits (want ∷ template) part → part ++ rest ≡ take k (b ∷ text) ++ more → k ≤ suc at
+longest_more : (want b : ℕ) (template text : List ℕ) (at : ℕ) → PartFault (Fits template) text at → (k : ℕ) (part rest more : List ℕ) → k ≤ length (b ∷ text)
+    → Fits (want ∷ template) part → part ++ rest ≡ take k (b ∷ text) ++ more → k ≤ suc at
 longest_more want b template text at fault zero part rest more within h e = omega arith
 longest_more want b template text at fault (suc k) [] rest more within h e = cc
 longest_more want b template text at fault (suc k) (a ∷ part) rest more within h e =
@@ -96,7 +98,8 @@ one_more want b template text at right fault = record {
   longest = λ k within part rest more h e. longest_more want b template text at fault k part rest more within h e;
 }
 
-misfit_more : (want b : ℕ) (template text : List ℕ) (at : ℕ) (test : Bool) (found : Option ℕ) → fits_byte want b ≡ test → ((j : ℕ) → found ≡ Some j → PartFault (Fits template) text j) → (if test then option_map (λ j. j + 1) found else Some 0) ≡ Some at → PartFault (Fits (want ∷ template)) (b ∷ text) at
+misfit_more : (want b : ℕ) (template text : List ℕ) (at : ℕ) (test : Bool) (found : Option ℕ) → fits_byte want b ≡ test
+    → ((j : ℕ) → found ≡ Some j → PartFault (Fits template) text j) → (if test then option_map (λ j. j + 1) found else Some 0) ≡ Some at → PartFault (Fits (want ∷ template)) (b ∷ text) at
 misfit_more want b template text at true (Some j) right further e =
     let same : at ≡ suc j = omega (arith, ap (λ o. unwrap_or o 0) e) in
     rw same (one_more want b template text j right (further j refl))
@@ -114,7 +117,9 @@ misfit_fault (want ∷ template) [] at e =
 misfit_fault (want ∷ template) (b ∷ text) at e =
     misfit_more want b template text at (fits_byte want b) (misfit template text) refl (λ j h. misfit_fault template text j h) e
 
-fit_more : (want b : ℕ) (template text : List ℕ) (test : Bool) (found : Option ℕ) → fits_byte want b ≡ test → (found ≡ None → (length template ≤ length text) × Fits template (take (length template) text)) → (if test then option_map (λ j. j + 1) found else Some 0) ≡ None → (suc (length template) ≤ suc (length text)) × Fits (want ∷ template) (b ∷ take (length template) text)
+fit_more : (want b : ℕ) (template text : List ℕ) (test : Bool) (found : Option ℕ) → fits_byte want b ≡ test
+    → (found ≡ None → (length template ≤ length text) × Fits template (take (length template) text)) → (if test then option_map (λ j. j + 1) found else Some 0) ≡ None
+    → (suc (length template) ≤ suc (length text)) × Fits (want ∷ template) (b ∷ take (length template) text)
 fit_more want b template text true (Some j) right further e = cc
 fit_more want b template text true None right further e =
     let rest = further refl in
@@ -146,5 +151,6 @@ plain (want ∷ template) (b ∷ text) h k =
 pub misfit_at_end : (template text : List ℕ) (at : ℕ) → at < length template → length text ≤ at → misfit (drop at template) (drop at text) ≡ Some 0
 misfit_at_end template text at more past = rw (drop_all at text past, drop-cons template at 0 more)
 
-pub misfit_at_wrong : (template text : List ℕ) (at : ℕ) → at < length template → at < length text → fits_byte (get_or template at 0) (get_or text at 0) ≡ false → misfit (drop at template) (drop at text) ≡ Some 0
+pub misfit_at_wrong : (template text : List ℕ) (at : ℕ) → at < length template → at < length text → fits_byte (get_or template at 0) (get_or text at 0) ≡ false
+    → misfit (drop at template) (drop at text) ≡ Some 0
 misfit_at_wrong template text at more within wrong = rw (drop-cons template at 0 more, drop-cons text at 0 within, wrong)

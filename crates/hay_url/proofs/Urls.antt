@@ -1,5 +1,6 @@
 -- The texts of URLs, as texts made of parts.
-use Rattle.std.proofs.Common.{◌≡◌, ℕ, ◌+◌, ◌-◌, ◌^◌, ◌==◌, ◌&&◌, nat_lt, ◌<◌, ◌≤◌, zero, suc, Bool, true, false, List, [], ◌∷◌, ◌++◌, length, take, drop, replicate, Option, Some, None, refl, sym, ◌∙◌, ap, subst, arith, if◌then◌else◌, codes, decimal, append_assoc, append-nil}
+use Rattle.std.proofs.Common.{◌≡◌, ℕ, ◌+◌, ◌-◌, ◌^◌, ◌==◌, ◌&&◌, nat_lt, ◌<◌, ◌≤◌, zero, suc, Bool, true, false, List, [], ◌∷◌, ◌++◌, length, take, drop, replicate, Option, Some}
+use Rattle.std.proofs.Common.{None, refl, sym, ◌∙◌, ap, subst, arith, if◌then◌else◌, codes, decimal, append_assoc, append-nil}
 use Rattle.std.specs.List.{list_all, slice_split}
 use Rattle.std.specs.Str.{bytes_eq}
 use Rattle.std.specs.Str.Parse.{AllDigits, digits_value}
@@ -24,7 +25,8 @@ use Rattle.hay_url.proofs.Decimals.{digits_of, value_of}
 
 -- DIGITS AND TEMPLATES
 
-fits_digits : (n : ℕ) (text template : List ℕ) → Fits (replicate n 35 ++ template) text → (digits : List ℕ) × (more : List ℕ) × (text ≡ digits ++ more) × (length digits ≡ n) × (list_all is_lower_hex digits ≡ true) × Fits template more
+fits_digits : (n : ℕ) (text template : List ℕ) → Fits (replicate n 35 ++ template) text
+    → (digits : List ℕ) × (more : List ℕ) × (text ≡ digits ++ more) × (length digits ≡ n) × (list_all is_lower_hex digits ≡ true) × Fits template more
 fits_digits zero text template h = ([], text, refl, refl, refl, h)
 fits_digits (suc n) [] template h = cc
 fits_digits (suc n) (b ∷ text) template h =
@@ -74,9 +76,13 @@ digits_fit (b ∷ digits) more template all h =
 
 pub numbers_fit : (text key alt cookie : List ℕ) → Numbered text key alt cookie → Fits numbers_template text
 numbers_fit text key alt cookie n =
-    let last : Fits (replicate 16 35 ++ []) cookie = subst (λ t. Fits (replicate 16 35 ++ []) t) (append-nil cookie) (subst (λ m. Fits (replicate m 35 ++ []) (cookie ++ [])) n.cookie_length (digits_fit cookie [] [] n.cookie_digits refl)) in
-    let middle : Fits (replicate 8 35 ++ 95 ∷ (replicate 16 35 ++ [])) (alt ++ 95 ∷ cookie) = subst (λ m. Fits (replicate m 35 ++ 95 ∷ (replicate 16 35 ++ [])) (alt ++ 95 ∷ cookie)) n.alt_length (digits_fit alt (95 ∷ cookie) (95 ∷ (replicate 16 35 ++ [])) n.alt_digits last) in
-    let first : Fits (replicate 16 35 ++ 95 ∷ (replicate 8 35 ++ 95 ∷ (replicate 16 35 ++ []))) (key ++ 95 ∷ (alt ++ 95 ∷ cookie)) = subst (λ m. Fits (replicate m 35 ++ 95 ∷ (replicate 8 35 ++ 95 ∷ (replicate 16 35 ++ []))) (key ++ 95 ∷ (alt ++ 95 ∷ cookie))) n.key_length (digits_fit key (95 ∷ (alt ++ 95 ∷ cookie)) (95 ∷ (replicate 8 35 ++ 95 ∷ (replicate 16 35 ++ []))) n.key_digits middle) in
+    let last : Fits (replicate 16 35 ++ []) cookie =
+    subst (λ t. Fits (replicate 16 35 ++ []) t) (append-nil cookie) (subst (λ m. Fits (replicate m 35 ++ []) (cookie ++ [])) n.cookie_length (digits_fit cookie [] [] n.cookie_digits refl)) in
+    let middle : Fits (replicate 8 35 ++ 95 ∷ (replicate 16 35 ++ [])) (alt ++ 95 ∷ cookie) =
+    subst (λ m. Fits (replicate m 35 ++ 95 ∷ (replicate 16 35 ++ [])) (alt ++ 95 ∷ cookie)) n.alt_length (digits_fit alt (95 ∷ cookie) (95 ∷ (replicate 16 35 ++ [])) n.alt_digits last) in
+    let first : Fits (replicate 16 35 ++ 95 ∷ (replicate 8 35 ++ 95 ∷ (replicate 16 35 ++ []))) (key ++ 95 ∷ (alt ++ 95 ∷ cookie)) =
+    subst (λ m. Fits (replicate m 35 ++ 95 ∷ (replicate 8 35 ++ 95 ∷ (replicate 16 35 ++ []))) (key ++ 95 ∷ (alt ++ 95 ∷ cookie))) n.key_length
+    (digits_fit key (95 ∷ (alt ++ 95 ∷ cookie)) (95 ∷ (replicate 8 35 ++ 95 ∷ (replicate 16 35 ++ []))) n.key_digits middle) in
     rw n.all first
 
 key_slice : (text key alt cookie : List ℕ) → Numbered text key alt cookie → take 16 text ≡ key
@@ -115,7 +121,8 @@ numbers_split text fit short =
 -- FROM THE KEY ON
 
 -- what its digits say has this text
-pub key_text_is : (text key alt cookie : List ℕ) → Numbered text key alt cookie → text ≡ key_text (record { key = digits_value 16 key; alt = digits_value 16 alt }) (record { 0 = digits_value 16 cookie })
+pub key_text_is : (text key alt cookie : List ℕ) → Numbered text key alt cookie → text
+    ≡ key_text (record { key = digits_value 16 key; alt = digits_value 16 alt }) (record { 0 = digits_value 16 cookie })
 key_text_is text key alt cookie n =
     n.all
     ∙ ap (λ t. t ++ 95 ∷ (alt ++ 95 ∷ cookie)) (sym (long_text key n.key_length n.key_digits))
@@ -170,7 +177,9 @@ whole_of url small less = record {
   all = refl;
 }
 
-pub joined : (machine volume key alt cookie : List ℕ) → codes "http://store/" ++ (machine ++ (codes "/" ++ (volume ++ (codes "," ++ (key ++ (codes "_" ++ (alt ++ (codes "_" ++ cookie)))))))) ≡ codes "http://store/" ++ machine ++ codes "/" ++ volume ++ codes "," ++ key ++ codes "_" ++ alt ++ codes "_" ++ cookie
+pub joined : (machine volume key alt cookie : List ℕ) → codes "http://store/" ++ (machine
+    ++ (codes "/" ++ (volume ++ (codes "," ++ (key ++ (codes "_" ++ (alt ++ (codes "_" ++ cookie))))))))
+    ≡ codes "http://store/" ++ machine ++ codes "/" ++ volume ++ codes "," ++ key ++ codes "_" ++ alt ++ codes "_" ++ cookie
 joined machine volume key alt cookie = simp append_assoc
 
 pub url_text_is : (url : Url) → codes "http://store/" ++ machine_text url ≡ url_text url
@@ -197,7 +206,8 @@ whole_in text w =
     let k = key_of v.rest v.is_rest in
     let url : Url = record { machine = m.is_part.0; volume = v.is_part.0; pair = k.0; cookie = k.1 } in
     let from : v.rest ≡ key_text k.0 k.1 = k.5 in
-    let back : m.rest ≡ volume_text v.is_part.0 k.0 k.1 = sym v.all ∙ ap (λ t. t ++ v.rest) v.is_part.2 ∙ append_assoc (decimal v.is_part.0) (44 ∷ []) v.rest ∙ ap (λ t. decimal v.is_part.0 ++ 44 ∷ t) from in
+    let back : m.rest ≡ volume_text v.is_part.0 k.0 k.1 =
+    sym v.all ∙ ap (λ t. t ++ v.rest) v.is_part.2 ∙ append_assoc (decimal v.is_part.0) (44 ∷ []) v.rest ∙ ap (λ t. decimal v.is_part.0 ++ 44 ∷ t) from in
     let middle : w.rest ≡ machine_text url = sym m.all ∙ ap (λ t. t ++ m.rest) m.is_part.2 ∙ append_assoc (decimal m.is_part.0) (47 ∷ []) m.rest ∙ ap (λ t. decimal m.is_part.0 ++ 47 ∷ t) back in
     let front : w.part ≡ codes "http://store/" = plain (codes "http://store/") w.part refl w.is_part in
     let all : text ≡ codes "http://store/" ++ machine_text url = sym w.all ∙ ap (λ t. t ++ w.rest) front ∙ ap (λ t. codes "http://store/" ++ t) middle in
@@ -223,7 +233,10 @@ pub some_volume : (text : List ℕ) × FromVolume text
 some_volume = (volume_text 0 (record { key = 0; alt = 0 }) (record { 0 = 0 }), from_volume 0 (record { key = 0; alt = 0 }) (record { 0 = 0 }) (omega arith))
 
 pub some_machine : (text : List ℕ) × FromMachine text
-some_machine = (machine_text (record { machine = 0; volume = 0; pair = record { key = 0; alt = 0 }; cookie = record { 0 = 0 } }), from_machine (record { machine = 0; volume = 0; pair = record { key = 0; alt = 0 }; cookie = record { 0 = 0 } }) (omega arith) (omega arith))
+some_machine = (
+  machine_text (record { machine = 0; volume = 0; pair = record { key = 0; alt = 0 }; cookie = record { 0 = 0 } }),
+  from_machine (record { machine = 0; volume = 0; pair = record { key = 0; alt = 0 }; cookie = record { 0 = 0 } }) (omega arith) (omega arith),
+)
 
 -- what stands behind the store's name
 pub store_then : (text : List ℕ) (at : ℕ) → misfit (codes "http://store/") text ≡ None → Fault FromMachine (drop 13 text) at → Fault Whole text (13 + at)
@@ -265,7 +278,8 @@ parts_of url fits =
     )
     )
 
-read_parts : (m v k a c : List ℕ) (url : Url) → digits_value 10 m ≡ url.machine → digits_value 10 v ≡ url.volume → digits_value 16 k ≡ url.pair.key → digits_value 16 a ≡ url.pair.alt → digits_value 16 c ≡ url.cookie.0 → url.machine < 2 ^ 32 → url.volume < 2 ^ 32 → url_of_parts (m ∷ v ∷ k ∷ a ∷ c ∷ []) ≡ Some url
+read_parts : (m v k a c : List ℕ) (url : Url) → digits_value 10 m ≡ url.machine → digits_value 10 v ≡ url.volume → digits_value 16 k ≡ url.pair.key
+    → digits_value 16 a ≡ url.pair.alt → digits_value 16 c ≡ url.cookie.0 → url.machine < 2 ^ 32 → url.volume < 2 ^ 32 → url_of_parts (m ∷ v ∷ k ∷ a ∷ c ∷ []) ≡ Some url
 read_parts m v k a c url em ev ek ea ec small less =
     let tests : (nat_lt url.machine (2 ^ 32) && nat_lt url.volume (2 ^ 32)) ≡ true = grind (arith, nat_tests) in
     rw (em, ev, ek, ea, ec, tests)
@@ -273,7 +287,8 @@ read_parts m v k a c url em ev ek ea ec small less =
 checked_same : (text : List ℕ) (url : Url) → bytes_eq (url_text url) text ≡ true → checked_url text (Some url) ≡ Some url
 checked_same text url same = rw same
 
-small_by : (m v : ℕ) (url : Url) (test : Bool) → (nat_lt m (2 ^ 32) && nat_lt v (2 ^ 32)) ≡ test → (pair : Pair) (cookie : Cookie) → (if test then Some (record { machine = m; volume = v; pair = pair; cookie = cookie }) else None) ≡ Some url → (url.machine < 2 ^ 32) × (url.volume < 2 ^ 32)
+small_by : (m v : ℕ) (url : Url) (test : Bool) → (nat_lt m (2 ^ 32) && nat_lt v (2 ^ 32)) ≡ test → (pair : Pair) (cookie : Cookie)
+    → (if test then Some (record { machine = m; volume = v; pair = pair; cookie = cookie }) else None) ≡ Some url → (url.machine < 2 ^ 32) × (url.volume < 2 ^ 32)
 small_by m v url true test pair cookie e =
     let machine : m ≡ url.machine = cc in
     let volume : v ≡ url.volume = cc in
@@ -283,10 +298,12 @@ small_by m v url false test pair cookie e = cc
 
 small_parts : (parts : List (List ℕ)) (url : Url) → url_of_parts parts ≡ Some url → (url.machine < 2 ^ 32) × (url.volume < 2 ^ 32)
 small_parts (m ∷ v ∷ k ∷ a ∷ c ∷ []) url e =
-    small_by (digits_value 10 m) (digits_value 10 v) url (nat_lt (digits_value 10 m) (2 ^ 32) && nat_lt (digits_value 10 v) (2 ^ 32)) refl (record { key = digits_value 16 k; alt = digits_value 16 a }) (record { 0 = digits_value 16 c }) e
+    small_by (digits_value 10 m) (digits_value 10 v) url (nat_lt (digits_value 10 m) (2 ^ 32) && nat_lt (digits_value 10 v) (2 ^ 32)) refl
+    (record { key = digits_value 16 k; alt = digits_value 16 a }) (record { 0 = digits_value 16 c }) e
 small_parts _ url e = cc
 
-unchecked : (text : List ℕ) (url : Url) (test : Bool) → bytes_eq (url_text url) text ≡ test → (url.machine < 2 ^ 32) × (url.volume < 2 ^ 32) → (IsUrlText text → ⊥) → (if test then Some url else None) ≡ None
+unchecked : (text : List ℕ) (url : Url) (test : Bool) → bytes_eq (url_text url) text ≡ test → (url.machine < 2 ^ 32) × (url.volume < 2 ^ 32) → (IsUrlText text → ⊥)
+    → (if test then Some url else None) ≡ None
 unchecked text url true same small none =
     let e : url_text url ≡ text = (bytes_eq-Decides (url_text url) text).0 same in
     absurd (none (whole_in text (subst Whole (url_text_is url ∙ e) (whole_of url small.0 small.1))))
@@ -298,7 +315,10 @@ unread text None small none = refl
 
 pub url_of_text : (text : List ℕ) (url : Url) → FitsUrl url → text ≡ codes "http://store/" ++ machine_text url → Some url ≡ url_of text
 url_of_text text url fits e =
-    let split : url_of_parts (slice_split is_mark (machine_text url)) ≡ Some url = ap url_of_parts (parts_of url fits) ∙ read_parts (decimal url.machine) (decimal url.volume) (long_hex url.pair.key) (short_hex url.pair.alt) (long_hex url.cookie.0) url (value_of url.machine fits.machine) (value_of url.volume fits.volume) (long_value url.pair.key fits.key) (short_value url.pair.alt fits.alt) (long_value url.cookie.0 fits.cookie) fits.machine fits.volume in
+    let split : url_of_parts (slice_split is_mark (machine_text url)) ≡ Some url =
+    ap url_of_parts (parts_of url fits) ∙ read_parts (decimal url.machine) (decimal url.volume) (long_hex url.pair.key) (short_hex url.pair.alt) (long_hex url.cookie.0) url
+    (value_of url.machine fits.machine) (value_of url.volume fits.volume) (long_value url.pair.key fits.key) (short_value url.pair.alt fits.alt)
+    (long_value url.cookie.0 fits.cookie) fits.machine fits.volume in
     let same : bytes_eq (url_text url) text ≡ true = (bytes_eq-Decides (url_text url) text).1 (sym (url_text_is url) ∙ sym e) in
     let whole : url_of_parts (slice_split is_mark (drop 13 text)) ≡ Some url = ap (λ t. url_of_parts (slice_split is_mark (drop 13 t))) e ∙ split in
     sym (ap (checked_url text) whole ∙ checked_same text url same)

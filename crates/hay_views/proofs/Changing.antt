@@ -32,12 +32,14 @@ fold_more f a (y ∷ xs) x = fold_more f (f a y) xs x
 row_more : {P S : Type 0} (past : MapPast P S) (change : MapOp P) (pair : Pair) → row_of (with_change past change) pair ≡ row_after (past.first).replicas pair (row_of past pair) change
 row_more past change pair = fold_more (row_after (past.first).replicas pair) (row_at past.first pair) past.made change
 
-pub map_changed : {P S : Type 0} (past : MapPast P S) (change : MapOp P) (old new : MapRows P) → IsMapOf past old → fits old.replicas change ≡ true → ChangesRows change old new → IsMapOf (with_change past change) new
+pub map_changed : {P S : Type 0} (past : MapPast P S) (change : MapOp P) (old new : MapRows P) → IsMapOf past old → fits old.replicas change ≡ true → ChangesRows change old new
+    → IsMapOf (with_change past change) new
 map_changed {P} {S} past change old new is e changes = record {
   replicas = changes.replicas ∙ is.replicas;
   rows = λ pair.
       changes.rows pair ∙ ap (λ (row : List (Place P)). changed_row change pair row) (is.rows pair)
-      ∙ sym (row_more past change pair ∙ cond-true (fits (past.first).replicas change) (changed_row change pair (row_of past pair)) (row_of past pair) (ap (λ (n : ℕ). fits n change) (sym is.replicas) ∙ e));
+      ∙ sym (row_more past change pair ∙ cond-true (fits (past.first).replicas change) (changed_row change pair (row_of past pair)) (row_of past pair)
+      (ap (λ (n : ℕ). fits n change) (sym is.replicas) ∙ e));
 }
 
 pub map_kept : {P S : Type 0} (past : MapPast P S) (old new : MapRows P) → IsMapOf past old → KeepsRows old new → IsMapOf past new
@@ -48,7 +50,8 @@ map_unfit past change map is e = record {
   replicas = is.replicas;
   rows = λ pair.
       is.rows pair
-      ∙ sym (row_more past change pair ∙ cond-false (fits (past.first).replicas change) (changed_row change pair (row_of past pair)) (row_of past pair) (ap (λ (n : ℕ). fits n change) (sym is.replicas) ∙ e));
+      ∙ sym (row_more past change pair ∙ cond-false (fits (past.first).replicas change) (changed_row change pair (row_of past pair)) (row_of past pair)
+      (ap (λ (n : ℕ). fits n change) (sym is.replicas) ∙ e));
 }
 
 -- CHANGES, ONE AFTER ANOTHER
@@ -58,7 +61,8 @@ made_count [] first now made = made.replicas
 made_count (change ∷ changes) first now made = made_count changes made.0 now made.2 ∙ (made.1).replicas
 
 -- the row of a map on which fitting changes were made is what the changes make of its first row
-pub made_row : {P : Type 0} (changes : List (MapOp P)) (first now : MapRows P) (pair : Pair) → AllByRecursion (FitsRows first.replicas) changes → MadeBy changes first now → row_at now pair ≡ fold (row_after first.replicas pair) (row_at first pair) changes
+pub made_row : {P : Type 0} (changes : List (MapOp P)) (first now : MapRows P) (pair : Pair) → AllByRecursion (FitsRows first.replicas) changes → MadeBy changes first now
+    → row_at now pair ≡ fold (row_after first.replicas pair) (row_at first pair) changes
 made_row [] first now pair fit made = made.rows pair
 made_row {P} (change ∷ changes) first now pair fit made =
     let mid : MapRows P = made.0 in

@@ -49,7 +49,8 @@ pub first_is : (seat : HomesShown) (stood also : HomesAt) (start : Unit {0}) →
 unfolding homes_in
 first_is seat stood also start base is = ap (homes_in also) (sym base ∙ is)
 
-pub home_looked : (seat : HomesShown) (stood : HomesAt) (pair : Pair) (home : Option ℕ) → seat.base ≡ Some (stood, tt) → RowOf with_row IsHomeOf seat pair home → home ≡ home_in (stood.rows ++ seat.deeds) pair
+pub home_looked : (seat : HomesShown) (stood : HomesAt) (pair : Pair) (home : Option ℕ) → seat.base ≡ Some (stood, tt) → RowOf with_row IsHomeOf seat pair home
+    → home ≡ home_in (stood.rows ++ seat.deeds) pair
 home_looked seat stood pair home base is =
     let rows = is.1.3 in
     let first = first_is seat stood is.1.0 is.1.1 base is.1.2 in

@@ -25,7 +25,8 @@ seen_first {A} xs all n prefix count = ap (λ (k : ℕ). take k all) count ∙ a
 all_changed : {P S : Type 0} (start : S) (first : MapRows P) (made : List (MapOp P)) (deeds : List (Published P))
     → fold with_published (record { start = start; first = first; made = made }) deeds ≡ record { start = start; first = first; made = made ++ changes_of deeds }
 all_changed start first made [] = ap (λ l. record { start = start; first = first; made = l }) (sym (append-nil made))
-all_changed start first made (deed ∷ deeds) = all_changed start first (made ++ deed.change ∷ []) deeds ∙ ap (λ l. record { start = start; first = first; made = l }) (append_assoc made (deed.change ∷ []) (changes_of deeds))
+all_changed start first made (deed ∷ deeds) =
+    all_changed start first (made ++ deed.change ∷ []) deeds ∙ ap (λ l. record { start = start; first = first; made = l }) (append_assoc made (deed.change ∷ []) (changes_of deeds))
 
 all_fit : {P : Type 0} (n : ℕ) (deeds : List (Published P)) → AllByRecursion (IsFit n) deeds → AllByRecursion (FitsRows n) (changes_of deeds)
 all_fit n [] fit = tt
@@ -41,8 +42,11 @@ looks_show_maps P S seat shown start first now n pair row base fit behind count 
     let past : MapPast P S = is.0 in
     let first_is : is.1.0 ≡ begun_at start first = ap (first_in (begun_at start first)) (sym is.1.2 ∙ base) in
     let seen : MadeBy (changes_of seat.deeds) first now = subst (λ (l : List (Published P)). MadeBy (changes_of l) first now) (seen_first seat.deeds shown.deeds n behind.2 count) made in
-    let past_is : past ≡ record { start = start; first = first; made = changes_of seat.deeds } = is.1.3 ∙ ap (λ (m : MapPast P S). fold with_published m seat.deeds) first_is ∙ all_changed start first [] seat.deeds in
-    (is.2.0 ∙ ap (λ (m : MapPast P S). row_of m pair) past_is ∙ sym (made_row (changes_of seat.deeds) first now pair (all_fit first.replicas seat.deeds fit) seen), is.2.1 ∙ ap (λ (m : MapPast P S). (m.first).replicas) past_is)
+    let past_is : past ≡ record { start = start; first = first; made = changes_of seat.deeds } =
+    is.1.3 ∙ ap (λ (m : MapPast P S). fold with_published m seat.deeds) first_is ∙ all_changed start first [] seat.deeds in (
+      is.2.0 ∙ ap (λ (m : MapPast P S). row_of m pair) past_is ∙ sym (made_row (changes_of seat.deeds) first now pair (all_fit first.replicas seat.deeds fit) seen),
+      is.2.1 ∙ ap (λ (m : MapPast P S). (m.first).replicas) past_is,
+    )
 
 -- HOW MANY ENTRIES
 

@@ -1,5 +1,6 @@
 -- A byte of flags that is written over.
-use Rattle.std.proofs.Common.{◌≡◌, ◌≢◌, ◌+◌, ◌-◌, ◌<◌, ◌≤◌, ◌^◌, min, ℕ, suc, Bool, true, false, eqb, List, [], ◌∷◌, ◌++◌, length, get_or, take, drop, refl, sym, ◌∙◌, ap, subst, arith, inl, inr, append_assoc, take-append-drop, length-take, length-drop}
+use Rattle.std.proofs.Common.{◌≡◌, ◌≢◌, ◌+◌, ◌-◌, ◌<◌, ◌≤◌, ◌^◌, min, ℕ, suc, Bool, true, false, eqb, List, [], ◌∷◌, ◌++◌, length, get_or, take, drop, refl, sym, ◌∙◌, ap, subst}
+use Rattle.std.proofs.Common.{arith, inl, inr, append_assoc, take-append-drop, length-take, length-drop}
 use Rattle.std.specs.Prelude.{not, slice_set, Some, Result, Ok, Err, OnOk}
 use Rattle.std.specs.List.{slice_get}
 use Rattle.std.proofs.Math.Seq.{take-set-lt}
@@ -48,7 +49,8 @@ flag_cells from at k b bytes (cell ∷ cells) are has same =
       | inl here ↦
           let p = are.3.place in
           let is_28 : k ≡ 28 = omega arith in
-          let parts : slice_set bytes k b ≡ slice_set needle 28 b ++ rest = ap (λ n. slice_set bytes n b) is_28 ∙ ap (λ (l : List ℕ). slice_set l 28 b) are.2 ∙ set-append_left needle rest 28 b (omega arith) in
+          let parts : slice_set bytes k b ≡ slice_set needle 28 b ++ rest =
+          ap (λ n. slice_set bytes n b) is_28 ∙ ap (λ (l : List ℕ). slice_set l 28 b) are.2 ∙ set-append_left needle rest 28 b (omega arith) in
           let flagged : Cell = record cell { deleted = deleted } in
           let others : with_flag at deleted cells ≡ cells = behind (from + length needle) at rest cells deleted are.4 (omega arith) in
           let list : with_flag at deleted (cell ∷ cells) ≡ flagged ∷ cells = rw (eq-eqb cell.at at here) (ap (λ (l : List Cell). flagged ∷ l) others) in
@@ -64,7 +66,8 @@ flag_cells from at k b bytes (cell ∷ cells) are has same =
           let p = are.3.place in
           let later : HasPlace at cells = elim has [ inl here ↦ absurd (other here) | inr more ↦ more ] in
           let range = placed (from + length needle) at rest cells are.4 later in
-          let parts : slice_set bytes k b ≡ needle ++ slice_set rest (k - length needle) b = ap (λ (l : List ℕ). slice_set l k b) are.2 ∙ set-append_right needle rest (length needle) k b refl (omega (arith, range.0)) in
+          let parts : slice_set bytes k b ≡ needle ++ slice_set rest (k - length needle) b =
+          ap (λ (l : List ℕ). slice_set l k b) are.2 ∙ set-append_right needle rest (length needle) k b refl (omega (arith, range.0)) in
           let list : with_flag at deleted (cell ∷ cells) ≡ cell ∷ with_flag at deleted cells = rw (ne_eqb cell.at at other) refl in
           let made : AreCellsAt from (slice_set bytes k b) (cell ∷ with_flag at deleted cells) =
           (needle, slice_set rest (k - length needle) b, parts, are.3, flag_cells (from + length needle) at (k - length needle) b rest cells are.4 later (omega (arith, range.0))) in
@@ -107,7 +110,8 @@ one_byte at b old new inside is =
 -- and read back
 pub byte_there : (at b : ℕ) (old new : List ℕ) → at < length old → new ≡ overwrite at (b ∷ []) old → slice_get new at ≡ Some b
 byte_there at b old new inside is =
-    ap (λ (l : List ℕ). slice_get l at) (one_byte at b old new inside is) ∙ slice_get-get_or (slice_set old at b) at 0 (omega (arith, length-set old at b)) ∙ ap (λ n. Some n) (get_or-set_same old at b 0 inside)
+    ap (λ (l : List ℕ). slice_get l at) (one_byte at b old new inside is) ∙ slice_get-get_or (slice_set old at b) at 0 (omega (arith, length-set old at b))
+    ∙ ap (λ n. Some n) (get_or-set_same old at b 0 inside)
 
 -- the place of the flags lies in the file
 pub flags_within : (at : ℕ) (file : List ℕ) (n : Needle) → BeginsWithNeedle (drop at file) n → at + 28 < length file
@@ -115,13 +119,15 @@ flags_within at file n begins =
     omega (arith, length-head (take 36 (drop at file)) (head_of_needle n) (head_first (drop at file) n begins), length-take 36 (drop at file), length-drop at file)
 
 -- the flag was written
-pub flag_written : (superblock old new : List ℕ) (cells : List Cell) (end at : ℕ) → at + 28 < length old → new ≡ overwrite (at + 28) (1 ∷ []) old → IsVolume superblock old cells end → HasPlace at cells
+pub flag_written : (superblock old new : List ℕ) (cells : List Cell) (end at : ℕ) → at + 28 < length old → new ≡ overwrite (at + 28) (1 ∷ []) old
+    → IsVolume superblock old cells end → HasPlace at cells
     → IsVolume superblock new (with_flag at true cells) end
 flag_written superblock old new cells end at inside is volume has =
     subst (λ (l : List ℕ). IsVolume superblock l (with_flag at true cells) end) (sym (one_byte (at + 28) 1 old new inside is)) (flag_volume superblock old cells end at 1 volume has)
 
 -- a stop leaves the flag set or not
-pub flag_left : (superblock : List ℕ) (old new : FileState) (image : List ℕ) (cells : List Cell) (end at : ℕ) → at + 28 < length old.now → IsSolid old → Changes (at + 28) 1 old new → IsImage new image → IsVolume superblock old.now cells end → HasPlace at cells
+pub flag_left : (superblock : List ℕ) (old new : FileState) (image : List ℕ) (cells : List Cell) (end at : ℕ) → at + 28 < length old.now → IsSolid old → Changes (at + 28) 1 old new
+    → IsImage new image → IsVolume superblock old.now cells end → HasPlace at cells
     → (deleted : Bool) × IsVolume superblock image (with_flag at deleted cells) end
 flag_left superblock old new image cells end at inside solid changes leaves volume has =
     let byte = image_but_one (at + 28) old new image inside solid changes leaves in
@@ -143,7 +149,8 @@ pub free_there : (at place k : ℕ) (file : FileState) → place ≡ at + 28 →
 free_there at place k file is from to free = subst (λ n. file.sealed n ≡ false) (let e : at + 28 ≡ k = omega arith in e) free
 
 -- a change of that place alone leaves the flag set or not
-pub flag_either : (superblock : List ℕ) (old new : FileState) (cells : List Cell) (end at : ℕ) → at + 28 < length old.now → Changes (at + 28) 1 old new → IsVolume superblock old.now cells end → HasPlace at cells
+pub flag_either : (superblock : List ℕ) (old new : FileState) (cells : List Cell) (end at : ℕ) → at + 28 < length old.now → Changes (at + 28) 1 old new
+    → IsVolume superblock old.now cells end → HasPlace at cells
     → (deleted : Bool) × IsVolume superblock new.now (with_flag at deleted cells) end
 flag_either superblock old new cells end at inside changes volume has =
     let byte : ℕ = get_or new.now (at + 28) 0 in

@@ -71,7 +71,8 @@ read_behind_all at was have n len held items zeros resized slice out new file is
 -- NEEDLES THAT ARE READ
 
 -- what the first read gave
-pub front_seen : (at got : ℕ) (blank out file : List ℕ) → length blank ≡ 36 → got ≡ min (length blank) (length file - at) → out ≡ take got (drop at file) ++ drop got blank → take got out ≡ take 36 (drop at file)
+pub front_seen : (at got : ℕ) (blank out file : List ℕ) → length blank ≡ 36 → got ≡ min (length blank) (length file - at) → out ≡ take got (drop at file) ++ drop got blank
+    → take got out ≡ take 36 (drop at file)
 front_seen at got blank out file long count bytes =
     let read : length (take got (drop at file)) ≡ got = length-take-le got (drop at file) (omega (arith, length-drop at file)) in
     ap (λ (l : List ℕ). take got l) bytes ∙ take_at (take got (drop at file)) (drop got blank) got read ∙ take_min got 36 (drop at file) (omega (arith, length-drop at file))
@@ -141,7 +142,8 @@ cell_of at head bytes n place is same =
     (record { at = at; version = n.version; pair = n.pair; cookie = n.photo.cookie; bytes = n.photo.bytes; deleted = n.deleted }, record { place = refl; is = is }, read_head_is head at n place same)
 
 -- the head says its place, and the file is as it was
-pub stands_here : (at : ℕ) (head : CellHead) (front bytes file later : List ℕ) → head.at ≡ at → later ≡ file → front ≡ take 36 (drop at file) → (front ≡ take 36 (drop head.at later) → HasBytesAt head.at bytes later) → HasBytesAt at bytes file
+pub stands_here : (at : ℕ) (head : CellHead) (front bytes file later : List ℕ) → head.at ≡ at → later ≡ file → front ≡ take 36 (drop at file)
+    → (front ≡ take 36 (drop head.at later) → HasBytesAt head.at bytes later) → HasBytesAt at bytes file
 stands_here at head front bytes file later place same seen stands =
     let there : drop at file ≡ drop head.at later = rw (place, same) refl in
     ap (λ (l : List ℕ). take (length bytes) l) there ∙ stands (seen ∙ ap (λ (l : List ℕ). take 36 l) there)

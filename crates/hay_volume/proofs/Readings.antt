@@ -18,10 +18,12 @@ cells_first at end file cell cells has =
     let split : has.needles ≡ needle ++ rest = has.are.2 in
     let whole : length has.needles ≡ length needle + length rest = ap length split ∙ length-append needle rest in
     let stand : take (length needle + length rest) (drop at file) ≡ needle ++ rest = ap (λ n. take n (drop at file)) (sym whole) ∙ has.stand ∙ split in
-    let here : HasBytesAt at needle file = sym (take-take (length needle) (length needle + length rest) (drop at file) (omega arith)) ∙ ap (λ (l : List ℕ). take (length needle) l) stand ∙ take_at needle rest (length needle) refl in
+    let here : HasBytesAt at needle file =
+    sym (take-take (length needle) (length needle + length rest) (drop at file) (omega arith)) ∙ ap (λ (l : List ℕ). take (length needle) l) stand ∙ take_at needle rest (length needle) refl in
     let there : drop (length needle) (drop at file) ≡ drop (at + length needle) file = drop-drop (length needle) at file ∙ ap (λ n. drop n file) (omega arith) in
     let behind : HasBytesAt (at + length needle) rest file =
-    ap (λ (l : List ℕ). take (length rest) l) (sym there) ∙ sym (drop-take (length needle) (length rest) (drop at file)) ∙ ap (λ (l : List ℕ). drop (length needle) l) stand ∙ drop_at needle rest (length needle) refl in
+    ap (λ (l : List ℕ). take (length rest) l) (sym there) ∙ sym (drop-take (length needle) (length rest) (drop at file)) ∙ ap (λ (l : List ℕ). drop (length needle) l) stand
+    ∙ drop_at needle rest (length needle) refl in
     let total : length needle ≡ needle_total (length cell.bytes) = length-needle needle (needle_of_cell cell) has.are.3.is in
     let others : HasCells (at + length needle) file cells end = record { needles = rest; are = has.are.4; stand = behind; ends = omega (arith, whole, has.ends) } in
     (record { needle = needle; is = has.are.3; stand = here }, subst (λ n. HasCells (at + n) file cells end) total others)
@@ -65,7 +67,8 @@ same_total : (at : ℕ) (file : List ℕ) (c d : Cell) → StandsCell at file c 
 same_total at file c d here there = ap (λ (n : Needle). needle_total (length n.photo.bytes)) (sym (same_needle at file c d here there))
 
 -- the cells up to an end mark are the only ones
-pub one_reading : (at end other : ℕ) (file : List ℕ) (cells more : List Cell) → HasCells at file cells end → IsClosed needle_magic end file → HasCells at file more other → IsClosed needle_magic other file
+pub one_reading : (at end other : ℕ) (file : List ℕ) (cells more : List Cell) → HasCells at file cells end → IsClosed needle_magic end file → HasCells at file more other
+    → IsClosed needle_magic other file
     → (cells ≡ more) × (end ≡ other)
 one_reading at end other file [] [] has closed again shut = (refl, omega (arith, has.ends, again.ends, ap length has.are, ap length again.are))
 one_reading at end other file [] (d ∷ more) has closed again shut =

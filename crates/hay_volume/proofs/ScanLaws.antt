@@ -1,5 +1,6 @@
 -- Cells that are read one after another.
-use Rattle.std.proofs.Common.{◌≡◌, ◌≢◌, ◌+◌, ◌<◌, ◌≤◌, ◌^◌, ℕ, List, [], ◌∷◌, ◌++◌, length, get_or, take, drop, refl, sym, ◌∙◌, ap, subst, arith, Bool, true, false, inl, inr, append-nil, length-take, length-drop}
+use Rattle.std.proofs.Common.{◌≡◌, ◌≢◌, ◌+◌, ◌<◌, ◌≤◌, ◌^◌, ℕ, List, [], ◌∷◌, ◌++◌, length, get_or, take, drop, refl, sym, ◌∙◌, ap, subst, arith, Bool, true, false, inl, inr}
+use Rattle.std.proofs.Common.{append-nil, length-take, length-drop}
 use Rattle.std.proofs.lemmas.Bool.{cases_lt}
 use Rattle.std.proofs.lemmas.List.{drop_all, take_all, drop-drop, get_or_past, length-append, map-append}
 use Rattle.std.proofs.Math.Seq.{take-add}
@@ -34,7 +35,8 @@ are_bytes xs fits i =
 -- eight bytes are the magic where their number is
 pub is_magic : (bytes : List ℕ) → IsBytes bytes → length bytes ≡ 8 → number_at 8 0 bytes ≡ needle_magic → bytes ≡ magic_bytes needle_magic
 is_magic bytes fits long is =
-    field_8 0 bytes (omega arith) fits ∙ ap (λ (l : List ℕ). magic_bytes (number_at 8 0 bytes) ++ l) (drop_all 8 bytes (omega arith)) ∙ append-nil (magic_bytes (number_at 8 0 bytes)) ∙ ap magic_bytes is
+    field_8 0 bytes (omega arith) fits ∙ ap (λ (l : List ℕ). magic_bytes (number_at 8 0 bytes) ++ l) (drop_all 8 bytes (omega arith))
+    ∙ append-nil (magic_bytes (number_at 8 0 bytes)) ∙ ap magic_bytes is
 
 pub no_magic : (bytes : List ℕ) → number_at 8 0 bytes ≢ needle_magic → bytes ≢ magic_bytes needle_magic
 unfolding number_at
@@ -47,7 +49,8 @@ closed_here at seen bytes file same read long other = record {
   shut = λ magic. no_magic seen other (same ∙ read ∙ magic);
 }
 
-pub magic_here : (at : ℕ) (seen bytes file : List ℕ) → IsBytes bytes → seen ≡ bytes → bytes ≡ take 8 (drop at file) → length bytes ≡ 8 → number_at 8 0 seen ≡ needle_magic → take 8 (drop at file) ≡ magic_bytes needle_magic
+pub magic_here : (at : ℕ) (seen bytes file : List ℕ) → IsBytes bytes → seen ≡ bytes → bytes ≡ take 8 (drop at file) → length bytes ≡ 8 → number_at 8 0 seen ≡ needle_magic
+    → take 8 (drop at file) ≡ magic_bytes needle_magic
 magic_here at seen bytes file fits same read long is =
     sym read ∙ is_magic bytes fits long (ap (λ (l : List ℕ). number_at 8 0 l) (sym same) ∙ is)
 
@@ -93,10 +96,12 @@ stands_more : (at : ℕ) (xs ys file : List ℕ) → HasBytesAt at xs file → H
 stands_more at xs ys file first second =
     let there : drop (length xs) (drop at file) ≡ drop (at + length xs) file = drop-drop (length xs) at file ∙ ap (λ k. drop k file) (omega arith) in
     ap (λ k. take k (drop at file)) (length-append xs ys) ∙ take-add (length xs) (length ys) (drop at file)
-    ∙ ap (λ (l : List ℕ). take (length xs) (drop at file) ++ take (length ys) l) there ∙ ap (λ (l : List ℕ). l ++ take (length ys) (drop (at + length xs) file)) first ∙ ap (λ (l : List ℕ). xs ++ l) second
+    ∙ ap (λ (l : List ℕ). take (length xs) (drop at file) ++ take (length ys) l) there ∙ ap (λ (l : List ℕ). l ++ take (length ys) (drop (at + length xs) file)) first
+    ∙ ap (λ (l : List ℕ). xs ++ l) second
 
 -- one cell more
-pub more_cells : (at end next : ℕ) (file : List ℕ) (cells : List Cell) (cell : Cell) → HasCells at file cells end → StandsCell end file cell → next ≡ end + needle_total (length cell.bytes) → HasCells at file (cells ++ cell ∷ []) next
+pub more_cells : (at end next : ℕ) (file : List ℕ) (cells : List Cell) (cell : Cell) → HasCells at file cells end → StandsCell end file cell
+    → next ≡ end + needle_total (length cell.bytes) → HasCells at file (cells ++ cell ∷ []) next
 more_cells at end next file cells cell has here is = record {
   needles = has.needles ++ here.needle;
   are = one_more at end has.needles here.needle cells cell has.are (sym has.ends) here.is;
@@ -104,7 +109,8 @@ more_cells at end next file cells cell has here is = record {
   ends = omega (arith, length-append has.needles here.needle, has.ends, length-needle here.needle (needle_of_cell cell) here.is.is);
 }
 
-pub one_scanned : (at end next : ℕ) (file : List ℕ) (heads : List CellHead) (head : CellHead) (cell : Cell) → IsScanned at file heads end → StandsCell end file cell → head ≡ cell_head cell → next ≡ end + needle_total head.size
+pub one_scanned : (at end next : ℕ) (file : List ℕ) (heads : List CellHead) (head : CellHead) (cell : Cell) → IsScanned at file heads end → StandsCell end file cell
+    → head ≡ cell_head cell → next ≡ end + needle_total head.size
     → IsScanned at file (heads ++ head ∷ []) next
 one_scanned at end next file heads head cell before here is nexts = record {
   cells = before.cells ++ cell ∷ [];
@@ -133,6 +139,7 @@ pub same_cell : (at : ℕ) (file later : List ℕ) (cell : Cell) → later ≡ f
 same_cell at file later cell same here = subst (λ (l : List ℕ). StandsCell at l cell) same here
 
 -- one head more
-pub heads_push : (at end next : ℕ) (heads : List CellHead) (head : CellHead) → AreHeadsFrom at heads end → head.at ≡ end → next ≡ end + needle_total head.size → AreHeadsFrom at (heads ++ head ∷ []) next
+pub heads_push : (at end next : ℕ) (heads : List CellHead) (head : CellHead) → AreHeadsFrom at heads end → head.at ≡ end → next ≡ end + needle_total head.size
+    → AreHeadsFrom at (heads ++ head ∷ []) next
 heads_push at end next [] head row place is = (place ∙ sym row, omega (arith, row, is))
 heads_push at end next (first ∷ heads) head row place is = (row.0, heads_push (at + needle_total first.size) end next heads head row.1 place is)

@@ -1,5 +1,6 @@
 -- One more cell in a volume file.
-use Rattle.std.proofs.Common.{false, ◌≡◌, ◌⊎◌, inl, inr, ⊎_elim, ◌≤◌, ◌+◌, ◌-◌, ℕ, List, [], ◌∷◌, ◌++◌, length, take, drop, sym, ◌∙◌, ap, subst, refl, arith, length-append, append_assoc, take-append-drop, lit<}
+use Rattle.std.proofs.Common.{false, ◌≡◌, ◌⊎◌, inl, inr, ⊎_elim, ◌≤◌, ◌+◌, ◌-◌, ℕ, List, [], ◌∷◌, ◌++◌, length, take, drop, sym, ◌∙◌, ap, subst, refl, arith, length-append}
+use Rattle.std.proofs.Common.{append_assoc, take-append-drop, lit<}
 use Rattle.std.proofs.lemmas.List.{drop_at, length-take-le, take_at}
 use Rattle.hay_needle.specs.declared.needle.Cell.{Cell}
 use Rattle.hay_needle.specs.declared.needle.Cookie.{Cookie}
@@ -20,7 +21,13 @@ ends_in_mark pair cookie photo body made = (made.rest, made.grown)
 
 pub length-body : (pair : Pair) (cookie : Cookie) (photo body : List ℕ) → AppendsBehindMagic [] body (live pair cookie photo) → length body ≡ needle_total (length photo)
 length-body pair cookie photo body made =
-    omega (arith, ap length made.grown, length-append made.rest end_mark, length-append (magic_bytes needle_magic) made.rest, length-needle (record_of needle_magic made.rest) (live pair cookie photo) made.is)
+    omega (
+      arith,
+      ap length made.grown,
+      length-append made.rest end_mark,
+      length-append (magic_bytes needle_magic) made.rest,
+      length-needle (record_of needle_magic made.rest) (live pair cookie photo) made.is,
+    )
 
 -- the log with the record is the volume file with the cell
 with_cell : (superblock file image : List ℕ) (cells : List Cell) (end : ℕ) (pair : Pair) (cookie : Cookie) (photo body : List ℕ) (made : AppendsBehindMagic [] body (live pair cookie photo))
@@ -68,11 +75,13 @@ appended_stands old new end pair cookie photo body made grows closed =
     }
 
 -- the log without it is the volume file as it was
-without_cell : (superblock file image : List ℕ) (cells : List Cell) (end : ℕ) (is : IsVolume superblock file cells end) → IsLog needle_magic (superblock ++ is.has.needles) image → IsVolume superblock image cells end
+without_cell : (superblock file image : List ℕ) (cells : List Cell) (end : ℕ) (is : IsVolume superblock file cells end) → IsLog needle_magic (superblock ++ is.has.needles) image
+    → IsVolume superblock image cells end
 without_cell superblock file image cells end is log =
     log_volume superblock is.has.needles image cells end (length-superblock superblock file cells end is) is.has.ends is.has.are log
 
-pub volume_stays : (superblock : List ℕ) (old new : FileState) (image : List ℕ) (cells : List Cell) (end : ℕ) (pair : Pair) (cookie : Cookie) (photo body : List ℕ) → AppendsBehindMagic [] body (live pair cookie photo)
+pub volume_stays : (superblock : List ℕ) (old new : FileState) (image : List ℕ) (cells : List Cell) (end : ℕ) (pair : Pair) (cookie : Cookie) (photo body : List ℕ)
+    → AppendsBehindMagic [] body (live pair cookie photo)
     → LogStays needle_magic end body old new → IsVolume superblock old.now cells end → IsSolidIn 0 end old → IsImage new image
     → IsVolume superblock image cells end ⊎ IsVolume superblock image (cells ++ live_cell end pair cookie photo ∷ []) (end + needle_total (length photo))
 volume_stays superblock old new image cells end pair cookie photo body made stays is solid leaves =
@@ -82,14 +91,16 @@ volume_stays superblock old new image cells end pair cookie photo body made stay
     (stays.image (superblock ++ is.has.needles) made.rest image (front_length superblock old.now cells end is) made.grown (volume_log superblock old.now cells end is) solid leaves)
 
 -- where nothing was changed, a stop leaves the cells
-pub volume_kept : (superblock : List ℕ) (file : FileState) (image : List ℕ) (cells : List Cell) (end : ℕ) → IsGate needle_magic end file → IsVolume superblock file.now cells end → IsSolidIn 0 end file → IsImage file image
+pub volume_kept : (superblock : List ℕ) (file : FileState) (image : List ℕ) (cells : List Cell) (end : ℕ) → IsGate needle_magic end file → IsVolume superblock file.now cells end
+    → IsSolidIn 0 end file → IsImage file image
     → IsVolume superblock image cells end
 volume_kept superblock file image cells end gate is solid leaves =
     without_cell superblock file.now image cells end is
     (log_kept needle_magic end (superblock ++ is.has.needles) file image (front_length superblock file.now cells end is) (volume_log superblock file.now cells end is) solid gate.solid leaves)
 
 -- what was written behind nothing
-pub from_nothing : (pair : Pair) (cookie : Cookie) (photo before after body : List ℕ) → before ≡ [] → body ≡ after → AppendsBehindMagic before after (live pair cookie photo) → AppendsBehindMagic [] body (live pair cookie photo)
+pub from_nothing : (pair : Pair) (cookie : Cookie) (photo before after body : List ℕ) → before ≡ [] → body ≡ after → AppendsBehindMagic before after (live pair cookie photo)
+    → AppendsBehindMagic [] body (live pair cookie photo)
 from_nothing pair cookie photo before after body void same made = rw (same, ← void) made
 
 -- a range of as many places, and an end that is as far
@@ -117,7 +128,8 @@ formatted superblock bytes old new long is written =
     }
 
 -- once such a file is on the disk, and no piece stands behind its end, a cell may be appended
-pub volume_gate : (superblock : List ℕ) (cells : List Cell) (end : ℕ) (file : FileState) → IsVolume superblock file.now cells end → IsSolid file → ((k : ℕ) → end ≤ k → file.sealed k ≡ false) → IsGate needle_magic end file
+pub volume_gate : (superblock : List ℕ) (cells : List Cell) (end : ℕ) (file : FileState) → IsVolume superblock file.now cells end → IsSolid file
+    → ((k : ℕ) → end ≤ k → file.sealed k ≡ false) → IsGate needle_magic end file
 volume_gate superblock cells end file is solid free = record { closed = is.closed; solid = λ k from to. solid.places k; free = free }
 
 -- A NEEDLE THAT IS WRITTEN WHOLE
@@ -131,7 +143,8 @@ magic_and_rest needle n is =
 pub length-marked : (bytes : List ℕ) (n : Needle) → IsMarked bytes n → length bytes ≡ needle_total (length n.photo.bytes) + 8
 length-marked bytes n marked = omega (arith, ap length marked.parts, length-append marked.needle end_mark, length-needle marked.needle n marked.is)
 
-pub needle_grows : (superblock bytes old new : List ℕ) (cells : List Cell) (end : ℕ) (pair : Pair) (cookie : Cookie) (photo : List ℕ) → IsMarked bytes (live pair cookie photo) → new ≡ overwrite end bytes old → IsVolume superblock old cells end
+pub needle_grows : (superblock bytes old new : List ℕ) (cells : List Cell) (end : ℕ) (pair : Pair) (cookie : Cookie) (photo : List ℕ) → IsMarked bytes (live pair cookie photo)
+    → new ≡ overwrite end bytes old → IsVolume superblock old cells end
     → IsVolume superblock new (cells ++ live_cell end pair cookie photo ∷ []) (end + (length bytes - 8))
 needle_grows superblock bytes old new cells end pair cookie photo marked written is =
     let needle : List ℕ = marked.needle in

@@ -1,5 +1,6 @@
 -- What a delete leaves and tells.
-use Rattle.std.proofs.Common.{◌≡◌, inl, inr, ℕ, zero, suc, ◌+◌, ◌<◌, ◌≤◌, Bool, true, false, List, [], ◌∷◌, ◌++◌, append_assoc, length, Option, Some, None, refl, sym, ap, subst, ◌∙◌, append-nil, length-append, arith}
+use Rattle.std.proofs.Common.{◌≡◌, inl, inr, ℕ, zero, suc, ◌+◌, ◌<◌, ◌≤◌, Bool, true, false, List, [], ◌∷◌, ◌++◌, append_assoc, length, Option, Some, None, refl, sym, ap, subst}
+use Rattle.std.proofs.Common.{◌∙◌, append-nil, length-append, arith}
 use Rattle.std.specs.Prelude.{◌||◌, ◌==◌, if◌then◌else◌, map, Result, Ok, Err, option_map, slice_get, slice_index_or, take}
 use Rattle.std.specs.List.{list_any, range_with_len}
 use Rattle.std.proofs.lemmas.Bool.{cases_lt, cond-false, cond-true, eq-eqb, eqb-true}
@@ -96,7 +97,9 @@ same_more a b c count one two = record {
 pub counts_more : {D : Type 0} (faults fuses : D → ℕ) (a b c : List (Copy D)) → KeepsCounts faults fuses a b → KeepsCounts faults fuses b c → KeepsCounts faults fuses a c
 counts_more faults fuses a b c one two = record {
   count = two.count ∙ one.count;
-  rises = λ j r r' e f. let m = at_there b j (let less = at_below a j r e in let count = one.count in omega (arith, less, count)) in (let x = one.rises j r m.0 e m.1 in let y = two.rises j m.0 r' m.1 f in omega (arith, x, y));
+  rises =
+      λ j r r' e f. let m = at_there b j (let less = at_below a j r e in let count = one.count in omega (arith, less, count)) in
+      (let x = one.rises j r m.0 e m.1 in let y = two.rises j m.0 r' m.1 f in omega (arith, x, y));
   stay = λ j r r' e f. let m = at_there b j (let less = at_below a j r e in let count = one.count in omega (arith, less, count)) in two.stay j m.0 r' m.1 f ∙ one.stay j r m.0 e m.1;
 }
 
@@ -147,7 +150,8 @@ module _ {D P : Type 0} (Tells : Type 0) (files : D → Files) (PieceTells : Typ
   pub found_thawed : (old.logical).frozen ≡ None → (opened : Opened D P) (held : List VolumeAct) → IsKept Tells files PieceTells faults fuses opened held old
       → (k : VolumeKnown) (volume : StoreVolume) → IsAt faults fuses opened k volume
       → Stands files PieceTells old.logical (stood_of faults fuses opened k held).volume → (volume_stood volume.start volume.number held).frozen ≡ None
-  found_thawed thawed opened held h k volume at s = sym (ap (λ (z : Standing). (z.volume).frozen) (stood_is faults fuses opened k volume held at)) ∙ known_thawed thawed (stood_of faults fuses opened k held).volume s
+  found_thawed thawed opened held h k volume at s =
+      sym (ap (λ (z : Standing). (z.volume).frozen) (stood_is faults fuses opened k volume held at)) ∙ known_thawed thawed (stood_of faults fuses opened k held).volume s
 
   abbrev pub act_by : Made → VolumeAct
   act_by made = act_of faults fuses tag made (new.logical).replicas
@@ -155,11 +159,13 @@ module _ {D P : Type 0} (Tells : Type 0) (files : D → Files) (PieceTells : Typ
   abbrev Refused : LogicalFault → Option VolumeAct → Type 0
   Refused fault made = Deletes Tells files PieceTells faults fuses tag old new pair (Err fault) made
 
-  module _ (of : IsOfBoth faults old new) (stay : FusesStay fuses old new) (shows : Shows tag None old new) (serves : (opened : Opened D P) → (old.logical).settings ≡ (opened.volume).settings → Serves opened old new)
+  module _ (of : IsOfBoth faults old new) (stay : FusesStay fuses old new) (shows : Shows tag None old new)
+      (serves : (opened : Opened D P) → (old.logical).settings ≡ (opened.volume).settings → Serves opened old new)
       (begun : new.begun ≡ old.begun) (ended : new.ended ≡ old.ended) (thawed : (old.logical).frozen ≡ None) where
     -- it changed nothing, but that a call of a disk failed
     tries : Keeps Tells files PieceTells old new → Leaves (Some (act_by made_is.Tries))
-    tries keeps = changes_acted Tells files PieceTells faults fuses tag old new made_is.Tries of (λ still. thawed) shows serves (fuses_stay Tells files PieceTells faults fuses tag old new of.count stay)
+    tries keeps =
+        changes_acted Tells files PieceTells faults fuses tag old new made_is.Tries of (λ still. thawed) shows serves (fuses_stay Tells files PieceTells faults fuses tag old new of.count stay)
         (tries_leads Tells files PieceTells faults fuses tag old new keeps) (λ j less. ap (λ (l : List CoreTag). slice_index_or l j nobody) begun)
         (ends_none Tells files PieceTells old new (act_by made_is.Tries) (λ j. refl) (λ j own. own) ended) (act_by made_is.Tries) refl
 
@@ -170,11 +176,14 @@ module _ {D P : Type 0} (Tells : Type 0) (files : D → Files) (PieceTells : Typ
     -- the delete is pending
     pends : (m : ℕ) (failed : Bool) → (Tells → (k : VolumeKnown) → Stands files PieceTells old.logical k → Stands files PieceTells new.logical (frozen_with m tag change failed k))
         → Leaves (Some (act_by (made_is.Pends m change failed)))
-    pends m failed still = changes_acted Tells files PieceTells faults fuses tag old new (made_is.Pends m change failed) of (λ still. thawed) shows serves (fuses_stay Tells files PieceTells faults fuses tag old new of.count stay)
+    pends m failed still =
+        changes_acted Tells files PieceTells faults fuses tag old new (made_is.Pends m change failed) of (λ still. thawed) shows serves
+        (fuses_stay Tells files PieceTells faults fuses tag old new of.count stay)
         (λ tells before s. let pending_known = still tells before.volume s in record {
           leads = (known_thawed thawed before.volume s, refl);
           stands = pending_known;
-          tight = tight_frozen files tag (made_is.Pends m change failed) old new before m (sym (frozen_known files PieceTells new.logical (frozen_with m tag change failed before.volume) pending_known));
+          tight =
+              tight_frozen files tag (made_is.Pends m change failed) old new before m (sym (frozen_known files PieceTells new.logical (frozen_with m tag change failed before.volume) pending_known));
         })
         (λ j less. ap (λ (l : List CoreTag). slice_index_or l j nobody) begun)
         (ends_none Tells files PieceTells old new (act_by (made_is.Pends m change failed)) (λ j. refl) (λ j own. own) ended) (act_by (made_is.Pends m change failed)) refl
@@ -194,7 +203,12 @@ module _ {D P : Type 0} (Tells : Type 0) (files : D → Files) (PieceTells : Typ
             held = held;
             made = Some act;
             holding = holding;
-            is = (found_thawed thawed opened held h k volume at (h.stands tells k s), failed_on Tells files PieceTells faults fuses tag old new opened held act h (leaves.kept opened held h) m f cause k volume at, inl refl);
+            is = (
+              found_thawed thawed opened held h k volume at (h.stands tells k s),
+              failed_on Tells files PieceTells faults fuses tag old new opened held act h
+                  (leaves.kept opened held h) m f cause k volume at,
+              inl refl,
+            );
           };
           always = λ n g e. failed_always m f act leaves cause n g (err_same e);
         })
@@ -207,11 +221,18 @@ module _ {D P : Type 0} (Tells : Type 0) (files : D → Files) (PieceTells : Typ
               made = Some act;
               holding = holding;
               is = subst (λ (x : ℕ). FailedOn volume.settings volume.start volume.number x g held (Some act)) mm
-                  (subst (λ (y : ℕ). FailedOn volume.settings volume.start volume.number m y held (Some act)) ff (failed_on Tells files PieceTells faults fuses tag old new opened held act h (leaves.kept opened held h) m f cause k volume at));
+                  (subst (λ (y : ℕ). FailedOn volume.settings volume.start volume.number m y held (Some act)) ff
+                  (failed_on Tells files PieceTells faults fuses tag old new opened held act h (leaves.kept opened held h) m f cause k volume at));
             }
     sight_refused NoMemory still undamaged cause made by = record {
       leaves = tried still made (by.tries refl);
-      told = λ opened held h tells k s volume at a b holding. record { held = held; made = made; holding = holding; is = inl (nothing_made Tells files PieceTells faults fuses tag old new made (by.tries refl)) };
+      told =
+          λ opened held h tells k s volume at a b holding. record {
+            held = held;
+            made = made;
+            holding = holding;
+            is = inl (nothing_made Tells files PieceTells faults fuses tag old new made (by.tries refl));
+          };
       always = λ m f e. absurd (cc e);
     }
     sight_refused (Damaged m at) still undamaged cause made by = record {
@@ -241,7 +262,8 @@ module _ {D P : Type 0} (Tells : Type 0) (files : D → Files) (PieceTells : Typ
             holding = holding;
             is = inr (inl (
               found_thawed thawed opened held h k volume at (h.stands tells k s),
-              ap (λ (n : ℕ). Freezes n) (first ∙ ap (λ (z : Settings). machine_of z (old.logical).number 0) (h.same_settings ∙ sym at.settings) ∙ ap (λ (v : ℕ). machine_of volume.settings v 0) (h.number ∙ sym at.number)),
+              ap (λ (n : ℕ). Freezes n) (first ∙ ap (λ (z : Settings). machine_of z (old.logical).number 0) (h.same_settings ∙ sym at.settings)
+                  ∙ ap (λ (v : ℕ). machine_of volume.settings v 0) (h.number ∙ sym at.number)),
             ));
           };
           always = λ m f e. absurd (cc e);
@@ -271,7 +293,10 @@ module _ {D P : Type 0} (Tells : Type 0) (files : D → Files) (PieceTells : Typ
                 is = (
                   found_thawed thawed opened held h k volume at s_old,
                   failed_on Tells files PieceTells faults fuses tag old new opened held act h (leaves.kept opened held h) m f cause k volume at,
-                  inr (ap (λ (x : ℕ). Pends x change true) (same_machine (stood_of faults fuses opened k held).volume r), sym (stood_by opened held h k volume at s_old) ∙ was_held (stood_of faults fuses opened k held).volume r),
+                  inr (
+                    ap (λ (x : ℕ). Pends x change true) (same_machine (stood_of faults fuses opened k held).volume r),
+                    sym (stood_by opened held h k volume at s_old) ∙ was_held (stood_of faults fuses opened k held).volume r,
+                  ),
                 );
               };
           always = λ x g e opened held h k volume at a b holding.
@@ -280,7 +305,8 @@ module _ {D P : Type 0} (Tells : Type 0) (files : D → Files) (PieceTells : Typ
                 made = Some act;
                 holding = holding;
                 is = subst (λ (y : ℕ). FailedOn volume.settings volume.start volume.number y g held (Some act)) mm
-                    (subst (λ (y : ℕ). FailedOn volume.settings volume.start volume.number m y held (Some act)) ff (failed_on Tells files PieceTells faults fuses tag old new opened held act h (leaves.kept opened held h) m f cause k volume at));
+                    (subst (λ (y : ℕ). FailedOn volume.settings volume.start volume.number m y held (Some act)) ff
+                    (failed_on Tells files PieceTells faults fuses tag old new opened held act h (leaves.kept opened held h) m f cause k volume at));
               };
         })
       where
@@ -304,7 +330,12 @@ module _ {D P : Type 0} (Tells : Type 0) (files : D → Files) (PieceTells : Typ
             held = held;
             made = Some act;
             holding = holding;
-            is = (found_thawed thawed opened held h k volume at (h.stands tells k s), failed_on Tells files PieceTells faults fuses tag old new opened held act h (leaves.kept opened held h) m f cause k volume at, inl refl);
+            is = (
+              found_thawed thawed opened held h k volume at (h.stands tells k s),
+              failed_on Tells files PieceTells faults fuses tag old new opened held act h
+                  (leaves.kept opened held h) m f cause k volume at,
+              inl refl,
+            );
           };
           always = λ x g e opened held h k volume at a b holding.
               let mm : m ≡ x = cc e in let ff : f ≡ g = cc e in record {
@@ -312,7 +343,8 @@ module _ {D P : Type 0} (Tells : Type 0) (files : D → Files) (PieceTells : Typ
                 made = Some act;
                 holding = holding;
                 is = subst (λ (y : ℕ). FailedOn volume.settings volume.start volume.number y g held (Some act)) mm
-                    (subst (λ (y : ℕ). FailedOn volume.settings volume.start volume.number m y held (Some act)) ff (failed_on Tells files PieceTells faults fuses tag old new opened held act h (leaves.kept opened held h) m f cause k volume at));
+                    (subst (λ (y : ℕ). FailedOn volume.settings volume.start volume.number m y held (Some act)) ff
+                    (failed_on Tells files PieceTells faults fuses tag old new opened held act h (leaves.kept opened held h) m f cause k volume at));
               };
         })
       where
@@ -328,7 +360,13 @@ module _ {D P : Type 0} (Tells : Type 0) (files : D → Files) (PieceTells : Typ
     delete_refused (Failed m f) tight refused cause undamaged made by = failed_by tight m f (new.logical).frozen refl refused cause made by
     delete_refused NoMemory tight refused cause undamaged made by = record {
       leaves = tried (λ tells k s. ((refused tells k s).1, tight tells k s)) made (by.tries refl);
-      told = λ opened held h tells k s volume at a b holding. record { held = held; made = made; holding = holding; is = inl (nothing_made Tells files PieceTells faults fuses tag old new made (by.tries refl)) };
+      told =
+          λ opened held h tells k s volume at a b holding. record {
+            held = held;
+            made = made;
+            holding = holding;
+            is = inl (nothing_made Tells files PieceTells faults fuses tag old new made (by.tries refl));
+          };
       always = λ m f e. absurd (cc e);
     }
     delete_refused (Gone p) tight refused cause undamaged made by = record {
@@ -352,7 +390,8 @@ module _ {D P : Type 0} (Tells : Type 0) (files : D → Files) (PieceTells : Typ
       leaves = tried (λ tells k s. ((refused tells k s).1, tight tells k s)) made (by.tries refl);
       told = λ opened held h tells k s volume at a b holding.
           let s_old = h.stands tells k s in
-          let not : ◌≡◌ {A = Option ℕ} None (Some m) = sym (known_thawed thawed (stood_of faults fuses opened k held).volume s_old) ∙ (refused tells (stood_of faults fuses opened k held).volume s_old).0 in absurd (cc not);
+          let not : ◌≡◌ {A = Option ℕ} None (Some m) =
+          sym (known_thawed thawed (stood_of faults fuses opened k held).volume s_old) ∙ (refused tells (stood_of faults fuses opened k held).volume s_old).0 in absurd (cc not);
       always = λ m f e. absurd (cc e);
     }
     delete_refused (Damaged m at) tight refused cause undamaged made by = absurd (undamaged m at refl)
@@ -377,7 +416,8 @@ module _ {D P : Type 0} (Tells : Type 0) (files : D → Files) (PieceTells : Typ
                 holding = holding;
                 is = inr (inr (
                   found_thawed thawed opened held h k volume at s_old,
-                  ap (λ (n : ℕ). Pends n change false) (first ∙ ap (λ (z : Settings). machine_of z (old.logical).number 0) (h.same_settings ∙ sym at.settings) ∙ ap (λ (v : ℕ). machine_of volume.settings v 0) (h.number ∙ sym at.number)),
+                  ap (λ (n : ℕ). Pends n change false) (first ∙ ap (λ (z : Settings). machine_of z (old.logical).number 0) (h.same_settings ∙ sym at.settings)
+                      ∙ ap (λ (v : ℕ). machine_of volume.settings v 0) (h.number ∙ sym at.number)),
                   sym (stood_by opened held h k volume at s_old) ∙ (given tells (stood_of faults fuses opened k held).volume s_old).0,
                 ));
               };
@@ -386,7 +426,8 @@ module _ {D P : Type 0} (Tells : Type 0) (files : D → Files) (PieceTells : Typ
 
   -- IT WAS PUBLISHED
 
-  module _ (p : ℕ) (over : List Bool) (of : IsOfBoth faults old new) (stay : FusesStay fuses old new) (shows : Shows tag (Some change) old new) (serves : (opened : Opened D P) → (old.logical).settings ≡ (opened.volume).settings → Serves opened old new)
+  module _ (p : ℕ) (over : List Bool) (of : IsOfBoth faults old new) (stay : FusesStay fuses old new) (shows : Shows tag (Some change) old new)
+      (serves : (opened : Opened D P) → (old.logical).settings ≡ (opened.volume).settings → Serves opened old new)
       (begun : new.begun ≡ old.begun) (thawed : (old.logical).frozen ≡ None)
       (slots : (j lane : ℕ) → j < (old.settings).replicas → lane < 8
       → ended_at new.ended j lane ≡ ended_in j lane (slice_index_or old.begun j nobody) (act_by (made_is.Enters change over)) (ended_at old.ended j lane))
@@ -395,7 +436,8 @@ module _ {D P : Type 0} (Tells : Type 0) (files : D → Files) (PieceTells : Typ
       (ran : Tells → (k : VolumeKnown) → Stands files PieceTells old.logical k → (j : ℕ) → slice_index_or over j false ≡ true → (run : Run) × ((replica_at k j).run ≡ Some run))
       (deleted : Tells → (k : VolumeKnown) → Stands files PieceTells old.logical k
       → (logical.is_held k pair ≡ true) × (p ≡ length k.log + 1) × Stands files PieceTells new.logical (with_del over tag pair k)) where
-    pub delete_shown : Leaves (Some (act_by (made_is.Enters change over))) × Found Tells files PieceTells faults fuses tag old (Some (act_by (made_is.Enters change over))) (λ volume. DeleteAnswer volume tag pair (Ok p))
+    pub delete_shown : Leaves (Some (act_by (made_is.Enters change over))) × Found Tells files PieceTells faults fuses tag old (Some (act_by (made_is.Enters change over)))
+        (λ volume. DeleteAnswer volume tag pair (Ok p))
     delete_shown = (
       record {
         kept = λ opened held h. kept_acted Tells files PieceTells faults fuses opened held old new tag (made_is.Enters change over) h of (λ still. thawed) shows (serves opened h.same_settings)
@@ -406,7 +448,8 @@ module _ {D P : Type 0} (Tells : Type 0) (files : D → Files) (PieceTells : Typ
                 over,
                 λ j is. subst (λ (n : ℕ). Rose n ((left_by (act_by (made_is.Enters change over)) (stood_of faults fuses opened k held)).faults j)) (sym (h.fault_counts k j))
                     (subst (λ (n : ℕ). Rose (count_at faults (old.logical).replicas j) n)
-                    (sym (count_behind faults (old.logical).replicas (new.logical).replicas j ((stood_of faults fuses opened k held).faults j) of.count (h.fault_counts k j))) (rose tells (stood_of faults fuses opened k held).volume (h.stands tells k s) j is)),
+                    (sym (count_behind faults (old.logical).replicas (new.logical).replicas j ((stood_of faults fuses opened k held).faults j) of.count (h.fault_counts k j)))
+                    (rose tells (stood_of faults fuses opened k held).volume (h.stands tells k s) j is)),
                 refl,
               ),
             ))
@@ -514,7 +557,8 @@ pub ran_before : {D P : Type 0} (files : D → Files) (PieceTells : Type 0) (fau
 unfolding Stands
 ran_before files PieceTells faults volume new k s j is =
     let was = stood_before volume.replicas new j is in
-    run_there (replica_at k j).run was.1 (sym (standing_known volume.settings volume.number PieceTells files PieceTells faults volume.replicas volume.rows volume.front volume.frozen volume.unsure k s j was.0 was.2) ∙ was.3)
+    run_there (replica_at k j).run was.1 (sym (standing_known volume.settings volume.number PieceTells files PieceTells faults volume.replicas volume.rows volume.front
+    volume.frozen volume.unsure k s j was.0 was.2) ∙ was.3)
 
 -- and the disk of each has failed
 pub rose_erased : {D : Type 0} (faults fuses : D → ℕ) (old mid new : List (Copy D)) → KeepsCounts faults fuses old mid → length new ≡ length mid → length (logical.ended_runs mid new) ≡ length mid
@@ -592,7 +636,8 @@ module _ (over : List Bool) (begun : List CoreTag) (faults : List ℕ) (first be
     λ j lane less few. elim (cases_lt j i) [
       | inl below ↦ done j lane below few
       | inr past ↦ (let same : i ≡ j = omega arith in subst (λ (n : ℕ). ended_at before n lane ≡ noted over begun faults first n lane) same
-          (rest i lane (omega arith) ∙ sym (cond-false (slice_index_or over i false) (if begun_by == lane then Some (slice_index_or faults i 0) else ended_at first i lane) (ended_at first i lane) is)))
+          (rest i lane (omega arith) ∙ sym (cond-false (slice_index_or over i false) (if begun_by == lane then Some (slice_index_or faults i 0) else ended_at first i lane)
+          (ended_at first i lane) is)))
     ],
     λ j lane past. rest j lane (omega (arith, past)),
   )

@@ -170,7 +170,8 @@ module _ {D P : Type 0} (Tells : Type 0) (files : D → Files) (PieceTells : Typ
           → Changes Tells files PieceTells faults fuses tag old new (Some act)
           × Found Tells files PieceTells faults fuses tag old (Some act) (λ volume. FinishAnswer volume tag j (Ok (record { generation = g; frozen = false })))
       finish_shown others item front is_mid act is = (
-        swap_shown Tells files PieceTells faults fuses tag old j g end count within thawed mid cells deed deed_is rows swap same is_open counts new settings begun ended own others item front is_mid act is,
+        swap_shown Tells files PieceTells faults fuses tag old j g end count within thawed mid cells deed deed_is rows swap same is_open counts new settings begun ended own others
+            item front is_mid act is,
         finish_found g end count None act (ap (λ (z : VolumeAct). did_of z.did) is) may (λ tells k s. (swap tells k s).next),
       )
 

@@ -52,7 +52,8 @@ use Rattle.hay_volume_lock.specs.declared.act.Made.{Made}
 use Rattle.hay_volume_lock.specs.declared.act.Made.TheVariants as made_is
 use Rattle.hay_volume_lock.specs.declared.guarded.Guarded.{Guarded}
 use Rattle.hay_volume_lock.specs.declared.guarded.Opened.{Opened}
-use Rattle.hay_volume_lock.proofs.Deleting.{Deletes, counts_more, delete_given_up, delete_refused, delete_shown, delete_since, over_is, ran_before, rose_erased, same_more, serves_kept, serves_more, shows_more, sight_refused, sight_since, sight_wanted}
+use Rattle.hay_volume_lock.proofs.Deleting.{Deletes, counts_more, delete_given_up, delete_refused, delete_shown, delete_since, over_is, ran_before, rose_erased, same_more}
+use Rattle.hay_volume_lock.proofs.Deleting.{serves_kept, serves_more, shows_more, sight_refused, sight_since, sight_wanted}
 use Rattle.hay_volume_lock.proofs.Growing.{Keeps, TightStays}
 use Rattle.hay_volume_lock.proofs.Holding.{stood_is}
 use Rattle.hay_volume_lock.proofs.Published.{Fact, del_tells, fact_first, may_publish, set_in}

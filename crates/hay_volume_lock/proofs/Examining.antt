@@ -178,7 +178,8 @@ module _ {D P : Type 0} (files : D → Files) (Tells : Type 0) (k : VolumeKnown)
       let none : at.1 ≡ 0 = (let most = at.3 in omega (arith, most)) in (
         (let le : n ≤ min cells run.left = omega (arith, few, less) in le),
         subst (λ (z : VolumeKnown). Stands files Tells new z)
-            (ap (λ (r : Run). change_at (behind k j run there n) j (with_run (stepped at.1 r))) (sym is) ∙ ap (λ (i : ℕ). change_at (behind k j run there n) j (with_run (stepped i (stepped n run)))) none
+            (ap (λ (r : Run). change_at (behind k j run there n) j (with_run (stepped at.1 r))) (sym is)
+            ∙ ap (λ (i : ℕ). change_at (behind k j run there n) j (with_run (stepped i (stepped n run)))) none
             ∙ behind_more k j run there n 0 ∙ ap (behind k j run there) (let e : n + 0 ≡ n = omega arith in e)) at.4,
       )
   none_more n cells old mid new (ReadOnly m) same thawed few less stands refused = none-some m (sym thawed ∙ refused.0)

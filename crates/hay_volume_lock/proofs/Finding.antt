@@ -49,7 +49,8 @@ use Rattle.hay_volume_lock.specs.declared.guarded.Opened.{Opened}
 use Rattle.hay_volume_lock.specs.declared.refusals.Unflushed.{Unflushed}
 use Rattle.hay_volume_lock.proofs.Counting.{count_one, count_there}
 use Rattle.hay_volume_lock.proofs.Doings.{begun_more}
-use Rattle.hay_volume_lock.proofs.Growing.{FusesStay, IsOfOne, Keeps, LeadsFusesOf, LeadsTo, TightStays, ends_none, goes_more, goes_tried, no_fuse, of_still, tight_begun, tight_rest, tight_still, tries_leads}
+use Rattle.hay_volume_lock.proofs.Growing.{FusesStay, IsOfOne, Keeps, LeadsFusesOf, LeadsTo, TightStays, ends_none, goes_more, goes_tried, no_fuse, of_still, tight_begun}
+use Rattle.hay_volume_lock.proofs.Growing.{tight_rest, tight_still, tries_leads}
 use Rattle.hay_volume_lock.proofs.Holding.{stood_is}
 
 -- what is known of a volume has its freeze
@@ -58,7 +59,8 @@ unfolding Stands
 known_frozen files PieceTells volume k s = s.frozen
 
 -- a flush that is told as failed has failed
-pub flush_failed_by : (by : Option ℕ) (answer : Result ℕ LogicalFault) (m f : ℕ) (o : Option ℕ) → ◌≡◌ {A = Result ℕ Unflushed} (flush_answer by answer) (Err (record { fault = Failed m f; frozen = o }))
+pub flush_failed_by : (by : Option ℕ) (answer : Result ℕ LogicalFault) (m f : ℕ) (o : Option ℕ)
+    → ◌≡◌ {A = Result ℕ Unflushed} (flush_answer by answer) (Err (record { fault = Failed m f; frozen = o }))
     → (answer ≡ Err (Failed m f)) × (by ≡ o)
 flush_failed_by by (Ok n) m f o is = absurd (cc is)
 flush_failed_by by (Err fault) m f o is =
@@ -77,8 +79,10 @@ module _ (volume : StoreVolume) (tag : CoreTag) (held : List VolumeAct) (a b : L
 
   pub room_answer_by : (size : ℕ) (result : Result Unit LogicalFault) (frozen : Option ℕ) (refused : Option Refused) → now_known.frozen ≡ frozen
       → room_refusal_of volume.settings volume.number now_known size ≡ refused → result ≡ logical.room_answer volume.settings frozen refused → RoomAnswer volume tag size result a b
-  room_answer_by size result (Some m) refused f r e = subst (λ (z : Result Unit LogicalFault). RoomAnswer volume tag size z a b) (sym e) (record { held = held; made = None; holding = holding; is = (refl, f) })
-  room_answer_by size result None None f r e = subst (λ (z : Result Unit LogicalFault). RoomAnswer volume tag size z a b) (sym e) (record { held = held; made = None; holding = holding; is = (refl, (f, r)) })
+  room_answer_by size result (Some m) refused f r e =
+      subst (λ (z : Result Unit LogicalFault). RoomAnswer volume tag size z a b) (sym e) (record { held = held; made = None; holding = holding; is = (refl, f) })
+  room_answer_by size result None None f r e =
+      subst (λ (z : Result Unit LogicalFault). RoomAnswer volume tag size z a b) (sym e) (record { held = held; made = None; holding = holding; is = (refl, (f, r)) })
   room_answer_by size result None (Some (NoRoom w m end need)) f r e =
       subst (λ (z : Result Unit LogicalFault). RoomAnswer volume tag size z a b) (sym e)
       (refl, record { held = held; made = None; holding = holding; is = (refl, f, r ∙ ap (λ (n : ℕ). Some (NoRoom n m end need)) (same w m end need r)) })
@@ -111,7 +115,8 @@ module _ {D P : Type 0} (Tells : Type 0) (files : D → Files) (PieceTells : Typ
       let now : VolumeKnown = volume_stood volume.start volume.number held in
       room_answer_by volume tag held a b holding size answer now.frozen (room_refusal_of volume.settings volume.number now size) refl refl
       (known tells (stood_of faults fuses opened k held).volume (h.stands tells k s)
-      ∙ ap (λ (z : Standing). logical.room_answer (kept.logical).settings (z.volume).frozen (room_refusal_of (kept.logical).settings (kept.logical).number z.volume size)) (stood_is faults fuses opened k volume held at)
+      ∙ ap (λ (z : Standing). logical.room_answer (kept.logical).settings (z.volume).frozen (room_refusal_of (kept.logical).settings (kept.logical).number z.volume size))
+      (stood_is faults fuses opened k volume held at)
       ∙ ap (λ (z : Settings). logical.room_answer z now.frozen (room_refusal_of z (kept.logical).number now size)) (h.same_settings ∙ sym at.settings)
       ∙ ap (λ (z : ℕ). logical.room_answer volume.settings now.frozen (room_refusal_of volume.settings z now size)) (h.number ∙ sym at.number))
 
@@ -133,7 +138,8 @@ module _ {D P : Type 0} (Tells : Type 0) (files : D → Files) (PieceTells : Typ
   abbrev Behind : (made : Made) → VolumeAct → Type 0
   Behind made act = act ≡ act_of faults fuses tag made (new.logical).replicas
 
-  same_settings : (opened : Opened D P) (held : List VolumeAct) (k : VolumeKnown) (volume : StoreVolume) → Kept opened held → IsAt faults fuses opened k volume → (old.logical).settings ≡ volume.settings
+  same_settings : (opened : Opened D P) (held : List VolumeAct) (k : VolumeKnown) (volume : StoreVolume) → Kept opened held → IsAt faults fuses opened k volume
+      → (old.logical).settings ≡ volume.settings
   same_settings opened held k volume h at = h.same_settings ∙ sym at.settings
 
   same_number : (opened : Opened D P) (held : List VolumeAct) (k : VolumeKnown) (volume : StoreVolume) → Kept opened held → IsAt faults fuses opened k volume → (old.logical).number ≡ volume.number
@@ -206,7 +212,8 @@ module _ {D P : Type 0} (Tells : Type 0) (files : D → Files) (PieceTells : Typ
 
     -- FLUSHES
 
-    pub flush_ok : new.begun ≡ old.begun → (Tells → TightStays files old new) → (n : ℕ) → (Tells → (k : VolumeKnown) → Stands files PieceTells old.logical k → logical.IsFlushed files PieceTells k j n new.logical)
+    pub flush_ok : new.begun ≡ old.begun → (Tells → TightStays files old new) → (n : ℕ)
+        → (Tells → (k : VolumeKnown) → Stands files PieceTells old.logical k → logical.IsFlushed files PieceTells k j n new.logical)
         → (act : VolumeAct) → Behind (made_is.Flushes j) act → Goes (Some act) × Finds (Some act) (λ volume. FlushAnswer volume tag j (Ok n))
     flush_ok begun tight n flushed act is = (
       more (made_is.Flushes j) refl none_set
@@ -273,7 +280,8 @@ module _ {D P : Type 0} (Tells : Type 0) (files : D → Files) (PieceTells : Typ
       tried (λ tells k s. (flush_kept fault not k (refused tells k s) s, λ thawed i run has. tight tells thawed i)) begun made even act,
       λ opened held h tells k s volume at a b holding.
           found fault not (stood_of faults fuses opened k held) volume held a b holding (stood_is faults fuses opened k volume held at)
-          (λ m e. on_machine opened held k volume h at m j e) (known_frozen files PieceTells old.logical (stood_of faults fuses opened k held).volume (h.stands tells k s)) (refused tells (stood_of faults fuses opened k held).volume (h.stands tells k s)),
+          (λ m e. on_machine opened held k volume h at m j e) (known_frozen files PieceTells old.logical (stood_of faults fuses opened k held).volume (h.stands tells k s))
+          (refused tells (stood_of faults fuses opened k held).volume (h.stands tells k s)),
     )
       where
         barred : (m : ℕ) (by : Option ℕ) (now : Standing) (volume : StoreVolume) (held : List VolumeAct) (a b : LockSight VolumeAct Entry)
@@ -331,7 +339,8 @@ module _ {D P : Type 0} (Tells : Type 0) (files : D → Files) (PieceTells : Typ
     flush_found begun tight (Ok n) flushed refused cause made acts o frozen =
         let is = acts.0 (made_is.Flushes j) refl in
         let found = flush_ok begun tight n flushed (act_of faults fuses tag (made_is.Flushes j) (new.logical).replicas) refl in
-        subst (λ (z : Option VolumeAct). Goes z × Finds z (λ volume. FlushAnswer volume tag j (Ok n)) × ((m f : ℕ) → ◌≡◌ {A = Result ℕ LogicalFault} (Ok n) (Err (Failed m f)) → Always z (λ volume. FlushRefused volume tag j (Failed m f) o)))
+        subst (λ (z : Option VolumeAct). Goes z × Finds z (λ volume. FlushAnswer volume tag j (Ok n))
+        × ((m f : ℕ) → ◌≡◌ {A = Result ℕ LogicalFault} (Ok n) (Err (Failed m f)) → Always z (λ volume. FlushRefused volume tag j (Failed m f) o)))
         (sym is) (found.0, found.1, λ m f e. absurd cc)
     flush_found begun tight (Err (Failed m f)) flushed refused cause made acts o frozen =
         let is = acts.0 (made_is.Sticks j) refl in
@@ -341,11 +350,13 @@ module _ {D P : Type 0} (Tells : Type 0) (files : D → Files) (PieceTells : Typ
         (sym is) (
           found.0,
           λ opened held h tells k s volume at. found.1 opened held h k volume at,
-          λ m' f' e. subst (λ (r : Result ℕ LogicalFault). IfErr r (λ fault. Always (Some (act_of faults fuses tag (made_is.Sticks j) (new.logical).replicas)) (λ volume. FlushRefused volume tag j fault o))) e found.1,
+          λ m' f' e. subst (λ (r : Result ℕ LogicalFault). IfErr r (λ fault. Always (Some (act_of faults fuses tag (made_is.Sticks j) (new.logical).replicas))
+              (λ volume. FlushRefused volume tag j fault o))) e found.1,
         )
     flush_found begun tight (Err (ReadOnly m)) flushed refused cause made acts o frozen = flush_rest begun tight (ReadOnly m) (λ m f e. absurd cc) refused made (acts.1 refl) o frozen
     flush_found begun tight (Err NoMemory) flushed refused cause made acts o frozen = flush_rest begun tight NoMemory (λ m f e. absurd cc) refused made (acts.1 refl) o frozen
-    flush_found begun tight (Err (Full m end need capacity)) flushed refused cause made acts o frozen = flush_rest begun tight (Full m end need capacity) (λ m f e. absurd cc) refused made (acts.1 refl) o frozen
+    flush_found begun tight (Err (Full m end need capacity)) flushed refused cause made acts o frozen =
+        flush_rest begun tight (Full m end need capacity) (λ m f e. absurd cc) refused made (acts.1 refl) o frozen
     flush_found begun tight (Err (Gone front)) flushed refused cause made acts o frozen = flush_rest begun tight (Gone front) (λ m f e. absurd cc) refused made (acts.1 refl) o frozen
     flush_found begun tight (Err (Busy m g)) flushed refused cause made acts o frozen = flush_rest begun tight (Busy m g) (λ m f e. absurd cc) refused made (acts.1 refl) o frozen
     flush_found begun tight (Err (Worn m)) flushed refused cause made acts o frozen = flush_rest begun tight (Worn m) (λ m f e. absurd cc) refused made (acts.1 refl) o frozen
@@ -366,7 +377,8 @@ module _ {D P : Type 0} (Tells : Type 0) (files : D → Files) (PieceTells : Typ
       more (made_is.Begins j) refl none_set
           (λ tells before s. let i = is_begun tells before.volume s in record {
             leads = ((i.thawed, within, (i.rest).0, (i.rest).1, refl));
-            stands = subst (λ (n : ℕ). Stands files PieceTells new.logical (logical.change_at before.volume j (with_run (record { goal = n; left = (replica_at before.volume j).cells })))) i.next i.stands;
+            stands =
+                subst (λ (n : ℕ). Stands files PieceTells new.logical (logical.change_at before.volume j (with_run (record { goal = n; left = (replica_at before.volume j).cells })))) i.next i.stands;
             tight = tight_begun files tag (made_is.Begins j) old new before j of.count (λ thawed. others) refl (tight tells before.volume s);
           })
           begun (λ i. refl) (λ i own. own) act is,
@@ -386,7 +398,8 @@ module _ {D P : Type 0} (Tells : Type 0) (files : D → Files) (PieceTells : Typ
           },
     )
       where
-        has_run : (volume : StoreVolume) (held : List VolumeAct) → j < length ((volume_stood volume.start volume.number held).replicas) → HasRunOf volume.settings volume.start volume.number j tag (held ++ act ∷ [])
+        has_run : (volume : StoreVolume) (held : List VolumeAct) → j < length ((volume_stood volume.start volume.number held).replicas)
+            → HasRunOf volume.settings volume.start volume.number j tag (held ++ act ∷ [])
         has_run volume held less =
             let before : VolumeKnown = volume_stood volume.start volume.number held in
             let after : volume_stood volume.start volume.number (held ++ act ∷ []) ≡ logical.change_at before j begun_at =
@@ -540,7 +553,8 @@ module _ {D P : Type 0} (Tells : Type 0) (files : D → Files) (PieceTells : Typ
     begin_found (Ok g) begun others tight is_begun refused cause made acts =
         let is = acts.0 (made_is.Begins j) refl in
         let found = begin_ok (λ i less. begun i) others tight g is_begun (act_of faults fuses tag (made_is.Begins j) (new.logical).replicas) refl in
-        subst (λ (z : Option VolumeAct). Goes z × Finds z (λ volume. BeginAnswer volume tag j (Ok g)) × ((m f : ℕ) → ◌≡◌ {A = Result ℕ LogicalFault} (Ok g) (Err (Failed m f)) → Always z (λ volume. FailedLook volume tag j m f)))
+        subst (λ (z : Option VolumeAct). Goes z × Finds z (λ volume. BeginAnswer volume tag j (Ok g))
+        × ((m f : ℕ) → ◌≡◌ {A = Result ℕ LogicalFault} (Ok g) (Err (Failed m f)) → Always z (λ volume. FailedLook volume tag j m f)))
         (sym is) (found.0, found.1, λ m f e. absurd cc)
     begin_found (Err (Failed m f)) begun others tight is_begun refused cause made acts =
         let is = acts.0 made_is.Tries refl in
@@ -558,7 +572,8 @@ module _ {D P : Type 0} (Tells : Type 0) (files : D → Files) (PieceTells : Typ
         )
     begin_found (Err (ReadOnly m)) begun others tight is_begun refused cause made acts = begin_rest begun others (ReadOnly m) (λ m f e. absurd cc) refused made (acts.1 refl)
     begin_found (Err NoMemory) begun others tight is_begun refused cause made acts = begin_rest begun others NoMemory (λ m f e. absurd cc) refused made (acts.1 refl)
-    begin_found (Err (Full m end need capacity)) begun others tight is_begun refused cause made acts = begin_rest begun others (Full m end need capacity) (λ m f e. absurd cc) refused made (acts.1 refl)
+    begin_found (Err (Full m end need capacity)) begun others tight is_begun refused cause made acts =
+        begin_rest begun others (Full m end need capacity) (λ m f e. absurd cc) refused made (acts.1 refl)
     begin_found (Err (Gone front)) begun others tight is_begun refused cause made acts = begin_rest begun others (Gone front) (λ m f e. absurd cc) refused made (acts.1 refl)
     begin_found (Err (Busy m g)) begun others tight is_begun refused cause made acts = begin_rest begun others (Busy m g) (λ m f e. absurd cc) refused made (acts.1 refl)
     begin_found (Err (Worn m)) begun others tight is_begun refused cause made acts = begin_rest begun others (Worn m) (λ m f e. absurd cc) refused made (acts.1 refl)
@@ -580,7 +595,8 @@ module _ {D P : Type 0} (Tells : Type 0) (files : D → Files) (PieceTells : Typ
           λ i other. is i ∙ count_one fuses (old.logical).replicas (new.logical).replicas of.count (λ a b. b ≡ a) refl i (stay i other) ∙ sym (was i),
         )
 
-    pub fuse_made : new.begun ≡ old.begun → new.ended ≡ old.ended → LeadsFusesOf fuses old new (Fuses j) → (Tells → (k : VolumeKnown) → Stands files PieceTells old.logical k → Stands files PieceTells new.logical k)
+    pub fuse_made : new.begun ≡ old.begun → new.ended ≡ old.ended → LeadsFusesOf fuses old new (Fuses j)
+        → (Tells → (k : VolumeKnown) → Stands files PieceTells old.logical k → Stands files PieceTells new.logical k)
         → (Tells → TightStays files old new) → (act : VolumeAct) → Behind (made_is.Fuses j) act → Goes (Some act) × Always (Some act) (λ volume. Fused volume.settings volume.start volume.number tag j)
     fuse_made begun ended leads stands tight act is = (
       goes_more Tells files PieceTells faults fuses tag old new (made_is.Fuses j) of leads refl
@@ -654,7 +670,8 @@ module _ {D P : Type 0} (Tells : Type 0) (files : D → Files) (PieceTells : Typ
     pub counts : KeepsCounts faults fuses (old.logical).replicas (new.logical).replicas
     pub still : new.logical ≡ record old.logical { replicas = (new.logical).replicas }
 
-  module _ (change : Changed) (j : ℕ) (within : j < ((old.logical).settings).replicas) (answer : Result ℕ LogicalFault) (before : List ℕ) (was : before ≡ counts faults (old.logical).replicas) (did : Option Made) (made : Option VolumeAct)
+  module _ (change : Changed) (j : ℕ) (within : j < ((old.logical).settings).replicas) (answer : Result ℕ LogicalFault) (before : List ℕ)
+      (was : before ≡ counts faults (old.logical).replicas) (did : Option Made) (made : Option VolumeAct)
       (some : (m : Made) → did ≡ Some m → made ≡ Some (act_of faults fuses tag m (new.logical).replicas))
       (none : did ≡ None → IsTried faults fuses tag before (new.logical).replicas made) where
     abbrev both : IsOfOne faults old new × FusesStay fuses old new
@@ -669,7 +686,8 @@ module _ {D P : Type 0} (Tells : Type 0) (files : D → Files) (PieceTells : Typ
         × Found Tells files PieceTells faults fuses tag old made (λ volume. FlushAnswer volume tag j (flush_answer o answer))
         × ((m f : ℕ) → answer ≡ Err (Failed m f) → FoundAlways Tells files PieceTells faults fuses tag old made (λ volume. FlushRefused volume tag j (Failed m f) o))
     flush_call begun tight flushed refused cause is o frozen =
-        flush_found Tells files PieceTells faults fuses tag old new both.0 both.1 change.ended j within begun tight answer flushed refused cause made (acts_by before did (flush_made j answer) made was is some none) o frozen
+        flush_found Tells files PieceTells faults fuses tag old new both.0 both.1 change.ended j within begun tight answer flushed refused cause made
+        (acts_by before did (flush_made j answer) made was is some none) o frozen
 
     pub begin_call : IsBegunBy tag j answer old.begun new.begun
         → ((i : ℕ) → (i ≡ j → ⊥) → (r r' : Copy D) → At (old.logical).replicas i r → At (new.logical).replicas i r' → r' ≡ r)
@@ -682,4 +700,5 @@ module _ {D P : Type 0} (Tells : Type 0) (files : D → Files) (PieceTells : Typ
         × Found Tells files PieceTells faults fuses tag old made (λ volume. BeginAnswer volume tag j answer)
         × ((m f : ℕ) → answer ≡ Err (Failed m f) → FoundAlways Tells files PieceTells faults fuses tag old made (λ volume. FailedLook volume tag j m f))
     begin_call begun others tight is_begun refused cause is =
-        begin_found Tells files PieceTells faults fuses tag old new both.0 both.1 change.ended j within answer begun others tight is_begun refused cause made (acts_by before did (begin_made j answer) made was is some none)
+        begin_found Tells files PieceTells faults fuses tag old new both.0 both.1 change.ended j within answer begun others tight is_begun refused cause made
+        (acts_by before did (begin_made j answer) made was is some none)

@@ -44,7 +44,8 @@ pub frozen_known : {D P : Type 0} (files : D → Files) (Tells : Type 0) (volume
 unfolding Stands
 frozen_known files Tells volume k stands = stands.frozen
 
-module _ {D P : Type 0} (Tells : Type 0) (files : D → Files) (PieceTells : Type 0) (faults fuses : D → ℕ) (tag : CoreTag) (old new : Guarded D P) (j : ℕ) (within : j < ((old.logical).settings).replicas)
+module _ {D P : Type 0} (Tells : Type 0) (files : D → Files) (PieceTells : Type 0) (faults fuses : D → ℕ) (tag : CoreTag) (old new : Guarded D P) (j : ℕ)
+    (within : j < ((old.logical).settings).replicas)
     (of : IsOfOne faults old new) (stay : FusesStay fuses old new) (begun : new.begun ≡ old.begun) (ended : new.ended ≡ old.ended)
     (others : (new.logical).frozen ≡ (old.logical).frozen → (i : ℕ) → (i ≡ j → ⊥) → (r r' : Copy D) → At (old.logical).replicas i r → At (new.logical).replicas i r' → r' ≡ r) where
   abbrev owner : ℕ → CoreTag
@@ -100,7 +101,8 @@ module _ {D P : Type 0} (Tells : Type 0) (files : D → Files) (PieceTells : Typ
         (ends_none Tells files PieceTells old new (act_of faults fuses tag made_is.Tries (new.logical).replicas) (λ i. refl) (λ i none. none) ended) act is
 
     -- by which machine it is frozen tells which of the two a failure left
-    left_thawed : (m : ℕ) (k : VolumeKnown) → (new.logical).frozen ≡ None → logical.StandsFailed files PieceTells m k j new.logical → Stands files PieceTells new.logical (logical.change_at k j without_run)
+    left_thawed : (m : ℕ) (k : VolumeKnown) → (new.logical).frozen ≡ None → logical.StandsFailed files PieceTells m k j new.logical
+        → Stands files PieceTells new.logical (logical.change_at k j without_run)
     left_thawed m k thawed (inl stands) = stands
     left_thawed m k thawed (inr poised) = absurd (none-some m (sym thawed ∙ sym (frozen_known files PieceTells new.logical (logical.poised_at m k j) poised)))
 
@@ -142,7 +144,8 @@ module _ {D P : Type 0} (Tells : Type 0) (files : D → Files) (PieceTells : Typ
       unswapped_goes (Busy m g) o is told act behind = tries told act behind
       unswapped_goes (Worn m) o is told act behind = tries told act behind
 
-      module _ (act : VolumeAct) (goes : Goes (Some act)) (opened : Opened D P) (held : List VolumeAct) (h : Kept opened held) (k : VolumeKnown) (volume : StoreVolume) (at : IsAt faults fuses opened k volume) where
+      module _ (act : VolumeAct) (goes : Goes (Some act)) (opened : Opened D P) (held : List VolumeAct) (h : Kept opened held) (k : VolumeKnown) (volume : StoreVolume)
+          (at : IsAt faults fuses opened k volume) where
         failed_now : (m f : ℕ) → logical.IsRunFault faults (old.logical).settings (old.logical).number j (old.logical).replicas (new.logical).replicas (Failed m f)
             → (m ≡ machine_of volume.settings volume.number j) × FailedAct volume.settings volume.start volume.number j f held (Some act)
         failed_now m f cause = (
@@ -170,15 +173,23 @@ module _ {D P : Type 0} (Tells : Type 0) (files : D → Files) (PieceTells : Typ
             begun = sym owner_is;
           }
 
-          unswapped_as : (fault : LogicalFault) (o : Option ℕ) → (new.logical).frozen ≡ o → Told fault → logical.IsRunFault faults (old.logical).settings (old.logical).number j (old.logical).replicas (new.logical).replicas fault
+          unswapped_as : (fault : LogicalFault) (o : Option ℕ) → (new.logical).frozen ≡ o → Told fault
+              → logical.IsRunFault faults (old.logical).settings (old.logical).number j (old.logical).replicas (new.logical).replicas fault
               → Behind (unswapped_made j fault o) act → Unswapped volume tag j fault o (owner j) a b
           unswapped_as (Failed m f) None frozen_as told cause is =
               let failed = failed_now m f cause in
               (failed.0, record { held = held; made = Some act; holding = holding; is = (ap (λ (z : VolumeAct). did_of z.did) is, found_run, failed.1) })
           unswapped_as (Failed m f) (Some machine) frozen_as told cause is =
               let failed = failed_now m f cause in
-              let r = told tells now_known now_stands in
-              ((failed.0, poised_by m machine now_known r.0 frozen_as r.3), record { held = held; made = Some act; holding = holding; is = (ap (λ (z : VolumeAct). did_of z.did) is, found_run, failed.1) })
+              let r = told tells now_known now_stands in (
+                (failed.0, poised_by m machine now_known r.0 frozen_as r.3),
+                record {
+                  held = held;
+                  made = Some act;
+                  holding = holding;
+                  is = (ap (λ (z : VolumeAct). did_of z.did) is, found_run, failed.1);
+                },
+              )
           unswapped_as NoMemory o frozen_as told cause is = record { held = held; made = Some act; holding = holding; is = (ap (λ (z : VolumeAct). did_of z.did) is, found_run) }
           unswapped_as (Damaged m place) o frozen_as told cause is = absurd (told tells now_known now_stands)
           unswapped_as (ReadOnly m) o frozen_as told cause is = absurd (not_frozen m told tells now_known now_stands)

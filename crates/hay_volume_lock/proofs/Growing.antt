@@ -164,7 +164,8 @@ pub ends_none : {D P : Type 0} (Tells : Type 0) (files : D → Files) (PieceTell
 ends_none Tells files PieceTells old new act none own same = record {
   ended = λ j lane less few.
       ap (λ (l : List (List (Option ℕ))). ended_at l j lane) same
-      ∙ sym (ap (λ (b : Bool). if b then (if (slice_index_or old.begun j nobody).lane == lane then Some (slice_index_or act.faults j 0) else ended_at old.ended j lane) else ended_at old.ended j lane) (none j));
+      ∙ sym (ap (λ (b : Bool). if b then (if (slice_index_or old.begun j nobody).lane == lane then Some (slice_index_or act.faults j 0) else ended_at old.ended j lane)
+      else ended_at old.ended j lane) (none j));
   owned = λ j less is. absurd (own j is);
   cuts = λ tells before s j is. absurd (let not : false ≡ true = sym (none j) ∙ is in cc not);
 }
@@ -233,7 +234,8 @@ module _ {D P : Type 0} (Tells : Type 0) (files : D → Files) (PieceTells : Typ
         (subst (λ (n : ℕ). count_at faults (old.logical).replicas j ≤ n) (sym (faults_then h of k j)) (none_falls of j))
 
     pub kept_more : Kept acts old → IsOfOne faults old new → entry_of (did_by made) ≡ None → LeadsFusesOf fuses old new (did_of (did_by made))
-        → (Tells → (k : VolumeKnown) → Stands files PieceTells opened.volume k → Leads (opened.volume).settings (opened.volume).number tag (did_of (did_by made)) (stood k) (left_by this_act (stood k)))
+        → (Tells → (k : VolumeKnown) → Stands files PieceTells opened.volume k → Leads (opened.volume).settings (opened.volume).number tag (did_of (did_by made)) (stood k)
+        (left_by this_act (stood k)))
         → (Tells → (k : VolumeKnown) → Stands files PieceTells opened.volume k → Stands files PieceTells new.logical (known_by tag (did_by made) (stood k).volume))
         → (Tells → (k : VolumeKnown) → Stands files PieceTells opened.volume k → TightBehind files tag made old new (stood k))
         → ((j : ℕ) → j < ((opened.volume).settings).replicas → slice_index_or new.begun j nobody ≡ begun_in j tag (did_of (did_by made)) (slice_index_or old.begun j nobody))
@@ -245,7 +247,9 @@ module _ {D P : Type 0} (Tells : Type 0) (files : D → Files) (PieceTells : Typ
       same_settings = (of.same).settings ∙ h.same_settings;
       number = (of.same).number ∙ h.number;
       is_open = of.is_open;
-      stands = λ tells k s. subst (λ (z : Standing). Stands files PieceTells new.logical z.volume) (sym (left_append volume_lock (standing_of faults fuses opened k) acts (this_act ∷ []))) (stands tells k s);
+      stands =
+          λ tells k s. subst (λ (z : Standing). Stands files PieceTells new.logical z.volume)
+          (sym (left_append volume_lock (standing_of faults fuses opened k) acts (this_act ∷ []))) (stands tells k s);
       follows = follows_now;
       sized = each_more (IsSized ((opened.volume).settings).replicas) acts this_act h.sized (record { faults = sized_by faults; fuses = sized_by fuses });
       fault_counts = λ k j. ap (λ (z : Standing). z.faults j) (left_append volume_lock (standing_of faults fuses opened k) acts (this_act ∷ [])) ∙ faults_then h of k j;
@@ -348,7 +352,8 @@ module _ {D P : Type 0} (Tells : Type 0) (files : D → Files) (PieceTells : Typ
       → (act : VolumeAct) → act ≡ act_of faults fuses tag made (new.logical).replicas → Goes (Some act)
   goes_more made of fuses_lead quiet leads begun ends act is = subst (λ (z : VolumeAct). Goes (Some z)) (sym is) (record {
     kept = λ opened held h. kept_more Tells files PieceTells faults fuses opened held old new tag made h of quiet fuses_lead
-        (λ tells k s. subst (λ (z : Settings). Leads z (opened.volume).number tag (did_of (did_by made)) (stood_of faults fuses opened k held) (left_by this (stood_of faults fuses opened k held))) h.same_settings
+        (λ tells k s. subst (λ (z : Settings). Leads z (opened.volume).number tag (did_of (did_by made)) (stood_of faults fuses opened k held)
+        (left_by this (stood_of faults fuses opened k held))) h.same_settings
         (subst (λ (z : ℕ). Leads (old.logical).settings z tag (did_of (did_by made)) (stood_of faults fuses opened k held) (left_by this (stood_of faults fuses opened k held))) h.number
         (leads tells (stood_of faults fuses opened k held) (h.stands tells k s)).leads))
         (λ tells k s. (leads tells (stood_of faults fuses opened k held) (h.stands tells k s)).stands)

@@ -39,7 +39,8 @@ pub all_mine : (m n : ℕ) (acts : List VolumeAct) → m ≡ n → Each (λ act.
 all_mine m n [] same each = tt
 all_mine m n (act ∷ acts) same each = (each.0 ∙ sym same, all_mine m n acts same each.1)
 
-module _ {D P : Type 0} (Tells : Type 0) (files : D → Files) (PieceTells : Type 0) (faults fuses : D → ℕ) (tag : CoreTag) (old mid : Seated D P) (found : Guarded D P) (takes : Takes Tells files PieceTells faults fuses old mid found) where
+module _ {D P : Type 0} (Tells : Type 0) (files : D → Files) (PieceTells : Type 0) (faults fuses : D → ℕ) (tag : CoreTag) (old mid : Seated D P) (found : Guarded D P)
+    (takes : Takes Tells files PieceTells faults fuses old mid found) where
   -- the start is the seat's own
   kept_at : (opened : Opened D P) → old.start ≡ Some opened → IsKept Tells files PieceTells faults fuses opened (mid.sight).seen found
   kept_at opened is = let same : takes.opened ≡ opened = cc (takes.start, is) in
@@ -60,7 +61,8 @@ module _ {D P : Type 0} (Tells : Type 0) (files : D → Files) (PieceTells : Typ
       seen = refl;
       own = ap (λ (s : Seated D P). (s.sight).own ++ acts_in made) takes.same;
       shown = ap (λ (s : Seated D P). (s.sight).shown) takes.same
-          ∙ sym (entries_append volume_lock (mid.sight).seen (acts_in made) ∙ ap (λ (l : List Entry). entries volume_lock (mid.sight).seen ++ l) goes.quiet ∙ append-nil (entries volume_lock (mid.sight).seen));
+          ∙ sym (entries_append volume_lock (mid.sight).seen (acts_in made) ∙ ap (λ (l : List Entry). entries volume_lock (mid.sight).seen ++ l) goes.quiet
+          ∙ append-nil (entries volume_lock (mid.sight).seen));
       tags = goes.tags;
       seats = goes.seats;
     }
@@ -81,7 +83,8 @@ module _ {D P : Type 0} (Tells : Type 0) (files : D → Files) (PieceTells : Typ
 
       pub same_seat : old.holds ≡ false → IsSameSeat old new
       same_seat rests = let e : new ≡ freed (holding old (mid.sight).seen) (acts_in made) = is_new ∙ ap (λ (s : Seated D P). freed s (acts_in made)) takes.same in
-          e ∙ ap (λ b. record (freed (holding old (mid.sight).seen) (acts_in made)) { holds = b }) (sym rests) ∙ ap (λ (s : LockSight VolumeAct Entry). record old { sight = s }) (sym (ap (λ (s : Seated D P). s.sight) e))
+          e ∙ ap (λ b. record (freed (holding old (mid.sight).seen) (acts_in made)) { holds = b }) (sym rests)
+          ∙ ap (λ (s : LockSight VolumeAct Entry). record old { sight = s }) (sym (ap (λ (s : Seated D P). s.sight) e))
 
 -- WHERE IT BEGINS
 

@@ -1,5 +1,6 @@
 -- How a compaction that a line began is told to have ended by acts of other lanes.
-use Rattle.std.proofs.Common.{◌≡◌, ◌⊎◌, inl, inr, ℕ, zero, suc, ◌<◌, Bool, true, false, List, [], ◌∷◌, ◌++◌, length, Option, Some, None, option_map, refl, sym, ap, subst, ◌∙◌, arith, append_assoc, append-nil}
+use Rattle.std.proofs.Common.{◌≡◌, ◌⊎◌, inl, inr, ℕ, zero, suc, ◌<◌, Bool, true, false, List, [], ◌∷◌, ◌++◌, length, Option, Some, None, option_map, refl, sym, ap, subst, ◌∙◌}
+use Rattle.std.proofs.Common.{arith, append_assoc, append-nil}
 use Rattle.std.specs.Prelude.{◌==◌, ◌≢◌, if◌then◌else◌, slice_get, slice_index_or}
 use Rattle.std.proofs.lemmas.Bool.{cases_Bool, cases_eq, cond-false, cond-true, eq-eqb, ne_eqb}
 use Rattle.std.proofs.lemmas.Option.{none-some}
@@ -238,7 +239,8 @@ module _ (settings : Settings) (start : Start) (v j : ℕ) (who : CoreTag) (with
         kept_now : (pair : Pair) → did_of act.did ≡ Entered (entry.Del pair) → ended_of j who.lane nobody None then_held ≡ Some ((left_by act before).faults j)
         kept_now pair is =
             ended_more j who.lane nobody None held act
-            ∙ ap (λ (b : Bool). if b then (if (begun_of j nobody held).lane == who.lane then Some (slice_index_or act.faults j 0) else ended_of j who.lane nobody None held) else ended_of j who.lane nobody None held)
+            ∙ ap (λ (b : Bool). if b then (if (begun_of j nobody held).lane == who.lane then Some (slice_index_or act.faults j 0) else ended_of j who.lane nobody None held)
+            else ended_of j who.lane nobody None held)
             (tells_end act.tag before.volume j pair has.run act.did is has.stands none_left)
             ∙ ap (λ (b : Bool). if b then Some (slice_index_or act.faults j 0) else ended_of j who.lane nobody None held) (eq-eqb (begun_of j nobody held).lane who.lane own_lane)
             ∙ ap Some (same_item act.faults j 0 (before.faults j) (let sized = is_other.sized in omega (arith, within, sized)))
@@ -287,10 +289,12 @@ module _ (settings : Settings) (start : Start) (v j : ℕ) (who : CoreTag) (with
       kept_on = ended_more j who.lane nobody None held act ∙ elim (cases_Bool (ends_at j act.did)) [
         | inl ends ↦
             let cut = is_other.cuts ends in
-            ap (λ (b : Bool). if b then (if (begun_of j nobody held).lane == who.lane then Some (slice_index_or act.faults j 0) else ended_of j who.lane nobody None held) else ended_of j who.lane nobody None held) ends
+            ap (λ (b : Bool). if b then (if (begun_of j nobody held).lane == who.lane then Some (slice_index_or act.faults j 0) else ended_of j who.lane nobody None held)
+            else ended_of j who.lane nobody None held) ends
             ∙ ap (λ (b : Bool). if b then Some (slice_index_or act.faults j 0) else ended_of j who.lane nobody None held)
             (ne_eqb (begun_of j nobody held).lane who.lane (λ same. gone.apart cut.0 cut.1 same))
-        | inr keeps ↦ ap (λ (b : Bool). if b then (if (begun_of j nobody held).lane == who.lane then Some (slice_index_or act.faults j 0) else ended_of j who.lane nobody None held) else ended_of j who.lane nobody None held) keeps
+        | inr keeps ↦ ap (λ (b : Bool). if b then (if (begun_of j nobody held).lane == who.lane then Some (slice_index_or act.faults j 0) else ended_of j who.lane nobody None held)
+            else ended_of j who.lane nobody None held) keeps
       ]
 
       still_gone : IsGone then_held

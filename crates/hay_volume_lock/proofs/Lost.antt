@@ -52,7 +52,8 @@ last_none (x ∷ xs) ys same = absurd (cc same)
 -- an act of a number is among its acts
 among : (n : ℕ) (first : List VolumeAct) (act : VolumeAct) (rest : List VolumeAct) → acts_of (λ act. act.seat) n (first ++ act ∷ rest) ≡ [] → act.seat ≡ n → ⊥
 among n first act rest none own =
-    let left : acts_of (λ act. act.seat) n (act ∷ rest) ≡ [] = last_none (acts_of (λ act. act.seat) n first) (acts_of (λ act. act.seat) n (act ∷ rest)) (sym (acts_of_append (λ act. act.seat) n first (act ∷ rest)) ∙ none) in
+    let left : acts_of (λ act. act.seat) n (act ∷ rest) ≡ [] =
+    last_none (acts_of (λ act. act.seat) n first) (acts_of (λ act. act.seat) n (act ∷ rest)) (sym (acts_of_append (λ act. act.seat) n first (act ∷ rest)) ∙ none) in
     let some : acts_of (λ act. act.seat) n (act ∷ rest) ≡ act ∷ acts_of (λ act. act.seat) n rest =
     ap (λ (b : Bool). if b then act ∷ acts_of (λ act. act.seat) n rest else acts_of (λ act. act.seat) n rest) (eq-eqb act.seat n own) in
     (let wrong : act ∷ acts_of (λ act. act.seat) n rest ≡ [] = sym some ∙ left in cc wrong)
@@ -65,7 +66,8 @@ IsOwnSight tag a = acts_of volume_lock.seat tag.lane a.seen ≡ a.own
 abbrev pub OwnSights : CoreTag → VolumeCall → VolumeCall
 OwnSights tag Is a b = IsOwnSight tag a → IsOwnSight tag b → Is a b
 
-module _ {D P : Type 0} (Tells : Type 0) (files : D → Files) (PieceTells : Type 0) (faults fuses : D → ℕ) (tag : CoreTag) (old : Guarded D P) (j : ℕ) (within : j < ((old.logical).settings).replicas) where
+module _ {D P : Type 0} (Tells : Type 0) (files : D → Files) (PieceTells : Type 0) (faults fuses : D → ℕ) (tag : CoreTag) (old : Guarded D P) (j : ℕ)
+    (within : j < ((old.logical).settings).replicas) where
   abbrev owner : CoreTag
   owner = slice_index_or old.begun j nobody
 
@@ -84,17 +86,20 @@ module _ {D P : Type 0} (Tells : Type 0) (files : D → Files) (PieceTells : Typ
       follows =
           subst (λ (z : Standing). Follows volume.settings volume.number z (replayed volume_lock z (first ++ more))) (sym at.start)
           (subst (λ (z : Settings). Follows z volume.number (standing_of faults fuses opened k) (replayed volume_lock (standing_of faults fuses opened k) (first ++ more))) (sym at.settings)
-          (subst (λ (n : ℕ). Follows (opened.volume).settings n (standing_of faults fuses opened k) (replayed volume_lock (standing_of faults fuses opened k) (first ++ more))) (sym at.number) (h.follows tells k s)))
+          (subst (λ (n : ℕ). Follows (opened.volume).settings n (standing_of faults fuses opened k) (replayed volume_lock (standing_of faults fuses opened k) (first ++ more)))
+          (sym at.number) (h.follows tells k s)))
 
       -- each act since is another lane's
-      other_act : (before : List VolumeAct) (act : VolumeAct) → IsPrefix before more → IsPrefix (before ++ act ∷ []) more → IsOther volume.settings volume.start volume.number j tag in_volume (first ++ before) act
+      other_act : (before : List VolumeAct) (act : VolumeAct) → IsPrefix before more → IsPrefix (before ++ act ∷ []) more
+          → IsOther volume.settings volume.start volume.number j tag in_volume (first ++ before) act
       other_act before act begins (rest, parts) =
           let whole : more ≡ before ++ act ∷ rest = sym parts ∙ append_assoc before (act ∷ []) rest in
           let all : first ++ more ≡ (first ++ before) ++ act ∷ rest = ap (λ l. first ++ l) whole ∙ sym (append_assoc first before (act ∷ rest)) in
           let prefix : IsPrefix ((first ++ before) ++ act ∷ []) (first ++ more) = (rest, append_assoc (first ++ before) (act ∷ []) rest ∙ sym all) in
           let f = follows_behind volume.settings volume.number (volume.start.volumes volume.number) (first ++ before) (act ∷ rest)
           (subst (λ (l : List VolumeAct). Follows volume.settings volume.number (volume.start.volumes volume.number) (replayed volume_lock (volume.start.volumes volume.number) l)) all follows) in
-          let sized : IsSized ((opened.volume).settings).replicas act = each_at (IsSized ((opened.volume).settings).replicas) (first ++ before) act rest (subst (Each (IsSized ((opened.volume).settings).replicas)) all h.sized) in
+          let sized : IsSized ((opened.volume).settings).replicas act =
+          each_at (IsSized ((opened.volume).settings).replicas) (first ++ before) act rest (subst (Each (IsSized ((opened.volume).settings).replicas)) all h.sized) in
           record {
             follows = (f.0, f.1, f.2, tt);
             sized = sized.faults ∙ ap (λ (z : Settings). z.replicas) (sym at.settings);
@@ -119,7 +124,8 @@ module _ {D P : Type 0} (Tells : Type 0) (files : D → Files) (PieceTells : Typ
   abbrev IsAway : VolumeKnown → Type 0
   IsAway k = owner ≡ tag → (replica_at k j).run ≡ None
 
-  module _ (opened : Opened D P) (held : List VolumeAct) (h : Kept opened held) (tells : Tells) (k : VolumeKnown) (s : Stands files PieceTells opened.volume k) (volume : StoreVolume) (at : IsAt faults fuses opened k volume)
+  module _ (opened : Opened D P) (held : List VolumeAct) (h : Kept opened held) (tells : Tells) (k : VolumeKnown) (s : Stands files PieceTells opened.volume k)
+      (volume : StoreVolume) (at : IsAt faults fuses opened k volume)
       (a b : LockSight VolumeAct Entry) (holding : Holding volume_lock tag held None a b) (own_then : IsOwnSight tag a) (own_now : IsOwnSight tag b) where
     abbrev more : List VolumeAct
     more = (holding.from).0

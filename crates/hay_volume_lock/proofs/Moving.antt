@@ -49,7 +49,8 @@ use Rattle.hay_volume_lock.proofs.Putting.{both_again}
 use Rattle.hay_volume_lock.proofs.Swapping.{IsSwap, froze_leads, swap_leads}
 
 -- what a place stands for it tells
-place_tells : {D P : Type 0} (files : D → Files) (PieceTells : Type 0) (r : Copy D) (pair : Pair) (p : Place P) (what : Outcome) → PlaceStands files PieceTells r pair p what → PlaceTells PieceTells pair p what
+place_tells : {D P : Type 0} (files : D → Files) (PieceTells : Type 0) (r : Copy D) (pair : Pair) (p : Place P) (what : Outcome) → PlaceStands files PieceTells r pair p what
+    → PlaceTells PieceTells pair p what
 place_tells files PieceTells r pair (place.Live needle) what stands = stands
 place_tells files PieceTells r pair place.None what stands = stands
 place_tells files PieceTells r pair place.Gone what stands = stands
@@ -59,7 +60,8 @@ place_tells files PieceTells r pair (place.Unseen at size) what stands = tt
 now_swapped : (k : VolumeKnown) (j end cells i : ℕ) → now (change_at k j (swapped end cells)) (replica_at (change_at k j (swapped end cells)) i) ≡ now k (replica_at k i)
 now_swapped k j end cells i = ap (λ (base : Table). at_front k (record (replica_at k i) { base = base }) (length k.log)) ((replica_same k j (swapped end cells) (λ r. refl)).bases i)
 
-module _ {D P : Type 0} (Tells : Type 0) (files : D → Files) (PieceTells : Type 0) (faults fuses : D → ℕ) (tag : CoreTag) (old : Guarded D P) (j g end count : ℕ) (within : j < ((old.logical).settings).replicas)
+module _ {D P : Type 0} (Tells : Type 0) (files : D → Files) (PieceTells : Type 0) (faults fuses : D → ℕ) (tag : CoreTag) (old : Guarded D P) (j g end count : ℕ)
+    (within : j < ((old.logical).settings).replicas)
     (thawed : (old.logical).frozen ≡ None) (mid : Volume D P) (cells : List (OpenCell P)) (deed : Published P) (deed_is : deed ≡ record { change = op.Swap j cells; entered = [] })
     (rows : ChangesRows (op.Swap j cells) (old.logical).rows mid.rows)
     (swap : Tells → (k : VolumeKnown) → Stands files PieceTells old.logical k → IsSwap files PieceTells k j g end count mid)
@@ -82,7 +84,8 @@ module _ {D P : Type 0} (Tells : Type 0) (files : D → Files) (PieceTells : Typ
   shown_place behind stands pair i r there = shown mid.settings mid.number Tells files PieceTells faults fuses mid.replicas mid.rows mid.front mid.frozen mid.unsure behind stands pair i r there
 
   -- the places may be published
-  pub swap_may : (opened : Opened D P) (held : List VolumeAct) → Kept opened held → Holds (Fact Tells files PieceTells) (old.front).shown → MayPublish (Fact Tells files PieceTells) (old.front).shown deed
+  pub swap_may : (opened : Opened D P) (held : List VolumeAct) → Kept opened held → Holds (Fact Tells files PieceTells) (old.front).shown
+      → MayPublish (Fact Tells files PieceTells) (old.front).shown deed
   swap_may opened held h fact =
       may_publish Tells files PieceTells opened.volume (h.from).rows (old.front).shown base fact deed
       (record { rows = fit; enters = subst (λ (d : Published P). Enters d.change d.entered) (sym deed_is) refl }) tells_more
@@ -108,7 +111,8 @@ module _ {D P : Type 0} (Tells : Type 0) (files : D → Files) (PieceTells : Typ
           ∙ sym (rows.rows pair)
 
       entered_then : entered_by (((old.front).shown).deeds ++ deed ∷ []) ≡ entries volume_lock held
-      entered_then = entered_more ((old.front).shown).deeds deed ∙ ap (λ (l : List Entry). entered_by ((old.front).shown).deeds ++ l) entered_is ∙ append-nil (entered_by ((old.front).shown).deeds) ∙ h.entered
+      entered_then =
+          entered_more ((old.front).shown).deeds deed ∙ ap (λ (l : List Entry). entered_by ((old.front).shown).deeds ++ l) entered_is ∙ append-nil (entered_by ((old.front).shown).deeds) ∙ h.entered
 
       tells_more : RowsTell Tells files PieceTells (begun_at opened.volume (h.from).rows) (((old.front).shown).deeds ++ deed ∷ [])
       tells_more tells k s pair i less =
@@ -116,12 +120,15 @@ module _ {D P : Type 0} (Tells : Type 0) (files : D → Files) (PieceTells : Typ
           let w = swap tells before (h.stands tells k s) in
           let behind : VolumeKnown = change_at before j (swapped end count) in
           let all = is_open.all in
-          let r = at_there mid.replicas i (let few : i < (mid.settings).replicas = subst (λ (z : Settings). i < z.replicas) (sym (same.settings ∙ h.same_settings)) less in (let h : i < length mid.replicas = omega (arith, all, few) in h)) in
+          let r =
+          at_there mid.replicas i (let few : i < (mid.settings).replicas = subst (λ (z : Settings). i < z.replicas) (sym (same.settings ∙ h.same_settings)) less in
+          (let h : i < length mid.replicas = omega (arith, all, few) in h)) in
           let table : now behind (replica_at behind i) ≡ fold apply_entry (now k (replica_at k i)) (entered_by (((old.front).shown).deeds ++ deed ∷ [])) =
           now_swapped before j end count i
           ∙ table_behind (opened.volume).settings (opened.volume).number (standing_of faults fuses opened k) held i (h.follows tells k s)
           ∙ ap (fold apply_entry (now k (replica_at k i))) (sym entered_then) in
-          subst (λ (row : List (Place P)). PlaceTells PieceTells pair (place_in row i) (outcome_at (fold apply_entry (now k (replica_at k i)) (entered_by (((old.front).shown).deeds ++ deed ∷ []))) pair)) (sym (row_then pair))
+          subst (λ (row : List (Place P)). PlaceTells PieceTells pair (place_in row i) (outcome_at
+          (fold apply_entry (now k (replica_at k i)) (entered_by (((old.front).shown).deeds ++ deed ∷ []))) pair)) (sym (row_then pair))
           (subst (λ (t : Table). PlaceTells PieceTells pair (place_in (row_at mid.rows pair) i) (outcome_at t pair)) table
           (place_tells files PieceTells r.0 pair (place_in (row_at mid.rows pair) i) (outcome_at (now behind (replica_at behind i)) pair)
           (shown_place behind w.stands pair i r.0 r.1)))

@@ -1,5 +1,6 @@
 -- The lock where it is made, and where it ends.
-use Rattle.std.proofs.Common.{◌≡◌, ◌+◌, ◌<◌, ℕ, zero, suc, false, List, [], ◌∷◌, ◌++◌, length, map, replicate, slice_get, Option, Some, None, refl, sym, ap, subst, ◌∙◌, arith, append-nil, append_assoc, length-append}
+use Rattle.std.proofs.Common.{◌≡◌, ◌+◌, ◌<◌, ℕ, zero, suc, false, List, [], ◌∷◌, ◌++◌, length, map, replicate, slice_get, Option, Some, None, refl, sym, ap, subst, ◌∙◌, arith}
+use Rattle.std.proofs.Common.{append-nil, append_assoc, length-append}
 use Rattle.std.specs.Prelude.{slice_index_or, IfOk, Result, Ok, Err}
 use Rattle.std.specs.List.{AllByRecursion as Each}
 use Rattle.std.proofs.lemmas.List.{length-map, length-replicate}
@@ -72,11 +73,19 @@ module _ {D P : Type 0} (Tells : Type 0) (files : D → Files) (PieceTells : Typ
   Told b = (b ≡ view.start) × AllFit view [] × RowsTell Tells files PieceTells view []
 
   pub first_fact : (faults fuses : D → ℕ) → length volume.replicas ≡ (volume.settings).replicas → (b : Volume D P) × Told b
-  first_fact faults fuses all =
-      (view.start, (refl, tt, subst (λ (m : MapPast P (Volume D P)). RowsTell Tells files PieceTells m []) (sym first.is) (first_tell Tells files PieceTells faults fuses volume first.rows all first.same)))
+  first_fact faults fuses all = (
+    view.start,
+    (
+      refl,
+      tt,
+      subst (λ (m : MapPast P (Volume D P)). RowsTell Tells files PieceTells m []) (sym first.is)
+          (first_tell Tells files PieceTells faults fuses volume first.rows all first.same),
+    ),
+  )
 
   pub shows_first : {V E : Type 0} (seats : ℕ) (items_of : V → List (View D P)) (result : Result (PlaceFront D P × V) E)
-      → IfOk result (λ r. (b : Volume D P) × Told b × (((r.0).shown).base ≡ Some (view, b)) × (((r.0).shown).deeds ≡ []) × ((r.0).closed ≡ false) × ((r.0).log ≡ []) × (items_of r.1 ≡ replicate seats (r.0).shown))
+      → IfOk result (λ r. (b : Volume D P) × Told b × (((r.0).shown).base ≡ Some (view, b)) × (((r.0).shown).deeds ≡ []) × ((r.0).closed ≡ false) × ((r.0).log ≡ [])
+      × (items_of r.1 ≡ replicate seats (r.0).shown))
       → IfOk result (λ r. ShowsFirst volume r.0 × (items_of r.1 ≡ replicate seats (r.0).shown))
   shows_first seats items_of (Ok r) (b, fact, base, blank, serves, log, all) = (
     record {
@@ -135,7 +144,9 @@ module _ {D P : Type 0} (Tells : Type 0) (files : D → Files) (PieceTells : Typ
         base = refl;
         entered = ap entered_by shows.blank;
         serves = λ thawed. shows.serves;
-        rows = λ thawed pair. subst (λ (deeds : List (Published P)). published_row kept.logical (shows.first).rows deeds pair ≡ row_at (kept.logical).rows pair) (sym shows.blank) ((shows.first).same pair);
+        rows =
+            λ thawed pair. subst (λ (deeds : List (Published P)). published_row kept.logical (shows.first).rows deeds pair ≡ row_at (kept.logical).rows pair) (sym shows.blank)
+            ((shows.first).same pair);
         tags = ap (λ l. map (λ e. e.tag) l) shows.log;
         lanes = tt;
         begun = λ j less. begun j;
@@ -182,7 +193,8 @@ module _ {D P : Type 0} where
           own = subst (λ (z : SeatState (Opened D P) VolumeAct). acts_of volume_lock.seat z.number z.seen ≡ z.own) (sym is) refl;
         }
 
-    pub seating_next : (t : SeatState (Opened D P) VolumeAct) (v : View D P) → Seating lock volume n stood lanes (t ∷ turns) (v ∷ views) → Seating lock volume n stood (lanes ++ seat_of t v ∷ []) turns views
+    pub seating_next : (t : SeatState (Opened D P) VolumeAct) (v : View D P) → Seating lock volume n stood lanes (t ∷ turns) (v ∷ views)
+        → Seating lock volume n stood (lanes ++ seat_of t v ∷ []) turns views
     seating_next t v s =
         let is = s.turns_are 0 t refl in
         let view = s.views_are 0 v refl in
@@ -197,7 +209,8 @@ module _ {D P : Type 0} where
           is = s.is;
           stood_is = s.stood_is;
           lanes_are = λ i x at. last_or lanes (seat_of t v) (λ i x. x ≡ new_seat lock s.opened n i) s.lanes_are next i x at;
-          turns_are = λ i x at. s.turns_are (suc i) x at ∙ ap (λ (m : ℕ). new_turn lock (Some s.opened) n m) (let h : length lanes + suc i ≡ length (lanes ++ seat_of t v ∷ []) + i = omega (arith, long) in h);
+          turns_are =
+              λ i x at. s.turns_are (suc i) x at ∙ ap (λ (m : ℕ). new_turn lock (Some s.opened) n m) (let h : length lanes + suc i ≡ length (lanes ++ seat_of t v ∷ []) + i = omega (arith, long) in h);
           views_are = λ i x at. s.views_are (suc i) x at;
           many = (let m = s.many in omega (arith, m));
           all = (let a = s.all in omega (arith, a, long));
@@ -278,7 +291,8 @@ module _ {D P : Type 0} where
       subst (λ (l : List (Seated D P)). AreViews views l) (sym (append-nil viewing.past) ∙ ap (λ l. viewing.past ++ l) (sym (none_left rest none)) ∙ viewing.are) viewing.each
 
   -- each is of the front that stands behind the lock
-  pub all_of_front : (opened : Opened D P) (shown : View D P) (views : List (View D P)) (seats : List (Seated D P)) → AreViews views seats → ((i : ℕ) (s : Seated D P) → slice_get seats i ≡ Some s → s.start ≡ Some opened)
+  pub all_of_front : (opened : Opened D P) (shown : View D P) (views : List (View D P)) (seats : List (Seated D P)) → AreViews views seats
+      → ((i : ℕ) (s : Seated D P) → slice_get seats i ≡ Some s → s.start ≡ Some opened)
       → shown.front ≡ (opened.view).front → Each (λ v. v.front ≡ shown.front) views
   all_of_front opened shown [] seats are starts front = tt
   all_of_front opened shown (v ∷ vs) [] are starts front = absurd are
@@ -297,7 +311,8 @@ module _ {D P : Type 0} where
       (subst (λ (l : List Entry). IsPrefix l (entered_by shown.deeds)) (are.0).shown (entered_prefix v.deeds shown.deeds ((behind.0).2)))
   all_shown shown (v ∷ vs) (z ∷ zs) are behind (suc i) s at = all_shown shown vs zs are.1 behind.1 i s at
 
-  module _ {lock : TurnId} {opened : Opened D P} {seats : List (Seated D P)} (are : AreSeated lock opened seats) {turns : List (SeatState (Opened D P) VolumeAct)} (turns_are : turns ≡ map turn_of seats) where
+  module _ {lock : TurnId} {opened : Opened D P} {seats : List (Seated D P)} (are : AreSeated lock opened seats) {turns : List (SeatState (Opened D P) VolumeAct)}
+      (turns_are : turns ≡ map turn_of seats) where
     many_turns : length turns ≡ length seats
     many_turns = ap length turns_are ∙ length-map seats turn_of
 

@@ -60,5 +60,6 @@ module _ {D P : Type 0} (Tells : Type 0) (files : D → Files) (PieceTells : Typ
       → (Is : StoreVolume → VolumeCall) → Found Tells files PieceTells faults fuses tag kept made (λ volume. OwnSights tag (Is volume))
       → IsTold Tells files PieceTells faults fuses t.start (λ volume. Is volume (seat_of t v).sight (seat_of t'' w).sight)
   changed_owned t t' v v' w kept after made seated holds behind all shown changes t'' free lane Is finds opened is tells k s volume at =
-      changed_told Tells files PieceTells faults fuses tag t t' v v' w kept after made seated holds behind all shown changes t'' free (λ volume. OwnSights tag (Is volume)) finds opened is tells k s volume at
+      changed_told Tells files PieceTells faults fuses tag t t' v v' w kept after made seated holds behind all shown changes t'' free (λ volume. OwnSights tag (Is volume)) finds
+      opened is tells k s volume at
       (own_then t t' v kept seated holds lane) (own_now t t' v kept seated holds lane t'' w (acts_in made) (all_mine t.number tag.lane (acts_in made) lane changes.seats) free)

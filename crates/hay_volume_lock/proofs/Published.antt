@@ -60,7 +60,8 @@ entered_both (x ∷ xs) ys = ap (λ (l : List Entry). x.entered ++ l) (entered_b
 pub entered_more : {P : Type 0} (deeds : List (Published P)) (deed : Published P) → entered_by (deeds ++ deed ∷ []) ≡ entered_by deeds ++ deed.entered
 entered_more deeds deed = entered_both deeds (deed ∷ []) ∙ ap (λ (l : List Entry). entered_by deeds ++ l) (append-nil deed.entered)
 
-table_more : {P : Type 0} (table : Table) (deeds : List (Published P)) (deed : Published P) → fold apply_entry table (entered_by (deeds ++ deed ∷ [])) ≡ fold apply_entry (fold apply_entry table (entered_by deeds)) deed.entered
+table_more : {P : Type 0} (table : Table) (deeds : List (Published P)) (deed : Published P)
+    → fold apply_entry table (entered_by (deeds ++ deed ∷ [])) ≡ fold apply_entry (fold apply_entry table (entered_by deeds)) deed.entered
 table_more table deeds deed = ap (fold apply_entry table) (entered_more deeds deed) ∙ fold-append apply_entry table (entered_by deeds) deed.entered
 
 -- WHAT A PLACE TELLS
@@ -91,7 +92,8 @@ set_in (p ∷ row) zero there (suc j) = inl refl
 set_in (p ∷ row) (suc i) there zero = inl refl
 set_in (p ∷ row) (suc i) there (suc j) = elim (set_in row i there j) [ inl same ↦ inl same | inr here ↦ inr (ap suc here.0, here.1) ]
 
-module _ {D P : Type 0} (Tells : Type 0) (files : D → Files) (PieceTells : Type 0) (past : MapPast P (Volume D P)) (deeds : List (Published P)) (deed : Published P) (fit : FitsRows (past.first).replicas deed.change)
+module _ {D P : Type 0} (Tells : Type 0) (files : D → Files) (PieceTells : Type 0) (past : MapPast P (Volume D P)) (deeds : List (Published P)) (deed : Published P)
+    (fit : FitsRows (past.first).replicas deed.change)
     (rows_tell : RowsTell Tells files PieceTells past deeds) where
   abbrev row_then : Pair → List (Place P)
   row_then pair = row_of (fold with_published past deeds) pair
@@ -100,11 +102,15 @@ module _ {D P : Type 0} (Tells : Type 0) (files : D → Files) (PieceTells : Typ
   table_then k j = fold apply_entry (now k (replica_at k j)) (entered_by deeds)
 
   -- what a place tells behind the change, by what the change made of its row, and of the table
-  behind : (k : VolumeKnown) (pair : Pair) (j : ℕ) → PlaceTells PieceTells pair (place_in (changed_row deed.change pair (row_then pair)) j) (outcome_at (fold apply_entry (table_then k j) deed.entered) pair)
-      → PlaceTells PieceTells pair (place_in (row_of (fold with_published past (deeds ++ deed ∷ [])) pair) j) (outcome_at (fold apply_entry (now k (replica_at k j)) (entered_by (deeds ++ deed ∷ []))) pair)
+  behind : (k : VolumeKnown) (pair : Pair) (j : ℕ) → PlaceTells PieceTells pair (place_in (changed_row deed.change pair (row_then pair)) j)
+      (outcome_at (fold apply_entry (table_then k j) deed.entered) pair)
+      → PlaceTells PieceTells pair (place_in (row_of (fold with_published past (deeds ++ deed ∷ [])) pair) j)
+      (outcome_at (fold apply_entry (now k (replica_at k j)) (entered_by (deeds ++ deed ∷ []))) pair)
   behind k pair j tells =
-      subst (λ (row : List (Place P)). PlaceTells PieceTells pair (place_in row j) (outcome_at (fold apply_entry (now k (replica_at k j)) (entered_by (deeds ++ deed ∷ []))) pair)) (sym (row_more past deeds deed pair fit))
-      (subst (λ (table : Table). PlaceTells PieceTells pair (place_in (changed_row deed.change pair (row_then pair)) j) (outcome_at table pair)) (sym (table_more (now k (replica_at k j)) deeds deed)) tells)
+      subst (λ (row : List (Place P)). PlaceTells PieceTells pair (place_in row j) (outcome_at (fold apply_entry (now k (replica_at k j)) (entered_by (deeds ++ deed ∷ []))) pair))
+      (sym (row_more past deeds deed pair fit))
+      (subst (λ (table : Table). PlaceTells PieceTells pair (place_in (changed_row deed.change pair (row_then pair)) j) (outcome_at table pair))
+      (sym (table_more (now k (replica_at k j)) deeds deed)) tells)
 
   pub put_tells : (pair : Pair) (cookie : Cookie) (bytes : List ℕ) (row : List (Place P)) → deed ≡ record { change = op.Put pair row; entered = entry.Put pair cookie bytes ∷ [] }
       → (Tells → (k : VolumeKnown) → Stands files PieceTells past.start k → (j : ℕ) → j < ((past.start).settings).replicas
@@ -112,7 +118,8 @@ module _ {D P : Type 0} (Tells : Type 0) (files : D → Files) (PieceTells : Typ
       → RowsTell Tells files PieceTells past (deeds ++ deed ∷ [])
   put_tells pair cookie bytes row is means tells k s other j less = behind k other j
       (subst (λ (d : Published P). PlaceTells PieceTells other (place_in (changed_row d.change other (row_then other)) j) (outcome_at (fold apply_entry (table_then k j) d.entered) other)) (sym is)
-      (subst (λ (what : Outcome). PlaceTells PieceTells other (place_in (cond (pair_eq pair other) row (row_then other)) j) what) (sym (at-apply_entry (table_then k j) (entry.Put pair cookie bytes) other))
+      (subst (λ (what : Outcome). PlaceTells PieceTells other (place_in (cond (pair_eq pair other) row (row_then other)) j) what)
+      (sym (at-apply_entry (table_then k j) (entry.Put pair cookie bytes) other))
       (one (pair_eq pair other) refl)))
     where
       photo : Outcome
@@ -125,7 +132,8 @@ module _ {D P : Type 0} (Tells : Type 0) (files : D → Files) (PieceTells : Typ
   pub del_tells : (pair : Pair) → deed ≡ record { change = op.Del pair; entered = entry.Del pair ∷ [] } → RowsTell Tells files PieceTells past (deeds ++ deed ∷ [])
   del_tells pair is tells k s other j less = behind k other j
       (subst (λ (d : Published P). PlaceTells PieceTells other (place_in (changed_row d.change other (row_then other)) j) (outcome_at (fold apply_entry (table_then k j) d.entered) other)) (sym is)
-      (subst (λ (what : Outcome). PlaceTells PieceTells other (place_in (cond (pair_eq pair other) (map gone_place (row_then other)) (row_then other)) j) what) (sym (at-apply_entry (table_then k j) (entry.Del pair) other))
+      (subst (λ (what : Outcome). PlaceTells PieceTells other (place_in (cond (pair_eq pair other) (map gone_place (row_then other)) (row_then other)) j) what)
+      (sym (at-apply_entry (table_then k j) (entry.Del pair) other))
       (one (pair_eq pair other))))
     where
       one : (b : Bool) → PlaceTells PieceTells other (place_in (cond b (map gone_place (row_then other)) (row_then other)) j) (cond b outcome.Nothing (outcome_at (table_then k j) other))

@@ -119,7 +119,8 @@ module _ {D P : Type 0} (Tells : Type 0) (files : D → Files) (PieceTells : Typ
         (subst (λ (n : ℕ). count_at faults (old.logical).replicas j ≤ n) (sym (faults_then h of k j)) (none_falls of j))
 
     pub kept_acted : Kept acts old → IsOfBoth faults old new → Thaws old new → Shows tag (entry_of (did_by made)) old new → Serves opened old new → LeadsFusesOf fuses old new (did_of (did_by made))
-        → (Tells → (k : VolumeKnown) → Stands files PieceTells opened.volume k → Leads (opened.volume).settings (opened.volume).number tag (did_of (did_by made)) (stood k) (left_by this_act (stood k)))
+        → (Tells → (k : VolumeKnown) → Stands files PieceTells opened.volume k → Leads (opened.volume).settings (opened.volume).number tag (did_of (did_by made)) (stood k)
+        (left_by this_act (stood k)))
         → (Tells → (k : VolumeKnown) → Stands files PieceTells opened.volume k → Stands files PieceTells new.logical (known_by tag (did_by made) (stood k).volume))
         → (Tells → (k : VolumeKnown) → Stands files PieceTells opened.volume k → TightBehind files tag made old new (stood k))
         → ((j : ℕ) → j < ((opened.volume).settings).replicas → slice_index_or new.begun j nobody ≡ begun_in j tag (did_of (did_by made)) (slice_index_or old.begun j nobody))
@@ -131,7 +132,9 @@ module _ {D P : Type 0} (Tells : Type 0) (files : D → Files) (PieceTells : Typ
       same_settings = (of.same).settings ∙ h.same_settings;
       number = (of.same).number ∙ h.number;
       is_open = of.is_open;
-      stands = λ tells k s. subst (λ (z : Standing). Stands files PieceTells new.logical z.volume) (sym (left_append volume_lock (standing_of faults fuses opened k) acts (this_act ∷ []))) (stands tells k s);
+      stands =
+          λ tells k s. subst (λ (z : Standing). Stands files PieceTells new.logical z.volume)
+          (sym (left_append volume_lock (standing_of faults fuses opened k) acts (this_act ∷ []))) (stands tells k s);
       follows = follows_now;
       sized = each_more (IsSized ((opened.volume).settings).replicas) acts this_act h.sized (record { faults = sized_by faults; fuses = sized_by fuses });
       fault_counts = λ k j. ap (λ (z : Standing). z.faults j) (left_append volume_lock (standing_of faults fuses opened k) acts (this_act ∷ [])) ∙ faults_then h of k j;
@@ -224,7 +227,8 @@ module _ {D P : Type 0} (Tells : Type 0) (files : D → Files) (PieceTells : Typ
       → (act : VolumeAct) → act ≡ act_of faults fuses tag made (new.logical).replicas → Leaves (Some act)
   changes_acted made of thaws shows serves fuses_lead leads begun ends act is = subst (λ (z : VolumeAct). Leaves (Some z)) (sym is) (record {
     kept = λ opened held h. kept_acted Tells files PieceTells faults fuses opened held old new tag made h of thaws shows (serves opened h.same_settings) fuses_lead
-        (λ tells k s. subst (λ (z : Settings). Leads z (opened.volume).number tag (did_of (did_by made)) (stood_of faults fuses opened k held) (left_by this (stood_of faults fuses opened k held))) h.same_settings
+        (λ tells k s. subst (λ (z : Settings). Leads z (opened.volume).number tag (did_of (did_by made)) (stood_of faults fuses opened k held)
+        (left_by this (stood_of faults fuses opened k held))) h.same_settings
         (subst (λ (z : ℕ). Leads (old.logical).settings z tag (did_of (did_by made)) (stood_of faults fuses opened k held) (left_by this (stood_of faults fuses opened k held))) h.number
         (leads tells (stood_of faults fuses opened k held) (h.stands tells k s)).leads))
         (λ tells k s. (leads tells (stood_of faults fuses opened k held) (h.stands tells k s)).stands)
@@ -254,7 +258,8 @@ module _ {D P : Type 0} (Tells : Type 0) (files : D → Files) (PieceTells : Typ
 
 -- WHAT IT TELLS
 
-module _ {D P : Type 0} (Tells : Type 0) (files : D → Files) (PieceTells : Type 0) (faults fuses : D → ℕ) (tag : CoreTag) (t t' : SeatState (Opened D P) VolumeAct) {stood : ℕ} (v v' v'' : View D P) (kept after : Guarded D P) (made : Option VolumeAct)
+module _ {D P : Type 0} (Tells : Type 0) (files : D → Files) (PieceTells : Type 0) (faults fuses : D → ℕ) (tag : CoreTag) (t t' : SeatState (Opened D P) VolumeAct) {stood : ℕ}
+    (v v' v'' : View D P) (kept after : Guarded D P) (made : Option VolumeAct)
     (seated : IsSeated t stood v) (holds : Holds (λ act. act.seat) (λ opened acts x. IsKept Tells files PieceTells faults fuses opened acts x) t t' kept)
     (behind : IsBehind v (kept.front).shown) (all : v' ≡ (kept.front).shown) (shown : v'' ≡ (after.front).shown)
     (changes : Changes Tells files PieceTells faults fuses tag kept after made) where

@@ -93,13 +93,16 @@ module _ {D P : Type 0} (Tells : Type 0) (files : D → Files) (PieceTells : Typ
       let j : ℕ = failed.replica in
       let s_is : (old.logical).settings ≡ volume.settings = h.same_settings ∙ sym at.settings in
       let n_is : (old.logical).number ≡ volume.number = h.number ∙ sym at.number in
-      let of : IsOfSettings volume.settings volume.number = subst (λ (s : Settings). IsOfSettings s volume.number) (sym at.settings) (subst (λ (v : ℕ). IsOfSettings (opened.volume).settings v) (sym at.number) (h.from).of) in
+      let of : IsOfSettings volume.settings volume.number =
+      subst (λ (s : Settings). IsOfSettings s volume.number) (sym at.settings) (subst (λ (v : ℕ). IsOfSettings (opened.volume).settings v) (sym at.number) (h.from).of) in
       let less : j < (volume.settings).replicas = subst (λ (s : Settings). j < s.replicas) s_is failed.within in
-      let on : m ≡ machine_of volume.settings volume.number j = failed.machine ∙ ap (λ (s : Settings). machine_of s (old.logical).number j) s_is ∙ ap (λ (v : ℕ). machine_of volume.settings v j) n_is in
+      let on : m ≡ machine_of volume.settings volume.number j =
+      failed.machine ∙ ap (λ (s : Settings). machine_of s (old.logical).number j) s_is ∙ ap (λ (v : ℕ). machine_of volume.settings v j) n_is in
       let was : (stood volume.start volume.number held).faults j ≡ faults ((failed.before).disk) =
       ap (λ (s : Standing). s.faults j) (sym (stood_is faults fuses opened k volume held at)) ∙ h.fault_counts k j ∙ count_there faults (old.logical).replicas j failed.before failed.was in
       let is : (stood volume.start volume.number (held ++ act ∷ [])).faults j ≡ faults ((failed.after).disk) =
-      ap (λ (s : Standing). s.faults j) (sym (stood_is faults fuses opened k volume (held ++ act ∷ []) at)) ∙ after.fault_counts k j ∙ count_there faults (new.logical).replicas j failed.after failed.is in (
+      ap (λ (s : Standing). s.faults j) (sym (stood_is faults fuses opened k volume (held ++ act ∷ []) at)) ∙ after.fault_counts k j
+      ∙ count_there faults (new.logical).replicas j failed.after failed.is in (
         j,
         ap (λ (n : ℕ). replica_on volume.settings volume.number n) on ∙ replica_found volume.settings volume.number j of.within less of.fits,
         (
@@ -134,25 +137,29 @@ module _ {D P : Type 0} (Tells : Type 0) (files : D → Files) (PieceTells : Typ
       pub told : Found Tells files PieceTells faults fuses tag old made (λ volume. PutRefused volume tag pair cookie bytes fault)
       pub always : (m f : ℕ) → fault ≡ Failed m f → FoundAlways Tells files PieceTells faults fuses tag old made (λ volume. DiskFailed volume tag m f)
 
-    module _ (of : IsOfOne faults old new) (stay : FusesStay fuses old new) (begun : new.begun ≡ old.begun) (ended : new.ended ≡ old.ended) (thawed : (old.logical).frozen ≡ None) (tight : Tells → TightStays files old new) where
+    module _ (of : IsOfOne faults old new) (stay : FusesStay fuses old new) (begun : new.begun ≡ old.begun) (ended : new.ended ≡ old.ended) (thawed : (old.logical).frozen ≡ None)
+        (tight : Tells → TightStays files old new) where
       thawed_known : (k : VolumeKnown) → Stands files PieceTells old.logical k → k.frozen ≡ None
       thawed_known k s = frozen_known files PieceTells old.logical k s ∙ thawed
 
       -- the volume was frozen by this machine, with the put pending
       pending : (m : ℕ) (failed : Bool) → (Tells → (k : VolumeKnown) → Stands files PieceTells old.logical k → Stands files PieceTells new.logical (frozen_with m tag change failed k))
           → (act : VolumeAct) → act ≡ act_of faults fuses tag (made_is.Pends m change failed) (new.logical).replicas → GoesOn Tells files PieceTells faults fuses tag old new (Some act)
-      pending m failed stands act is = goes_more Tells files PieceTells faults fuses tag old new (made_is.Pends m change failed) of (no_fuse Tells files PieceTells faults fuses tag old new of stay) refl
+      pending m failed stands act is =
+          goes_more Tells files PieceTells faults fuses tag old new (made_is.Pends m change failed) of (no_fuse Tells files PieceTells faults fuses tag old new of stay) refl
           (λ tells before s. let pending_known = stands tells before.volume s in record {
             leads = (thawed_known before.volume s, refl);
             stands = pending_known;
-            tight = tight_frozen files tag (made_is.Pends m change failed) old new before m (sym (frozen_known files PieceTells new.logical (frozen_with m tag change failed before.volume) pending_known));
+            tight =
+                tight_frozen files tag (made_is.Pends m change failed) old new before m (sym (frozen_known files PieceTells new.logical (frozen_with m tag change failed before.volume) pending_known));
           })
           (λ j less. ap (λ (l : List CoreTag). slice_index_or l j nobody) begun)
           (ends_none Tells files PieceTells old new (act_of faults fuses tag (made_is.Pends m change failed) (new.logical).replicas) (λ j. refl) (λ j own. own) ended) act is
 
       tried : (Tells → (k : VolumeKnown) → Stands files PieceTells old.logical k → Stands files PieceTells new.logical k) → (made : Option VolumeAct)
           → IsTried faults fuses tag (counts faults (old.logical).replicas) (new.logical).replicas made → GoesOn Tells files PieceTells faults fuses tag old new made
-      tried stands made tries = goes_tried Tells files PieceTells faults fuses tag old new of stay (λ tells k s. (stands tells k s, λ frozen j run has. tight tells frozen j)) begun ended made tries.quiet tries.is
+      tried stands made tries =
+          goes_tried Tells files PieceTells faults fuses tag old new of stay (λ tells k s. (stands tells k s, λ frozen j run has. tight tells frozen j)) begun ended made tries.quiet tries.is
 
       wanted : (frozen : Option ℕ) → (new.logical).frozen ≡ frozen
           → (Tells → (k : VolumeKnown) → Stands files PieceTells old.logical k → logical.PutRefused files PieceTells k tag pair cookie bytes old.logical new.logical NoMemory)
@@ -168,7 +175,8 @@ module _ {D P : Type 0} (Tells : Type 0) (files : D → Files) (PieceTells : Typ
                   holding = holding;
                   is = inr (
                     ap (λ (n : ℕ). Pends n change false)
-                        (first (stood_of faults fuses opened k held).volume r ∙ ap (λ (s : Settings). machine_of s (old.logical).number 0) (h.same_settings ∙ sym at.settings) ∙ ap (λ (v : ℕ). machine_of volume.settings v 0) (h.number ∙ sym at.number)),
+                        (first (stood_of faults fuses opened k held).volume r ∙ ap (λ (s : Settings). machine_of s (old.logical).number 0) (h.same_settings ∙ sym at.settings)
+                        ∙ ap (λ (v : ℕ). machine_of volume.settings v 0) (h.number ∙ sym at.number)),
                     takes_of opened held h k volume at (length bytes) r.0,
                   );
                 };
@@ -179,9 +187,11 @@ module _ {D P : Type 0} (Tells : Type 0) (files : D → Files) (PieceTells : Typ
           first : (k : VolumeKnown) → logical.PutRefused files PieceTells k tag pair cookie bytes old.logical new.logical NoMemory → m ≡ machine_of (old.logical).settings (old.logical).number 0
           first k (room, inl s) = let not : ◌≡◌ {A = Option ℕ} None (Some m) = sym room.0 ∙ frozen_known files PieceTells new.logical k s ∙ is in absurd (cc not)
           first k (room, inr s) =
-              let same : ◌≡◌ {A = Option ℕ} (Some (machine_of (old.logical).settings (old.logical).number 0)) (Some m) = frozen_known files PieceTells new.logical (frozen_with (machine_of (old.logical).settings (old.logical).number 0) tag change false k) s ∙ is in sym (cc same)
+              let same : ◌≡◌ {A = Option ℕ} (Some (machine_of (old.logical).settings (old.logical).number 0)) (Some m) =
+              frozen_known files PieceTells new.logical (frozen_with (machine_of (old.logical).settings (old.logical).number 0) tag change false k) s ∙ is in sym (cc same)
 
-          stands : (k : VolumeKnown) → logical.PutRefused files PieceTells k tag pair cookie bytes old.logical new.logical NoMemory → Stands files PieceTells new.logical (frozen_with m tag change false k)
+          stands : (k : VolumeKnown) → logical.PutRefused files PieceTells k tag pair cookie bytes old.logical new.logical NoMemory
+              → Stands files PieceTells new.logical (frozen_with m tag change false k)
           stands k (room, inl s) = let not : ◌≡◌ {A = Option ℕ} None (Some m) = sym room.0 ∙ frozen_known files PieceTells new.logical k s ∙ is in absurd (cc not)
           stands k (room, inr s) = subst (λ (n : ℕ). Stands files PieceTells new.logical (frozen_with n tag change false k)) (sym (first k (room, inr s))) s
       wanted None is refused made by = record {
@@ -193,7 +203,8 @@ module _ {D P : Type 0} (Tells : Type 0) (files : D → Files) (PieceTells : Typ
           stands : (k : VolumeKnown) → logical.PutRefused files PieceTells k tag pair cookie bytes old.logical new.logical NoMemory → Stands files PieceTells new.logical k
           stands k (room, inl s) = s
           stands k (room, inr s) =
-              let not : ◌≡◌ {A = Option ℕ} (Some (machine_of (old.logical).settings (old.logical).number 0)) None = frozen_known files PieceTells new.logical (frozen_with (machine_of (old.logical).settings (old.logical).number 0) tag change false k) s ∙ is in absurd (cc not)
+              let not : ◌≡◌ {A = Option ℕ} (Some (machine_of (old.logical).settings (old.logical).number 0)) None =
+              frozen_known files PieceTells new.logical (frozen_with (machine_of (old.logical).settings (old.logical).number 0) tag change false k) s ∙ is in absurd (cc not)
 
       pub put_refused : (fault : LogicalFault)
           → (Tells → (k : VolumeKnown) → Stands files PieceTells old.logical k → logical.PutRefused files PieceTells k tag pair cookie bytes old.logical new.logical fault)
@@ -203,7 +214,8 @@ module _ {D P : Type 0} (Tells : Type 0) (files : D → Files) (PieceTells : Typ
         goes = tried (λ tells k s. subst (λ v. Stands files PieceTells v k) (sym (refused tells k s).1) s) made (by.tries refl);
         told = λ opened held h tells k s volume at a b holding.
             let s_old = h.stands tells k s in
-            let not : ◌≡◌ {A = Option ℕ} None (Some m) = sym (thawed_known (stood_of faults fuses opened k held).volume s_old) ∙ (refused tells (stood_of faults fuses opened k held).volume s_old).0 in absurd (cc not);
+            let not : ◌≡◌ {A = Option ℕ} None (Some m) =
+            sym (thawed_known (stood_of faults fuses opened k held).volume s_old) ∙ (refused tells (stood_of faults fuses opened k held).volume s_old).0 in absurd (cc not);
         always = λ m f e. absurd (cc e);
       }
       put_refused (Full m end need capacity) refused cause made by = record {
@@ -266,7 +278,9 @@ module _ {D P : Type 0} (Tells : Type 0) (files : D → Files) (PieceTells : Typ
       known_thawed k s = frozen_known files PieceTells old.logical k s ∙ thawed
 
       old_room : (k : VolumeKnown) → logical.HasRoom (new.logical).settings (new.logical).number k (length bytes) → logical.HasRoom (old.logical).settings (old.logical).number k (length bytes)
-      old_room k room = subst (λ (s : Settings). logical.HasRoom s (old.logical).number k (length bytes)) (of.same).settings (subst (λ (v : ℕ). logical.HasRoom (new.logical).settings v k (length bytes)) (of.same).number room)
+      old_room k room =
+          subst (λ (s : Settings). logical.HasRoom s (old.logical).number k (length bytes)) (of.same).settings
+          (subst (λ (v : ℕ). logical.HasRoom (new.logical).settings v k (length bytes)) (of.same).number room)
 
       -- and was published
       pub put_stored : (p : ℕ) → (Tells → (k : VolumeKnown) → Stands files PieceTells old.logical k → logical.IsPut files PieceTells k tag pair cookie bytes p new.logical)
@@ -274,7 +288,8 @@ module _ {D P : Type 0} (Tells : Type 0) (files : D → Files) (PieceTells : Typ
           → (act : VolumeAct) → act ≡ act_of faults fuses tag (made_is.Enters change []) (new.logical).replicas
           → Changes Tells files PieceTells faults fuses tag old new (Some act) × Found Tells files PieceTells faults fuses tag old (Some act) (λ volume. PutAnswer volume tag pair cookie bytes (Ok p))
       put_stored p put shows serves act is = (
-        changes_acted Tells files PieceTells faults fuses tag old new (made_is.Enters change []) of (λ still. thawed) shows serves (fuses_stay Tells files PieceTells faults fuses tag old new of.count stay)
+        changes_acted Tells files PieceTells faults fuses tag old new (made_is.Enters change []) of (λ still. thawed) shows serves
+            (fuses_stay Tells files PieceTells faults fuses tag old new of.count stay)
             (λ tells before s. record {
               leads = (known_thawed before.volume s, refl);
               stands = (put tells before.volume s).stands;
@@ -297,17 +312,22 @@ module _ {D P : Type 0} (Tells : Type 0) (files : D → Files) (PieceTells : Typ
 
       -- and was given up for want of memory
       pub put_given_up : (Tells → (k : VolumeKnown) → Stands files PieceTells old.logical k
-          → logical.HasRoom (old.logical).settings (old.logical).number k (length bytes) × Stands files PieceTells new.logical (frozen_with (machine_of (old.logical).settings (old.logical).number 0) tag change false k))
+          → logical.HasRoom (old.logical).settings (old.logical).number k (length bytes) × Stands files PieceTells new.logical
+          (frozen_with (machine_of (old.logical).settings (old.logical).number 0) tag change false k))
           → Shows tag None old new → ((opened : Opened D P) → (old.logical).settings ≡ (opened.volume).settings → Serves opened old new)
           → (act : VolumeAct) → act ≡ act_of faults fuses tag (made_is.Pends (machine_of (old.logical).settings (old.logical).number 0) change false) (new.logical).replicas
-          → Changes Tells files PieceTells faults fuses tag old new (Some act) × Found Tells files PieceTells faults fuses tag old (Some act) (λ volume. PutAnswer volume tag pair cookie bytes (Err NoMemory))
+          → Changes Tells files PieceTells faults fuses tag old new (Some act) × Found Tells files PieceTells faults fuses tag old (Some act)
+          (λ volume. PutAnswer volume tag pair cookie bytes (Err NoMemory))
       put_given_up given shows serves act is =
           let m : ℕ = machine_of (old.logical).settings (old.logical).number 0 in (
-            changes_acted Tells files PieceTells faults fuses tag old new (made_is.Pends m change false) of (λ still. thawed) shows serves (fuses_stay Tells files PieceTells faults fuses tag old new of.count stay)
+            changes_acted Tells files PieceTells faults fuses tag old new (made_is.Pends m change false) of (λ still. thawed) shows serves
+                (fuses_stay Tells files PieceTells faults fuses tag old new of.count stay)
                 (λ tells before s. let pending_known = (given tells before.volume s).1 in record {
                   leads = (known_thawed before.volume s, refl);
                   stands = pending_known;
-                  tight = tight_frozen files tag (made_is.Pends m change false) old new before m (sym (frozen_known files PieceTells new.logical (frozen_with m tag change false before.volume) pending_known));
+                  tight =
+                      tight_frozen files tag (made_is.Pends m change false) old new before m (sym (frozen_known files PieceTells new.logical
+                      (frozen_with m tag change false before.volume) pending_known));
                 })
                 (λ j less. ap (λ (l : List CoreTag). slice_index_or l j nobody) begun)
                 (ends_none Tells files PieceTells old new (act_of faults fuses tag (made_is.Pends m change false) (new.logical).replicas) (λ j. refl) (λ j own. own) ended) act is,
@@ -317,7 +337,8 @@ module _ {D P : Type 0} (Tells : Type 0) (files : D → Files) (PieceTells : Typ
               holding = holding;
               is = inr (
                 ap (λ (z : VolumeAct). did_of z.did) is
-                    ∙ ap (λ (n : ℕ). Pends n change false) (ap (λ (s : Settings). machine_of s (old.logical).number 0) (h.same_settings ∙ sym at.settings) ∙ ap (λ (v : ℕ). machine_of volume.settings v 0) (h.number ∙ sym at.number)),
+                    ∙ ap (λ (n : ℕ). Pends n change false) (ap (λ (s : Settings). machine_of s (old.logical).number 0) (h.same_settings ∙ sym at.settings)
+                    ∙ ap (λ (v : ℕ). machine_of volume.settings v 0) (h.number ∙ sym at.number)),
                 takes_of opened held h k volume at (length bytes) (given tells (stood_of faults fuses opened k held).volume (h.stands tells k s)).0,
               );
             },
@@ -349,7 +370,8 @@ pub tags_logged : {D : Type 0} (log : List (LogEntry D)) (item : LogEntry D) (co
 tags_logged log item true is = map-append (λ e. e.tag) log (item ∷ [])
 tags_logged log item false is = absurd (cc is)
 
-module _ {D P : Type 0} (Tells : Type 0) (files : D → Files) (PieceTells : Type 0) (faults fuses : D → ℕ) (tag : CoreTag) (old new : Guarded D P) (mid : Volume D P) (same_settings : new.settings ≡ old.settings)
+module _ {D P : Type 0} (Tells : Type 0) (files : D → Files) (PieceTells : Type 0) (faults fuses : D → ℕ) (tag : CoreTag) (old new : Guarded D P) (mid : Volume D P)
+    (same_settings : new.settings ≡ old.settings)
     (same : IsSame old.logical mid) (is_open : IsOpenVolume mid) (counts : KeepsCounts faults fuses (old.logical).replicas mid.replicas) where
   -- the rows alone were changed behind a change of the replicas
   pub both_rows : (n : ℕ) → new.logical ≡ record mid { rows = (new.logical).rows; front = n } → IsOfBoth faults old new × FusesStay fuses old new
@@ -409,7 +431,8 @@ module _ {D P : Type 0} (Tells : Type 0) (files : D → Files) (PieceTells : Typ
       let fit : FitsRows ((h.from).rows).replicas deed.change = subst (λ (d : Published P). FitsRows ((h.from).rows).replicas d.change) (sym deed_is) width in
       may_publish Tells files PieceTells opened.volume (h.from).rows (old.front).shown base fact deed
       (record { rows = fit; enters = subst (λ (d : Published P). Enters d.change d.entered) (sym deed_is) (cookie, bytes, refl) })
-      (put_tells Tells files PieceTells (begun_at opened.volume (h.from).rows) ((old.front).shown).deeds deed fit (fact_first Tells files PieceTells opened.volume (h.from).rows (old.front).shown base fact).1 pair cookie bytes written.row deed_is
+      (put_tells Tells files PieceTells (begun_at opened.volume (h.from).rows) ((old.front).shown).deeds deed fit
+      (fact_first Tells files PieceTells opened.volume (h.from).rows (old.front).shown base fact).1 pair cookie bytes written.row deed_is
       (λ tells k s j less. (stands tells (stood_of faults fuses opened k held).volume (h.stands tells k s)).means j
       (subst (λ (s : Settings). j < s.replicas) (sym (same.settings ∙ h.same_settings)) less)))
 
@@ -420,7 +443,8 @@ module _ {D P : Type 0} (Tells : Type 0) (files : D → Files) (PieceTells : Typ
         → new.front ≡ record { shown = with_deed (old.front).shown deed; log = logged (is_entry deed.change) (old.front).log item; closed = false }
         → ShowsSame old.logical mid → ChangesRows (op.Put written.pair written.row) mid.rows (new.logical).rows
         → new.logical ≡ record mid { rows = (new.logical).rows; front = written.position }
-        → (Tells → (k : VolumeKnown) (tag : CoreTag) (pair : Pair) (cookie : Cookie) (bytes : List ℕ) → IsWritten files PieceTells k pair cookie bytes written mid → logical.IsPut files PieceTells k tag pair cookie bytes p new.logical)
+        → (Tells → (k : VolumeKnown) (tag : CoreTag) (pair : Pair) (cookie : Cookie) (bytes : List ℕ) → IsWritten files PieceTells k pair cookie bytes written mid
+        → logical.IsPut files PieceTells k tag pair cookie bytes p new.logical)
         → (act : VolumeAct) → act ≡ act_of faults fuses tag (made_is.Enters photo []) (new.logical).replicas
         → Changes Tells files PieceTells faults fuses tag old new (Some act) × Found Tells files PieceTells faults fuses tag old (Some act) (λ volume. PutAnswer volume tag pair cookie bytes (Ok p))
     put_shown p item own_tag front shows rows still put act is =
@@ -433,7 +457,8 @@ module _ {D P : Type 0} (Tells : Type 0) (files : D → Files) (PieceTells : Typ
         ∙ ap (λ (t : Tag). map (λ e. e.tag) (old.front).log ++ t ∷ []) own_tag))
         (λ opened same_as. serves_deed tag old new deed opened (ap (λ f. f.closed) front) shown (λ still. thawed)
         (subst (λ (d : Published P). FitsRows ((opened.volume).settings).replicas d.change) (sym deed_is) (long ∙ ap (λ (s : Settings). s.replicas) same_as))
-        (λ q. rows.rows q ∙ ap (λ (row : List (Place P)). changed_row (op.Put written.pair written.row) q row) ((shows.rows).rows q) ∙ ap (λ (change : MapOp P). changed_row change q (row_at (old.logical).rows q)) (sym change_is)))
+        (λ q. rows.rows q ∙ ap (λ (row : List (Place P)). changed_row (op.Put written.pair written.row) q row) ((shows.rows).rows q)
+        ∙ ap (λ (change : MapOp P). changed_row change q (row_at (old.logical).rows q)) (sym change_is)))
         act is
 
     -- it was not published, and given up
@@ -449,7 +474,8 @@ module _ {D P : Type 0} (Tells : Type 0) (files : D → Files) (PieceTells : Typ
         let both = both_again Tells files PieceTells faults fuses tag old new mid settings same is_open counts again new_open more in
         let now_frozen : (new.logical).frozen ≡ Some m = frozen ∙ ap Some first in
         let act : VolumeAct = act_of faults fuses tag (made_is.Pends m photo false) (new.logical).replicas in
-        subst (λ (z : Option VolumeAct). Changes Tells files PieceTells faults fuses tag old new z × Found Tells files PieceTells faults fuses tag old z (λ volume. PutAnswer volume tag pair cookie bytes (Err NoMemory)))
+        subst (λ (z : Option VolumeAct). Changes Tells files PieceTells faults fuses tag old new z
+        × Found Tells files PieceTells faults fuses tag old z (λ volume. PutAnswer volume tag pair cookie bytes (Err NoMemory)))
         (sym (by.acts (made_is.Pends m photo false) (ap (λ (f : Option ℕ). pends_by f photo false) now_frozen)))
         (put_given_up Tells files PieceTells faults fuses tag old new pair cookie bytes both.0 both.1 begun ended thawed
         (λ tells k s. let w = stands tells k s in (

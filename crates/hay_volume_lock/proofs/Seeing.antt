@@ -98,7 +98,8 @@ IsLooked PieceTells volume pair replica looked k =
 pub see_known : {D P : Type 0} (Tells : Type 0) (files : D → Files) (PieceTells : Type 0) (faults fuses : D → ℕ) (old new : Volume D P) (pair : Pair) (replica : ℕ) (looked : Looked P)
     → new.settings ≡ old.settings
     → looked.row ≡ row_at new.rows pair → (Tells → (k : VolumeKnown) → Stands files PieceTells old k → Stands files PieceTells new k)
-    → (Tells → (k : VolumeKnown) → Stands files PieceTells old k → (looked.front ≡ length k.log) × PlaceMeans PieceTells pair (place_in looked.row replica) (outcome_at (now k (replica_at k replica)) pair))
+    → (Tells → (k : VolumeKnown) → Stands files PieceTells old k → (looked.front ≡ length k.log)
+    × PlaceMeans PieceTells pair (place_in looked.row replica) (outcome_at (now k (replica_at k replica)) pair))
     → Tells → (k : VolumeKnown) → Stands files PieceTells old k → IsLooked PieceTells old pair replica looked k
 see_known Tells files PieceTells faults fuses old new pair replica looked settings row stands known tells k s =
     let q = known tells k s in (
@@ -243,7 +244,8 @@ module _ {D P : Type 0} (Tells : Type 0) (files : D → Files) (PieceTells : Typ
       (subst (λ (n : ℕ). replica < n) (sym (h.from).width) (subst (λ (s : Settings). replica < s.replicas) h.same_settings within)) in
       may_publish Tells files PieceTells opened.volume (h.from).rows (mid.front).shown base fact deed
       (record { rows = fit; enters = subst (λ (d : Published P). Enters d.change d.entered) (sym is) refl })
-      (seen_tells Tells files PieceTells (begun_at opened.volume (h.from).rows) ((mid.front).shown).deeds deed fit (fact_first Tells files PieceTells opened.volume (h.from).rows (mid.front).shown base fact).1 pair replica there is
+      (seen_tells Tells files PieceTells (begun_at opened.volume (h.from).rows) ((mid.front).shown).deeds deed fit
+      (fact_first Tells files PieceTells opened.volume (h.from).rows (mid.front).shown base fact).1 pair replica there is
       (λ tells k s. subst (λ (table : Table). PlaceMeans PieceTells pair there (outcome_at table pair))
       (table_kept opened held old h tells k s replica ∙ ap (fold apply_entry (now k (replica_at k replica))) (sym ((sees.shows).more ∙ append-nil (entered_by ((old.front).shown).deeds))))
       (means tells (stood_of faults fuses opened k held).volume (sees.keeps tells (stood_of faults fuses opened k held).volume (h.stands tells k s)).0)))
@@ -313,7 +315,13 @@ module _ {D P : Type 0} (Tells : Type 0) (files : D → Files) (PieceTells : Typ
         })
     see_refused old new of stay begun ended within keeps NoMemory undamaged cause machine made by = record {
       goes = goes_tried Tells files PieceTells faults fuses tag old new of stay keeps begun ended made (by.tries refl).quiet (by.tries refl).is;
-      told = λ opened held h tells k s volume at a b holding. record { held = held; made = made; holding = holding; is = inl (nothing_made Tells files PieceTells faults fuses tag old new made (by.tries refl)) };
+      told =
+          λ opened held h tells k s volume at a b holding. record {
+            held = held;
+            made = made;
+            holding = holding;
+            is = inl (nothing_made Tells files PieceTells faults fuses tag old new made (by.tries refl));
+          };
       always = λ m f e. absurd (cc e);
     }
     see_refused old new of stay begun ended within keeps (Damaged m at) undamaged cause machine made by = record {
@@ -357,7 +365,8 @@ module _ {D P : Type 0} (Tells : Type 0) (files : D → Files) (PieceTells : Typ
   see_wanted old new mid replica None was of stay shows begun ended same still stands freezes again now_frozen made by =
       let m : ℕ = machine_of mid.settings mid.number 0 in
       let act : VolumeAct = act_of faults fuses tag (made_is.Freezes m) (new.logical).replicas in
-      subst (λ (z : Option VolumeAct). Changes Tells files PieceTells faults fuses tag old new z × Found Tells files PieceTells faults fuses tag old z (λ volume. SeeRefused volume tag replica NoMemory))
+      subst (λ (z : Option VolumeAct). Changes Tells files PieceTells faults fuses tag old new z
+      × Found Tells files PieceTells faults fuses tag old z (λ volume. SeeRefused volume tag replica NoMemory))
       (sym (by.acts (made_is.Freezes m) (ap (λ (f : Option ℕ). freezes_by None f) (now_frozen (still ∙ was))))) (
         froze old new m of stay shows begun ended was (now_frozen (still ∙ was))
             (λ tells k s. freezes tells k (stands tells k s) (frozen_known files PieceTells old.logical k s ∙ was)) act refl,
@@ -366,15 +375,24 @@ module _ {D P : Type 0} (Tells : Type 0) (files : D → Files) (PieceTells : Typ
           made = Some act;
           holding = holding;
           is = inr (ap (λ (n : ℕ). Freezes n)
-              (ap (λ (s : Settings). machine_of s mid.number 0) (same.settings ∙ h.same_settings ∙ sym at.settings) ∙ ap (λ (v : ℕ). machine_of volume.settings v 0) (same.number ∙ h.number ∙ sym at.number)));
+              (ap (λ (s : Settings). machine_of s mid.number 0) (same.settings ∙ h.same_settings ∙ sym at.settings)
+              ∙ ap (λ (v : ℕ). machine_of volume.settings v 0) (same.number ∙ h.number ∙ sym at.number)));
         },
       )
   see_wanted old new mid replica (Some m) was of stay shows begun ended same still stands freezes again now_frozen made by =
       let left : new.logical ≡ mid = again m (still ∙ was) in (
         changes_seen Tells files PieceTells faults fuses tag old new of (λ thawed. absurd (none-some m (sym thawed ∙ (ap (λ v. v.frozen) left ∙ still ∙ was)))) shows
             (λ opened settings. serves_frozen tag old new opened m (ap (λ v. v.frozen) left ∙ still ∙ was)) stay
-            (λ tells k s. (subst (λ v. Stands files PieceTells v k) (sym left) (stands tells k s), λ thawed. absurd (none-some m (sym thawed ∙ (ap (λ v. v.frozen) left ∙ still ∙ was))))) begun ended made (by.tries refl),
-        λ opened held h tells k s volume at a b holding. record { held = held; made = made; holding = holding; is = inl (nothing_made Tells files PieceTells faults fuses tag old new made (by.tries refl)) },
+            (λ tells k s. (
+              subst (λ v. Stands files PieceTells v k) (sym left) (stands tells k s),
+              λ thawed. absurd (none-some m (sym thawed ∙ (ap (λ v. v.frozen) left ∙ still ∙ was))),
+            )) begun ended made (by.tries refl),
+        λ opened held h tells k s volume at a b holding. record {
+          held = held;
+          made = made;
+          holding = holding;
+          is = inl (nothing_made Tells files PieceTells faults fuses tag old new made (by.tries refl));
+        },
       )
 
 -- BY WHAT THE CALLS TELL
@@ -417,7 +435,8 @@ module _ {D P : Type 0} (Tells : Type 0) (files : D → Files) (PieceTells : Typ
   pub see_shown : (pair : Pair) (replica : ℕ) (there : Place P) (deed : Published P) (item : LogEntry (Published P)) → deed ≡ record { change = op.Seen pair replica there; entered = [] }
       → replica < ((old.logical).settings).replicas → SetsPlaceAt pair replica there (old.logical).rows (new.logical).rows
       → new.front ≡ record { shown = with_deed (old.front).shown deed; log = logged (is_entry deed.change) (old.front).log item; closed = false } → Sees Tells files PieceTells faults fuses tag old new
-  see_shown pair replica there deed item is within sets front = sees_published Tells files PieceTells faults fuses tag deed old new pair replica there both counts.stay keeps begun ended frozen is within
+  see_shown pair replica there deed item is within sets front =
+      sees_published Tells files PieceTells faults fuses tag deed old new pair replica there both counts.stay keeps begun ended frozen is within
       (ap (λ f. f.shown) front) (ap (λ f. f.log) front ∙ ap (λ (d : Published P). logged (is_entry d.change) (old.front).log item) is) (ap (λ f. f.closed) front) sets
 
   -- a frozen volume whose front is closed

@@ -104,7 +104,8 @@ module _ {D P : Type 0} (Tells : Type 0) (files : D → Files) (PieceTells : Typ
       none_set = no_fuse Tells files PieceTells faults fuses tag old new of stay
 
       -- it examined cells
-      examines : (n : ℕ) → (Tells → (k : VolumeKnown) → Stood k → TightStays files old new) → (Tells → (k : VolumeKnown) → Stood k → (run : Run) × ((replica_at k j).run ≡ Some run) × (n ≤ run.left) × logical.StandsStepped files PieceTells k j run n new.logical)
+      examines : (n : ℕ) → (Tells → (k : VolumeKnown) → Stood k → TightStays files old new)
+          → (Tells → (k : VolumeKnown) → Stood k → (run : Run) × ((replica_at k j).run ≡ Some run) × (n ≤ run.left) × logical.StandsStepped files PieceTells k j run n new.logical)
           → (act : VolumeAct) → Behind (made_is.Examines j n) act → Goes (Some act)
       examines n tight told act is = goes_more Tells files PieceTells faults fuses tag old new (made_is.Examines j n) of none_set refl
           (λ tells before s.
@@ -123,7 +124,9 @@ module _ {D P : Type 0} (Tells : Type 0) (files : D → Files) (PieceTells : Typ
           (λ tells before s. let m = may tells before.volume s in record {
             leads = (m.thawed, within, m.stands, refl);
             stands = told tells before.volume s;
-            tight = tight_ended files tag (made_is.Ends j) old new before j of.count (λ thawed. others) (λ i begins. absurd (cc begins)) (ended_there files PieceTells old.logical before.volume s j within without_run (λ r. refl));
+            tight =
+                tight_ended files tag (made_is.Ends j) old new before j of.count (λ thawed. others) (λ i begins. absurd (cc begins))
+                (ended_there files PieceTells old.logical before.volume s j within without_run (λ r. refl));
           })
           with_begun (record {
             ended = λ i lane less few. ap (λ l. ended_at l i lane) ended;
@@ -156,7 +159,8 @@ module _ {D P : Type 0} (Tells : Type 0) (files : D → Files) (PieceTells : Typ
 
         halted_goes : (fault : LogicalFault) → Tight (Some fault) → Told (Some fault) → Behind (halted_made j n fault) act → Goes (Some act)
         halted_goes NoMemory tight told is =
-            examines n (tight_at (Some NoMemory) tight tt) (λ tells k s. let t = told_at (Some NoMemory) told tells k s in let m = (may tells k s).stands in let few = t.0 in (m.0, m.1, (let less : n ≤ (m.0).left = omega (arith, few) in less), t.1)) act is
+            examines n (tight_at (Some NoMemory) tight tt) (λ tells k s. let t = told_at (Some NoMemory) told tells k s in let m = (may tells k s).stands in let few = t.0 in
+            (m.0, m.1, (let less : n ≤ (m.0).left = omega (arith, few) in less), t.1)) act is
         halted_goes (Failed m f) tight told is = ends_run (λ tells k s. (told_at (Some (Failed m f)) told tells k s).1) act is
         halted_goes (Damaged m place) tight told is = ends_run (λ tells k s. absurd (told_at (Some (Damaged m place)) told tells k s)) act is
         halted_goes (ReadOnly m) tight told is = tries (told_at (Some (ReadOnly m)) told) act is
@@ -168,7 +172,8 @@ module _ {D P : Type 0} (Tells : Type 0) (files : D → Files) (PieceTells : Typ
 
         stopped_goes : (refused : Option LogicalFault) → Tight refused → Told refused → Behind (stopped_made j n refused) act → Goes (Some act)
         stopped_goes None tight told is =
-            examines n (tight_at None tight tt) (λ tells k s. let t = told_at None told tells k s in let m = (may tells k s).stands in let few = t.0 in (m.0, m.1, (let less : n ≤ (m.0).left = omega (arith, few) in less), t.1)) act is
+            examines n (tight_at None tight tt) (λ tells k s. let t = told_at None told tells k s in let m = (may tells k s).stands in let few = t.0 in
+            (m.0, m.1, (let less : n ≤ (m.0).left = omega (arith, few) in less), t.1)) act is
         stopped_goes (Some fault) tight told is = halted_goes fault tight told is
 
         -- WHAT IT FOUND
@@ -231,7 +236,8 @@ module _ {D P : Type 0} (Tells : Type 0) (files : D → Files) (PieceTells : Typ
             stopped_as (Some fault) told cause is = halted_as fault told cause is
 
       -- a step goes on, and is found to be one
-      pub step_goes : (cells : ℕ) (examined : Examined) (act : VolumeAct) → Tight examined.cells cells act examined.refused → Told examined.cells cells act examined.refused → Behind (step_made j examined) act → Goes (Some act)
+      pub step_goes : (cells : ℕ) (examined : Examined) (act : VolumeAct) → Tight examined.cells cells act examined.refused → Told examined.cells cells act examined.refused
+          → Behind (step_made j examined) act → Goes (Some act)
       step_goes cells examined act tight told is = stopped_goes examined.cells cells act examined.refused tight told is
 
       pub step_found : (cells : ℕ) (examined : Examined) (act : VolumeAct) → Tight examined.cells cells act examined.refused → Told examined.cells cells act examined.refused

@@ -69,7 +69,8 @@ pub record IsSwap {D P : Type 0} (files : D → Files) (Tells : Type 0) (k : Vol
   pub next : g ≡ (replica_at k j).generation + 1
   pub stands : Stands files Tells new (change_at k j (swapped end cells))
 
-pub is_swap : {D P : Type 0} (files : D → Files) (Tells : Type 0) (k : VolumeKnown) (j g end cells : ℕ) (old new : Volume D P) → Stands files Tells old k → j < (old.settings).replicas → j < (new.settings).replicas
+pub is_swap : {D P : Type 0} (files : D → Files) (Tells : Type 0) (k : VolumeKnown) (j g end cells : ℕ) (old new : Volume D P) → Stands files Tells old k
+    → j < (old.settings).replicas → j < (new.settings).replicas
     → IsFinished files Tells k j g new → ((r : Copy D) → At new.replicas j r → HasSizes files r end cells) → IsSwap files Tells k j g end cells new
 is_swap files Tells k j g end cells old new stands less less' finished sizes =
     let swaps = finished.swaps in
@@ -91,12 +92,14 @@ is_swap files Tells k j g end cells old new stands less less' finished sizes =
 
 -- AS A STEP
 
-module _ {D P : Type 0} (Tells : Type 0) (files : D → Files) (PieceTells : Type 0) (faults fuses : D → ℕ) (tag : CoreTag) (old : Guarded D P) (j g end cells : ℕ) (within : j < ((old.logical).settings).replicas) where
+module _ {D P : Type 0} (Tells : Type 0) (files : D → Files) (PieceTells : Type 0) (faults fuses : D → ℕ) (tag : CoreTag) (old : Guarded D P) (j g end cells : ℕ)
+    (within : j < ((old.logical).settings).replicas) where
   abbrev Stood : VolumeKnown → Type 0
   Stood k = Stands files PieceTells old.logical k
 
   pub swap_leads : (new : Guarded D P) (before : Standing) → Stood before.volume → length (new.logical).replicas ≡ length (old.logical).replicas
-      → ((new.logical).frozen ≡ None → (i : ℕ) → (i ≡ j → ⊥) → (r r' : Copy D) → At (old.logical).replicas i r → At (new.logical).replicas i r' → r' ≡ r) → IsSwap files PieceTells before.volume j g end cells new.logical
+      → ((new.logical).frozen ≡ None → (i : ℕ) → (i ≡ j → ⊥) → (r r' : Copy D) → At (old.logical).replicas i r → At (new.logical).replicas i r' → r' ≡ r)
+      → IsSwap files PieceTells before.volume j g end cells new.logical
       → LeadsTo Tells files PieceTells faults fuses tag old new (made_is.Swaps j end cells None) before
   swap_leads new before s count others swap = record {
     leads = (swap.thawed, within, (swap.run, swap.stood, swap.goal, swap.most), swap.sizes, refl);
@@ -113,5 +116,7 @@ module _ {D P : Type 0} (Tells : Type 0) (files : D → Files) (PieceTells : Typ
       let m : ℕ = first_machine (old.logical).settings (old.logical).number in record {
         leads = (swap.thawed, within, (swap.run, swap.stood, swap.goal, swap.most), swap.sizes, refl);
         stands = stands;
-        tight = tight_frozen files tag (made_is.Swaps j end cells (Some m)) old new before m (sym (frozen_known files PieceTells new.logical (frozen_by m (change_at before.volume j (swapped end cells))) stands));
+        tight =
+            tight_frozen files tag (made_is.Swaps j end cells (Some m)) old new before m (sym
+            (frozen_known files PieceTells new.logical (frozen_by m (change_at before.volume j (swapped end cells))) stands));
       }

@@ -123,7 +123,8 @@ module _ {D P : Type 0} (Tells : Type 0) (files : D → Files) (PieceTells : Typ
           let within : j < ((opened.volume).settings).replicas =
           subst (λ (z : Opened D P). j < ((z.volume).settings).replicas) (sym same) (subst (λ s. j < s.replicas) here.settings less) in
           subst (λ (r : List (Place P)). PlaceTells PieceTells pair (place_in r j) (outcome_at (table_shown volume.start volume.number j (entered_by new.deeds)) pair)) (sym row_is)
-          (subst (λ (z : VolumeKnown). PlaceTells PieceTells pair (place_in (row_of (fold with_published first new.deeds) pair) j) (outcome_at (fold apply_entry (now z (replica_at z j)) (entered_by new.deeds)) pair)) (sym known)
+          (subst (λ (z : VolumeKnown). PlaceTells PieceTells pair (place_in (row_of (fold with_published first new.deeds) pair) j)
+          (outcome_at (fold apply_entry (now z (replica_at z j)) (entered_by new.deeds)) pair)) (sym known)
           (holds_first.1 tells k own pair j within))
 
     -- how many changes it shows

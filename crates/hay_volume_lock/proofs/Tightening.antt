@@ -93,7 +93,8 @@ module _ (settings : Settings) (v : ℕ) (first : Standing) (j : ℕ) (held : Li
       → (entry_of act.did ≡ None → (run : Run) → HasRun (left_by act before) j run → (did_of act.did ≡ Begins j) ⊎ WasSo → IsSo)
       → SinceBegun first j then_held IsSo
   since_more WasSo IsSo was step = doings_more
-      (λ doing. did_of (doing.act).did ≡ Begins j → ((left volume_lock first then_held).volume).log ≡ ((left volume_lock first doing.held).volume).log → (run : Run) → HasRun (left volume_lock first then_held) j run → IsSo)
+      (λ doing. did_of (doing.act).did ≡ Begins j → ((left volume_lock first then_held).volume).log ≡ ((left volume_lock first doing.held).volume).log → (run : Run)
+      → HasRun (left volume_lock first then_held) j run → IsSo)
       held act earlier
       (λ begins same run stands. step (begins_quiet j act.did begins) run (sym (ap (λ (s : Standing). (replica_at s.volume j).run) stood_then) ∙ stands) (inl begins))
     where
@@ -112,12 +113,15 @@ module _ (settings : Settings) (v : ℕ) (first : Standing) (j : ℕ) (held : Li
             | inr other ↦ elim (some_or_none (replica_at before.volume j).run) [
               | inl some ↦ step (quiet_by act.tag act.did none) run now_stands (inr (was doing begins did log_same some.0 some.1))
               | inr rests ↦ absurd (none-some run
-                  (sym (none_stays j (did_of act.did) before.volume (left_by act before).volume other (leads_becomes settings v act.tag (did_of act.did) before (left_by act before) leads j) rests) ∙ now_stands))
+                  (sym (none_stays j (did_of act.did) before.volume (left_by act before).volume other
+                  (leads_becomes settings v act.tag (did_of act.did) before (left_by act before) leads j) rests) ∙ now_stands))
             ]
           ]
 
 -- and so the sizes behind a swap are tight
-pub tight_since : (settings : Settings) (start : Start) (v j end cells : ℕ) (who : CoreTag) (held : List VolumeAct) (IsSo : Type 0) → SinceBegun (start.volumes v) j held IsSo → HasRunOf settings start v j who held
-    → (IsSo → (end ≡ live_end (now (volume_stood start v held) (replica_at (volume_stood start v held) j))) × (cells ≡ length (now (volume_stood start v held) (replica_at (volume_stood start v held) j))))
+pub tight_since : (settings : Settings) (start : Start) (v j end cells : ℕ) (who : CoreTag) (held : List VolumeAct) (IsSo : Type 0) → SinceBegun (start.volumes v) j held IsSo
+    → HasRunOf settings start v j who held
+    → (IsSo → (end ≡ live_end (now (volume_stood start v held) (replica_at (volume_stood start v held) j)))
+    × (cells ≡ length (now (volume_stood start v held) (replica_at (volume_stood start v held) j))))
     → IsTightSince settings start v j end cells held
 tight_since settings start v j end cells who held IsSo since has tight begins within is same = tight (since begins within is same has.run has.stands)

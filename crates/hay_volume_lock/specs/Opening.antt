@@ -54,7 +54,8 @@ pub record AreSeated {D P : Type 0} (lock : TurnId) (opened : Opened D P) (seats
 
 -- The volume is what one history left, with the tags of the changes that it entered: it begins with what each seat has seen, and
 -- shows what each was shown; each act in it is an own act of one of them, and each own act stands in it once.
-pub record Closes {D P : Type 0} (Tells : Type 0) (files : D → Files) (PieceTells : Type 0) (faults fuses : D → ℕ) (opened : Opened D P) (seats : List (Seated D P)) (volume : Volume D P) (tags : List Tag) : Type 0 where
+pub record Closes {D P : Type 0} (Tells : Type 0) (files : D → Files) (PieceTells : Type 0) (faults fuses : D → ℕ) (opened : Opened D P) (seats : List (Seated D P))
+    (volume : Volume D P) (tags : List Tag) : Type 0 where
   pub history : List VolumeAct
   pub own : (i : ℕ) (s : Seated D P) → slice_get seats i ≡ Some s → acts_of volume_lock.seat i history ≡ (s.sight).own
   pub below : AllBelow volume_lock.seat (length seats) history

@@ -16,7 +16,8 @@ pub returns-in-Err-count_rows-clause-verdict : goal.returns-in-Err-count_rows-cl
 returns-in-Err-count_rows-clause-verdict g c = λ tells.
     answered (JournalCheckOf c.args.sup.now (λ n. (g.D.Disk.files c.args.disk.now n).now)) c.in-Err-count_rows.refusal _ c.answer.result c.answer.ensures.is
     (λ file at is. journal_damage c.args.sup.now (g.D.Disk.files c.args.disk.now) (g.D.Disk.files c.size.new.self) file at (c.size.ensures.same tells)
-    (not_void c.in-Ok.field-0 (λ n. (g.D.Disk.files c.args.disk.now n).now) (c.in-Ok.ensures.size tells) c.in-Ok.field-0-test.1) (c.in-Err-count_rows.ensures.damaged tells file at (ap (λ x. Err x) is)))
+    (not_void c.in-Ok.field-0 (λ n. (g.D.Disk.files c.args.disk.now n).now) (c.in-Ok.ensures.size tells) c.in-Ok.field-0-test.1)
+    (c.in-Err-count_rows.ensures.damaged tells file at (ap (λ x. Err x) is)))
 
 pub returns-in-Ok-eq0-clause-only : goal.returns-in-Ok-eq0-clause-only
 returns-in-Ok-eq0-clause-only g c = λ tells v is.
@@ -28,7 +29,8 @@ returns-in-Ok-count_rows-clause-only g c = λ tells v is.
 
 pub returns-in-Err-count_rows-clause-only : goal.returns-in-Err-count_rows-clause-only
 returns-in-Err-count_rows-clause-only g c = λ tells v is.
-    if_ok c.answer.result (JournalCheckOf c.args.sup.now (λ n. (g.D.Disk.files c.args.disk.now n).now)) _ (returns-in-Err-count_rows-clause-verdict g c tells) (λ told holds. journal_once c.args.sup.now (λ n. (g.D.Disk.files c.args.disk.now n).now) told v c.read_numbers.ensures holds is)
+    if_ok c.answer.result (JournalCheckOf c.args.sup.now (λ n. (g.D.Disk.files c.args.disk.now n).now)) _ (returns-in-Err-count_rows-clause-verdict g c tells)
+    (λ told holds. journal_once c.args.sup.now (λ n. (g.D.Disk.files c.args.disk.now n).now) told v c.read_numbers.ensures holds is)
 
 pub returns-in-Err-count_rows-clause-kind : goal.returns-in-Err-count_rows-clause-kind
 returns-in-Err-count_rows-clause-kind g c =

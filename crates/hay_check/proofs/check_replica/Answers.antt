@@ -26,19 +26,23 @@ pub returns-in-Err-check_disk-clause-verdict : goal.returns-in-Err-check_disk-cl
 returns-in-Err-check_disk-clause-verdict g c = λ tells.
     answered (CheckOf c.args.sup.now (λ n. (g.D.Disk.files c.args.disk.now n).now)) c.in-Err-check_disk.refusal _ c.answer.result c.answer.ensures.is
     (λ file at is. check_damage c.args.sup.now (g.D.Disk.files c.args.disk.now) (g.D.Disk.files c.size.new.self) file at (c.size.ensures.same tells)
-    (not_void c.in-Ok.field-0 (λ n. (g.D.Disk.files c.args.disk.now n).now) (c.in-Ok.ensures.size tells) c.in-Ok.field-0-test.1) (c.in-Err-check_disk.ensures.damaged tells file at (ap (λ x. Err x) is)))
+    (not_void c.in-Ok.field-0 (λ n. (g.D.Disk.files c.args.disk.now n).now) (c.in-Ok.ensures.size tells) c.in-Ok.field-0-test.1)
+    (c.in-Err-check_disk.ensures.damaged tells file at (ap (λ x. Err x) is)))
 
 pub returns-in-Ok-eq0-clause-only : goal.returns-in-Ok-eq0-clause-only
 returns-in-Ok-eq0-clause-only g c = λ tells v is.
-    verdict_once c.args.sup.now (λ n. (g.D.Disk.files c.args.disk.now n).now) _ v c.read_numbers.ensures (λ n. g.met.D.Disk.fits c.args.disk.now n tells) (returns-in-Ok-eq0-clause-verdict g c tells) is
+    verdict_once c.args.sup.now (λ n. (g.D.Disk.files c.args.disk.now n).now) _ v c.read_numbers.ensures (λ n. g.met.D.Disk.fits c.args.disk.now n tells)
+    (returns-in-Ok-eq0-clause-verdict g c tells) is
 
 pub returns-in-Ok-check_disk-clause-only : goal.returns-in-Ok-check_disk-clause-only
 returns-in-Ok-check_disk-clause-only g c = λ tells v is.
-    verdict_once c.args.sup.now (λ n. (g.D.Disk.files c.args.disk.now n).now) _ v c.read_numbers.ensures (λ n. g.met.D.Disk.fits c.args.disk.now n tells) (returns-in-Ok-check_disk-clause-verdict g c tells) is
+    verdict_once c.args.sup.now (λ n. (g.D.Disk.files c.args.disk.now n).now) _ v c.read_numbers.ensures (λ n. g.met.D.Disk.fits c.args.disk.now n tells)
+    (returns-in-Ok-check_disk-clause-verdict g c tells) is
 
 pub returns-in-Err-check_disk-clause-only : goal.returns-in-Err-check_disk-clause-only
 returns-in-Err-check_disk-clause-only g c = λ tells v is.
-    if_ok c.answer.result (CheckOf c.args.sup.now (λ n. (g.D.Disk.files c.args.disk.now n).now)) _ (returns-in-Err-check_disk-clause-verdict g c tells) (λ told holds. verdict_once c.args.sup.now (λ n. (g.D.Disk.files c.args.disk.now n).now) told v c.read_numbers.ensures (λ n. g.met.D.Disk.fits c.args.disk.now n tells) holds is)
+    if_ok c.answer.result (CheckOf c.args.sup.now (λ n. (g.D.Disk.files c.args.disk.now n).now)) _ (returns-in-Err-check_disk-clause-verdict g c tells)
+    (λ told holds. verdict_once c.args.sup.now (λ n. (g.D.Disk.files c.args.disk.now n).now) told v c.read_numbers.ensures (λ n. g.met.D.Disk.fits c.args.disk.now n tells) holds is)
 
 pub returns-in-Err-check_disk-clause-kind : goal.returns-in-Err-check_disk-clause-kind
 returns-in-Err-check_disk-clause-kind g c =

@@ -29,9 +29,14 @@ use Rattle.hay_legal.specs.declared.known.DirKnown.{DirKnown}
 use Rattle.hay_legal.specs.declared.known.Known.{Known}
 use Rattle.hay_legal.specs.declared.turn.Item.{Item}
 use Rattle.hay_legal.specs.declared.turn.Item.TheVariants as item
-use Rattle.hay_legal.specs.Known.{home_of, home_in, volume_at, replica_at, with_replica, empty_volume, empty_replica, Leaves, NoneFalls, slot_of, settled_by, with_home, taker_of, tries_by, all_tries, try_at, refusal_of, replica_on}
+use Rattle.hay_legal.specs.Known.{home_of, home_in, volume_at, replica_at, with_replica, empty_volume, empty_replica, Leaves, NoneFalls, slot_of, settled_by, with_home, taker_of}
+use Rattle.hay_legal.specs.Known.{tries_by, all_tries, try_at, refusal_of, replica_on}
 use Rattle.hay_url.specs.declared.Url.{Url as UrlParts}
-use Rattle.hay_legal.specs.Plain.{IsStored, IsDeleted, LegalPlain, LegalCommand, LegalShow, LegalGetAt, start_of, LegalPut, LegalDel, LegalUrl, LegalFlush, LegalBegin, LegalStep, LegalFinish, LegalCompact, LegalDrain, LegalUndrain, LegalFuse, LegalFuseDir, OnReplica, IsLoose, IsTight, replica_of, Swaps, SwapFailed, SwapNoMem, IsAtRest, MayFinish, change_volume, change_replica, frozen_by, frozen_with, without_run, with_bare, with_stuck, with_run, swapped, stepped, poised, poised_by, as_it_is, row_pending, put_frozen, put_entry, first_machine, with_put, with_del, grown, ended_where, with_drain, with_fuses}
+use Rattle.hay_legal.specs.Plain.{IsStored, IsDeleted, LegalPlain, LegalCommand, LegalShow, LegalGetAt, start_of, LegalPut, LegalDel, LegalUrl, LegalFlush, LegalBegin, LegalStep}
+use Rattle.hay_legal.specs.Plain.{LegalFinish, LegalCompact, LegalDrain, LegalUndrain, LegalFuse, LegalFuseDir, OnReplica, IsLoose, IsTight, replica_of, Swaps, SwapFailed}
+use Rattle.hay_legal.specs.Plain.{SwapNoMem, IsAtRest, MayFinish, change_volume, change_replica, frozen_by, frozen_with, without_run, with_bare, with_stuck, with_run, swapped}
+use Rattle.hay_legal.specs.Plain.{stepped, poised, poised_by, as_it_is, row_pending, put_frozen, put_entry, first_machine, with_put, with_del, grown, ended_where, with_drain}
+use Rattle.hay_legal.specs.Plain.{with_fuses}
 use Rattle.hay_legal.specs.Blocks.{acknowledged}
 use Rattle.hay_legal.specs.Subject.{known_behind, pair_of, OthersLeaveTheLogs, changed_pair}
 use Rattle.hay_legal.proofs.Subject.Shown.{legal_split}
@@ -576,7 +581,9 @@ change_disturbed settings k v change logged adds = record {
 pub disturbed_then : (settings : Settings) (k : Known) (v : ℕ) (logged : Logged) (e t : Known) → Disturbed settings k v logged e → e.volumes ≡ t.volumes → RowsGrow settings e t
     → Disturbed settings k v logged t
 disturbed_then settings k v logged e t h volumes grow = record {
-  each = λ w. subst (λ (vs : List VolumeKnown). SameLog (volume_at k w) (slice_index_or vs w empty_volume) ⊎ ((w ≡ v) × Adds (volume_at k w) logged (slice_index_or vs w empty_volume))) volumes (h.each w);
+  each =
+      λ w. subst (λ (vs : List VolumeKnown). SameLog (volume_at k w) (slice_index_or vs w empty_volume)
+      ⊎ ((w ≡ v) × Adds (volume_at k w) logged (slice_index_or vs w empty_volume))) volumes (h.each w);
   here = λ below. subst (λ (vs : List VolumeKnown). Adds (volume_at k v) logged (slice_index_or vs v empty_volume)) volumes (h.here below);
   others = λ w apart. subst (λ (vs : List VolumeKnown). SameLog (volume_at k w) (slice_index_or vs w empty_volume)) volumes (h.others w apart);
   many = sym (ap (λ (vs : List VolumeKnown). length vs) volumes) ∙ h.many;

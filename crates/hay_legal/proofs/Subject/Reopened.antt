@@ -30,9 +30,11 @@ use Rattle.hay_legal.specs.Known.{now, home_of, home_in, volume_at, replica_at, 
 use Rattle.hay_url.specs.Url.{cookie_of}
 use Rattle.hay_legal.specs.Plain.{PutFailed, frozen_with, put_entry}
 use Rattle.hay_reply.specs.declared.Note.{Note}
-use Rattle.hay_legal.specs.Restarts.{Reopens, ReopenedVolumes, ReopenedReplica, LegalRestart, IsRestarted, MayKeep, kept_row, kept_entry, is_kept, with_entries, kept_note, replica_notes, pending_notes, volume_notes, row_notes}
+use Rattle.hay_legal.specs.Restarts.{Reopens, ReopenedVolumes, ReopenedReplica, LegalRestart, IsRestarted, MayKeep, kept_row, kept_entry, is_kept, with_entries, kept_note}
+use Rattle.hay_legal.specs.Restarts.{replica_notes, pending_notes, volume_notes, row_notes}
 use Rattle.hay_legal.specs.Legal.{Legal}
-use Rattle.hay_legal.specs.Subject.{known_behind, pair_of, IsOf, NoneKept, NoneLost, LosesChanges, LeavesAloneFrom, AllLeaveAlone, StoredIsReadBehindRestarts, FailedPutIsPending, KeptIsRead, KeptIsGone}
+use Rattle.hay_legal.specs.Subject.{known_behind, pair_of, IsOf, NoneKept, NoneLost, LosesChanges, LeavesAloneFrom, AllLeaveAlone, StoredIsReadBehindRestarts, FailedPutIsPending}
+use Rattle.hay_legal.specs.Subject.{KeptIsRead, KeptIsGone}
 use Rattle.hay_legal.proofs.Subject.Shown.{legal_split, outcome_of, row_pair, row_outcome, at-now, pair_differs}
 use Rattle.hay_legal.proofs.Subject.Effects.{home_stays, taken_home}
 use Rattle.hay_legal.proofs.Subject.Entries.{plain_is_of, reopened_replica, volume_reopened, restart_is_of, is_of_behind, home_bounded, taken_bounded}
@@ -133,14 +135,16 @@ kept_own table o answer pending pair there is own =
 -- a replica of a volume, over a restart
 pub replica_over : (settings : Settings) (k : Known) (kept : List (List Bool)) (row : Bool) (t : Known) (v j : ℕ) (pair : Pair) → Reopens settings k kept row t → IsOf settings k
     → v < settings.volumes → j < settings.replicas
-    → at_replica (volume_at t v) j pair ≡ outcome_at (with_entries (now (volume_at k v) (replica_at (volume_at k v) j)) (kept_entry (volume_at k v).pending (is_kept (slice_index_or kept v []) j))) pair
+    → at_replica (volume_at t v) j pair ≡ outcome_at (with_entries (now (volume_at k v) (replica_at (volume_at k v) j))
+    (kept_entry (volume_at k v).pending (is_kept (slice_index_or kept v []) j))) pair
 replica_over settings k kept row t v j pair h is below within =
     let found = volume_reopened settings k kept row t v h (subst (λ (n : ℕ). v < n) (sym is.volumes) below) in
     let inside : j < length (volume_at k v).replicas = subst (λ (n : ℕ). j < n) (sym (is.replicas v below)) within in
     let plus : 0 + j ≡ j = omega arith in
     let opened = reopened_replica (volume_at k v) (slice_index_or kept v []) 0 (volume_at k v).replicas (volume_at t v).replicas j found.replicas inside in
     let opened_j : ReopenedReplica (volume_at k v) (replica_at (volume_at k v) j) (kept_entry (volume_at k v).pending (is_kept (slice_index_or kept v []) j)) (replica_at (volume_at t v) j) =
-    subst (λ (i : ℕ). ReopenedReplica (volume_at k v) (replica_at (volume_at k v) j) (kept_entry (volume_at k v).pending (is_kept (slice_index_or kept v []) i)) (replica_at (volume_at t v) j)) plus opened in
+    subst (λ (i : ℕ). ReopenedReplica (volume_at k v) (replica_at (volume_at k v) j) (kept_entry (volume_at k v).pending (is_kept (slice_index_or kept v []) i))
+    (replica_at (volume_at t v) j)) plus opened in
     at_reopened (volume_at k v) (volume_at t v) j (kept_entry (volume_at k v).pending (is_kept (slice_index_or kept v []) j)) pair found.log opened_j
 
 -- a home stands over a restart
@@ -202,7 +206,8 @@ standing_kept settings k d notes t pair v pending is some h there own home none 
     }
 
 pub restart_alone : (settings : Settings) (k : Known) (line pick : ℕ) (r : Reply) (notes : List Note) (t : Known) (pair : Pair) (photo : Photo) → IsOf settings k → 0 < settings.replicas
-    → LegalRestart settings k r notes t → LeavesAloneFrom settings pair k (Restart line pick r notes t) → Standing settings k pair (outcome.Photo photo) → Standing settings t pair (outcome.Photo photo)
+    → LegalRestart settings k r notes t → LeavesAloneFrom settings pair k (Restart line pick r notes t) → Standing settings k pair (outcome.Photo photo)
+    → Standing settings t pair (outcome.Photo photo)
 restart_alone settings k line pick (reply.Restarted d) notes t pair photo is some h alone stands = standing_restart settings k d notes t pair photo is some h alone.1 stands
 restart_alone settings k line pick reply.NoMem notes t pair photo is some h alone stands = absurd alone.0
 restart_alone settings k line pick _ notes t pair photo is some h alone stands = absurd h

@@ -92,7 +92,17 @@ pub last_or_spared : (log : List Logged) (pair : Pair) → ((change : Entry) × 
 last_or_spared [] pair = inr tt
 last_or_spared (l ∷ log) pair =
     elim (last_or_spared log pair) [
-      | inl last ↦ inl (last.0, record { front = l ∷ (last.1).front; tag = (last.1).tag; back = (last.1).back; parts = ap (λ (xs : List Logged). l ∷ xs) (last.1).parts; own = (last.1).own; spared = (last.1).spared })
+      | inl last ↦ inl (
+        last.0,
+        record {
+          front = l ∷ (last.1).front;
+          tag = (last.1).tag;
+          back = (last.1).back;
+          parts = ap (λ (xs : List Logged). l ∷ xs) (last.1).parts;
+          own = (last.1).own;
+          spared = (last.1).spared;
+        },
+      )
       | inr spared ↦ elim (cases_Bool (pair_eq (pair_of l.entry) pair)) [
         | inl t ↦ inl (l.entry, record { front = []; tag = l.tag; back = log; parts = refl; own = pair_same _ pair t; spared = spared })
         | inr f ↦ inr ((λ e. true≢false (sym (ap (λ (p : Pair). pair_eq p pair) e ∙ pair_refl pair) ∙ f)), spared)
@@ -168,8 +178,11 @@ get_at settings k tag url None _ t tells h = absurd tells
 
 pub asked : (settings : Settings) (k : Known) (tag : CoreTag) (c : Command) (r : Reply) (t : Known) (pair : Pair) (cookie : Cookie) → Tells r
     → AsksFor c pair cookie → LegalCommand settings k tag c r t → (start : ℕ) × LegalShow settings k tag start pair cookie r t
-asked settings k tag (command.Read p c) r t pair cookie tells asks h =
-    (start_of settings tag, subst (λ (q : Cookie). LegalShow settings k tag (start_of settings tag) pair q r t) asks.1 (subst (λ (q : Pair). LegalShow settings k tag (start_of settings tag) q c r t) asks.0 h))
+asked settings k tag (command.Read p c) r t pair cookie tells asks h = (
+  start_of settings tag,
+  subst (λ (q : Cookie). LegalShow settings k tag (start_of settings tag) pair q r t) asks.1
+      (subst (λ (q : Pair). LegalShow settings k tag (start_of settings tag) q c r t) asks.0 h),
+)
 asked settings k tag (command.Get url) r t pair cookie tells asks h =
     let at = get_at settings k tag url _ r t tells h in
     (at.0, subst (λ (q : Cookie). LegalShow settings k tag at.0 pair q r t) asks.1 (subst (λ (q : Pair). LegalShow settings k tag at.0 q url.cookie r t) asks.0 at.1))

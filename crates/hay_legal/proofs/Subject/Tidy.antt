@@ -33,7 +33,8 @@ use Rattle.hay_legal.specs.Plain.{IsDeleted, LegalPlain, LegalCommand, LegalShow
 use Rattle.hay_reply.specs.declared.Note.{Note}
 use Rattle.hay_legal.specs.Restarts.{Reopens, LegalRestart, IsRestarted, kept_entry, is_kept, with_entries}
 use Rattle.hay_legal.specs.Legal.{Legal}
-use Rattle.hay_legal.specs.Subject.{known_behind, pair_of, AsksFor, IsOf, changed_pair, SaysNothing, LosesChanges, LeavesAloneFrom, AllLeaveAlone, IsTidy, IsRefusedAsAbsent, DeletedIsGoneBehindRestarts}
+use Rattle.hay_legal.specs.Subject.{known_behind, pair_of, AsksFor, IsOf, changed_pair, SaysNothing, LosesChanges, LeavesAloneFrom, AllLeaveAlone, IsTidy, IsRefusedAsAbsent}
+use Rattle.hay_legal.specs.Subject.{DeletedIsGoneBehindRestarts}
 use Rattle.hay_legal.proofs.Subject.Shown.{legal_split, row_pair, pair_differs, Tells}
 use Rattle.hay_legal.proofs.Subject.Effects.{calm_undisturbed, del_disturbed, plain_effect}
 use Rattle.hay_legal.proofs.Subject.Entries.{plain_is_of, reopened_many, volume_reopened, restart_is_of, is_of_behind, home_bounded}

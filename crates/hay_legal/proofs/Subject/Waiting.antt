@@ -24,10 +24,14 @@ use Rattle.hay_legal.specs.declared.turn.Item.{Item}
 use Rattle.hay_legal.specs.declared.turn.Item.TheVariants as item
 use Rattle.hay_legal.specs.declared.turn.Turn.{Turn}
 use Rattle.hay_legal.specs.declared.turn.Turn.TheVariants.{Plain, Lanes, Restart}
-use Rattle.hay_legal.specs.Known.{home_of, home_in, volume_at, replica_at, with_replica, empty_volume, Leaves, with_home, taker_of, tries_by, refusal_of, replica_on, closed, drained_of, refusal_by, room_refusal, closed_by}
+use Rattle.hay_legal.specs.Known.{home_of, home_in, volume_at, replica_at, with_replica, empty_volume, Leaves, with_home, taker_of, tries_by, refusal_of, replica_on, closed}
+use Rattle.hay_legal.specs.Known.{drained_of, refusal_by, room_refusal, closed_by}
 use Rattle.hay_url.specs.declared.Url.{Url as UrlParts}
 use Rattle.hay_url.specs.Url.{cookie_of}
-use Rattle.hay_legal.specs.Plain.{PutFailed, LegalPlain, LegalCommand, LegalShow, LegalGetAt, start_of, LegalPut, LegalDel, LegalUrl, LegalFlush, LegalBegin, LegalStep, LegalFinish, LegalCompact, LegalDrain, LegalUndrain, LegalFuse, LegalFuseDir, OnReplica, IsLoose, IsTight, replica_of, Swaps, SwapFailed, SwapNoMem, IsAtRest, IsOpen, MayFinish, change_volume, change_replica, frozen_by, frozen_with, without_run, with_bare, with_stuck, with_run, swapped, stepped, poised, poised_by, as_it_is, put_frozen, put_entry, first_machine, with_put, with_del}
+use Rattle.hay_legal.specs.Plain.{PutFailed, LegalPlain, LegalCommand, LegalShow, LegalGetAt, start_of, LegalPut, LegalDel, LegalUrl, LegalFlush, LegalBegin, LegalStep}
+use Rattle.hay_legal.specs.Plain.{LegalFinish, LegalCompact, LegalDrain, LegalUndrain, LegalFuse, LegalFuseDir, OnReplica, IsLoose, IsTight, replica_of, Swaps, SwapFailed}
+use Rattle.hay_legal.specs.Plain.{SwapNoMem, IsAtRest, IsOpen, MayFinish, change_volume, change_replica, frozen_by, frozen_with, without_run, with_bare, with_stuck, with_run}
+use Rattle.hay_legal.specs.Plain.{swapped, stepped, poised, poised_by, as_it_is, put_frozen, put_entry, first_machine, with_put, with_del}
 use Rattle.hay_legal.specs.Legal.{Legal}
 use Rattle.hay_legal.specs.Subject.{known_behind, pair_of, IsOf, IsPlain, FailedPutThatWasKeptIsRead}
 use Rattle.hay_legal.proofs.Subject.Shown.{legal_split}

@@ -18,7 +18,8 @@ pub returns-in-Ok-format_disk-clause-opened : goal.returns-in-Ok-format_disk-cla
 returns-in-Ok-format_disk-clause-opened g c = λ tells s opens.
     let contents : ℕ → List ℕ = λ n. (g.D.Disk.files c.args.disk.now n).now in
     let void : IsVoid contents = void_is (contents 0) (omega (arith, c.in-Ok-eq0.ensures.size tells, c.in-Ok-eq0.field-0-test)) in
-    subst (λ (t : Stored). OpenedAs c.args.sup.now (g.D.Disk.files c.format_disk.new.disk) c.in-Ok-format_disk.opened t) (sym (opens_void c.args.sup.now contents s void opens)) (c.in-Ok-format_disk.ensures.opened tells)
+    subst (λ (t : Stored). OpenedAs c.args.sup.now (g.D.Disk.files c.format_disk.new.disk) c.in-Ok-format_disk.opened t) (sym (opens_void c.args.sup.now contents s void opens))
+    (c.in-Ok-format_disk.ensures.opened tells)
 
 pub returns-in-Ok-format_disk-clause-places : goal.returns-in-Ok-format_disk-clause-places
 returns-in-Ok-format_disk-clause-places g c = λ tells s opens.
@@ -47,7 +48,8 @@ unfolding IsOpeningDamage
 returns-in-Ok-read_disk-clause-undamaged g c = λ tells file at damage.
     let contents : ℕ → List ℕ = λ n. (g.D.Disk.files c.args.disk.now n).now in
     let short = g.met.D.Disk.fits in
-    let whole = subst (λ (fs : Files). ReadsWhole g.D.Piece.Piece.Tells c.args.sup.now (λ n. (fs n).now) c.in-Ok-read_disk.opened) (c.size.ensures.same tells) (c.in-Ok-read_disk.ensures.whole tells) in
+    let whole =
+    subst (λ (fs : Files). ReadsWhole g.D.Piece.Piece.Tells c.args.sup.now (λ n. (fs n).now) c.in-Ok-read_disk.opened) (c.size.ensures.same tells) (c.in-Ok-read_disk.ensures.whole tells) in
     reads_undamaged g.D.Piece.Piece.Tells c.args.sup.now contents c.in-Ok-read_disk.opened file at (λ n. short c.args.disk.now n tells) whole
     (subst (λ (fs : Files). IsDamagedFront c.args.sup.now (λ n. (fs n).now) file at → ⊥) (c.size.ensures.same tells) (c.in-Ok-read_disk.ensures.front tells file at)) damage.1
 
@@ -78,7 +80,8 @@ returns-in-Err-read_disk-clause-only g c = λ tells s opens file at is.
     let contents : ℕ → List ℕ = λ n. (g.D.Disk.files c.args.disk.now n).now in
     let some : IsVoid contents → ⊥ = λ void. c.in-Ok.field-0-test.1 (omega (arith, c.in-Ok.ensures.size tells, ap (λ (l : List ℕ). length l) void)) in
     let was : c.in-Err-read_disk.refusal ≡ refusal.Damaged file at = told_damaged c.in-Err-read_disk.refusal _ file at c.told-in-Err-read_disk.result c.told-in-Err-read_disk.ensures (cc) in
-    c.in-Err-read_disk.ensures.only tells s (subst (λ (fs : Files). IsStored c.args.sup.now (λ n. (fs n).now) s) (sym (c.size.ensures.same tells)) (opens_stored c.args.sup.now contents s some opens)) file at (ap (λ (r : Refusal). Err r) was)
+    c.in-Err-read_disk.ensures.only tells s (subst (λ (fs : Files). IsStored c.args.sup.now (λ n. (fs n).now) s) (sym (c.size.ensures.same tells))
+    (opens_stored c.args.sup.now contents s some opens)) file at (ap (λ (r : Refusal). Err r) was)
 
 -- WHAT A STOP LEAVES OF A VOID DISK
 
@@ -101,7 +104,8 @@ returns-in-Ok-format_disk-clause-undamaged_now g c = λ tells file at damage. c.
 pub returns-in-Ok-read_disk-clause-undamaged_now : goal.returns-in-Ok-read_disk-clause-undamaged_now
 returns-in-Ok-read_disk-clause-undamaged_now g c = λ tells file at damage.
     let f = g.D.Disk.files in
-    let kept : (λ n. (f c.read_disk.new.disk n).now) ≡ (λ n. (f c.args.disk.now n).now) = fun_ext (λ n. c.read_disk.ensures.kept tells n ∙ ap (λ (fs : Files). (fs n).now) (c.size.ensures.same tells)) in
+    let kept : (λ n. (f c.read_disk.new.disk n).now) ≡ (λ n. (f c.args.disk.now n).now) =
+    fun_ext (λ n. c.read_disk.ensures.kept tells n ∙ ap (λ (fs : Files). (fs n).now) (c.size.ensures.same tells)) in
     returns-in-Ok-read_disk-clause-undamaged g c tells file at (subst (λ contents. IsOpeningDamage c.args.sup.now contents file at) kept damage)
 
 -- WHATEVER THE DISK TELLS

@@ -6,7 +6,8 @@ use Rattle.hay_audit.proofs.cuts.try_cuts.Goals as goal
 
 pub loop-volume-preserved : goal.loop-volume-preserved
 loop-volume-preserved c =
-    tries_more c.args.settings.now c.args.size (get_or c.args.tries.now c.loop-volume.volume-index 0) (drop (c.loop-volume.volume-index + 1) c.args.tries.now) c.loop-volume.states c.in_ok-states-2.states c.in_ok-states-2.ensures
+    tries_more c.args.settings.now c.args.size (get_or c.args.tries.now c.loop-volume.volume-index 0) (drop (c.loop-volume.volume-index + 1) c.args.tries.now) c.loop-volume.states
+    c.in_ok-states-2.states c.in_ok-states-2.ensures
     ∙ ap (λ (vs : List ℕ). flat_map (try_cuts c.args.settings.now c.args.size vs) c.loop-volume.states) (sym (drop_more c.args.tries.now c.loop-volume.volume-index 0 c.loop-volume-test.true))
     ∙ c.loop-volume.invariant
 

@@ -4,7 +4,8 @@ use Rattle.hay_audit.proofs.cuts.volume_cuts.Goals as goal
 
 pub loop-j-preserved : goal.loop-j-preserved
 loop-j-preserved c =
-    cuts_more c.args.settings.now c.args.size c.args.volume c.loop-j.j c.replica_count-count.result c.loop-j.states c.in_ok-states-2.states c.loop-j-test.true c.in_ok-states-2.ensures ∙ c.loop-j.invariant
+    cuts_more c.args.settings.now c.args.size c.args.volume c.loop-j.j c.replica_count-count.result c.loop-j.states c.in_ok-states-2.states c.loop-j-test.true
+    c.in_ok-states-2.ensures ∙ c.loop-j.invariant
 
 pub returns : goal.returns
 returns c =

@@ -26,7 +26,8 @@ pub returns-in_default-clause-went : goal.returns-in_default-clause-went
 returns-in_default-clause-went c =
     goes_nowhere c.args.settings.now c.args.line c.args.item.now c.args.transcript.now (behind_place c.args.transcript.now c.args.candidate.at) c.args.candidate c.args.out.now
     (all_behind c.args.transcript.now c.args.candidate.at)
-    (subst (λ (o : Option Answer). IfNone o ((r : Reply) (rest : List ℕ) → FitsReply r → numbered_line c.args.line r ++ rest ≢ (behind_place c.args.transcript.now c.args.candidate.at))) c.in_default.is c.in_ok-answer.ensures.none)
+    (subst (λ (o : Option Answer). IfNone o ((r : Reply) (rest : List ℕ) → FitsReply r
+    → numbered_line c.args.line r ++ rest ≢ (behind_place c.args.transcript.now c.args.candidate.at))) c.in_default.is c.in_ok-answer.ensures.none)
 
 pub returns-in_default-reply-clause-went : goal.returns-in_default-reply-clause-went
 returns-in_default-reply-clause-went c =
@@ -35,7 +36,8 @@ returns-in_default-reply-clause-went c =
     unread_goes c.args.settings.now c.args.line c.args.item.now c.args.transcript.now (behind_place c.args.transcript.now c.args.candidate.at) c.args.candidate c.args.out.now
     (c.in-Some.answer).reply (c.in-Some.answer).behind c.requires.restart (all_behind c.args.transcript.now c.args.candidate.at) c.fits.ensures
     (λ wants. is_no_bad c.args.item.now c.requires.restart
-    (reply_told c.args.transcript.now (behind_place c.args.transcript.now c.args.candidate.at) c.args.line c.args.item.now c.args.candidate.at (c.in-Some.answer).behind (c.in-Some.answer).reply c.ranges.line.fits c.requires.shut (c.requires.kept).start
+    (reply_told c.args.transcript.now (behind_place c.args.transcript.now c.args.candidate.at) c.args.line c.args.item.now c.args.candidate.at (c.in-Some.answer).behind
+    (c.in-Some.answer).reply c.ranges.line.fits c.requires.shut (c.requires.kept).start
     (all_behind c.args.transcript.now c.args.candidate.at) read.1 wants))
     read.1 (λ d notes rest is. absurd (c.in_default-reply.not-Restarted d is))
 
@@ -56,8 +58,10 @@ returns-clause-went c =
     let rest : more ≡ drop (c.args.candidate.at + (c.in-Some.answer).behind) c.args.transcript.now = all_behind c.args.transcript.now (c.args.candidate.at + (c.in-Some.answer).behind) in
     elim (c.in_ok-tell_restart.ensures) [
       | inl told ↦
-          restart_goes c.args.settings.now c.args.line c.args.item.now c.args.transcript.now (behind_place c.args.transcript.now c.args.candidate.at) more c.args.candidate c.args.out.now c.tell_restart.new.out
-          (c.in-Some.answer).reply c.in-Restarted.rows (c.in-Some.answer).behind told.behind told.notes (restart_boxes c.args.settings.now c.args.candidate.state (Restarted c.in-Restarted.rows) told.notes)
+          restart_goes c.args.settings.now c.args.line c.args.item.now c.args.transcript.now (behind_place c.args.transcript.now c.args.candidate.at) more c.args.candidate
+          c.args.out.now c.tell_restart.new.out
+          (c.in-Some.answer).reply c.in-Restarted.rows (c.in-Some.answer).behind told.behind told.notes
+          (restart_boxes c.args.settings.now c.args.candidate.state (Restarted c.in-Restarted.rows) told.notes)
           c.requires.restart (c.requires.kept).of (all_behind c.args.transcript.now c.args.candidate.at) c.in-Restarted.is c.fits.ensures read.1 rest
           (record { many = told.many; fits = told.fits; parts = told.parts }) refl told.added
       | inr untold ↦
@@ -74,16 +78,20 @@ returns-clause-kept c = λ h.
     subst (λ (o : Option Answer). IfSome o (IsAnswer c.args.line (behind_place c.args.transcript.now c.args.candidate.at))) c.in-Some.is c.in_ok-answer.ensures.some in
     let more = behind_place c.args.transcript.now (c.args.candidate.at + (c.in-Some.answer).behind) in
     let rest : more ≡ drop (c.args.candidate.at + (c.in-Some.answer).behind) c.args.transcript.now = all_behind c.args.transcript.now (c.args.candidate.at + (c.in-Some.answer).behind) in
-    let first = reply_starts c.args.transcript.now (behind_place c.args.transcript.now c.args.candidate.at) c.args.line c.args.candidate.at (c.in-Some.answer).behind (c.in-Some.answer).reply (c.requires.kept).start (all_behind c.args.transcript.now c.args.candidate.at) read.1 in
+    let first =
+    reply_starts c.args.transcript.now (behind_place c.args.transcript.now c.args.candidate.at) c.args.line c.args.candidate.at (c.in-Some.answer).behind
+    (c.in-Some.answer).reply (c.requires.kept).start (all_behind c.args.transcript.now c.args.candidate.at) read.1 in
     let on : drop (c.in-Some.answer).behind (behind_place c.args.transcript.now c.args.candidate.at) ≡ more =
-    ap (λ (xs : List ℕ). drop (c.in-Some.answer).behind xs) (all_behind c.args.transcript.now c.args.candidate.at) ∙ sym (drop_twice c.args.candidate.at (c.in-Some.answer).behind c.args.transcript.now) ∙ sym rest in
+    ap (λ (xs : List ℕ). drop (c.in-Some.answer).behind xs) (all_behind c.args.transcript.now c.args.candidate.at)
+    ∙ sym (drop_twice c.args.candidate.at (c.in-Some.answer).behind c.args.transcript.now) ∙ sym rest in
     elim (c.in_ok-tell_restart.ensures) [
       | inl told ↦
           placed_kept c.args.settings.now c.args.transcript.now more (c.args.candidate.at + (c.in-Some.answer).behind) told.behind c.args.out.now c.tell_restart.new.out
           (restart_boxes c.args.settings.now c.args.candidate.state (Restarted c.in-Restarted.rows) told.notes) rest
           (further_within c.args.transcript.now c.args.candidate.at (c.in-Some.answer).behind (c.requires.kept).within read.0) told.within
           (notes_start c.args.transcript.now first.0 (drop told.behind more) told.notes (first.1 ∙ ap (λ (xs : List ℕ). first.0 ++ 10 ∷ xs) (on ∙ sym told.parts)))
-          (restart_keeps c.args.settings.now c.args.candidate.state c.in-Restarted.rows told.notes (restart_boxes c.args.settings.now c.args.candidate.state (Restarted c.in-Restarted.rows) told.notes) (c.requires.kept).of refl)
+          (restart_keeps c.args.settings.now c.args.candidate.state c.in-Restarted.rows told.notes
+          (restart_boxes c.args.settings.now c.args.candidate.state (Restarted c.in-Restarted.rows) told.notes) (c.requires.kept).of refl)
           told.added h
       | inr untold ↦ subst (λ (new : List Candidate). AreKept c.args.settings.now c.args.transcript.now new) (sym untold.same) h
     ]

@@ -19,7 +19,8 @@ advance-requires-clause-shut c = c.if-is_open.ensures.no refl
 
 pub returns-then-is_empty : goal.returns-then-is_empty
 returns-then-is_empty c =
-    walks_nowhere c.args.settings.now c.args.transcript.now c.args.candidates c.in_ok-next.next c.args.number c.args.turns c.args.said c.in-Asks.item c.in-Asks.is (c.if-is_open.ensures.no refl) (c.if-is_empty.ensures.0 refl)
+    walks_nowhere c.args.settings.now c.args.transcript.now c.args.candidates c.in_ok-next.next c.args.number c.args.turns c.args.said c.in-Asks.item c.in-Asks.is
+    (c.if-is_open.ensures.no refl) (c.if-is_empty.ensures.0 refl)
     c.in_ok-next.ensures.went
 
 pub returns : goal.returns

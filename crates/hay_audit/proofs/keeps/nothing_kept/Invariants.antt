@@ -5,7 +5,9 @@ use Rattle.hay_audit_steps.specs.Reopen as reopen
 use Rattle.hay_audit.proofs.keeps.nothing_kept.Given as goal
 
 abbrev pub invariant-loop-left : goal.invariant-loop-left
-invariant-loop-left l = reopen.all_below (λ j. not (restarts.nothing_at l.volume l.change j) || reopen.says true (slice_get l.kept j)) (length l.kept) ≡ reopen.all_below (λ j. not (restarts.nothing_at l.volume l.change j) || reopen.says true (slice_get l.kept j)) l.left
+invariant-loop-left l =
+    reopen.all_below (λ j. not (restarts.nothing_at l.volume l.change j) || reopen.says true (slice_get l.kept j)) (length l.kept)
+    ≡ reopen.all_below (λ j. not (restarts.nothing_at l.volume l.change j) || reopen.says true (slice_get l.kept j)) l.left
 
 abbrev pub decreases-loop-left : goal.decreases-loop-left
 decreases-loop-left l = l.left

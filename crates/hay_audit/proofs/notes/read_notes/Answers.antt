@@ -14,16 +14,20 @@ loop-alloc-init c = subst (λ (ns : List Note). NotesRead c.args.text.now c.args
 
 pub returns-in_default-clause-none : goal.returns-in_default-clause-none
 returns-in_default-clause-none c =
-    none_next c.args.text.now (take (length c.args.text.now - c.loop-alloc.behind) (drop c.loop-alloc.behind c.args.text.now)) c.args.count c.loop-alloc.notes c.loop-alloc.behind c.loop-alloc.invariant
+    none_next c.args.text.now (take (length c.args.text.now - c.loop-alloc.behind) (drop c.loop-alloc.behind c.args.text.now)) c.args.count c.loop-alloc.notes c.loop-alloc.behind
+    c.loop-alloc.invariant
     (omega (arith, c.loop-alloc-test.true, c.len.ensures)) (all_behind c.args.text.now c.loop-alloc.behind)
-    (subst (λ (o : Option Told). IfNone o ((n : Note) (rest : List ℕ) → FitsNote n → note_line n ++ rest ≢ take (length c.args.text.now - c.loop-alloc.behind) (drop c.loop-alloc.behind c.args.text.now))) c.in_default.is c.in_ok-told.ensures.none)
+    (subst (λ (o : Option Told). IfNone o ((n : Note) (rest : List ℕ) → FitsNote n → note_line n ++ rest
+    ≢ take (length c.args.text.now - c.loop-alloc.behind) (drop c.loop-alloc.behind c.args.text.now))) c.in_default.is c.in_ok-told.ensures.none)
 
 pub loop-alloc-preserved : goal.loop-alloc-preserved
 loop-alloc-preserved c =
     let part : List ℕ = take (length c.args.text.now - c.loop-alloc.behind) (drop c.loop-alloc.behind c.args.text.now) in
     let told = subst (λ (o : Option Told). IfSome o (λ t. (t.behind ≤ length (take (length c.args.text.now - c.loop-alloc.behind) (drop c.loop-alloc.behind c.args.text.now))) × FitsNote t.note
-    × (note_line t.note ++ drop t.behind (take (length c.args.text.now - c.loop-alloc.behind) (drop c.loop-alloc.behind c.args.text.now)) ≡ take (length c.args.text.now - c.loop-alloc.behind) (drop c.loop-alloc.behind c.args.text.now)))) c.in-Some.is c.in_ok-told.ensures.some in
-    read_on c.args.text.now (take (length c.args.text.now - c.loop-alloc.behind) (drop c.loop-alloc.behind c.args.text.now)) c.args.count c.loop-alloc.notes c.push.new.self c.loop-alloc.behind (c.in-Some.told).behind (c.in-Some.told).note c.loop-alloc.invariant
+    × (note_line t.note ++ drop t.behind (take (length c.args.text.now - c.loop-alloc.behind) (drop c.loop-alloc.behind c.args.text.now))
+    ≡ take (length c.args.text.now - c.loop-alloc.behind) (drop c.loop-alloc.behind c.args.text.now)))) c.in-Some.is c.in_ok-told.ensures.some in
+    read_on c.args.text.now (take (length c.args.text.now - c.loop-alloc.behind) (drop c.loop-alloc.behind c.args.text.now)) c.args.count c.loop-alloc.notes c.push.new.self
+    c.loop-alloc.behind (c.in-Some.told).behind (c.in-Some.told).note c.loop-alloc.invariant
     (omega (arith, c.loop-alloc-test.true, c.len.ensures)) (all_behind c.args.text.now c.loop-alloc.behind) told.0 told.1 told.2 c.in_ok-push.ensures.ok
 
 pub returns-clause-some : goal.returns-clause-some

@@ -32,12 +32,15 @@ loop-j-preserved c =
     let many : length c.as_slice-replicas.result.now ≡ length (c.args.volume.now).replicas =
     ap (λ (rs : List ReplicaKnown). length rs) (c.as_slice-replicas.ensures ∙ ap (λ (v : VolumeKnown). v.replicas) c.volume.view_is) in
     let is : c.index-replicas-j.result ≡ get_or (c.args.volume.now).replicas c.loop-j.j c.index-replicas-j.result =
-    subst (λ (rs : List ReplicaKnown). c.index-replicas-j.result ≡ get_or rs c.loop-j.j c.index-replicas-j.result) (c.as_slice-replicas.ensures ∙ ap (λ (v : VolumeKnown). v.replicas) c.volume.view_is) c.index-replicas-j.is in
-    let kept : c.in_ok-made-2.made ≡ chosen_with c.args.volume.now (part_of c.index-replicas-j.result c.index-lows-j.result c.index-highs-j.result) (kept_entry (c.args.volume.now).pending (is_kept c.args.kept.now c.loop-j.j)) c.loop-j.made =
+    subst (λ (rs : List ReplicaKnown). c.index-replicas-j.result ≡ get_or rs c.loop-j.j c.index-replicas-j.result)
+    (c.as_slice-replicas.ensures ∙ ap (λ (v : VolumeKnown). v.replicas) c.volume.view_is) c.index-replicas-j.is in
+    let kept : c.in_ok-made-2.made ≡ chosen_with c.args.volume.now (part_of c.index-replicas-j.result c.index-lows-j.result c.index-highs-j.result)
+    (kept_entry (c.args.volume.now).pending (is_kept c.args.kept.now c.loop-j.j)) c.loop-j.made =
     c.in_ok-made-2.ensures
     ∙ ap (λ (es : List Entry). chosen_with c.args.volume.now (part_of c.index-replicas-j.result c.index-lows-j.result c.index-highs-j.result) es c.loop-j.made)
     (c.kept_change-change.ensures ∙ ap (λ (v : VolumeKnown). kept_entry v.pending (is_kept c.args.kept.now c.loop-j.j)) c.volume.view_is) in
-    choices_on c.args.volume.now c.args.kept.now c.loop-j.j c.index-replicas-j.result c.index-lows-j.result c.index-highs-j.result (c.args.volume.now).replicas c.args.lows.now c.args.highs.now c.loop-j.made c.in_ok-made-2.made
+    choices_on c.args.volume.now c.args.kept.now c.loop-j.j c.index-replicas-j.result c.index-lows-j.result c.index-highs-j.result (c.args.volume.now).replicas c.args.lows.now
+    c.args.highs.now c.loop-j.made c.in_ok-made-2.made
     (omega (arith, many)) (omega (arith, many)) (omega (arith, many)) is c.index-lows-j.is c.index-highs-j.is kept
     ∙ c.loop-j.invariant
 

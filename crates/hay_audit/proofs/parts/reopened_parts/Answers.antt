@@ -9,4 +9,5 @@ pub returns : goal.returns
 returns c =
     c.in_ok-made.ensures
     ∙ ap (λ (first : Part). first ∷ part_list c.in_ok-swapped.swapped) c.in_ok-first.ensures
-    ∙ ap (λ (others : List Part). as_it_was c.args.volume.now (part_of c.args.old.now c.args.low c.args.high) (change_list (option_copied c.args.change)) (c.args.old.now).stuck ∷ others) (c.in_ok-swapped.ensures c.args.low)
+    ∙ ap (λ (others : List Part). as_it_was c.args.volume.now (part_of c.args.old.now c.args.low c.args.high) (change_list (option_copied c.args.change)) (c.args.old.now).stuck
+    ∷ others) (c.in_ok-swapped.ensures c.args.low)

@@ -5,4 +5,5 @@ use Rattle.hay_audit.proofs.reopens.push_all.Given as goal
 
 abbrev pub invariant-loop-front : goal.invariant-loop-front
 invariant-loop-front l =
-    l.made ++ flat_map (λ front. map (choosing.behind front) l.fn.choices) (l.front-iterator.rest.items ++ ((l.last-inside).items).items ∷ []) ≡ flat_map (λ front. map (choosing.behind front) l.fn.choices) l.fn.fronts
+    l.made ++ flat_map (λ front. map (choosing.behind front) l.fn.choices) (l.front-iterator.rest.items ++ ((l.last-inside).items).items ∷ [])
+    ≡ flat_map (λ front. map (choosing.behind front) l.fn.choices) l.fn.fronts

@@ -9,12 +9,14 @@ use Rattle.hay_audit.proofs.table.copy_of.Goals as goal
 
 pub loop-pair-preserved-in_ok-insert : goal.loop-pair-preserved-in_ok-insert
 loop-pair-preserved-in_ok-insert c =
-    copy_more c.args.photos.now.entries c.loop-pair.copy.entries c.loop-pair.pair-iterator c.next.new.self c.insert.new.self.entries c.in-Some.pair.now c.in-Some.photo.now c.len-count.ensures.ordered c.loop-pair.invariant
+    copy_more c.args.photos.now.entries c.loop-pair.copy.entries c.loop-pair.pair-iterator c.next.new.self c.insert.new.self.entries c.in-Some.pair.now c.in-Some.photo.now
+    c.len-count.ensures.ordered c.loop-pair.invariant
     (rest_more deref_pair c.loop-pair.pair-iterator c.next.new.self c.next.result (c.in-Some.pair, c.in-Some.photo) c.in-Some.is c.next.ensures.steps)
     (c.in_ok-insert.ensures.entries ∙ ap (λ (photo : Photo). insert_entry pair_cmp c.loop-pair.copy.entries c.in-Some.pair.now photo) c.in_ok-duplicate.ensures.same)
 
 pub loop-pair-preserved : goal.loop-pair-preserved
 loop-pair-preserved c =
-    copy_more c.args.photos.now.entries c.loop-pair.copy.entries c.loop-pair.pair-iterator c.next.new.self c.insert.new.self.entries c.in-Some.pair.now c.in-Some.photo.now c.len-count.ensures.ordered c.loop-pair.invariant
+    copy_more c.args.photos.now.entries c.loop-pair.copy.entries c.loop-pair.pair-iterator c.next.new.self c.insert.new.self.entries c.in-Some.pair.now c.in-Some.photo.now
+    c.len-count.ensures.ordered c.loop-pair.invariant
     (rest_more deref_pair c.loop-pair.pair-iterator c.next.new.self c.next.result (c.in-Some.pair, c.in-Some.photo) c.in-Some.is c.next.ensures.steps)
     (c.in_ok-insert.ensures.entries ∙ ap (λ (photo : Photo). insert_entry pair_cmp c.loop-pair.copy.entries c.in-Some.pair.now photo) c.in_ok-duplicate.ensures.same)

@@ -15,13 +15,15 @@ returns-in_err-needles-clause-left g c = λ tells superblock cells image is soli
 
 pub gate_append-requires-clause-mark : goal.gate_append-requires-clause-mark
 gate_append-requires-clause-mark g c =
-    ends_in_mark (body_of c.as_slice.result.now) c.args.photos.now (body_made c.as_slice.result.now c.in_ok-needles.needles.items c.args.photos.now c.requires.batch.some c.as_slice.ensures.value c.in_ok-needles.ensures)
+    ends_in_mark (body_of c.as_slice.result.now) c.args.photos.now (body_made c.as_slice.result.now c.in_ok-needles.needles.items c.args.photos.now c.requires.batch.some
+    c.as_slice.ensures.value c.in_ok-needles.ensures)
 
 -- the append was begun
 pub returns-in_err-gate_append-clause-left : goal.returns-in_err-gate_append-clause-left
 returns-in_err-gate_append-clause-left g c = λ tells superblock cells image is solid leaves.
     let made = body_made c.as_slice.result.now c.in_ok-needles.needles.items c.args.photos.now c.requires.batch.some c.as_slice.ensures.value c.in_ok-needles.ensures in
-    volume_stays superblock (g.D.Disk.files c.args.disk.now c.args.volume.now.file) (g.D.Disk.files c.gate_append.new.disk c.args.volume.now.file) image cells c.args.volume.now.end c.args.photos.now (body_of c.as_slice.result.now) made
+    volume_stays superblock (g.D.Disk.files c.args.disk.now c.args.volume.now.file) (g.D.Disk.files c.gate_append.new.disk c.args.volume.now.file) image cells c.args.volume.now.end
+    c.args.photos.now (body_of c.as_slice.result.now) made
     (c.gate_append.ensures.stays tells (lit< tt)) is solid leaves
 
 pub returns-in_err-gate_append-clause-changes : goal.returns-in_err-gate_append-clause-changes
@@ -33,18 +35,24 @@ returns-in_err-gate_append-clause-changes g c = λ tells.
 pub returns-clause-added : goal.returns-clause-added
 returns-clause-added g c = λ tells superblock cells is.
     let made = body_made c.as_slice.result.now c.in_ok-needles.needles.items c.args.photos.now c.requires.batch.some c.as_slice.ensures.value c.in_ok-needles.ensures in
-    volume_grows superblock (g.D.Disk.files c.args.disk.now c.args.volume.now.file).now (g.D.Disk.files c.gate_append.new.disk c.args.volume.now.file).now cells c.args.volume.now.end c.batch_total-need.result c.args.photos.now (body_of c.as_slice.result.now)
+    volume_grows superblock (g.D.Disk.files c.args.disk.now c.args.volume.now.file).now (g.D.Disk.files c.gate_append.new.disk c.args.volume.now.file).now cells
+    c.args.volume.now.end c.batch_total-need.result c.args.photos.now (body_of c.as_slice.result.now)
     c.batch_total-need.ensures made (c.in_ok-gate_append.ensures.grows tells (lit< tt)) is
 
 pub returns-clause-next : goal.returns-clause-next
 returns-clause-next g c = λ tells.
     let made = body_made c.as_slice.result.now c.in_ok-needles.needles.items c.args.photos.now c.requires.batch.some c.as_slice.ensures.value c.in_ok-needles.ensures in
-    as_far _ _ (g.D.Disk.files c.gate_append.new.disk c.args.volume.now.file) (omega (arith, c.batch_total-need.ensures, length-body (body_of c.as_slice.result.now) c.args.photos.now made)) (c.in_ok-gate_append.ensures.next tells (lit< tt))
+    as_far _ _ (g.D.Disk.files c.gate_append.new.disk c.args.volume.now.file) (omega (
+      arith,
+      c.batch_total-need.ensures,
+      length-body (body_of c.as_slice.result.now) c.args.photos.now made,
+    )) (c.in_ok-gate_append.ensures.next tells (lit< tt))
 
 pub returns-clause-left : goal.returns-clause-left
 returns-clause-left g c = λ tells superblock cells image is solid leaves.
     let made = body_made c.as_slice.result.now c.in_ok-needles.needles.items c.args.photos.now c.requires.batch.some c.as_slice.ensures.value c.in_ok-needles.ensures in
-    volume_stays superblock (g.D.Disk.files c.args.disk.now c.args.volume.now.file) (g.D.Disk.files c.gate_append.new.disk c.args.volume.now.file) image cells c.args.volume.now.end c.args.photos.now (body_of c.as_slice.result.now) made
+    volume_stays superblock (g.D.Disk.files c.args.disk.now c.args.volume.now.file) (g.D.Disk.files c.gate_append.new.disk c.args.volume.now.file) image cells c.args.volume.now.end
+    c.args.photos.now (body_of c.as_slice.result.now) made
     (c.gate_append.ensures.stays tells (lit< tt)) is solid leaves
 
 pub returns-clause-changes : goal.returns-clause-changes

@@ -18,7 +18,8 @@ returns-clause-replicas g c = λ v j r there.
     let filled = c.fill_volumes.ensures v there.0 at in
     let place = v * c.args.settings.replicas + j in
     let files : reverse c.reverse-2.new.self.items ≡ c.args.files.items = ap (λ (l : List VolumeFile). reverse l) c.reverse-2.ensures.items ∙ reverse-reverse c.args.files.items in
-    let disks : c.args.disks.items ≡ c.in-Some.disk ∷ reverse c.pop.new.self.items = first_turned c.args.disks.items c.reverse.new.self.items c.pop.new.self.items c.in-Some.disk c.reverse.ensures.items (c.in-Some.ensures).items in (
+    let disks : c.args.disks.items ≡ c.in-Some.disk ∷ reverse c.pop.new.self.items =
+    first_turned c.args.disks.items c.reverse.new.self.items c.pop.new.self.items c.in-Some.disk c.reverse.ensures.items (c.in-Some.ensures).items in (
       subst (λ (l : List g.row.D.Denot). At l (place + 1) r.disk) (sym disks) (at_next c.in-Some.disk (reverse c.pop.new.self.items) place r.disk (filled.disk j r there.2)),
       subst (λ (l : List VolumeFile). At l place r.volume) files (filled.file j r there.2),
     )

@@ -10,8 +10,10 @@ loop-volume-init g c = fills_none _ _ _ _
 pub loop-volume-preserved : goal.loop-volume-preserved
 loop-volume-preserved g c =
     let n = c.loop-volume.volume-index in
-    fills_more c.args.replicas n (reverse c.args.disks.now.items) c.loop-volume.disks.items c.fill_volume.new.disks.items (reverse c.args.files.now.items) c.loop-volume.files.items c.fill_volume.new.files.items c.args.volumes.now c.loop-volume.volumes
-    (get_or c.loop-volume.volumes n c.volume-item.result) c.fill_volume.new.volume c.loop-volume.invariant (at_read c.loop-volume.volumes n c.volume-item.result (omega arith)) c.fill_volume.ensures.filled c.fill_volume.ensures.disks c.fill_volume.ensures.files
+    fills_more c.args.replicas n (reverse c.args.disks.now.items) c.loop-volume.disks.items c.fill_volume.new.disks.items (reverse c.args.files.now.items) c.loop-volume.files.items
+    c.fill_volume.new.files.items c.args.volumes.now c.loop-volume.volumes
+    (get_or c.loop-volume.volumes n c.volume-item.result) c.fill_volume.new.volume c.loop-volume.invariant (at_read c.loop-volume.volumes n c.volume-item.result (omega arith))
+    c.fill_volume.ensures.filled c.fill_volume.ensures.disks c.fill_volume.ensures.files
 
 pub fill_volume-requires-clause-empty : goal.fill_volume-requires-clause-empty
 fill_volume-requires-clause-empty g c =
@@ -35,4 +37,5 @@ pub returns : goal.returns
 returns g c =
     let count = c.loop-volume.invariant.count in
     let all : length c.args.volumes.now ≤ c.loop-volume.volume-index = omega (arith, count) in
-    fills_all c.args.replicas c.loop-volume.volume-index (reverse c.args.disks.now.items) c.loop-volume.disks.items (reverse c.args.files.now.items) c.loop-volume.files.items c.args.volumes.now c.loop-volume.volumes c.loop-volume.invariant all
+    fills_all c.args.replicas c.loop-volume.volume-index (reverse c.args.disks.now.items) c.loop-volume.disks.items (reverse c.args.files.now.items) c.loop-volume.files.items
+    c.args.volumes.now c.loop-volume.volumes c.loop-volume.invariant all

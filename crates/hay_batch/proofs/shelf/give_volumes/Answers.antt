@@ -11,12 +11,15 @@ give_replicas-requires-clause-few g c =
     let gives = c.loop-volume.invariant.gives in
     let rest = c.pop.new.self.items in
     let count : c.len.result ≡ length rest = c.len.ensures ∙ c.pop.new.self.ok.0 in
-    let long : length c.loop-volume.volumes.items ≡ length rest + 1 = ap (λ (l : List (LoadVolume g.row.H-Disk.Denot)). length l) (c.in-Some.ensures).items ∙ length-append rest (c.in-Some.volume ∷ []) in
+    let long : length c.loop-volume.volumes.items ≡ length rest + 1 =
+    ap (λ (l : List (LoadVolume g.row.H-Disk.Denot)). length l) (c.in-Some.ensures).items ∙ length-append rest (c.in-Some.volume ∷ []) in
     let fewer = gives.fewer in
     let few = c.requires.few in
     let low : c.len.result + 1 ≤ 64 = omega (arith, count, long, fewer, few) in
     let product : c.len.result * c.args.replicas ≤ c.len.result * 4 = mul-le-mul_left c.len.result c.requires.most in
-    let all = c.requires.all (length rest) c.in-Some.volume (gives.left (length rest) c.in-Some.volume (subst (λ (l : List (LoadVolume g.row.H-Disk.Denot)). At l (length rest) c.in-Some.volume) (sym (c.in-Some.ensures).items) (at_last rest c.in-Some.volume))) in
+    let all =
+    c.requires.all (length rest) c.in-Some.volume (gives.left (length rest) c.in-Some.volume
+    (subst (λ (l : List (LoadVolume g.row.H-Disk.Denot)). At l (length rest) c.in-Some.volume) (sym (c.in-Some.ensures).items) (at_last rest c.in-Some.volume))) in
     let most = c.requires.most in
     omega (arith, low, product, most, all)
 
@@ -25,10 +28,14 @@ give_replicas-requires-clause-out g c = λ slot from to.
     let gives = c.loop-volume.invariant.gives in
     let rest = c.pop.new.self.items in
     let count : c.len.result ≡ length rest = c.len.ensures ∙ c.pop.new.self.ok.0 in
-    let long : length c.loop-volume.volumes.items ≡ length rest + 1 = ap (λ (l : List (LoadVolume g.row.H-Disk.Denot)). length l) (c.in-Some.ensures).items ∙ length-append rest (c.in-Some.volume ∷ []) in
+    let long : length c.loop-volume.volumes.items ≡ length rest + 1 =
+    ap (λ (l : List (LoadVolume g.row.H-Disk.Denot)). length l) (c.in-Some.ensures).items ∙ length-append rest (c.in-Some.volume ∷ []) in
     let fewer = gives.fewer in
-    let all = c.requires.all (length rest) c.in-Some.volume (gives.left (length rest) c.in-Some.volume (subst (λ (l : List (LoadVolume g.row.H-Disk.Denot)). At l (length rest) c.in-Some.volume) (sym (c.in-Some.ensures).items) (at_last rest c.in-Some.volume))) in
-    let first : length c.loop-volume.volumes.items * c.args.replicas ≡ c.len.result * c.args.replicas + c.args.replicas = (let e = ap (λ n. n * c.args.replicas) long in let d = ap (λ n. n * c.args.replicas) count in omega (arith, e, d)) in
+    let all =
+    c.requires.all (length rest) c.in-Some.volume (gives.left (length rest) c.in-Some.volume
+    (subst (λ (l : List (LoadVolume g.row.H-Disk.Denot)). At l (length rest) c.in-Some.volume) (sym (c.in-Some.ensures).items) (at_last rest c.in-Some.volume))) in
+    let first : length c.loop-volume.volumes.items * c.args.replicas ≡ c.len.result * c.args.replicas + c.args.replicas =
+    (let e = ap (λ n. n * c.args.replicas) long in let d = ap (λ n. n * c.args.replicas) count in omega (arith, e, d)) in
     let product = mul-le-mul_left c.args.replicas fewer in
     ap (λ (held : HeldDisk). held.is_out) (gives.below slot (omega (arith, to, first, all))) ∙ c.requires.out slot (omega (arith, to, first, all, product))
 
@@ -40,7 +47,9 @@ loop-volume-preserved g c =
     let held = g.H.Shelf.disks c.give_replicas.new.shelf in
     let count : c.len.result ≡ length rest = c.len.ensures ∙ c.pop.new.self.ok.0 in
     let same : c.len.result * c.args.replicas ≡ length rest * c.args.replicas = ap (λ n. n * c.args.replicas) count in
-    let all = c.requires.all (length rest) c.in-Some.volume (gives.left (length rest) c.in-Some.volume (subst (λ (l : List (LoadVolume g.row.H-Disk.Denot)). At l (length rest) c.in-Some.volume) (sym (c.in-Some.ensures).items) (at_last rest c.in-Some.volume))) in
+    let all =
+    c.requires.all (length rest) c.in-Some.volume (gives.left (length rest) c.in-Some.volume
+    (subst (λ (l : List (LoadVolume g.row.H-Disk.Denot)). At l (length rest) c.in-Some.volume) (sym (c.in-Some.ensures).items) (at_last rest c.in-Some.volume))) in
     let given : P held c.len.result c.in-Some.volume = c.give_replicas.ensures.given in
     record {
       gives = gives_more P 1 c.args.replicas c.args.volumes.items c.loop-volume.volumes.items rest c.in-Some.volume (g.H.Shelf.disks c.args.shelf.now) (g.H.Shelf.disks c.loop-volume.shelf) held

@@ -50,7 +50,8 @@ locked_of-locked-requires-clause-arms g c =
 pub returns-clause-volumes : goal.returns-clause-volumes
 returns-clause-volumes g c =
     subst (AreVolumes IsVolumeOf c.args.settings) (sym c.locked_of-locked.ensures.volumes)
-    (subst (λ (z : Settings). AreVolumes IsVolumeOf z (reverse c.run_from-frame.result.0.waiting.items)) (ap (λ (z : Shared (SharedVolume g.row.D.Denot g.row.P.Denot) g.row.L.Denot). z.settings) c.frame_of-frame.ensures.shared)
+    (subst (λ (z : Settings). AreVolumes IsVolumeOf z (reverse c.run_from-frame.result.0.waiting.items))
+    (ap (λ (z : Shared (SharedVolume g.row.D.Denot g.row.P.Denot) g.row.L.Denot). z.settings) c.frame_of-frame.ensures.shared)
     (volumes_again IsSeatOf g.L.DirectoryCalls.fits IsVolumeOf c.frame_of-frame.result c.run_from-frame.result.0 c.run_from-frame.ensures.frame c.run_from-frame.ensures.shared
     (ap (λ (z : Shared (SharedVolume g.row.D.Denot g.row.P.Denot) g.row.L.Denot). z.volumes.items) c.frame_of-frame.ensures.shared ∙ c.requires.room.locks.0)))
 
@@ -68,20 +69,26 @@ returns-clause-seats g c =
     let same = ap (λ (z : Vec (Lane (Seated g.row.D.Denot g.row.P.Denot) g.row.T.Denot g.row.A.Denot) Global). length z.items) c.frame_of-frame.ensures.lanes in
     omega (arith, joined, long, same, c.requires.seats.many, c.run_from-frame.ensures.lanes, c.run_from-frame.result.0.lanes.ok.0, c.frame_of-frame.result.lanes.ok.0) in
     subst (AreSeated g.L.DirectoryCalls.fits c.args.locked.lock c.args.settings (length c.args.jobs.now)) (sym c.locked_of-locked.ensures.seats)
-    (subst (λ n. AreSeated g.L.DirectoryCalls.fits c.args.locked.lock c.args.settings n (map (λ (l : Lane (Seated g.row.D.Denot g.row.P.Denot) g.row.T.Denot g.row.A.Denot). l.directory) c.run_from-frame.result.0.lanes.items)) lanes at)
+    (subst (λ n. AreSeated g.L.DirectoryCalls.fits c.args.locked.lock c.args.settings n
+    (map (λ (l : Lane (Seated g.row.D.Denot g.row.P.Denot) g.row.T.Denot g.row.A.Denot). l.directory) c.run_from-frame.result.0.lanes.items)) lanes at)
 
 pub returns-clause-answered : goal.returns-clause-answered
 returns-clause-answered g c =
     let lanes_are = c.frame_of-frame.ensures.lanes in
-    ran_whole IsSeatOf g.L.DirectoryCalls.fits IsVolumeOf (WasAt g.D.Disk.Tells g.D.Disk.files g.P.Piece.Tells g.D.Disk.fault_count g.D.Disk.fuse_count) g.L.DirectoryCalls.is_at sight_of g.L.DirectoryCalls.sight g.A.Arm.is_sure g.A.Arm.fault_count
-    (VolumeStands g.D.Disk.Tells g.D.Disk.files g.P.Piece.Tells) (count_of g.D.Disk.fault_count) (count_of g.D.Disk.fuse_count) c.frame_of-frame.result c.run_from-frame.result.0 c.args.locked.volumes.items
+    ran_whole IsSeatOf g.L.DirectoryCalls.fits IsVolumeOf (WasAt g.D.Disk.Tells g.D.Disk.files g.P.Piece.Tells g.D.Disk.fault_count g.D.Disk.fuse_count) g.L.DirectoryCalls.is_at
+    sight_of g.L.DirectoryCalls.sight g.A.Arm.is_sure g.A.Arm.fault_count
+    (VolumeStands g.D.Disk.Tells g.D.Disk.files g.P.Piece.Tells) (count_of g.D.Disk.fault_count) (count_of g.D.Disk.fuse_count) c.frame_of-frame.result c.run_from-frame.result.0
+    c.args.locked.volumes.items
     (record { settings = c.args.settings; volumes = c.args.rooms.locks; directory = c.args.locked.lock; drained = c.args.drained })
-    c.args.locked.seats.items c.args.locked.arms.items c.locked_of-locked.result.0.volumes.items c.locked_of-locked.result.1.items c.locked_of-locked.result.0.seats.items c.locked_of-locked.result.0.arms.items
+    c.args.locked.seats.items c.args.locked.arms.items c.locked_of-locked.result.0.volumes.items c.locked_of-locked.result.1.items c.locked_of-locked.result.0.seats.items
+    c.locked_of-locked.result.0.arms.items
     c.frame_of-frame.ensures.frame c.run_from-frame.ensures.frame c.run_from-frame.ensures.shared
     (ap (λ (z : Shared (SharedVolume g.row.D.Denot g.row.P.Denot) g.row.L.Denot). z.volumes.items) c.frame_of-frame.ensures.shared ∙ c.requires.room.locks.0) c.frame_of-frame.ensures.waiting
     c.frame_of-frame.ensures.shared
-    (ap (λ (z : Vec (Lane (Seated g.row.D.Denot g.row.P.Denot) g.row.T.Denot g.row.A.Denot) Global). map (λ (l : Lane (Seated g.row.D.Denot g.row.P.Denot) g.row.T.Denot g.row.A.Denot). l.directory) z.items) lanes_are ∙ c.joined-lanes.ensures.directory)
-    (ap (λ (z : Vec (Lane (Seated g.row.D.Denot g.row.P.Denot) g.row.T.Denot g.row.A.Denot) Global). map (λ (l : Lane (Seated g.row.D.Denot g.row.P.Denot) g.row.T.Denot g.row.A.Denot). l.arm) z.items) lanes_are ∙ c.joined-lanes.ensures.arms)
+    (ap (λ (z : Vec (Lane (Seated g.row.D.Denot g.row.P.Denot) g.row.T.Denot g.row.A.Denot) Global).
+    map (λ (l : Lane (Seated g.row.D.Denot g.row.P.Denot) g.row.T.Denot g.row.A.Denot). l.directory) z.items) lanes_are ∙ c.joined-lanes.ensures.directory)
+    (ap (λ (z : Vec (Lane (Seated g.row.D.Denot g.row.P.Denot) g.row.T.Denot g.row.A.Denot) Global).
+    map (λ (l : Lane (Seated g.row.D.Denot g.row.P.Denot) g.row.T.Denot g.row.A.Denot). l.arm) z.items) lanes_are ∙ c.joined-lanes.ensures.arms)
     c.locked_of-locked.ensures.volumes c.locked_of-locked.ensures.tags c.locked_of-locked.ensures.seats c.locked_of-locked.ensures.arms
     (map (λ (js : Vec Job Global). js.items) c.args.jobs.now) c.run_from-frame.result.1 (λ (replies : Vec (Vec Reply Global) Global). map (λ (rs : Vec Reply Global). rs.items) replies.items)
     c.run_from-frame.ensures.answered
@@ -93,7 +100,9 @@ returns-clause-refused g c =
     (IsSameStore (VolumeStands g.D.Disk.Tells g.D.Disk.files g.P.Piece.Tells) (count_of g.D.Disk.fault_count) (count_of g.D.Disk.fuse_count) c.args.settings c.args.locked c.locked_of-locked.result.0)
     (λ back. store_same c.frame_of-frame.result c.run_from-frame.result.0 back c.args.settings c.args.rooms.locks c.args.locked.lock c.args.drained c.frame_of-frame.ensures.shared
     c.args.locked c.locked_of-locked.result.0
-    (ap (λ (z : Vec (Lane (Seated g.row.D.Denot g.row.P.Denot) g.row.T.Denot g.row.A.Denot) Global). map (λ (l : Lane (Seated g.row.D.Denot g.row.P.Denot) g.row.T.Denot g.row.A.Denot). l.directory) z.items) lanes_are ∙ c.joined-lanes.ensures.directory)
-    (ap (λ (z : Vec (Lane (Seated g.row.D.Denot g.row.P.Denot) g.row.T.Denot g.row.A.Denot) Global). map (λ (l : Lane (Seated g.row.D.Denot g.row.P.Denot) g.row.T.Denot g.row.A.Denot). l.arm) z.items) lanes_are ∙ c.joined-lanes.ensures.arms)
+    (ap (λ (z : Vec (Lane (Seated g.row.D.Denot g.row.P.Denot) g.row.T.Denot g.row.A.Denot) Global).
+    map (λ (l : Lane (Seated g.row.D.Denot g.row.P.Denot) g.row.T.Denot g.row.A.Denot). l.directory) z.items) lanes_are ∙ c.joined-lanes.ensures.directory)
+    (ap (λ (z : Vec (Lane (Seated g.row.D.Denot g.row.P.Denot) g.row.T.Denot g.row.A.Denot) Global).
+    map (λ (l : Lane (Seated g.row.D.Denot g.row.P.Denot) g.row.T.Denot g.row.A.Denot). l.arm) z.items) lanes_are ∙ c.joined-lanes.ensures.arms)
     c.frame_of-frame.ensures.waiting c.locked_of-locked.ensures.seats c.locked_of-locked.ensures.arms c.locked_of-locked.ensures.volumes)
     c.run_from-frame.result.1 c.run_from-frame.ensures.refused

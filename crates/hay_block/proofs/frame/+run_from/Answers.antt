@@ -39,7 +39,8 @@ give_seats-requires-clause-as_many g t c =
 pub give_seats-requires-clause-room : goal.give_seats-requires-clause-room
 give_seats-requires-clause-room g t c =
     let fewer : vec_len c.pop.new.self + length (c.in-Some.volume ∷ []) ≡ vec_len c.args.frame.waiting = c.in-Some.ensures.len in
-    subst (λ (ls : List (Lane (Seated g.row.D.Denot g.row.P.Denot) g.row.T.Denot g.row.A.Denot)). AllByRecursion (λ (l : Lane (Seated g.row.D.Denot g.row.P.Denot) g.row.T.Denot g.row.A.Denot). vec_len l.volumes < vec_capacity l.volumes) ls)
+    subst (λ (ls : List (Lane (Seated g.row.D.Denot g.row.P.Denot) g.row.T.Denot g.row.A.Denot)).
+    AllByRecursion (λ (l : Lane (Seated g.row.D.Denot g.row.P.Denot) g.row.T.Denot g.row.A.Denot). vec_len l.volumes < vec_capacity l.volumes) ls)
     (sym c.as_mut_slice.ensures.value) (may_give c.args.frame c.requires.frame (omega (arith, fewer, c.args.frame.waiting.ok.0)) c.requires.rooms)
 
 pub run_from-frame-requires-clause-frame : goal.run_from-frame-requires-clause-frame

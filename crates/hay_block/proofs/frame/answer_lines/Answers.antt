@@ -14,8 +14,10 @@ pub returns-in-Ok-clause-frame : goal.returns-in-Ok-clause-frame
 returns-in-Ok-clause-frame g c =
     let given : length (map (λ (v : Vec Job Global). v.items) c.args.jobs.now) ≡ length c.args.frame.lanes.items =
     omega (arith, length-map c.args.jobs.now (λ (v : Vec Job Global). v.items), c.requires.lanes, c.args.frame.lanes.ok.0) in
-    answered_frame IsSeatOf g.L.DirectoryCalls.fits (WasAt g.D.Disk.Tells g.D.Disk.files g.P.Piece.Tells g.D.Disk.fault_count g.D.Disk.fuse_count) g.L.DirectoryCalls.is_at sight_of g.L.DirectoryCalls.sight g.A.Arm.is_sure g.A.Arm.fault_count
-    (VolumeStands g.D.Disk.Tells g.D.Disk.files g.P.Piece.Tells) (count_of g.D.Disk.fault_count) (count_of g.D.Disk.fuse_count) c.args.frame IsVolumeOf c.requires.frame c.requires.none c.in-Ok.lanes given c.in-Ok.ensures.answered
+    answered_frame IsSeatOf g.L.DirectoryCalls.fits (WasAt g.D.Disk.Tells g.D.Disk.files g.P.Piece.Tells g.D.Disk.fault_count g.D.Disk.fuse_count) g.L.DirectoryCalls.is_at sight_of
+    g.L.DirectoryCalls.sight g.A.Arm.is_sure g.A.Arm.fault_count
+    (VolumeStands g.D.Disk.Tells g.D.Disk.files g.P.Piece.Tells) (count_of g.D.Disk.fault_count) (count_of g.D.Disk.fuse_count) c.args.frame IsVolumeOf c.requires.frame
+    c.requires.none c.in-Ok.lanes given c.in-Ok.ensures.answered
 
 pub returns-in-Ok-clause-lanes : goal.returns-in-Ok-clause-lanes
 returns-in-Ok-clause-lanes g c = let stay = c.in-Ok.ensures.answered.workers_stay in omega (arith, stay, c.in-Ok.lanes.ok.0, c.args.frame.lanes.ok.0)
@@ -24,8 +26,10 @@ pub returns-in-Ok-clause-answered : goal.returns-in-Ok-clause-answered
 returns-in-Ok-clause-answered g c =
     let given : length (map (λ (v : Vec Job Global). v.items) c.args.jobs.now) ≡ length c.args.frame.lanes.items =
     omega (arith, length-map c.args.jobs.now (λ (v : Vec Job Global). v.items), c.requires.lanes, c.args.frame.lanes.ok.0) in
-    ran_at_all IsSeatOf g.L.DirectoryCalls.fits (WasAt g.D.Disk.Tells g.D.Disk.files g.P.Piece.Tells g.D.Disk.fault_count g.D.Disk.fuse_count) g.L.DirectoryCalls.is_at sight_of g.L.DirectoryCalls.sight g.A.Arm.is_sure g.A.Arm.fault_count
-    (VolumeStands g.D.Disk.Tells g.D.Disk.files g.P.Piece.Tells) (count_of g.D.Disk.fault_count) (count_of g.D.Disk.fuse_count) c.args.frame (record c.args.frame { lanes = c.in-Ok.lanes }) _ _ IsVolumeOf c.requires.frame c.requires.none
+    ran_at_all IsSeatOf g.L.DirectoryCalls.fits (WasAt g.D.Disk.Tells g.D.Disk.files g.P.Piece.Tells g.D.Disk.fault_count g.D.Disk.fuse_count) g.L.DirectoryCalls.is_at sight_of
+    g.L.DirectoryCalls.sight g.A.Arm.is_sure g.A.Arm.fault_count
+    (VolumeStands g.D.Disk.Tells g.D.Disk.files g.P.Piece.Tells) (count_of g.D.Disk.fault_count) (count_of g.D.Disk.fuse_count) c.args.frame
+    (record c.args.frame { lanes = c.in-Ok.lanes }) _ _ IsVolumeOf c.requires.frame c.requires.none
     given c.in-Ok.ensures.answered refl refl
 
 pub returns-in-Err-clause-frame : goal.returns-in-Err-clause-frame

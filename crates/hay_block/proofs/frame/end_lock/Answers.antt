@@ -12,7 +12,8 @@ use Rattle.hay_block.proofs.frame.end_lock.Goals as goal
 
 pub take_seats-seats-requires-clause-some : goal.take_seats-seats-requires-clause-some
 take_seats-seats-requires-clause-some g c =
-    subst (λ (ls : List (Lane (Seated g.row.D.Denot g.row.P.Denot) g.row.T.Denot g.row.A.Denot)). AllByRecursion (λ (l : Lane (Seated g.row.D.Denot g.row.P.Denot) g.row.T.Denot g.row.A.Denot). 0 < vec_len l.volumes) ls) (sym c.as_mut_slice.ensures.value)
+    subst (λ (ls : List (Lane (Seated g.row.D.Denot g.row.P.Denot) g.row.T.Denot g.row.A.Denot)).
+    AllByRecursion (λ (l : Lane (Seated g.row.D.Denot g.row.P.Denot) g.row.T.Denot g.row.A.Denot). 0 < vec_len l.volumes) ls) (sym c.as_mut_slice.ensures.value)
     (may_take c.args.frame c.requires.frame (omega (arith, c.requires.some, c.args.frame.shared.volumes.ok.0)))
 
 pub close-volume-requires : goal.close-volume-requires
@@ -21,7 +22,8 @@ close-volume-requires g c =
     let last : ℕ = vec_len c.args.frame.shared.volumes - 1 in
     let lanes : Vec (Lane (Seated g.row.D.Denot g.row.P.Denot) g.row.T.Denot g.row.A.Denot) Global = with_items c.args.frame.lanes c.take_seats-seats.new.lanes in
     let more : HaveMore lanes.items seats c.args.frame.lanes.items =
-    fewer_in c.args.frame.lanes c.as_mut_slice.result.now c.take_seats-seats.new.lanes seats c.as_mut_slice.ensures.value c.as_mut_slice.ensures.len c.take_seats-seats.ensures.same c.take_seats-seats.ensures.seats in
+    fewer_in c.args.frame.lanes c.as_mut_slice.result.now c.take_seats-seats.new.lanes seats c.as_mut_slice.ensures.value c.as_mut_slice.ensures.len c.take_seats-seats.ensures.same
+    c.take_seats-seats.ensures.seats in
     let as_many : length seats ≡ length c.args.frame.lanes.items = c.take_seats-seats.ensures.as_many ∙ ap length c.as_mut_slice.ensures.value in
     let popped : c.args.frame.shared.volumes.items ≡ c.pop.new.self.items ++ c.in-Some.lock ∷ [] = c.in-Some.ensures.items in
     let lock_is : c.requires.made.1 ≡ c.in-Some.lock = same_item c.args.frame.shared.volumes.items last c.requires.made.2
@@ -36,7 +38,8 @@ close-volume-requires g c =
         last,
         subst (IsMadeOf c.in-Some.lock c.args.room c.requires.made.0 c.args.frame.shared.settings last) many
             (subst (λ z. IsMadeOf z c.args.room c.requires.made.0 c.args.frame.shared.settings last (vec_len c.args.frame.lanes)) lock_is c.requires.made.3),
-        subst (λ n. AreSeated (IsSeatOf n) c.in-Some.lock c.args.frame.shared.settings (length seats) seats) (sym number) (taken_fit c.args.frame c.requires.frame c.pop.new.self c.in-Some.lock popped lanes seats more as_many),
+        subst (λ n. AreSeated (IsSeatOf n) c.in-Some.lock c.args.frame.shared.settings (length seats) seats) (sym number)
+            (taken_fit c.args.frame c.requires.frame c.pop.new.self c.in-Some.lock popped lanes seats more as_many),
       );
     }
 
@@ -46,7 +49,8 @@ returns g c =
     let last : ℕ = vec_len c.args.frame.shared.volumes - 1 in
     let lanes : Vec (Lane (Seated g.row.D.Denot g.row.P.Denot) g.row.T.Denot g.row.A.Denot) Global = with_items c.args.frame.lanes c.take_seats-seats.new.lanes in
     let more : HaveMore lanes.items seats c.args.frame.lanes.items =
-    fewer_in c.args.frame.lanes c.as_mut_slice.result.now c.take_seats-seats.new.lanes seats c.as_mut_slice.ensures.value c.as_mut_slice.ensures.len c.take_seats-seats.ensures.same c.take_seats-seats.ensures.seats in
+    fewer_in c.args.frame.lanes c.as_mut_slice.result.now c.take_seats-seats.new.lanes seats c.as_mut_slice.ensures.value c.as_mut_slice.ensures.len c.take_seats-seats.ensures.same
+    c.take_seats-seats.ensures.seats in
     let as_many : length seats ≡ length c.args.frame.lanes.items = c.take_seats-seats.ensures.as_many ∙ ap length c.as_mut_slice.ensures.value in
     let popped : c.args.frame.shared.volumes.items ≡ c.pop.new.self.items ++ c.in-Some.lock ∷ [] = c.in-Some.ensures.items in
     let popped_at : slice_get c.args.frame.shared.volumes.items last ≡ Some c.in-Some.lock =
@@ -81,6 +85,7 @@ returns g c =
             left = c.close-volume.ensures.left before c.args.frame.shared.settings last
                 (subst (IsMadeOf c.in-Some.lock c.args.room before c.args.frame.shared.settings last) many
                 (subst (λ z. IsMadeOf z c.args.room before c.args.frame.shared.settings last (vec_len c.args.frame.lanes)) same made))
-                (subst (λ n. AreSeated (IsSeatOf n) c.in-Some.lock c.args.frame.shared.settings (length seats) seats) (sym number) (taken_fit c.args.frame c.requires.frame c.pop.new.self c.in-Some.lock popped lanes seats more as_many));
+                (subst (λ n. AreSeated (IsSeatOf n) c.in-Some.lock c.args.frame.shared.settings (length seats) seats) (sym number)
+                (taken_fit c.args.frame c.requires.frame c.pop.new.self c.in-Some.lock popped lanes seats more as_many));
           };
     }

@@ -6,5 +6,6 @@ use Rattle.hay_block.proofs.run.lanes_of.Goals as goal
 
 pub returns : goal.returns
 returns g c =
-    all_turned (λ (w : LaneWorker g.row.D.Denot g.row.P.Denot g.row.L.Denot g.row.T.Denot g.row.A.Denot). w.lane) c.loop-worker.lanes.items (into_iter_items c.loop-worker.worker-iterator) c.args.workers.items
+    all_turned (λ (w : LaneWorker g.row.D.Denot g.row.P.Denot g.row.L.Denot g.row.T.Denot g.row.A.Denot). w.lane) c.loop-worker.lanes.items
+    (into_iter_items c.loop-worker.worker-iterator) c.args.workers.items
     c.loop-worker.invariant.lanes (sym c.loop-worker.worker-iterator.rest.ok.0 ∙ c.in-None.ensures.steps.0)

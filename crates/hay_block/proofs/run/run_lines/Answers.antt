@@ -46,7 +46,8 @@ returns-in-Ok-run_lanes-clause-answered g c =
     AnswersLanes (by_lane c.args.shared.now IsSeatOf g.L.DirectoryCalls.fits (WasAt g.D.Disk.Tells g.D.Disk.files g.P.Piece.Tells g.D.Disk.fault_count g.D.Disk.fuse_count) g.L.DirectoryCalls.is_at
     sight_of g.L.DirectoryCalls.sight g.A.Arm.is_sure g.A.Arm.fault_count)
     c.args.lanes.items jobs ls replies) (sym c.lanes_of.ensures)
-    (lanes_answer c.args.shared.now IsSeatOf g.L.DirectoryCalls.fits (WasAt g.D.Disk.Tells g.D.Disk.files g.P.Piece.Tells g.D.Disk.fault_count g.D.Disk.fuse_count) g.L.DirectoryCalls.is_at sight_of g.L.DirectoryCalls.sight g.A.Arm.is_sure g.A.Arm.fault_count
+    (lanes_answer c.args.shared.now IsSeatOf g.L.DirectoryCalls.fits (WasAt g.D.Disk.Tells g.D.Disk.files g.P.Piece.Tells g.D.Disk.fault_count g.D.Disk.fuse_count)
+    g.L.DirectoryCalls.is_at sight_of g.L.DirectoryCalls.sight g.A.Arm.is_sure g.A.Arm.fault_count
     workers c.in-Ok-run_lanes.workers.items c.args.lanes.items jobs replies c.workers_of-workers.ensures given c.in-Ok-run_lanes.ensures.answered)
 
 pub returns-in-Err-clause-refused : goal.returns-in-Err-clause-refused

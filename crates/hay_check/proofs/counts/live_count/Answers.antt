@@ -39,7 +39,8 @@ loop-head-preserved c = record {
 
 pub returns-clause-is : goal.returns-clause-is
 returns-clause-is c = λ cells are.
-    let all : take c.loop-head.head-index cells ≡ cells = take_all c.loop-head.head-index cells (omega (arith, c.loop-head-test.false, ap (λ (l : List CellHead). length l) are, length-map cells cell_head)) in
+    let all : take c.loop-head.head-index cells ≡ cells =
+    take_all c.loop-head.head-index cells (omega (arith, c.loop-head-test.false, ap (λ (l : List CellHead). length l) are, length-map cells cell_head)) in
     c.len.ensures.len ∙ (c.loop-head.invariant.keeps cells are).long ∙ ap (λ (l : List Cell). length (table_of (needles_of l))) all
 
 pub returns-clause-most : goal.returns-clause-most

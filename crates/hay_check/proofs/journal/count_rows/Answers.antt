@@ -15,7 +15,8 @@ rows-init g c = record {
   lead = λ tells. (
     [],
     refl,
-    lead_first (super_bytes c.args.sup.now) c.args.sup.now.settings.volumes (g.D.Disk.files c.args.disk.now 0).now [] refl (length-super c.args.sup.now) (none_is c.in_ok-at.field-0 _ c.in_default.is (c.in_ok-at.ensures.stands tells)),
+    lead_first (super_bytes c.args.sup.now) c.args.sup.now.settings.volumes (g.D.Disk.files c.args.disk.now 0).now [] refl (length-super c.args.sup.now)
+        (none_is c.in_ok-at.field-0 _ c.in_default.is (c.in_ok-at.ensures.stands tells)),
   );
   far = omega arith;
   file = c.new-reader.ensures.file;
@@ -39,7 +40,8 @@ returns-in-Broken-clause-damaged g c = λ tells file at is.
     let zero : file ≡ 0 = cc in
     let here : c.rows.end ≡ at = cc in
     let lead = c.rows.invariant.lead tells in
-    let broken = subst (λ files. IsBrokenRow c.args.sup.now.settings.volumes c.rows.end (files 0).now) (c.rows.invariant.same tells) (c.in_ok-read_row.ensures.broken tells (ap (λ x. Ok x) c.in-Broken.is)) in
+    let broken =
+    subst (λ files. IsBrokenRow c.args.sup.now.settings.volumes c.rows.end (files 0).now) (c.rows.invariant.same tells) (c.in_ok-read_row.ensures.broken tells (ap (λ x. Ok x) c.in-Broken.is)) in
     (zero, subst (λ k. IsDamagedJournal c.args.sup.now (g.D.Disk.files c.args.disk.now 0).now k) here (inr (record { rows = lead.0; place = lead.1; lead = lead.2; broken = broken })))
 
 -- a row that stands ends at a number of 64 bits

@@ -12,7 +12,8 @@ returns-in_default-clause-misfit c = λ k is.
 pub returns-in_default-2-clause-misfit : goal.returns-in_default-2-clause-misfit
 returns-in_default-2-clause-misfit c = λ k is.
     let here : k ≡ c.loop-i.at = cc in
-    misfit_here (map head_record c.args.heads.now) c.args.block.now c.loop-i.i c.args.first c.loop-i.at k (record { pair = record { key = 0; alt = 0 }; at = 0; size = 0 }) c.loop-i-test.true c.loop-i.invariant.place here c.loop-i.invariant.fit
+    misfit_here (map head_record c.args.heads.now) c.args.block.now c.loop-i.i c.args.first c.loop-i.at k (record { pair = record { key = 0; alt = 0 }; at = 0; size = 0 })
+    c.loop-i-test.true c.loop-i.invariant.place here c.loop-i.invariant.fit
     (no_row c.get.result c.args.heads.now c.loop-i.i _ c.in_default.is c.get.ensures.lookup.0)
 
 pub overflow_add-at : goal.overflow_add-at

@@ -18,7 +18,9 @@ pub returns-in_err-begins_block-clause-damaged : goal.returns-in_err-begins_bloc
 returns-in_err-begins_block-clause-damaged c = λ k is.
     let fault = err_from_is_err_and c.from_residual.result c.from_residual.ensures.1 in
     let place : k ≡ c.scan.end = c.in_err-begins_block.ensures.place k (ap (λ x. Err x) (same_fault c.from_residual.result fault.0 c.in_err-begins_block.field-0.0 k fault.1 fault.2 is)) in
-    let short = c.in_err-begins_block.ensures.short (ap (λ x. Err x) (same_fault c.from_residual.result fault.0 c.in_err-begins_block.field-0.0 c.scan.end fault.1 fault.2 (is ∙ ap (λ n. Err (Damaged n)) place))) in
+    let short =
+    c.in_err-begins_block.ensures.short (ap (λ x. Err x) (same_fault c.from_residual.result fault.0 c.in_err-begins_block.field-0.0 c.scan.end fault.1 fault.2
+    (is ∙ ap (λ n. Err (Damaged n)) place))) in
     broken_there _ c.args.bytes.now (map head_record c.args.heads.now) c.scan.count c.scan.end k c.scan.invariant.lead (inl (inl short, place))
 
 pub returns-then-not-branch-clause-lists : goal.returns-then-not-branch-clause-lists
@@ -46,7 +48,12 @@ returns-in_err-compare_block-clause-damaged c = λ k is.
     let begins = block_there c.scan.end c.args.bytes.now _ c.in-Some.block.items refl (found c.in_ok-block.field-0 c.in-Some.block _ c.in-Some.is c.in_ok-block.ensures.found) in
     let misfit = c.in_err-compare_block.ensures.misfit k (ap (λ x. Err x) (same_fault c.from_residual-in_err-compare_block.result fault.0 c.in_err-compare_block.field-0.0 k fault.1 fault.2 is)) in
     broken_there _ c.args.bytes.now (map head_record c.args.heads.now) c.scan.count c.scan.end k c.scan.invariant.lead
-    (inr (record { block = c.in-Some.block.items; stands = begins; misfit = misfit_behind _ c.scan.count (c.scan.end + 16) k c.args.heads.now _ c.in-Some.block.items _ refl (omega arith) c.as_slice.ensures.value misfit }))
+    (inr (record {
+      block = c.in-Some.block.items;
+      stands = begins;
+      misfit = misfit_behind _ c.scan.count (c.scan.end + 16) k c.args.heads.now _ c.in-Some.block.items _ refl
+          (omega arith) c.as_slice.ensures.value misfit;
+    }))
 
 pub scan-preserved : goal.scan-preserved
 scan-preserved c =

@@ -18,18 +18,24 @@ pub returns-in_err-records-clause-damaged : goal.returns-in_err-records-clause-d
 returns-in_err-records-clause-damaged g c = λ tells file at is.
     let read = c.in_ok-generation.field-0 in
     let fault = err_from_is_err_and c.from_residual-in_err-records.result c.from_residual-in_err-records.ensures.1 in
-    let held = cells_held c.args.sup.now (λ n. (g.D.Disk.files c.args.disk.now n).now) read.generation read.end c.as_slice-heads.result.now read.heads.items c.as_slice-heads.ensures.value (c.in_ok-generation.ensures.cells tells) in
+    let held =
+    cells_held c.args.sup.now (λ n. (g.D.Disk.files c.args.disk.now n).now) read.generation read.end c.as_slice-heads.result.now read.heads.items c.as_slice-heads.ensures.value
+    (c.in_ok-generation.ensures.cells tells) in
     let damage = c.in_err-records.ensures.damaged tells file at (ap (λ x. Err x) (same_refusal c.from_residual-in_err-records.result fault.0 c.in_err-records.field-0.0 file at fault.1 fault.2 is)) in
-    rest_first c.args.sup.now c.index_super.result (g.D.Disk.files c.args.disk.now) (g.D.Disk.files c.read_cells.new.disk) read.generation read.end c.index_file.result file at c.as_slice-heads.result.now held
+    rest_first c.args.sup.now c.index_super.result (g.D.Disk.files c.args.disk.now) (g.D.Disk.files c.read_cells.new.disk) read.generation read.end c.index_file.result file at
+    c.as_slice-heads.result.now held
     (c.read_cells.ensures.same tells) c.index_file.ensures c.index_super.ensures damage
 
 pub returns-clause-whole : goal.returns-clause-whole
 returns-clause-whole g c = λ tells.
     let read = c.in_ok-generation.field-0 in
     let heads = c.as_slice-heads.result.now in
-    let held = cells_held c.args.sup.now (λ n. (g.D.Disk.files c.args.disk.now n).now) read.generation read.end heads read.heads.items c.as_slice-heads.ensures.value (c.in_ok-generation.ensures.cells tells) in (
+    let held =
+    cells_held c.args.sup.now (λ n. (g.D.Disk.files c.args.disk.now n).now) read.generation read.end heads read.heads.items c.as_slice-heads.ensures.value
+    (c.in_ok-generation.ensures.cells tells) in (
       record { cells = held.cells; end = read.end; records = c.in_ok-records.records; generation = read.generation },
-      whole_stored c.args.sup.now c.index_super.result (g.D.Disk.files c.args.disk.now) (g.D.Disk.files c.read_cells.new.disk) read.generation read.end c.index_file.result c.in_ok-records.records heads held
+      whole_stored c.args.sup.now c.index_super.result (g.D.Disk.files c.args.disk.now) (g.D.Disk.files c.read_cells.new.disk) read.generation read.end c.index_file.result
+          c.in_ok-records.records heads held
           (c.read_cells.ensures.same tells) c.index_file.ensures c.index_super.ensures (c.in_ok-records.ensures.lists tells),
       whole_numbers read.generation _ c.in_ok-live.live c.in_ok-records.records read.end c.old_count.result heads held.cells held.are refl (c.in_ok-live.ensures.is held.cells held.are)
           (c.old_count.ensures.is ∙ ap (λ (l : List CellHead). count_by (λ (head : CellHead). is_old head.version) l) held.are ∙ old_heads held.cells),

@@ -12,7 +12,8 @@ returns-in-Some c =
     let w = c.index-words-i.result in
     let rest = folder_in (drop (c.loop-i.i + 1) texts) in
     let step : folder_step (long_of (string_bytes w)) (slice_get texts (c.loop-i.i + 1)) ≡ Some (option_map (λ s. s.now) c.in-Some.found) =
-    sym (ap₂ (λ (t : Text) (o : Option Text). folder_step (long_of t) o) c.as_str.ensures.value c.next_word-next.ensures) ∙ (sym c.folder_word.ensures ∙ ap (option_map (option_map (λ s. s.now))) c.in-Some.is) in
+    sym (ap₂ (λ (t : Text) (o : Option Text). folder_step (long_of t) o) c.as_str.ensures.value c.next_word-next.ensures)
+    ∙ (sym c.folder_word.ensures ∙ ap (option_map (option_map (λ s. s.now))) c.in-Some.is) in
     sym (ap (λ (o : Option (Option Text)). unwrap_or o rest) step) ∙ (sym (folder_at c.args.words.now c.loop-i.i w (omega arith) (search rules)) ∙ c.loop-i.invariant)
 
 pub loop-i-preserved : goal.loop-i-preserved
@@ -21,5 +22,6 @@ loop-i-preserved c =
     let w = c.index-words-i.result in
     let rest = folder_in (drop (c.loop-i.i + 1) texts) in
     let step : folder_step (long_of (string_bytes w)) (slice_get texts (c.loop-i.i + 1)) ≡ None =
-    sym (ap₂ (λ (t : Text) (o : Option Text). folder_step (long_of t) o) c.as_str.ensures.value c.next_word-next.ensures) ∙ (sym c.folder_word.ensures ∙ ap (option_map (option_map (λ s. s.now))) c.in_default.is) in
+    sym (ap₂ (λ (t : Text) (o : Option Text). folder_step (long_of t) o) c.as_str.ensures.value c.next_word-next.ensures)
+    ∙ (sym c.folder_word.ensures ∙ ap (option_map (option_map (λ s. s.now))) c.in_default.is) in
     sym (ap (λ (o : Option (Option Text)). unwrap_or o rest) step) ∙ (sym (folder_at c.args.words.now c.loop-i.i w (omega arith) (search rules)) ∙ c.loop-i.invariant)

@@ -7,7 +7,8 @@ use Rattle.hay_cluster.proofs.closed.replica_on.Goals as goal
 
 pub returns-then-machine_of-machine-clause-is : goal.returns-then-machine_of-machine-clause-is
 returns-then-machine_of-machine-clause-is c =
-    replica_hit c.args.settings.now c.args.volume c.args.machine c.loop-replica.replica c.if-volume-settings.false c.loop-replica-test.true (sym c.machine_of.ensures.is ∙ c.if-machine_of-machine.true) c.loop-replica.invariant
+    replica_hit c.args.settings.now c.args.volume c.args.machine c.loop-replica.replica c.if-volume-settings.false c.loop-replica-test.true
+    (sym c.machine_of.ensures.is ∙ c.if-machine_of-machine.true) c.loop-replica.invariant
 
 pub loop-replica-preserved : goal.loop-replica-preserved
 loop-replica-preserved c =

@@ -8,7 +8,9 @@ use Rattle.hay_cluster.proofs.closing.give_volume.Goals as goal
 
 pub loop-disk-init : goal.loop-disk-init
 loop-disk-init g c = record {
-  gives = from-none (IsGivenDisk g.H.Disk.Disk.Tells g.H.Disk.Disk.files g.H.Disk.Disk.drawn g.H.Disk.Disk.fault_count g.H.Disk.Disk.fuse_count) c.args.first (volume_disks c.args.volume) (g.H.Shelf.disks c.args.shelf.now);
+  gives =
+      from-none (IsGivenDisk g.H.Disk.Disk.Tells g.H.Disk.Disk.files g.H.Disk.Disk.drawn g.H.Disk.Disk.fault_count g.H.Disk.Disk.fuse_count) c.args.first
+      (volume_disks c.args.volume) (g.H.Shelf.disks c.args.shelf.now);
   slot = let long = disks-long c.args.volume.replicas in omega (arith, long, c.requires.all);
   others = refl;
   counted = refl;
@@ -24,9 +26,17 @@ loop-disk-preserved g c =
     let long : length rest ≡ length rest' + 1 = one_longer rest rest' c.in-Some.disk split in
     let slot : c.loop-disk.slot - 1 ≡ c.args.first + length rest' = omega (arith, c.loop-disk.invariant.slot, long) in
     let new = g.H.Shelf.disks c.give_disk.new.self in
-    let given : P (new (c.loop-disk.slot - 1)) c.in-Some.disk = record { drawn_is = c.give_disk.ensures.drawn; files_are = c.give_disk.ensures.files; fault_count = c.give_disk.ensures.faults; fuse_count = c.give_disk.ensures.fuses; back = c.give_disk.ensures.back } in
+    let given : P (new (c.loop-disk.slot - 1)) c.in-Some.disk = record {
+      drawn_is = c.give_disk.ensures.drawn;
+      files_are = c.give_disk.ensures.files;
+      fault_count = c.give_disk.ensures.faults;
+      fuse_count = c.give_disk.ensures.fuses;
+      back = c.give_disk.ensures.back;
+    } in
     record {
-      gives = from-more P c.args.first (volume_disks c.args.volume) rest rest' (c.in-Some.disk ∷ []) (g.H.Shelf.disks c.args.shelf.now) (g.H.Shelf.disks c.loop-disk.shelf) new split c.loop-disk.invariant.gives
+      gives =
+          from-more P c.args.first (volume_disks c.args.volume) rest rest' (c.in-Some.disk ∷ []) (g.H.Shelf.disks c.args.shelf.now) (g.H.Shelf.disks c.loop-disk.shelf) new split
+          c.loop-disk.invariant.gives
           ((let Q : ℕ → Type 0 = λ n. P (new n) c.in-Some.disk in subst Q slot given), tt)
           (λ n low. c.give_disk.ensures.others n (λ same. absurd (omega (arith, low, slot, same))))
           (λ n low. c.give_disk.ensures.others n (λ same. absurd (omega (arith, low, slot, same))));
@@ -39,13 +49,15 @@ pub loop-disk-smaller : goal.loop-disk-smaller
 loop-disk-smaller g c =
     let taken = c.in-Some.ensures.disk in
     let long : length (volume_disks c.loop-disk.volume) ≡ length (volume_disks c.take.new.self) + 1 =
-    one_longer (volume_disks c.loop-disk.volume) (volume_disks c.take.new.self) c.in-Some.disk (take_split c.loop-disk.volume.replicas c.take.new.self.replicas taken.0 c.in-Some.disk taken.1 taken.2) in
+    one_longer (volume_disks c.loop-disk.volume) (volume_disks c.take.new.self) c.in-Some.disk
+    (take_split c.loop-disk.volume.replicas c.take.new.self.replicas taken.0 c.in-Some.disk taken.1 taken.2) in
     let less : length (volume_disks c.take.new.self) < length (volume_disks c.loop-disk.volume) = omega (arith, long) in
     less
 
 pub returns-clause-given : goal.returns-clause-given
 returns-clause-given g c =
-    from-all (IsGivenDisk g.H.Disk.Disk.Tells g.H.Disk.Disk.files g.H.Disk.Disk.drawn g.H.Disk.Disk.fault_count g.H.Disk.Disk.fuse_count) c.args.first (volume_disks c.args.volume) (volume_disks c.loop-disk.volume) (g.H.Shelf.disks c.args.shelf.now) (g.H.Shelf.disks c.loop-disk.shelf)
+    from-all (IsGivenDisk g.H.Disk.Disk.Tells g.H.Disk.Disk.files g.H.Disk.Disk.drawn g.H.Disk.Disk.fault_count g.H.Disk.Disk.fuse_count) c.args.first (volume_disks c.args.volume)
+    (volume_disks c.loop-disk.volume) (g.H.Shelf.disks c.args.shelf.now) (g.H.Shelf.disks c.loop-disk.shelf)
     (ap (λ (l : List (Copy g.row.H-Disk.Denot)). map disk_of l) (c.in_default.ensures).none) c.loop-disk.invariant.gives
 
 pub returns-clause-below : goal.returns-clause-below
@@ -59,8 +71,11 @@ give_disk-requires g c =
     let gives = c.loop-disk.invariant.gives in
     let taken = c.in-Some.ensures.disk in
     let long : length (volume_disks c.loop-disk.volume) ≡ length (volume_disks c.take.new.self) + 1 =
-    one_longer (volume_disks c.loop-disk.volume) (volume_disks c.take.new.self) c.in-Some.disk (take_split c.loop-disk.volume.replicas c.take.new.self.replicas taken.0 c.in-Some.disk taken.1 taken.2) in
-    let shorter = rest_shorter (IsGivenDisk g.H.Disk.Disk.Tells g.H.Disk.Disk.files g.H.Disk.Disk.drawn g.H.Disk.Disk.fault_count g.H.Disk.Disk.fuse_count) c.args.first (volume_disks c.args.volume) (volume_disks c.loop-disk.volume) (g.H.Shelf.disks c.args.shelf.now) (g.H.Shelf.disks c.loop-disk.shelf) gives in
+    one_longer (volume_disks c.loop-disk.volume) (volume_disks c.take.new.self) c.in-Some.disk
+    (take_split c.loop-disk.volume.replicas c.take.new.self.replicas taken.0 c.in-Some.disk taken.1 taken.2) in
+    let shorter =
+    rest_shorter (IsGivenDisk g.H.Disk.Disk.Tells g.H.Disk.Disk.files g.H.Disk.Disk.drawn g.H.Disk.Disk.fault_count g.H.Disk.Disk.fuse_count) c.args.first
+    (volume_disks c.args.volume) (volume_disks c.loop-disk.volume) (g.H.Shelf.disks c.args.shelf.now) (g.H.Shelf.disks c.loop-disk.shelf) gives in
     let all = disks-long c.args.volume.replicas in
     ap (λ (held : HeldDisk). held.is_out) (gives.below (c.loop-disk.slot - 1) (omega (arith, c.loop-disk.invariant.slot, long)))
     ∙ c.requires.out (c.loop-disk.slot - 1) (omega (arith, c.loop-disk.invariant.slot, long, shorter, all, c.requires.all))
@@ -69,5 +84,6 @@ pub overflow_sub-slot : goal.overflow_sub-slot
 overflow_sub-slot g c =
     let taken = c.in-Some.ensures.disk in
     let long : length (volume_disks c.loop-disk.volume) ≡ length (volume_disks c.take.new.self) + 1 =
-    one_longer (volume_disks c.loop-disk.volume) (volume_disks c.take.new.self) c.in-Some.disk (take_split c.loop-disk.volume.replicas c.take.new.self.replicas taken.0 c.in-Some.disk taken.1 taken.2) in
+    one_longer (volume_disks c.loop-disk.volume) (volume_disks c.take.new.self) c.in-Some.disk
+    (take_split c.loop-disk.volume.replicas c.take.new.self.replicas taken.0 c.in-Some.disk taken.1 taken.2) in
     omega (arith, c.loop-disk.invariant.slot, long)

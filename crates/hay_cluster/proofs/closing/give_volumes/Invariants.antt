@@ -7,7 +7,8 @@ use Rattle.hay_cluster.proofs.closing.give_volumes.Given as goal
 
 abbrev pub invariant-loop-volume : goal.invariant-loop-volume
 invariant-loop-volume g l = record {
-  gives : GivesFrom (IsGivenDisk g.H.Disk.Disk.Tells g.H.Disk.Disk.files g.H.Disk.Disk.drawn g.H.Disk.Disk.fault_count g.H.Disk.Disk.fuse_count) 1 (flat_map volume_disks l.fn.volumes.items) (flat_map volume_disks l.volumes.items) (g.H.Shelf.disks l.fn.shelf) (g.H.Shelf.disks l.shelf);
+  gives : GivesFrom (IsGivenDisk g.H.Disk.Disk.Tells g.H.Disk.Disk.files g.H.Disk.Disk.drawn g.H.Disk.Disk.fault_count g.H.Disk.Disk.fuse_count) 1
+      (flat_map volume_disks l.fn.volumes.items) (flat_map volume_disks l.volumes.items) (g.H.Shelf.disks l.fn.shelf) (g.H.Shelf.disks l.shelf);
   few : length l.volumes.items ≤ 64;
   all : AllByRecursion (λ volume. length (volume_disks volume) ≡ l.replicas) l.volumes.items;
   others : g.H.Shelf.arms l.shelf ≡ g.H.Shelf.arms l.fn.shelf;

@@ -79,7 +79,9 @@ returns-in-Some-clause-refused g c = λ tells k stands.
     frozen_refused g.D.Disk.files g.D.Piece.Piece.Tells c.args.work k c.args.replica c.args.volume.now c.in-Some.machine (sym (c.frozen.ensures.known tells k stands) ∙ c.in-Some.is)
 
 pub returns-in-Some-clause-causes : goal.returns-in-Some-clause-causes
-returns-in-Some-clause-causes g c = frozen_cause g.D.Disk.fault_count (c.args.volume.now).settings c.args.work (c.args.volume.now).number c.args.replica (c.args.volume.now).replicas (c.args.volume.now).replicas c.in-Some.machine (c.in-Some.ensures).on
+returns-in-Some-clause-causes g c =
+    frozen_cause g.D.Disk.fault_count (c.args.volume.now).settings c.args.work (c.args.volume.now).number c.args.replica (c.args.volume.now).replicas (c.args.volume.now).replicas
+    c.in-Some.machine (c.in-Some.ensures).on
 
 pub returns-in-Some-clause-frozen : goal.returns-in-Some-clause-frozen
 returns-in-Some-clause-frozen g c = λ m so. let same : Some c.in-Some.machine ≡ Some m = sym c.in-Some.is ∙ c.frozen.ensures.is ∙ so in cc
@@ -116,51 +118,63 @@ pub returns-in-Compact-clause-frozen : goal.returns-in-Compact-clause-frozen
 returns-in-Compact-clause-frozen g c = λ m so. absurd (some_none (sym so ∙ sym c.frozen.ensures.is ∙ c.in_default.is))
 
 pub returns-in-Some-clause-refused_seen : goal.returns-in-Some-clause-refused_seen
-returns-in-Some-clause-refused_seen g c = frozen_refused_seen (c.args.volume.now).settings c.args.work (c.args.volume.now).number c.args.replica c.in-Some.machine (volume_seen c.args.volume.now) (sym c.frozen.ensures.is ∙ c.in-Some.is)
+returns-in-Some-clause-refused_seen g c =
+    frozen_refused_seen (c.args.volume.now).settings c.args.work (c.args.volume.now).number c.args.replica c.in-Some.machine (volume_seen c.args.volume.now) (sym c.frozen.ensures.is ∙ c.in-Some.is)
 
 pub returns-in-Flush-clause-seen : goal.returns-in-Flush-clause-seen
 returns-in-Flush-clause-seen g c =
-    subst (λ (work : Maintenance). IfOk c.flush.result (λ number. WorkSeen work c.args.replica number (volume_seen c.args.volume.now) (volume_seen c.flush.new.self))) (sym c.in-Flush.is) c.flush.ensures.seen
+    subst (λ (work : Maintenance). IfOk c.flush.result (λ number. WorkSeen work c.args.replica number (volume_seen c.args.volume.now) (volume_seen c.flush.new.self)))
+    (sym c.in-Flush.is) c.flush.ensures.seen
 
 pub returns-in-Flush-clause-refused_seen : goal.returns-in-Flush-clause-refused_seen
 returns-in-Flush-clause-refused_seen g c =
-    subst (λ (work : Maintenance). IfErr c.flush.result (λ fault. WorkRefusedSeen (c.args.volume.now).settings work (c.args.volume.now).number c.args.replica fault (volume_seen c.args.volume.now) (volume_seen c.flush.new.self))) (sym c.in-Flush.is) c.flush.ensures.refused_seen
+    subst (λ (work : Maintenance). IfErr c.flush.result (λ fault. WorkRefusedSeen (c.args.volume.now).settings work (c.args.volume.now).number c.args.replica fault
+    (volume_seen c.args.volume.now) (volume_seen c.flush.new.self))) (sym c.in-Flush.is) c.flush.ensures.refused_seen
 
 pub returns-in-Begin-clause-seen : goal.returns-in-Begin-clause-seen
 returns-in-Begin-clause-seen g c =
-    subst (λ (work : Maintenance). IfOk c.begin.result (λ number. WorkSeen work c.args.replica number (volume_seen c.args.volume.now) (volume_seen c.begin.new.self))) (sym c.in-Begin.is) c.begin.ensures.seen
+    subst (λ (work : Maintenance). IfOk c.begin.result (λ number. WorkSeen work c.args.replica number (volume_seen c.args.volume.now) (volume_seen c.begin.new.self)))
+    (sym c.in-Begin.is) c.begin.ensures.seen
 
 pub returns-in-Begin-clause-refused_seen : goal.returns-in-Begin-clause-refused_seen
 returns-in-Begin-clause-refused_seen g c =
-    subst (λ (work : Maintenance). IfErr c.begin.result (λ fault. WorkRefusedSeen (c.args.volume.now).settings work (c.args.volume.now).number c.args.replica fault (volume_seen c.args.volume.now) (volume_seen c.begin.new.self))) (sym c.in-Begin.is) c.begin.ensures.refused_seen
+    subst (λ (work : Maintenance). IfErr c.begin.result (λ fault. WorkRefusedSeen (c.args.volume.now).settings work (c.args.volume.now).number c.args.replica fault
+    (volume_seen c.args.volume.now) (volume_seen c.begin.new.self))) (sym c.in-Begin.is) c.begin.ensures.refused_seen
 
 pub returns-in-Step-clause-seen : goal.returns-in-Step-clause-seen
 returns-in-Step-clause-seen g c =
-    subst (λ (work : Maintenance). IfOk c.step.result (λ number. WorkSeen work c.args.replica number (volume_seen c.args.volume.now) (volume_seen c.step.new.self))) (sym c.in-Step.is) c.step.ensures.seen
+    subst (λ (work : Maintenance). IfOk c.step.result (λ number. WorkSeen work c.args.replica number (volume_seen c.args.volume.now) (volume_seen c.step.new.self)))
+    (sym c.in-Step.is) c.step.ensures.seen
 
 pub returns-in-Step-clause-refused_seen : goal.returns-in-Step-clause-refused_seen
 returns-in-Step-clause-refused_seen g c =
-    subst (λ (work : Maintenance). IfErr c.step.result (λ fault. WorkRefusedSeen (c.args.volume.now).settings work (c.args.volume.now).number c.args.replica fault (volume_seen c.args.volume.now) (volume_seen c.step.new.self))) (sym c.in-Step.is) c.step.ensures.refused_seen
+    subst (λ (work : Maintenance). IfErr c.step.result (λ fault. WorkRefusedSeen (c.args.volume.now).settings work (c.args.volume.now).number c.args.replica fault
+    (volume_seen c.args.volume.now) (volume_seen c.step.new.self))) (sym c.in-Step.is) c.step.ensures.refused_seen
 
 pub returns-in-Finish-clause-seen : goal.returns-in-Finish-clause-seen
 returns-in-Finish-clause-seen g c =
-    subst (λ (work : Maintenance). IfOk c.finish.result (λ number. WorkSeen work c.args.replica number (volume_seen c.args.volume.now) (volume_seen c.finish.new.self))) (sym c.in-Finish.is) c.finish.ensures.seen
+    subst (λ (work : Maintenance). IfOk c.finish.result (λ number. WorkSeen work c.args.replica number (volume_seen c.args.volume.now) (volume_seen c.finish.new.self)))
+    (sym c.in-Finish.is) c.finish.ensures.seen
 
 pub returns-in-Finish-clause-refused_seen : goal.returns-in-Finish-clause-refused_seen
 returns-in-Finish-clause-refused_seen g c =
-    subst (λ (work : Maintenance). IfErr c.finish.result (λ fault. WorkRefusedSeen (c.args.volume.now).settings work (c.args.volume.now).number c.args.replica fault (volume_seen c.args.volume.now) (volume_seen c.finish.new.self))) (sym c.in-Finish.is) c.finish.ensures.refused_seen
+    subst (λ (work : Maintenance). IfErr c.finish.result (λ fault. WorkRefusedSeen (c.args.volume.now).settings work (c.args.volume.now).number c.args.replica fault
+    (volume_seen c.args.volume.now) (volume_seen c.finish.new.self))) (sym c.in-Finish.is) c.finish.ensures.refused_seen
 
 pub returns-in-Compact-clause-seen : goal.returns-in-Compact-clause-seen
 returns-in-Compact-clause-seen g c =
-    subst (λ (work : Maintenance). IfOk c.compact.result (λ number. WorkSeen work c.args.replica number (volume_seen c.args.volume.now) (volume_seen c.compact.new.self))) (sym c.in-Compact.is) c.compact.ensures.seen
+    subst (λ (work : Maintenance). IfOk c.compact.result (λ number. WorkSeen work c.args.replica number (volume_seen c.args.volume.now) (volume_seen c.compact.new.self)))
+    (sym c.in-Compact.is) c.compact.ensures.seen
 
 pub returns-in-Compact-clause-refused_seen : goal.returns-in-Compact-clause-refused_seen
 returns-in-Compact-clause-refused_seen g c =
-    subst (λ (work : Maintenance). IfErr c.compact.result (λ fault. WorkRefusedSeen (c.args.volume.now).settings work (c.args.volume.now).number c.args.replica fault (volume_seen c.args.volume.now) (volume_seen c.compact.new.self))) (sym c.in-Compact.is) c.compact.ensures.refused_seen
+    subst (λ (work : Maintenance). IfErr c.compact.result (λ fault. WorkRefusedSeen (c.args.volume.now).settings work (c.args.volume.now).number c.args.replica fault
+    (volume_seen c.args.volume.now) (volume_seen c.compact.new.self))) (sym c.in-Compact.is) c.compact.ensures.refused_seen
 
 pub returns-in-Flush-clause-sights : goal.returns-in-Flush-clause-sights
 returns-in-Flush-clause-sights g c =
-    subst (λ (work : Maintenance). OnOk c.flush.result (DoneSights work c.args.replica (volume_seen c.flush.new.self) (sights_of (c.args.volume.now).rows) (sights_of (c.flush.new.self).rows))) (sym c.in-Flush.is)
+    subst (λ (work : Maintenance). OnOk c.flush.result (DoneSights work c.args.replica (volume_seen c.flush.new.self) (sights_of (c.args.volume.now).rows)
+    (sights_of (c.flush.new.self).rows))) (sym c.in-Flush.is)
     (on_ok c.flush.result _ (λ pair j. ap (λ (w : Volume g.row.D.Denot g.row.D-Piece.Denot). sights_of w.rows pair j) c.flush.ensures.still))
 
 pub returns-in-Flush-clause-refused_sights : goal.returns-in-Flush-clause-refused_sights
@@ -169,7 +183,8 @@ returns-in-Flush-clause-refused_sights g c =
 
 pub returns-in-Begin-clause-sights : goal.returns-in-Begin-clause-sights
 returns-in-Begin-clause-sights g c =
-    subst (λ (work : Maintenance). OnOk c.begin.result (DoneSights work c.args.replica (volume_seen c.begin.new.self) (sights_of (c.args.volume.now).rows) (sights_of (c.begin.new.self).rows))) (sym c.in-Begin.is)
+    subst (λ (work : Maintenance). OnOk c.begin.result (DoneSights work c.args.replica (volume_seen c.begin.new.self) (sights_of (c.args.volume.now).rows)
+    (sights_of (c.begin.new.self).rows))) (sym c.in-Begin.is)
     (on_ok c.begin.result _ (λ pair j. ap (λ (w : Volume g.row.D.Denot g.row.D-Piece.Denot). sights_of w.rows pair j) c.begin.ensures.still))
 
 pub returns-in-Begin-clause-refused_sights : goal.returns-in-Begin-clause-refused_sights
@@ -178,7 +193,8 @@ returns-in-Begin-clause-refused_sights g c =
 
 pub returns-in-Step-clause-sights : goal.returns-in-Step-clause-sights
 returns-in-Step-clause-sights g c =
-    subst (λ (work : Maintenance). OnOk c.step.result (DoneSights work c.args.replica (volume_seen c.step.new.self) (sights_of (c.args.volume.now).rows) (sights_of (c.step.new.self).rows))) (sym c.in-Step.is)
+    subst (λ (work : Maintenance). OnOk c.step.result (DoneSights work c.args.replica (volume_seen c.step.new.self) (sights_of (c.args.volume.now).rows)
+    (sights_of (c.step.new.self).rows))) (sym c.in-Step.is)
     (on_ok c.step.result _ (λ pair j. ap (λ (w : Volume g.row.D.Denot g.row.D-Piece.Denot). sights_of w.rows pair j) c.step.ensures.still))
 
 pub returns-in-Step-clause-refused_sights : goal.returns-in-Step-clause-refused_sights
@@ -191,11 +207,13 @@ returns-in-Some-clause-refused_sights g c =
 
 pub returns-in-Finish-clause-sights : goal.returns-in-Finish-clause-sights
 returns-in-Finish-clause-sights g c =
-    subst (λ (work : Maintenance). OnOk c.finish.result (DoneSights work c.args.replica (volume_seen c.finish.new.self) (sights_of (c.args.volume.now).rows) (sights_of (c.finish.new.self).rows))) (sym c.in-Finish.is) c.finish.ensures.sights
+    subst (λ (work : Maintenance). OnOk c.finish.result (DoneSights work c.args.replica (volume_seen c.finish.new.self) (sights_of (c.args.volume.now).rows)
+    (sights_of (c.finish.new.self).rows))) (sym c.in-Finish.is) c.finish.ensures.sights
 
 pub returns-in-Compact-clause-sights : goal.returns-in-Compact-clause-sights
 returns-in-Compact-clause-sights g c =
-    subst (λ (work : Maintenance). OnOk c.compact.result (DoneSights work c.args.replica (volume_seen c.compact.new.self) (sights_of (c.args.volume.now).rows) (sights_of (c.compact.new.self).rows))) (sym c.in-Compact.is) c.compact.ensures.sights
+    subst (λ (work : Maintenance). OnOk c.compact.result (DoneSights work c.args.replica (volume_seen c.compact.new.self) (sights_of (c.args.volume.now).rows)
+    (sights_of (c.compact.new.self).rows))) (sym c.in-Compact.is) c.compact.ensures.sights
 
 pub returns-in-Some-clause-damaged : goal.returns-in-Some-clause-damaged
 returns-in-Some-clause-damaged g c = λ tells m place is. absurd cc
@@ -208,38 +226,48 @@ returns-in-Begin-clause-damaged g c = λ tells m place is. absurd (IfErr-at_err 
 
 pub returns-in-Flush-clause-lead : goal.returns-in-Flush-clause-lead
 returns-in-Flush-clause-lead g c = λ tells r r' was now.
-    subst (λ (work : Maintenance). IfOk c.flush.result (λ number. LeadsWork (sights_of (c.args.volume.now).rows) c.args.replica work number (replica_seen r) (replica_seen r') (volume_bytes g.D.Disk.files r))) (sym c.in-Flush.is) (if_ok c.flush.result)
+    subst (λ (work : Maintenance). IfOk c.flush.result (λ number. LeadsWork (sights_of (c.args.volume.now).rows) c.args.replica work number (replica_seen r) (replica_seen r')
+    (volume_bytes g.D.Disk.files r))) (sym c.in-Flush.is) (if_ok c.flush.result)
 
 pub returns-in-Begin-clause-lead : goal.returns-in-Begin-clause-lead
 returns-in-Begin-clause-lead g c = λ tells r r' was now.
-    subst (λ (work : Maintenance). IfOk c.begin.result (λ number. LeadsWork (sights_of (c.args.volume.now).rows) c.args.replica work number (replica_seen r) (replica_seen r') (volume_bytes g.D.Disk.files r))) (sym c.in-Begin.is) (if_ok c.begin.result)
+    subst (λ (work : Maintenance). IfOk c.begin.result (λ number. LeadsWork (sights_of (c.args.volume.now).rows) c.args.replica work number (replica_seen r) (replica_seen r')
+    (volume_bytes g.D.Disk.files r))) (sym c.in-Begin.is) (if_ok c.begin.result)
 
 pub returns-in-Step-clause-damaged : goal.returns-in-Step-clause-damaged
 returns-in-Step-clause-damaged g c = λ tells m place is.
-    subst (λ (work : Maintenance). IsDamagedCell g.D.Disk.files (c.args.volume.now).replicas c.args.replica (LacksWork (sights_of (c.args.volume.now).rows) c.args.replica work place)) (sym c.in-Step.is) (c.step.ensures.damaged tells m place is)
+    subst (λ (work : Maintenance). IsDamagedCell g.D.Disk.files (c.args.volume.now).replicas c.args.replica
+    (LacksWork (sights_of (c.args.volume.now).rows) c.args.replica work place)) (sym c.in-Step.is) (c.step.ensures.damaged tells m place is)
 
 pub returns-in-Step-clause-lead : goal.returns-in-Step-clause-lead
 returns-in-Step-clause-lead g c = λ tells r r' was now.
-    subst (λ (work : Maintenance). IfOk c.step.result (λ number. LeadsWork (sights_of (c.args.volume.now).rows) c.args.replica work number (replica_seen r) (replica_seen r') (volume_bytes g.D.Disk.files r))) (sym c.in-Step.is)
+    subst (λ (work : Maintenance). IfOk c.step.result (λ number. LeadsWork (sights_of (c.args.volume.now).rows) c.args.replica work number (replica_seen r) (replica_seen r')
+    (volume_bytes g.D.Disk.files r))) (sym c.in-Step.is)
     (c.step.ensures.lead tells r r' was now)
 
 pub returns-in-Finish-clause-damaged : goal.returns-in-Finish-clause-damaged
 returns-in-Finish-clause-damaged g c = λ tells m place is.
-    subst (λ (work : Maintenance). IsDamagedCell g.D.Disk.files (c.args.volume.now).replicas c.args.replica (LacksWork (sights_of (c.args.volume.now).rows) c.args.replica work place)) (sym c.in-Finish.is) (c.finish.ensures.damaged tells m place is)
+    subst (λ (work : Maintenance). IsDamagedCell g.D.Disk.files (c.args.volume.now).replicas c.args.replica
+    (LacksWork (sights_of (c.args.volume.now).rows) c.args.replica work place)) (sym c.in-Finish.is) (c.finish.ensures.damaged tells m place is)
 
 pub returns-in-Finish-clause-lead : goal.returns-in-Finish-clause-lead
 returns-in-Finish-clause-lead g c = λ tells r r' was now.
-    subst (λ (work : Maintenance). IfOk c.finish.result (λ number. LeadsWork (sights_of (c.args.volume.now).rows) c.args.replica work number (replica_seen r) (replica_seen r') (volume_bytes g.D.Disk.files r))) (sym c.in-Finish.is)
-    (if_ok_by c.finish.result _ (λ number. HeadsLeadOn (sights_of (c.args.volume.now).rows) c.args.replica (replica_seen r) (volume_bytes g.D.Disk.files r)) (λ leads number. leads r was) (c.finish.ensures.lead tells))
+    subst (λ (work : Maintenance). IfOk c.finish.result (λ number. LeadsWork (sights_of (c.args.volume.now).rows) c.args.replica work number (replica_seen r) (replica_seen r')
+    (volume_bytes g.D.Disk.files r))) (sym c.in-Finish.is)
+    (if_ok_by c.finish.result _ (λ number. HeadsLeadOn (sights_of (c.args.volume.now).rows) c.args.replica (replica_seen r) (volume_bytes g.D.Disk.files r))
+    (λ leads number. leads r was) (c.finish.ensures.lead tells))
 
 pub returns-in-Compact-clause-damaged : goal.returns-in-Compact-clause-damaged
 returns-in-Compact-clause-damaged g c = λ tells m place is.
-    subst (λ (work : Maintenance). IsDamagedCell g.D.Disk.files (c.args.volume.now).replicas c.args.replica (LacksWork (sights_of (c.args.volume.now).rows) c.args.replica work place)) (sym c.in-Compact.is) (c.compact.ensures.damaged tells m place is)
+    subst (λ (work : Maintenance). IsDamagedCell g.D.Disk.files (c.args.volume.now).replicas c.args.replica
+    (LacksWork (sights_of (c.args.volume.now).rows) c.args.replica work place)) (sym c.in-Compact.is) (c.compact.ensures.damaged tells m place is)
 
 pub returns-in-Compact-clause-lead : goal.returns-in-Compact-clause-lead
 returns-in-Compact-clause-lead g c = λ tells r r' was now.
-    subst (λ (work : Maintenance). IfOk c.compact.result (λ number. LeadsWork (sights_of (c.args.volume.now).rows) c.args.replica work number (replica_seen r) (replica_seen r') (volume_bytes g.D.Disk.files r))) (sym c.in-Compact.is)
-    (if_ok_by c.compact.result _ (λ number. HeadsLeadOn (sights_of (c.args.volume.now).rows) c.args.replica (begun (replica_seen r)) (volume_bytes g.D.Disk.files r)) (λ leads number. leads r was) (c.compact.ensures.lead tells))
+    subst (λ (work : Maintenance). IfOk c.compact.result (λ number. LeadsWork (sights_of (c.args.volume.now).rows) c.args.replica work number (replica_seen r) (replica_seen r')
+    (volume_bytes g.D.Disk.files r))) (sym c.in-Compact.is)
+    (if_ok_by c.compact.result _ (λ number. HeadsLeadOn (sights_of (c.args.volume.now).rows) c.args.replica (begun (replica_seen r)) (volume_bytes g.D.Disk.files r))
+    (λ leads number. leads r was) (c.compact.ensures.lead tells))
 
 pub returns-in-Some-clause-part : goal.returns-in-Some-clause-part
 returns-in-Some-clause-part g c = λ tells r r' was now wants.
@@ -249,27 +277,32 @@ returns-in-Some-clause-part g c = λ tells r r' was now wants.
 
 pub returns-in-Flush-clause-part : goal.returns-in-Flush-clause-part
 returns-in-Flush-clause-part g c = λ tells r r' was now.
-    subst (λ (work : Maintenance). IfErr c.flush.result (λ fault. MayWantMemory fault → LeadsPart (sights_of (c.args.volume.now).rows) c.args.replica work (replica_seen r) (replica_seen r') (volume_bytes g.D.Disk.files r))) (sym c.in-Flush.is)
+    subst (λ (work : Maintenance). IfErr c.flush.result (λ fault. MayWantMemory fault
+    → LeadsPart (sights_of (c.args.volume.now).rows) c.args.replica work (replica_seen r) (replica_seen r') (volume_bytes g.D.Disk.files r))) (sym c.in-Flush.is)
     (if_err_made c.flush.result _ (λ fault is wants. tt))
 
 pub returns-in-Begin-clause-part : goal.returns-in-Begin-clause-part
 returns-in-Begin-clause-part g c = λ tells r r' was now.
-    subst (λ (work : Maintenance). IfErr c.begin.result (λ fault. MayWantMemory fault → LeadsPart (sights_of (c.args.volume.now).rows) c.args.replica work (replica_seen r) (replica_seen r') (volume_bytes g.D.Disk.files r))) (sym c.in-Begin.is)
+    subst (λ (work : Maintenance). IfErr c.begin.result (λ fault. MayWantMemory fault
+    → LeadsPart (sights_of (c.args.volume.now).rows) c.args.replica work (replica_seen r) (replica_seen r') (volume_bytes g.D.Disk.files r))) (sym c.in-Begin.is)
     (if_err_made c.begin.result _ (λ fault is wants. tt))
 
 pub returns-in-Finish-clause-part : goal.returns-in-Finish-clause-part
 returns-in-Finish-clause-part g c = λ tells r r' was now.
-    subst (λ (work : Maintenance). IfErr c.finish.result (λ fault. MayWantMemory fault → LeadsPart (sights_of (c.args.volume.now).rows) c.args.replica work (replica_seen r) (replica_seen r') (volume_bytes g.D.Disk.files r))) (sym c.in-Finish.is)
+    subst (λ (work : Maintenance). IfErr c.finish.result (λ fault. MayWantMemory fault
+    → LeadsPart (sights_of (c.args.volume.now).rows) c.args.replica work (replica_seen r) (replica_seen r') (volume_bytes g.D.Disk.files r))) (sym c.in-Finish.is)
     (if_err_made c.finish.result _ (λ fault is wants. tt))
 
 pub returns-in-Compact-clause-part : goal.returns-in-Compact-clause-part
 returns-in-Compact-clause-part g c = λ tells r r' was now.
-    subst (λ (work : Maintenance). IfErr c.compact.result (λ fault. MayWantMemory fault → LeadsPart (sights_of (c.args.volume.now).rows) c.args.replica work (replica_seen r) (replica_seen r') (volume_bytes g.D.Disk.files r))) (sym c.in-Compact.is)
+    subst (λ (work : Maintenance). IfErr c.compact.result (λ fault. MayWantMemory fault
+    → LeadsPart (sights_of (c.args.volume.now).rows) c.args.replica work (replica_seen r) (replica_seen r') (volume_bytes g.D.Disk.files r))) (sym c.in-Compact.is)
     (if_err_made c.compact.result _ (λ fault is wants. tt))
 
 pub returns-in-Step-clause-part : goal.returns-in-Step-clause-part
 returns-in-Step-clause-part g c = λ tells r r' was now.
-    subst (λ (work : Maintenance). IfErr c.step.result (λ fault. MayWantMemory fault → LeadsPart (sights_of (c.args.volume.now).rows) c.args.replica work (replica_seen r) (replica_seen r') (volume_bytes g.D.Disk.files r))) (sym c.in-Step.is)
+    subst (λ (work : Maintenance). IfErr c.step.result (λ fault. MayWantMemory fault → LeadsPart (sights_of (c.args.volume.now).rows) c.args.replica work (replica_seen r)
+    (replica_seen r') (volume_bytes g.D.Disk.files r))) (sym c.in-Step.is)
     (if_err_made c.step.result _ (λ fault is. step_led (sights_of (c.args.volume.now).rows) c.args.replica c.in-Step.cells (replica_seen r) (replica_seen r') (volume_bytes g.D.Disk.files r) fault
     (λ memory. c.step.ensures.part tells r r' was now (is ∙ ap (λ (f : LogicalFault). Err f) memory))
     (λ m so. c.step.ensures.thawed (sym c.frozen.ensures.is ∙ c.in_default.is) m (is ∙ ap (λ (f : LogicalFault). Err f) so))))

@@ -14,10 +14,12 @@ invariant_of-result g c =
     let items = c.args.volumes.items in
     let vs = c.fill_volumes.new.volumes in
     let long : length vs ≡ length items = (let same = c.fill_volumes.auto.volumes in omega (arith, same, c.as_mut_slice.ensures.len, c.args.volumes.ok.0)) in
-    let whole : take c.args.volumes.len (vs ++ drop (length vs) items) ≡ vs = take_at vs (drop (length vs) items) c.args.volumes.len (let here : length vs ≡ c.args.volumes.len = omega (arith, long, c.args.volumes.ok.0) in here) in
+    let whole : take c.args.volumes.len (vs ++ drop (length vs) items) ≡ vs =
+    take_at vs (drop (length vs) items) c.args.volumes.len (let here : length vs ≡ c.args.volumes.len = omega (arith, long, c.args.volumes.ok.0) in here) in
     let filled : AreFilled c.args.settings 0 vs (reverse c.pop.new.self.items) = are_filled c.args.settings 0 c.as_mut_slice.result.now vs (reverse c.pop.new.self.items)
     (subst (λ (l : List (Volume g.row.D.Denot g.row.D-Piece.Denot)). InOrder (IsEmptyVolume c.args.settings) 0 l) (sym c.as_mut_slice.ensures.value) c.requires.empty) c.fill_volumes.ensures in
-    subst (λ (l : List (Volume g.row.D.Denot g.row.D-Piece.Denot)). let store : Open g.row.D.Denot g.row.D-Piece.Denot g.row.A.Denot = record { settings = c.args.settings; directory = c.new.result; volumes = l; arms = c.args.seats.items } in IsShaped store) (sym whole)
+    subst (λ (l : List (Volume g.row.D.Denot g.row.D-Piece.Denot)). let store : Open g.row.D.Denot
+    g.row.D-Piece.Denot g.row.A.Denot = record { settings = c.args.settings; directory = c.new.result; volumes = l; arms = c.args.seats.items } in IsShaped store) (sym whole)
     (record { built = c.requires.built; directory = c.new.ensures.settings; many = long ∙ c.requires.many; volumes = filled.shape; lanes = c.requires.lanes })
 
 pub returns-clause-shape : goal.returns-clause-shape
@@ -25,10 +27,12 @@ returns-clause-shape g c =
     let items = c.args.volumes.items in
     let vs = c.fill_volumes.new.volumes in
     let long : length vs ≡ length items = (let same = c.fill_volumes.auto.volumes in omega (arith, same, c.as_mut_slice.ensures.len, c.args.volumes.ok.0)) in
-    let whole : take c.args.volumes.len (vs ++ drop (length vs) items) ≡ vs = take_at vs (drop (length vs) items) c.args.volumes.len (let here : length vs ≡ c.args.volumes.len = omega (arith, long, c.args.volumes.ok.0) in here) in
+    let whole : take c.args.volumes.len (vs ++ drop (length vs) items) ≡ vs =
+    take_at vs (drop (length vs) items) c.args.volumes.len (let here : length vs ≡ c.args.volumes.len = omega (arith, long, c.args.volumes.ok.0) in here) in
     let filled : AreFilled c.args.settings 0 vs (reverse c.pop.new.self.items) = are_filled c.args.settings 0 c.as_mut_slice.result.now vs (reverse c.pop.new.self.items)
     (subst (λ (l : List (Volume g.row.D.Denot g.row.D-Piece.Denot)). InOrder (IsEmptyVolume c.args.settings) 0 l) (sym c.as_mut_slice.ensures.value) c.requires.empty) c.fill_volumes.ensures in
-    subst (λ (l : List (Volume g.row.D.Denot g.row.D-Piece.Denot)). let store : Open g.row.D.Denot g.row.D-Piece.Denot g.row.A.Denot = record { settings = c.args.settings; directory = c.new.result; volumes = l; arms = c.args.seats.items } in IsShaped store) (sym whole)
+    subst (λ (l : List (Volume g.row.D.Denot g.row.D-Piece.Denot)). let store : Open g.row.D.Denot
+    g.row.D-Piece.Denot g.row.A.Denot = record { settings = c.args.settings; directory = c.new.result; volumes = l; arms = c.args.seats.items } in IsShaped store) (sym whole)
     (record { built = c.requires.built; directory = c.new.ensures.settings; many = long ∙ c.requires.many; volumes = filled.shape; lanes = c.requires.lanes })
 
 pub unreachable-requires : goal.unreachable-requires
@@ -50,7 +54,8 @@ returns-clause-closed g c =
     let items = c.args.volumes.items in
     let vs = c.fill_volumes.new.volumes in
     let long : length vs ≡ length items = (let same = c.fill_volumes.auto.volumes in omega (arith, same, c.as_mut_slice.ensures.len, c.args.volumes.ok.0)) in
-    let whole : take c.args.volumes.len (vs ++ drop (length vs) items) ≡ vs = take_at vs (drop (length vs) items) c.args.volumes.len (let here : length vs ≡ c.args.volumes.len = omega (arith, long, c.args.volumes.ok.0) in here) in
+    let whole : take c.args.volumes.len (vs ++ drop (length vs) items) ≡ vs =
+    take_at vs (drop (length vs) items) c.args.volumes.len (let here : length vs ≡ c.args.volumes.len = omega (arith, long, c.args.volumes.ok.0) in here) in
     let filled : AreFilled c.args.settings 0 vs (reverse c.pop.new.self.items) = are_filled c.args.settings 0 c.as_mut_slice.result.now vs (reverse c.pop.new.self.items)
     (subst (λ (l : List (Volume g.row.D.Denot g.row.D-Piece.Denot)). InOrder (IsEmptyVolume c.args.settings) 0 l) (sym c.as_mut_slice.ensures.value) c.requires.empty) c.fill_volumes.ensures in
     subst (λ (l : List (Volume g.row.D.Denot g.row.D-Piece.Denot)). AllByRecursion IsClosed l) (sym whole) filled.closed
@@ -60,7 +65,8 @@ returns-clause-unsure g c =
     let items = c.args.volumes.items in
     let vs = c.fill_volumes.new.volumes in
     let long : length vs ≡ length items = (let same = c.fill_volumes.auto.volumes in omega (arith, same, c.as_mut_slice.ensures.len, c.args.volumes.ok.0)) in
-    let whole : take c.args.volumes.len (vs ++ drop (length vs) items) ≡ vs = take_at vs (drop (length vs) items) c.args.volumes.len (let here : length vs ≡ c.args.volumes.len = omega (arith, long, c.args.volumes.ok.0) in here) in
+    let whole : take c.args.volumes.len (vs ++ drop (length vs) items) ≡ vs =
+    take_at vs (drop (length vs) items) c.args.volumes.len (let here : length vs ≡ c.args.volumes.len = omega (arith, long, c.args.volumes.ok.0) in here) in
     let filled : AreFilled c.args.settings 0 vs (reverse c.pop.new.self.items) = are_filled c.args.settings 0 c.as_mut_slice.result.now vs (reverse c.pop.new.self.items)
     (subst (λ (l : List (Volume g.row.D.Denot g.row.D-Piece.Denot)). InOrder (IsEmptyVolume c.args.settings) 0 l) (sym c.as_mut_slice.ensures.value) c.requires.empty) c.fill_volumes.ensures in
     subst (λ (l : List (Volume g.row.D.Denot g.row.D-Piece.Denot)). AllByRecursion (λ (v : Volume g.row.D.Denot g.row.D-Piece.Denot). v.unsure ≡ None) l) (sym whole) filled.sure
@@ -70,7 +76,8 @@ returns-clause-disks g c =
     let items = c.args.volumes.items in
     let vs = c.fill_volumes.new.volumes in
     let long : length vs ≡ length items = (let same = c.fill_volumes.auto.volumes in omega (arith, same, c.as_mut_slice.ensures.len, c.args.volumes.ok.0)) in
-    let whole : take c.args.volumes.len (vs ++ drop (length vs) items) ≡ vs = take_at vs (drop (length vs) items) c.args.volumes.len (let here : length vs ≡ c.args.volumes.len = omega (arith, long, c.args.volumes.ok.0) in here) in
+    let whole : take c.args.volumes.len (vs ++ drop (length vs) items) ≡ vs =
+    take_at vs (drop (length vs) items) c.args.volumes.len (let here : length vs ≡ c.args.volumes.len = omega (arith, long, c.args.volumes.ok.0) in here) in
     let filled : AreFilled c.args.settings 0 vs (reverse c.pop.new.self.items) = are_filled c.args.settings 0 c.as_mut_slice.result.now vs (reverse c.pop.new.self.items)
     (subst (λ (l : List (Volume g.row.D.Denot g.row.D-Piece.Denot)). InOrder (IsEmptyVolume c.args.settings) 0 l) (sym c.as_mut_slice.ensures.value) c.requires.empty) c.fill_volumes.ensures in
     ap (λ (l : List (Volume g.row.D.Denot g.row.D-Piece.Denot)). (c.new.result).disk ∷ flat_map volume_disks l) whole

@@ -10,7 +10,8 @@ loop-replica-init g c = filling_none c.args.volume.now c.args.disks.now.items c.
 pub loop-replica-preserved : goal.loop-replica-preserved
 loop-replica-preserved g c =
     let f = c.loop-replica.invariant in
-    filling_more _ c.args.volume.now c.loop-replica.volume c.add.new.self c.args.disks.now.items c.loop-replica.disks.items c.pop.new.self.items c.in-Some.disk f (c.in-Some.ensures).items c.add.ensures
+    filling_more _ c.args.volume.now c.loop-replica.volume c.add.new.self c.args.disks.now.items c.loop-replica.disks.items c.pop.new.self.items c.in-Some.disk f
+    (c.in-Some.ensures).items c.add.ensures
 
 pub unreachable-requires : goal.unreachable-requires
 unreachable-requires g c =
@@ -28,7 +29,8 @@ add-requires g c =
 pub returns-clause-taken : goal.returns-clause-taken
 returns-clause-taken g c =
     let all : c.loop-replica._replica ≡ c.args.settings.now.replicas = omega arith in
-    filled c.loop-replica._replica c.args.volume.now c.loop-replica.volume c.args.disks.now.items c.loop-replica.disks.items (all ∙ sym (ap (λ (s : Settings). s.replicas) c.requires.settings)) c.loop-replica.invariant
+    filled c.loop-replica._replica c.args.volume.now c.loop-replica.volume c.args.disks.now.items c.loop-replica.disks.items
+    (all ∙ sym (ap (λ (s : Settings). s.replicas) c.requires.settings)) c.loop-replica.invariant
 
 pub returns-clause-fewer : goal.returns-clause-fewer
 returns-clause-fewer g c = let f = c.loop-replica.invariant in omega (arith, f.fewer)

@@ -16,7 +16,8 @@ loop-volume-preserved g c =
     let n = c.loop-volume.volume-index in
     let taken = c.fill_volume.ensures.taken in
     fills_more c.args.settings.now.replicas n c.args.volumes.now c.loop-volume.volumes c.args.disks.now.items c.loop-volume.disks.items c.fill_volume.new.disks.items taken.0
-    (get_or c.loop-volume.volumes n c.volume-item.result) c.fill_volume.new.volume c.loop-volume.invariant (at_read c.loop-volume.volumes n c.volume-item.result (omega arith)) taken.1 taken.2 c.fill_volume.ensures.fewer
+    (get_or c.loop-volume.volumes n c.volume-item.result) c.fill_volume.new.volume c.loop-volume.invariant (at_read c.loop-volume.volumes n c.volume-item.result (omega arith))
+    taken.1 taken.2 c.fill_volume.ensures.fewer
 
 pub fill_volume-requires : goal.fill_volume-requires
 fill_volume-requires g c =

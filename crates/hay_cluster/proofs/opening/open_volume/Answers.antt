@@ -46,7 +46,8 @@ returns-in_ok-append-in-Ok-clause-opened g c =
       c.in-Ok.more,
       c.in_ok-append-in-Ok.ensures.items ∙ ap (λ (l : List Note). c.args.notes.now.items ++ l) c.into_vec.ensures,
       record {
-        moves = moves_opened g.D.Disk.Tells g.D.Disk.files g.D.Piece.Piece.Tells g.D.Disk.fault_count g.D.Disk.fuse_count c.args.volume.now c.open.new.self c.in-Ok.more e.same e.counts e.reopened e.kept;
+        moves =
+            moves_opened g.D.Disk.Tells g.D.Disk.files g.D.Piece.Piece.Tells g.D.Disk.fault_count g.D.Disk.fuse_count c.args.volume.now c.open.new.self c.in-Ok.more e.same e.counts e.reopened e.kept;
         up = e.«open»;
         first = e.first;
         reopened = e.reopened;

@@ -21,7 +21,9 @@ loop-arm-preserved g c =
     let fewer = ap (λ (l : List g.row.A.Denot). length l) arms ∙ length-append c.pop.new.self.items (c.in-Some.arm ∷ []) in
     let more = ap (λ (l : List g.row.A.Denot). length l) seats ∙ length-append c.loop-arm.seats.items (c.in-Ok-new.seat ∷ []) in
     record {
-      items = c.loop-arm.invariant.items ∙ ap (λ (l : List g.row.A.Denot). l ++ reverse c.loop-arm.seats.items) arms ∙ append_assoc c.pop.new.self.items (c.in-Some.arm ∷ []) (reverse c.loop-arm.seats.items)
+      items =
+          c.loop-arm.invariant.items ∙ ap (λ (l : List g.row.A.Denot). l ++ reverse c.loop-arm.seats.items) arms
+          ∙ append_assoc c.pop.new.self.items (c.in-Some.arm ∷ []) (reverse c.loop-arm.seats.items)
           ∙ ap (λ (a : g.row.A.Denot). c.pop.new.self.items ++ (a ∷ reverse c.loop-arm.seats.items)) (sym c.in-Ok-new.ensures.ok)
           ∙ ap (λ (l : List g.row.A.Denot). c.pop.new.self.items ++ l) (sym (ap (λ (l : List g.row.A.Denot). reverse l) seats ∙ reverse-snoc c.loop-arm.seats.items c.in-Ok-new.seat));
       room = omega (arith, fewer, more, c.loop-arm.invariant.room, (c.in-Some.ensures).capacity);

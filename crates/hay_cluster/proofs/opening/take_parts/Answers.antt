@@ -5,13 +5,15 @@ use Rattle.hay_cluster.proofs.opening.take_parts.Goals as goal
 
 pub returns-in-Ok-seats_of-clause-arms : goal.returns-in-Ok-seats_of-clause-arms
 returns-in-Ok-seats_of-clause-arms g c =
-    subst (λ (l : List g.row.H-Arm.Denot). InOrder (λ lane arm. IsMountedArm g.H.Arm.Arm.fault_count g.H.Arm.Arm.is_sure (g.H.Shelf.arms c.args.shelf.now lane) arm) 0 l) (sym c.in-Ok-seats_of.ensures.ok) c.in-Ok.ensures.arms
+    subst (λ (l : List g.row.H-Arm.Denot). InOrder (λ lane arm. IsMountedArm g.H.Arm.Arm.fault_count g.H.Arm.Arm.is_sure (g.H.Shelf.arms c.args.shelf.now lane) arm) 0 l)
+    (sym c.in-Ok-seats_of.ensures.ok) c.in-Ok.ensures.arms
 
 pub returns-in-Err-seats_of-clause-put_back : goal.returns-in-Err-seats_of-clause-put_back
 returns-in-Err-seats_of-clause-put_back g c =
     let disks = c.in-Ok.mounted.disks.items in
     let many : length disks ≡ c.args.slots = c.in-Ok.ensures.disk_count in
-    disks_back g.H.Disk.Disk.Tells g.H.Disk.Disk.files g.H.Disk.Disk.drawn g.H.Disk.Disk.fault_count g.H.Disk.Disk.fuse_count c.args.slots disks (g.H.Shelf.disks c.args.shelf.now) (g.H.Shelf.disks c.mount.new.shelf) (g.H.Shelf.disks c.unmount.new.shelf)
+    disks_back g.H.Disk.Disk.Tells g.H.Disk.Disk.files g.H.Disk.Disk.drawn g.H.Disk.Disk.fault_count g.H.Disk.Disk.fuse_count c.args.slots disks (g.H.Shelf.disks c.args.shelf.now)
+    (g.H.Shelf.disks c.mount.new.shelf) (g.H.Shelf.disks c.unmount.new.shelf)
     c.requires.disks_in c.in-Ok.ensures.disks (λ slot high. c.in-Ok.ensures.other_slots slot (omega (arith, high, many))) c.unmount.ensures.disks c.unmount.ensures.other_slots
 
 pub returns-in-Err-seats_of-clause-arms_back : goal.returns-in-Err-seats_of-clause-arms_back

@@ -23,29 +23,39 @@ use Rattle.hay_cluster_block.proofs.block.run_block.Goals as goal
 pub run_on_locks-parts-requires-clause-volumes : goal.run_on_locks-parts-requires-clause-volumes
 run_on_locks-parts-requires-clause-volumes g c κs within =
     let p = c.into_parts-directory in
-    let was = made_of c.args.cluster p.result.settings p.result.directory p.result.volumes.items p.result.arms.items (sym p.ensures.settings) (sym p.ensures.directory) (sym p.ensures.volumes) (sym p.ensures.arms) in
+    let was =
+    made_of c.args.cluster p.result.settings p.result.directory p.result.volumes.items p.result.arms.items (sym p.ensures.settings) (sym p.ensures.directory)
+    (sym p.ensures.volumes) (sym p.ensures.arms) in
     were was p.ensures.shape c.requires.up
 
 pub restored-requires-clause-shape : goal.restored-requires-clause-shape
 restored-requires-clause-shape g c =
     let p = c.into_parts-directory in
-    let was = made_of c.args.cluster p.result.settings p.result.directory p.result.volumes.items p.result.arms.items (sym p.ensures.settings) (sym p.ensures.directory) (sym p.ensures.volumes) (sym p.ensures.arms) in
+    let was =
+    made_of c.args.cluster p.result.settings p.result.directory p.result.volumes.items p.result.arms.items (sym p.ensures.settings) (sym p.ensures.directory)
+    (sym p.ensures.volumes) (sym p.ensures.arms) in
     let q = c.run_on_locks-parts in
-    shape_again was p.ensures.shape c.requires.up q.result.0.directory q.result.0.volumes.items (length c.args.jobs.now) c.in-Ok.arms.items c.in-Ok.others.items q.result.0.arms.items c.in-Ok.ensures.first c.in-Ok.ensures.others c.requires.few q.ensures.arms
+    shape_again was p.ensures.shape c.requires.up q.result.0.directory q.result.0.volumes.items (length c.args.jobs.now) c.in-Ok.arms.items c.in-Ok.others.items
+    q.result.0.arms.items c.in-Ok.ensures.first c.in-Ok.ensures.others c.requires.few q.ensures.arms
     q.ensures.volumes q.ensures.directory
 
 pub restored-requires-in-Err-answer-clause-shape : goal.restored-requires-in-Err-answer-clause-shape
 restored-requires-in-Err-answer-clause-shape g c =
     let p = c.into_parts-directory in
-    let was = made_of c.args.cluster p.result.settings p.result.directory p.result.volumes.items p.result.arms.items (sym p.ensures.settings) (sym p.ensures.directory) (sym p.ensures.volumes) (sym p.ensures.arms) in
+    let was =
+    made_of c.args.cluster p.result.settings p.result.directory p.result.volumes.items p.result.arms.items (sym p.ensures.settings) (sym p.ensures.directory)
+    (sym p.ensures.volumes) (sym p.ensures.arms) in
     let q = c.run_on_locks-parts in
-    shape_again was p.ensures.shape c.requires.up q.result.0.directory q.result.0.volumes.items (length c.args.jobs.now) c.in-Ok.arms.items c.in-Ok.others.items q.result.0.arms.items c.in-Ok.ensures.first c.in-Ok.ensures.others c.requires.few q.ensures.arms
+    shape_again was p.ensures.shape c.requires.up q.result.0.directory q.result.0.volumes.items (length c.args.jobs.now) c.in-Ok.arms.items c.in-Ok.others.items
+    q.result.0.arms.items c.in-Ok.ensures.first c.in-Ok.ensures.others c.requires.few q.ensures.arms
     q.ensures.volumes q.ensures.directory
 
 pub returns-in-Ok-answer-clause-up : goal.returns-in-Ok-answer-clause-up
 returns-in-Ok-answer-clause-up g c =
     let p = c.into_parts-directory in
-    let was = made_of c.args.cluster p.result.settings p.result.directory p.result.volumes.items p.result.arms.items (sym p.ensures.settings) (sym p.ensures.directory) (sym p.ensures.volumes) (sym p.ensures.arms) in
+    let was =
+    made_of c.args.cluster p.result.settings p.result.directory p.result.volumes.items p.result.arms.items (sym p.ensures.settings) (sym p.ensures.directory)
+    (sym p.ensures.volumes) (sym p.ensures.arms) in
     let q = c.run_on_locks-parts in
     let is = made_of c.restored.result p.result.settings q.result.0.directory q.result.0.volumes.items (q.result.0.arms.items ++ reverse c.in-Ok.others.items)
     c.restored.ensures.settings c.restored.ensures.directory c.restored.ensures.volumes c.restored.ensures.arms in
@@ -54,7 +64,9 @@ returns-in-Ok-answer-clause-up g c =
 pub returns-in-Ok-answer-clause-counts : goal.returns-in-Ok-answer-clause-counts
 returns-in-Ok-answer-clause-counts g c =
     let p = c.into_parts-directory in
-    let was = made_of c.args.cluster p.result.settings p.result.directory p.result.volumes.items p.result.arms.items (sym p.ensures.settings) (sym p.ensures.directory) (sym p.ensures.volumes) (sym p.ensures.arms) in
+    let was =
+    made_of c.args.cluster p.result.settings p.result.directory p.result.volumes.items p.result.arms.items (sym p.ensures.settings) (sym p.ensures.directory)
+    (sym p.ensures.volumes) (sym p.ensures.arms) in
     let q = c.run_on_locks-parts in
     let is = made_of c.restored.result p.result.settings q.result.0.directory q.result.0.volumes.items (q.result.0.arms.items ++ reverse c.in-Ok.others.items)
     c.restored.ensures.settings c.restored.ensures.directory c.restored.ensures.volumes c.restored.ensures.arms in
@@ -63,21 +75,29 @@ returns-in-Ok-answer-clause-counts g c =
 pub returns-in-Ok-answer-clause-arm_counts : goal.returns-in-Ok-answer-clause-arm_counts
 returns-in-Ok-answer-clause-arm_counts g c =
     let p = c.into_parts-directory in
-    let was = made_of c.args.cluster p.result.settings p.result.directory p.result.volumes.items p.result.arms.items (sym p.ensures.settings) (sym p.ensures.directory) (sym p.ensures.volumes) (sym p.ensures.arms) in
+    let was =
+    made_of c.args.cluster p.result.settings p.result.directory p.result.volumes.items p.result.arms.items (sym p.ensures.settings) (sym p.ensures.directory)
+    (sym p.ensures.volumes) (sym p.ensures.arms) in
     let q = c.run_on_locks-parts in
     let is = made_of c.restored.result p.result.settings q.result.0.directory q.result.0.volumes.items (q.result.0.arms.items ++ reverse c.in-Ok.others.items)
     c.restored.ensures.settings c.restored.ensures.directory c.restored.ensures.volumes c.restored.ensures.arms in
-    let later = all_arms g.A.Arm.is_sure g.A.Arm.fault_count (length c.args.jobs.now) p.result.arms.items c.in-Ok.arms.items q.result.0.arms.items c.in-Ok.others.items c.in-Ok.ensures.first c.in-Ok.ensures.others q.ensures.arms_rise in
+    let later =
+    all_arms g.A.Arm.is_sure g.A.Arm.fault_count (length c.args.jobs.now) p.result.arms.items c.in-Ok.arms.items q.result.0.arms.items c.in-Ok.others.items
+    c.in-Ok.ensures.first c.in-Ok.ensures.others q.ensures.arms_rise in
     arms_later was p.ensures.shape c.requires.up is g.A.Arm.is_sure g.A.Arm.fault_count later
 
 pub returns-in-Ok-answer-clause-sure_arms : goal.returns-in-Ok-answer-clause-sure_arms
 returns-in-Ok-answer-clause-sure_arms g c =
     let p = c.into_parts-directory in
-    let was = made_of c.args.cluster p.result.settings p.result.directory p.result.volumes.items p.result.arms.items (sym p.ensures.settings) (sym p.ensures.directory) (sym p.ensures.volumes) (sym p.ensures.arms) in
+    let was =
+    made_of c.args.cluster p.result.settings p.result.directory p.result.volumes.items p.result.arms.items (sym p.ensures.settings) (sym p.ensures.directory)
+    (sym p.ensures.volumes) (sym p.ensures.arms) in
     let q = c.run_on_locks-parts in
     let is = made_of c.restored.result p.result.settings q.result.0.directory q.result.0.volumes.items (q.result.0.arms.items ++ reverse c.in-Ok.others.items)
     c.restored.ensures.settings c.restored.ensures.directory c.restored.ensures.volumes c.restored.ensures.arms in
-    let later = all_arms g.A.Arm.is_sure g.A.Arm.fault_count (length c.args.jobs.now) p.result.arms.items c.in-Ok.arms.items q.result.0.arms.items c.in-Ok.others.items c.in-Ok.ensures.first c.in-Ok.ensures.others q.ensures.arms_rise in
+    let later =
+    all_arms g.A.Arm.is_sure g.A.Arm.fault_count (length c.args.jobs.now) p.result.arms.items c.in-Ok.arms.items q.result.0.arms.items c.in-Ok.others.items
+    c.in-Ok.ensures.first c.in-Ok.ensures.others q.ensures.arms_rise in
     arms_stay was p.ensures.shape c.requires.up is g.A.Arm.is_sure g.A.Arm.fault_count later
 
 pub returns-in-Ok-answer-clause-other_arms : goal.returns-in-Ok-answer-clause-other_arms
@@ -91,7 +111,9 @@ returns-in-Ok-answer-clause-other_arms g c =
 pub returns-in-Err-answer-clause-up : goal.returns-in-Err-answer-clause-up
 returns-in-Err-answer-clause-up g c =
     let p = c.into_parts-directory in
-    let was = made_of c.args.cluster p.result.settings p.result.directory p.result.volumes.items p.result.arms.items (sym p.ensures.settings) (sym p.ensures.directory) (sym p.ensures.volumes) (sym p.ensures.arms) in
+    let was =
+    made_of c.args.cluster p.result.settings p.result.directory p.result.volumes.items p.result.arms.items (sym p.ensures.settings) (sym p.ensures.directory)
+    (sym p.ensures.volumes) (sym p.ensures.arms) in
     let q = c.run_on_locks-parts in
     let is = made_of c.restored-in-Err-answer.result p.result.settings q.result.0.directory q.result.0.volumes.items (q.result.0.arms.items ++ reverse c.in-Ok.others.items)
     c.restored-in-Err-answer.ensures.settings c.restored-in-Err-answer.ensures.directory c.restored-in-Err-answer.ensures.volumes c.restored-in-Err-answer.ensures.arms in
@@ -100,7 +122,9 @@ returns-in-Err-answer-clause-up g c =
 pub returns-in-Err-answer-clause-counts : goal.returns-in-Err-answer-clause-counts
 returns-in-Err-answer-clause-counts g c =
     let p = c.into_parts-directory in
-    let was = made_of c.args.cluster p.result.settings p.result.directory p.result.volumes.items p.result.arms.items (sym p.ensures.settings) (sym p.ensures.directory) (sym p.ensures.volumes) (sym p.ensures.arms) in
+    let was =
+    made_of c.args.cluster p.result.settings p.result.directory p.result.volumes.items p.result.arms.items (sym p.ensures.settings) (sym p.ensures.directory)
+    (sym p.ensures.volumes) (sym p.ensures.arms) in
     let q = c.run_on_locks-parts in
     let is = made_of c.restored-in-Err-answer.result p.result.settings q.result.0.directory q.result.0.volumes.items (q.result.0.arms.items ++ reverse c.in-Ok.others.items)
     c.restored-in-Err-answer.ensures.settings c.restored-in-Err-answer.ensures.directory c.restored-in-Err-answer.ensures.volumes c.restored-in-Err-answer.ensures.arms in
@@ -109,21 +133,29 @@ returns-in-Err-answer-clause-counts g c =
 pub returns-in-Err-answer-clause-arm_counts : goal.returns-in-Err-answer-clause-arm_counts
 returns-in-Err-answer-clause-arm_counts g c =
     let p = c.into_parts-directory in
-    let was = made_of c.args.cluster p.result.settings p.result.directory p.result.volumes.items p.result.arms.items (sym p.ensures.settings) (sym p.ensures.directory) (sym p.ensures.volumes) (sym p.ensures.arms) in
+    let was =
+    made_of c.args.cluster p.result.settings p.result.directory p.result.volumes.items p.result.arms.items (sym p.ensures.settings) (sym p.ensures.directory)
+    (sym p.ensures.volumes) (sym p.ensures.arms) in
     let q = c.run_on_locks-parts in
     let is = made_of c.restored-in-Err-answer.result p.result.settings q.result.0.directory q.result.0.volumes.items (q.result.0.arms.items ++ reverse c.in-Ok.others.items)
     c.restored-in-Err-answer.ensures.settings c.restored-in-Err-answer.ensures.directory c.restored-in-Err-answer.ensures.volumes c.restored-in-Err-answer.ensures.arms in
-    let later = all_arms g.A.Arm.is_sure g.A.Arm.fault_count (length c.args.jobs.now) p.result.arms.items c.in-Ok.arms.items q.result.0.arms.items c.in-Ok.others.items c.in-Ok.ensures.first c.in-Ok.ensures.others q.ensures.arms_rise in
+    let later =
+    all_arms g.A.Arm.is_sure g.A.Arm.fault_count (length c.args.jobs.now) p.result.arms.items c.in-Ok.arms.items q.result.0.arms.items c.in-Ok.others.items
+    c.in-Ok.ensures.first c.in-Ok.ensures.others q.ensures.arms_rise in
     arms_later was p.ensures.shape c.requires.up is g.A.Arm.is_sure g.A.Arm.fault_count later
 
 pub returns-in-Err-answer-clause-sure_arms : goal.returns-in-Err-answer-clause-sure_arms
 returns-in-Err-answer-clause-sure_arms g c =
     let p = c.into_parts-directory in
-    let was = made_of c.args.cluster p.result.settings p.result.directory p.result.volumes.items p.result.arms.items (sym p.ensures.settings) (sym p.ensures.directory) (sym p.ensures.volumes) (sym p.ensures.arms) in
+    let was =
+    made_of c.args.cluster p.result.settings p.result.directory p.result.volumes.items p.result.arms.items (sym p.ensures.settings) (sym p.ensures.directory)
+    (sym p.ensures.volumes) (sym p.ensures.arms) in
     let q = c.run_on_locks-parts in
     let is = made_of c.restored-in-Err-answer.result p.result.settings q.result.0.directory q.result.0.volumes.items (q.result.0.arms.items ++ reverse c.in-Ok.others.items)
     c.restored-in-Err-answer.ensures.settings c.restored-in-Err-answer.ensures.directory c.restored-in-Err-answer.ensures.volumes c.restored-in-Err-answer.ensures.arms in
-    let later = all_arms g.A.Arm.is_sure g.A.Arm.fault_count (length c.args.jobs.now) p.result.arms.items c.in-Ok.arms.items q.result.0.arms.items c.in-Ok.others.items c.in-Ok.ensures.first c.in-Ok.ensures.others q.ensures.arms_rise in
+    let later =
+    all_arms g.A.Arm.is_sure g.A.Arm.fault_count (length c.args.jobs.now) p.result.arms.items c.in-Ok.arms.items q.result.0.arms.items c.in-Ok.others.items
+    c.in-Ok.ensures.first c.in-Ok.ensures.others q.ensures.arms_rise in
     arms_stay was p.ensures.shape c.requires.up is g.A.Arm.is_sure g.A.Arm.fault_count later
 
 pub returns-in-Err-answer-clause-other_arms : goal.returns-in-Err-answer-clause-other_arms
@@ -138,30 +170,39 @@ pub returns-in-Ok-answer-clause-suits : goal.returns-in-Ok-answer-clause-suits
 returns-in-Ok-answer-clause-suits g c =
     let p = c.into_parts-directory in
     let q = c.run_on_locks-parts in
-    subst (λ (s : Settings). AllZip (λ (js : Vec Job Global) (rs : Vec Reply Global). AllZip (AnswersSuited s) js.items rs.items) c.args.jobs.now c.told-replies.result.replies.items) p.ensures.settings
-    (subst (λ (z : Vec (Vec Reply Global) Global). AllZip (λ (js : Vec Job Global) (rs : Vec Reply Global). AllZip (AnswersSuited p.result.settings) js.items rs.items) c.args.jobs.now z.items) (sym c.told-replies.ensures.replies)
+    subst (λ (s : Settings). AllZip (λ (js : Vec Job Global) (rs : Vec Reply Global). AllZip (AnswersSuited s) js.items rs.items) c.args.jobs.now
+    c.told-replies.result.replies.items) p.ensures.settings
+    (subst (λ (z : Vec (Vec Reply Global) Global). AllZip (λ (js : Vec Job Global) (rs : Vec Reply Global). AllZip (AnswersSuited p.result.settings) js.items rs.items)
+    c.args.jobs.now z.items) (sym c.told-replies.ensures.replies)
     (rw c.in-Ok-answer.is at q.ensures.suits))
 
 pub returns-in-Ok-answer-clause-notes : goal.returns-in-Ok-answer-clause-notes
 returns-in-Ok-answer-clause-notes g c =
     let p = c.into_parts-directory in
     let q = c.run_on_locks-parts in
-    let upwards = subst (λ (s : Settings). IfOk c.in-Ok-answer.answers.notes (λ (notes : BlockNotes). AreUpwards s.volumes notes.logs.items)) p.ensures.settings (rw c.in-Ok-answer.is at q.ensures.upwards) in
-    notes_of_block c.args.cluster.settings.volumes (home_of q.result.0.directory) c.args.jobs.now c.in-Ok-answer.answers.notes c.told-replies.result.notes upwards c.told-replies.ensures.notes c.told-replies.ensures.wanted c.told-replies.ensures.fits
+    let upwards =
+    subst (λ (s : Settings). IfOk c.in-Ok-answer.answers.notes (λ (notes : BlockNotes). AreUpwards s.volumes notes.logs.items)) p.ensures.settings (rw c.in-Ok-answer.is at q.ensures.upwards) in
+    notes_of_block c.args.cluster.settings.volumes (home_of q.result.0.directory) c.args.jobs.now c.in-Ok-answer.answers.notes c.told-replies.result.notes upwards
+    c.told-replies.ensures.notes c.told-replies.ensures.wanted c.told-replies.ensures.fits
 
 pub returns-in-Ok-answer-clause-rows : goal.returns-in-Ok-answer-clause-rows
 returns-in-Ok-answer-clause-rows g c =
     let q = c.run_on_locks-parts in
-    rows_told q.result.0.directory c.restored.result.directory c.args.jobs.now c.restored.ensures.directory c.in-Ok-answer.answers.notes c.told-replies.result.notes c.told-replies.ensures.notes c.told-replies.ensures.wanted
+    rows_told q.result.0.directory c.restored.result.directory c.args.jobs.now c.restored.ensures.directory c.in-Ok-answer.answers.notes c.told-replies.result.notes
+    c.told-replies.ensures.notes c.told-replies.ensures.wanted
 
 pub returns-in-Ok-answer-clause-legal : goal.returns-in-Ok-answer-clause-legal
 returns-in-Ok-answer-clause-legal g c =
     let p = c.into_parts-directory in
-    let was = made_of c.args.cluster p.result.settings p.result.directory p.result.volumes.items p.result.arms.items (sym p.ensures.settings) (sym p.ensures.directory) (sym p.ensures.volumes) (sym p.ensures.arms) in
+    let was =
+    made_of c.args.cluster p.result.settings p.result.directory p.result.volumes.items p.result.arms.items (sym p.ensures.settings) (sym p.ensures.directory)
+    (sym p.ensures.volumes) (sym p.ensures.arms) in
     let q = c.run_on_locks-parts in
     let is = made_of c.restored.result p.result.settings q.result.0.directory q.result.0.volumes.items (q.result.0.arms.items ++ reverse c.in-Ok.others.items)
     c.restored.ensures.settings c.restored.ensures.directory c.restored.ensures.volumes c.restored.ensures.arms in
-    let many = many_behind was p.ensures.shape c.requires.up (length c.args.jobs.now) c.in-Ok.arms.items c.in-Ok.others.items q.result.0.arms.items c.in-Ok.ensures.first c.in-Ok.ensures.others c.requires.few q.ensures.arms in
+    let many =
+    many_behind was p.ensures.shape c.requires.up (length c.args.jobs.now) c.in-Ok.arms.items c.in-Ok.others.items q.result.0.arms.items c.in-Ok.ensures.first
+    c.in-Ok.ensures.others c.requires.few q.ensures.arms in
     let split = all_split (length c.args.jobs.now) p.result.arms.items c.in-Ok.arms.items c.in-Ok.others.items c.in-Ok.ensures.first c.in-Ok.ensures.others in
     let small = others_small g.A.Arm.fault_count (2 ^ 64 - 1) c.in-Ok.others.items
     (subst (AllByRecursion (λ (arm : g.row.A.Denot). g.A.Arm.fault_count arm ≤ 2 ^ 64 - 1)) c.as_slice.ensures.value c.read_counts.ensures) in
@@ -170,18 +211,23 @@ returns-in-Ok-answer-clause-legal g c =
     (rw c.in-Ok-answer.is at q.ensures.replies) in
     let legal = rw c.in-Ok-answer.is at q.ensures.legal in
     ran was p.ensures.shape c.requires.up is q.ensures.volumes q.ensures.directory many g.D.Disk.Tells g.D.Disk.files g.P.Piece.Tells g.D.Disk.fault_count g.D.Disk.fuse_count g.A.Arm.fault_count
-    c.args.jobs.now c.told-replies.result.replies.items c.in-Ok.arms.items (reverse c.in-Ok.others.items) q.result.0.arms.items split refl replied c.in-Ok-answer.answers.notes c.told-replies.result.notes c.told-replies.ensures.notes c.told-replies.ensures.wanted
+    c.args.jobs.now c.told-replies.result.replies.items c.in-Ok.arms.items (reverse c.in-Ok.others.items) q.result.0.arms.items split refl replied c.in-Ok-answer.answers.notes
+    c.told-replies.result.notes c.told-replies.ensures.notes c.told-replies.ensures.wanted
     (λ k stand items are distinct. legal k (map g.A.Arm.fault_count (reverse c.in-Ok.others.items)) stand small items
     (subst (λ (z : Vec (Vec Reply Global) Global). AreItems (map (λ (js : Vec Job Global). js.items) c.args.jobs.now) (map (λ (rs : Vec Reply Global). rs.items) z.items) items) said are) distinct)
 
 pub returns-in-Err-answer-clause-refused : goal.returns-in-Err-answer-clause-refused
 returns-in-Err-answer-clause-refused g c =
     let p = c.into_parts-directory in
-    let was = made_of c.args.cluster p.result.settings p.result.directory p.result.volumes.items p.result.arms.items (sym p.ensures.settings) (sym p.ensures.directory) (sym p.ensures.volumes) (sym p.ensures.arms) in
+    let was =
+    made_of c.args.cluster p.result.settings p.result.directory p.result.volumes.items p.result.arms.items (sym p.ensures.settings) (sym p.ensures.directory)
+    (sym p.ensures.volumes) (sym p.ensures.arms) in
     let q = c.run_on_locks-parts in
     let is = made_of c.restored-in-Err-answer.result p.result.settings q.result.0.directory q.result.0.volumes.items (q.result.0.arms.items ++ reverse c.in-Ok.others.items)
     c.restored-in-Err-answer.ensures.settings c.restored-in-Err-answer.ensures.directory c.restored-in-Err-answer.ensures.volumes c.restored-in-Err-answer.ensures.arms in
-    let many = many_behind was p.ensures.shape c.requires.up (length c.args.jobs.now) c.in-Ok.arms.items c.in-Ok.others.items q.result.0.arms.items c.in-Ok.ensures.first c.in-Ok.ensures.others c.requires.few q.ensures.arms in
+    let many =
+    many_behind was p.ensures.shape c.requires.up (length c.args.jobs.now) c.in-Ok.arms.items c.in-Ok.others.items q.result.0.arms.items c.in-Ok.ensures.first
+    c.in-Ok.ensures.others c.requires.few q.ensures.arms in
     let split = all_split (length c.args.jobs.now) p.result.arms.items c.in-Ok.arms.items c.in-Ok.others.items c.in-Ok.ensures.first c.in-Ok.ensures.others in
     let back = rw c.in-Err-answer.is at q.ensures.refused in
     stays was p.ensures.shape c.requires.up is q.ensures.volumes q.ensures.directory many g.D.Disk.Tells g.D.Disk.files g.P.Piece.Tells g.D.Disk.fault_count g.D.Disk.fuse_count g.A.Arm.fault_count
@@ -190,27 +236,42 @@ returns-in-Err-answer-clause-refused g c =
 pub returns-in-Err-clause-counts : goal.returns-in-Err-clause-counts
 returns-in-Err-clause-counts g c =
     let p = c.into_parts-directory in
-    let was = made_of c.args.cluster p.result.settings p.result.directory p.result.volumes.items p.result.arms.items (sym p.ensures.settings) (sym p.ensures.directory) (sym p.ensures.volumes) (sym p.ensures.arms) in
-    let is = made_of c.from_parts.result p.result.settings p.result.directory p.result.volumes.items c.in-Err.arms.items c.from_parts.ensures.settings c.from_parts.ensures.directory c.from_parts.ensures.volumes c.from_parts.ensures.arms in
-    let same : c.from_parts.result ≡ c.args.cluster = is ∙ (ap (λ (z : Vec g.row.A.Denot Global). made p.result.settings p.result.directory p.result.volumes.items z.items) c.in-Err.ensures.refused ∙ sym was) in
+    let was =
+    made_of c.args.cluster p.result.settings p.result.directory p.result.volumes.items p.result.arms.items (sym p.ensures.settings) (sym p.ensures.directory)
+    (sym p.ensures.volumes) (sym p.ensures.arms) in
+    let is =
+    made_of c.from_parts.result p.result.settings p.result.directory p.result.volumes.items c.in-Err.arms.items c.from_parts.ensures.settings c.from_parts.ensures.directory
+    c.from_parts.ensures.volumes c.from_parts.ensures.arms in
+    let same : c.from_parts.result ≡ c.args.cluster =
+    is ∙ (ap (λ (z : Vec g.row.A.Denot Global). made p.result.settings p.result.directory p.result.volumes.items z.items) c.in-Err.ensures.refused ∙ sym was) in
     subst (λ (z : Open g.row.D.Denot g.row.P.Denot g.row.A.Denot). NoneFalls (map g.D.Disk.fault_count (disks_of c.args.cluster)) (map g.D.Disk.fault_count (disks_of z))) (sym same)
     (none_falls (map g.D.Disk.fault_count (disks_of c.args.cluster)))
 
 pub returns-in-Err-clause-arm_counts : goal.returns-in-Err-clause-arm_counts
 returns-in-Err-clause-arm_counts g c =
     let p = c.into_parts-directory in
-    let was = made_of c.args.cluster p.result.settings p.result.directory p.result.volumes.items p.result.arms.items (sym p.ensures.settings) (sym p.ensures.directory) (sym p.ensures.volumes) (sym p.ensures.arms) in
-    let is = made_of c.from_parts.result p.result.settings p.result.directory p.result.volumes.items c.in-Err.arms.items c.from_parts.ensures.settings c.from_parts.ensures.directory c.from_parts.ensures.volumes c.from_parts.ensures.arms in
-    let same : c.from_parts.result ≡ c.args.cluster = is ∙ (ap (λ (z : Vec g.row.A.Denot Global). made p.result.settings p.result.directory p.result.volumes.items z.items) c.in-Err.ensures.refused ∙ sym was) in
+    let was =
+    made_of c.args.cluster p.result.settings p.result.directory p.result.volumes.items p.result.arms.items (sym p.ensures.settings) (sym p.ensures.directory)
+    (sym p.ensures.volumes) (sym p.ensures.arms) in
+    let is =
+    made_of c.from_parts.result p.result.settings p.result.directory p.result.volumes.items c.in-Err.arms.items c.from_parts.ensures.settings c.from_parts.ensures.directory
+    c.from_parts.ensures.volumes c.from_parts.ensures.arms in
+    let same : c.from_parts.result ≡ c.args.cluster =
+    is ∙ (ap (λ (z : Vec g.row.A.Denot Global). made p.result.settings p.result.directory p.result.volumes.items z.items) c.in-Err.ensures.refused ∙ sym was) in
     subst (λ (z : Open g.row.D.Denot g.row.P.Denot g.row.A.Denot). NoneFalls (map g.A.Arm.fault_count c.args.cluster.arms) (map g.A.Arm.fault_count z.arms)) (sym same)
     (none_falls (map g.A.Arm.fault_count c.args.cluster.arms))
 
 pub returns-in-Err-clause-sure_arms : goal.returns-in-Err-clause-sure_arms
 returns-in-Err-clause-sure_arms g c =
     let p = c.into_parts-directory in
-    let was = made_of c.args.cluster p.result.settings p.result.directory p.result.volumes.items p.result.arms.items (sym p.ensures.settings) (sym p.ensures.directory) (sym p.ensures.volumes) (sym p.ensures.arms) in
-    let is = made_of c.from_parts.result p.result.settings p.result.directory p.result.volumes.items c.in-Err.arms.items c.from_parts.ensures.settings c.from_parts.ensures.directory c.from_parts.ensures.volumes c.from_parts.ensures.arms in
-    let same : c.from_parts.result ≡ c.args.cluster = is ∙ (ap (λ (z : Vec g.row.A.Denot Global). made p.result.settings p.result.directory p.result.volumes.items z.items) c.in-Err.ensures.refused ∙ sym was) in
+    let was =
+    made_of c.args.cluster p.result.settings p.result.directory p.result.volumes.items p.result.arms.items (sym p.ensures.settings) (sym p.ensures.directory)
+    (sym p.ensures.volumes) (sym p.ensures.arms) in
+    let is =
+    made_of c.from_parts.result p.result.settings p.result.directory p.result.volumes.items c.in-Err.arms.items c.from_parts.ensures.settings c.from_parts.ensures.directory
+    c.from_parts.ensures.volumes c.from_parts.ensures.arms in
+    let same : c.from_parts.result ≡ c.args.cluster =
+    is ∙ (ap (λ (z : Vec g.row.A.Denot Global). made p.result.settings p.result.directory p.result.volumes.items z.items) c.in-Err.ensures.refused ∙ sym was) in
     subst (λ (z : Open g.row.D.Denot g.row.P.Denot g.row.A.Denot). StaySure g.A.Arm.is_sure g.A.Arm.fault_count c.args.cluster.arms z.arms) (sym same)
     (arms_sure g.A.Arm.is_sure g.A.Arm.fault_count c.args.cluster.arms c.args.cluster.arms (same_arms g.A.Arm.is_sure g.A.Arm.fault_count c.args.cluster.arms))
 
@@ -224,24 +285,36 @@ returns-in-Err-clause-other_arms g c =
 pub restored-requires-clause-room : goal.restored-requires-clause-room
 restored-requires-clause-room g c =
     let p = c.into_parts-directory in
-    let was = made_of c.args.cluster p.result.settings p.result.directory p.result.volumes.items p.result.arms.items (sym p.ensures.settings) (sym p.ensures.directory) (sym p.ensures.volumes) (sym p.ensures.arms) in
+    let was =
+    made_of c.args.cluster p.result.settings p.result.directory p.result.volumes.items p.result.arms.items (sym p.ensures.settings) (sym p.ensures.directory)
+    (sym p.ensures.volumes) (sym p.ensures.arms) in
     let q = c.run_on_locks-parts in
-    room_again was p.ensures.shape c.requires.up (vec_capacity c.in-Ok.others) (length c.args.jobs.now) c.in-Ok.arms.items c.in-Ok.others.items q.result.0.arms.items c.in-Ok.ensures.first c.in-Ok.ensures.others c.requires.few q.ensures.arms
+    room_again was p.ensures.shape c.requires.up (vec_capacity c.in-Ok.others) (length c.args.jobs.now) c.in-Ok.arms.items c.in-Ok.others.items q.result.0.arms.items
+    c.in-Ok.ensures.first c.in-Ok.ensures.others c.requires.few q.ensures.arms
     c.in-Ok.ensures.room
 
 pub restored-requires-in-Err-answer-clause-room : goal.restored-requires-in-Err-answer-clause-room
 restored-requires-in-Err-answer-clause-room g c =
     let p = c.into_parts-directory in
-    let was = made_of c.args.cluster p.result.settings p.result.directory p.result.volumes.items p.result.arms.items (sym p.ensures.settings) (sym p.ensures.directory) (sym p.ensures.volumes) (sym p.ensures.arms) in
+    let was =
+    made_of c.args.cluster p.result.settings p.result.directory p.result.volumes.items p.result.arms.items (sym p.ensures.settings) (sym p.ensures.directory)
+    (sym p.ensures.volumes) (sym p.ensures.arms) in
     let q = c.run_on_locks-parts in
-    room_again was p.ensures.shape c.requires.up (vec_capacity c.in-Ok.others) (length c.args.jobs.now) c.in-Ok.arms.items c.in-Ok.others.items q.result.0.arms.items c.in-Ok.ensures.first c.in-Ok.ensures.others c.requires.few q.ensures.arms
+    room_again was p.ensures.shape c.requires.up (vec_capacity c.in-Ok.others) (length c.args.jobs.now) c.in-Ok.arms.items c.in-Ok.others.items q.result.0.arms.items
+    c.in-Ok.ensures.first c.in-Ok.ensures.others c.requires.few q.ensures.arms
     c.in-Ok.ensures.room
 
 pub returns-in-Err-clause-refused : goal.returns-in-Err-clause-refused
 returns-in-Err-clause-refused g c =
     let p = c.into_parts-directory in
-    let was = made_of c.args.cluster p.result.settings p.result.directory p.result.volumes.items p.result.arms.items (sym p.ensures.settings) (sym p.ensures.directory) (sym p.ensures.volumes) (sym p.ensures.arms) in
-    let is = made_of c.from_parts.result p.result.settings p.result.directory p.result.volumes.items c.in-Err.arms.items c.from_parts.ensures.settings c.from_parts.ensures.directory c.from_parts.ensures.volumes c.from_parts.ensures.arms in
-    let same : c.from_parts.result ≡ c.args.cluster = is ∙ (ap (λ (z : Vec g.row.A.Denot Global). made p.result.settings p.result.directory p.result.volumes.items z.items) c.in-Err.ensures.refused ∙ sym was) in
-    subst (λ (z : Open g.row.D.Denot g.row.P.Denot g.row.A.Denot). StaysAs g.D.Disk.Tells g.D.Disk.files g.P.Piece.Tells g.D.Disk.fault_count g.D.Disk.fuse_count g.A.Arm.fault_count c.args.cluster z) (sym same)
+    let was =
+    made_of c.args.cluster p.result.settings p.result.directory p.result.volumes.items p.result.arms.items (sym p.ensures.settings) (sym p.ensures.directory)
+    (sym p.ensures.volumes) (sym p.ensures.arms) in
+    let is =
+    made_of c.from_parts.result p.result.settings p.result.directory p.result.volumes.items c.in-Err.arms.items c.from_parts.ensures.settings c.from_parts.ensures.directory
+    c.from_parts.ensures.volumes c.from_parts.ensures.arms in
+    let same : c.from_parts.result ≡ c.args.cluster =
+    is ∙ (ap (λ (z : Vec g.row.A.Denot Global). made p.result.settings p.result.directory p.result.volumes.items z.items) c.in-Err.ensures.refused ∙ sym was) in
+    subst (λ (z : Open g.row.D.Denot g.row.P.Denot g.row.A.Denot). StaysAs g.D.Disk.Tells g.D.Disk.files g.P.Piece.Tells g.D.Disk.fault_count g.D.Disk.fuse_count
+    g.A.Arm.fault_count c.args.cluster z) (sym same)
     (stays_self g.D.Disk.Tells g.D.Disk.files g.P.Piece.Tells g.D.Disk.fault_count g.D.Disk.fuse_count g.A.Arm.fault_count c.args.cluster)

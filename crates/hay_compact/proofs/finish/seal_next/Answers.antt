@@ -23,16 +23,19 @@ seal-requires-clause-inside g c = λ tells.
 
 pub returns-in_err-push-clause-rests : goal.returns-in_err-push-clause-rests
 returns-in_err-push-clause-rests g c = λ tells sup s rest rests due.
-    rests_sealed sup (g.D.Disk.files c.args.disk.now c.args.file) (g.D.Disk.files c.seal.new.self c.args.file) s c.args.row rest c.total_of-total.result rests due c.total_of-total.ensures (c.seal.ensures.seals tells)
+    rests_sealed sup (g.D.Disk.files c.args.disk.now c.args.file) (g.D.Disk.files c.seal.new.self c.args.file) s c.args.row rest c.total_of-total.result rests due
+    c.total_of-total.ensures (c.seal.ensures.seals tells)
 
 pub returns-clause-rests : goal.returns-clause-rests
 returns-clause-rests g c = λ tells sup s rest rests due.
-    rests_sealed sup (g.D.Disk.files c.args.disk.now c.args.file) (g.D.Disk.files c.seal.new.self c.args.file) s c.args.row rest c.total_of-total.result rests due c.total_of-total.ensures (c.seal.ensures.seals tells)
+    rests_sealed sup (g.D.Disk.files c.args.disk.now c.args.file) (g.D.Disk.files c.seal.new.self c.args.file) s c.args.row rest c.total_of-total.result rests due
+    c.total_of-total.ensures (c.seal.ensures.seals tells)
 
 pub returns-clause-places : goal.returns-clause-places
 returns-clause-places g c = λ tells sup s rest can due so_far.
     let bytes = c.in_ok-piece.ensures.bytes tells in
-    places_sealed g.D.Piece.Piece.Tells sup (g.D.Disk.files c.args.disk.now c.args.file) c.args.standing.now s c.args.row rest c.args.places.now.items c.push.new.self.items c.new.result c.total_of-total.result bytes.0 can due
+    places_sealed g.D.Piece.Piece.Tells sup (g.D.Disk.files c.args.disk.now c.args.file) c.args.standing.now s c.args.row rest c.args.places.now.items c.push.new.self.items
+    c.new.result c.total_of-total.result bytes.0 can due
     (sym c.place.ensures.place ∙ is_next c.place.result c.args.row.at c.ne.result c.ne.ensures c.if-ne.false)
     c.total_of-total.ensures (ap (λ (n : SealedNeedle). n.at) c.new.ensures) (ap (λ (n : SealedNeedle). n.size) c.new.ensures) (ap (λ (n : SealedNeedle). n.bytes) c.new.ensures ∙ bytes.1)
     c.in_ok-push.ensures.items so_far

@@ -28,7 +28,9 @@ loop-side-preserved c =
           let pushed : c.if-is_some.sides ≡ c.loop-side.sides ++ t ∷ [] = v.sides-is ∙ v.in_ok-push.ensures.ok in
           let now : G (c.loop-side.sides ++ t ∷ []) c.loop-side.harm = record {
             sides_left = sides_on w f c.loop-side.sides list (at_first w f list) i s t c.loop-side.harm met h c.side-item.is v.in_ok-duplicate.ensures.same c.loop-side.invariant.sides_left;
-            harm_left = harm_on (option_map (λ call. call.harm) (first_call w (drop i list))) (option_map (λ call. call.harm) (first_call w (drop (i + 1) list))) (option_map (λ call. call.harm) (first_call w list)) c.loop-side.harm met c.loop-side.invariant.harm_left;
+            harm_left =
+                harm_on (option_map (λ call. call.harm) (first_call w (drop i list))) (option_map (λ call. call.harm) (first_call w (drop (i + 1) list)))
+                (option_map (λ call. call.harm) (first_call w list)) c.loop-side.harm met c.loop-side.invariant.harm_left;
           } in
           let P : List Side → Type 0 = λ sides. G sides c.if-is_some.harm in
           let Q : Option Harm → Type 0 = λ harm. G (c.loop-side.sides ++ t ∷ []) harm in

@@ -7,6 +7,7 @@ use Rattle.hay_core.proofs.holds.all_called.Given as goal
 
 abbrev pub invariant-loop-side : goal.invariant-loop-side
 invariant-loop-side l = record {
-  sides_left : l.sides ++ left l.work (if l.made then after_ok l.work else after_failed l.work) l.harm (drop l.side-index l.list) ≡ at_first l.work (if l.made then after_ok l.work else after_failed l.work) l.list;
+  sides_left : l.sides ++ left l.work (if l.made then after_ok l.work else after_failed l.work) l.harm (drop l.side-index l.list)
+      ≡ at_first l.work (if l.made then after_ok l.work else after_failed l.work) l.list;
   harm_left : harm_or l.harm (option_map (λ call. call.harm) (first_call l.work (drop l.side-index l.list))) ≡ option_map (λ call. call.harm) (first_call l.work l.list);
 }

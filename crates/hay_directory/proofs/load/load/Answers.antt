@@ -40,7 +40,8 @@ returns-clause-found g c = λ tells.
     let files = g.D.Disk.files in
     let opened = c.in_ok-journal.ensures in
     let slice = c.as_slice-listed.ensures in
-    found_rows c.args.settings.now c.super_of-sup.result (files c.args.disk.now 0) (files c.open.new.disk 0) c.in_ok-journal.journal.end c.row_count-count.result c.in-Ok.homes.volumes c.in_ok-journal.rows.items c.super_of-sup.ensures
+    found_rows c.args.settings.now c.super_of-sup.result (files c.args.disk.now 0) (files c.open.new.disk 0) c.in_ok-journal.journal.end c.row_count-count.result
+    c.in-Ok.homes.volumes c.in_ok-journal.rows.items c.super_of-sup.ensures
     (opened.rows tells) (opened.end tells) (opened.rest tells) (opened.next tells) (opened.void tells) (λ some. ap (λ (f : Files). f 0) (opened.same tells some)) (opened.exact tells)
     (λ pair. c.in-Ok.ensures pair ∙ ap (λ l. home_in (map home_row l) pair) slice.value)
     (c.row_count-count.ensures.is ∙ ap length slice.value)
@@ -50,7 +51,8 @@ returns-clause-count g c = c.row_count-count.ensures.is ∙ ap length c.as_slice
 
 pub returns-clause-within : goal.returns-clause-within
 returns-clause-within g c =
-    rows_within c.args.settings.now.volumes c.in_ok-journal.rows.items (subst (λ (s : Super). All (λ (row : DirRow). row.volume < s.settings.volumes) c.in_ok-journal.rows.items) c.super_of-sup.ensures c.in_ok-journal.ensures.within)
+    rows_within c.args.settings.now.volumes c.in_ok-journal.rows.items (subst (λ (s : Super). All (λ (row : DirRow). row.volume < s.settings.volumes) c.in_ok-journal.rows.items)
+    c.super_of-sup.ensures c.in_ok-journal.ensures.within)
 
 pub returns-clause-undamaged : goal.returns-clause-undamaged
 returns-clause-undamaged g c = λ tells some at damage.

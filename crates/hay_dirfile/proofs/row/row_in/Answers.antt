@@ -8,4 +8,5 @@ returns-then-row-volumes-clause-none c = λ row of is.
 
 pub returns-clause-row : goal.returns-clause-row
 returns-clause-row c =
-    row_read c.args.volumes c.u64_at.result c.u32_at.result c.u32_at-2.result c.args.bytes.now (λ i. omega (arith, c.type_inv.bytes i)) c.requires.long c.requires.magic c.u64_at.ensures c.u32_at.ensures c.u32_at-2.ensures c.if-row-volumes.false
+    row_read c.args.volumes c.u64_at.result c.u32_at.result c.u32_at-2.result c.args.bytes.now (λ i. omega (arith, c.type_inv.bytes i)) c.requires.long c.requires.magic
+    c.u64_at.ensures c.u32_at.ensures c.u32_at-2.ensures c.if-row-volumes.false

@@ -22,7 +22,9 @@ rows-init g c = record {
   end = omega (arith, ap (λ l. journal_end l) c.new-rows.ensures.items);
   within = λ k d below. absurd (omega (arith, ap length c.new-rows.ensures.items));
   same = λ tells. c.read_front.ensures.same tells;
-  lead = λ tells. lead_first (super_bytes c.args.sup.now) c.args.sup.now.settings.volumes (g.D.Disk.files c.args.disk.now 0).now c.new-rows.result.items c.new-rows.ensures.items (length-super c.args.sup.now)
+  lead =
+      λ tells. lead_first (super_bytes c.args.sup.now) c.args.sup.now.settings.volumes (g.D.Disk.files c.args.disk.now 0).now c.new-rows.result.items c.new-rows.ensures.items
+      (length-super c.args.sup.now)
       (none_is c.in_ok-at.field-0 _ c.in_default.is (c.in_ok-at.ensures.stands tells));
   file = c.new-reader.ensures.file;
   reaches = c.new-reader.ensures.reaches;
@@ -52,7 +54,8 @@ returns-in-Mark-clause-undamaged g c = λ tells at damage.
 
 pub returns-in-Broken-clause-only : goal.returns-in-Broken-clause-only
 returns-in-Broken-clause-only g c = λ tells rows is.
-    absurd (no_broken_row (super_bytes c.args.sup.now) c.args.sup.now.settings.volumes (g.D.Disk.files c.args.disk.now 0).now rows c.rows.rows.items c.rows.end c.rows.invariant.end is (c.rows.invariant.lead tells)
+    absurd (no_broken_row (super_bytes c.args.sup.now) c.args.sup.now.settings.volumes (g.D.Disk.files c.args.disk.now 0).now rows c.rows.rows.items c.rows.end c.rows.invariant.end
+    is (c.rows.invariant.lead tells)
     (subst (λ files. IsBrokenRow c.args.sup.now.settings.volumes c.rows.end (files 0).now) (c.rows.invariant.same tells) (c.in_ok-row.ensures.broken tells (ap (λ x. Ok x) c.in-Broken.is))))
 
 pub returns-in-Broken-clause-damaged : goal.returns-in-Broken-clause-damaged
@@ -94,7 +97,8 @@ rows-preserved g c =
       same = λ tells. c.read_row.ensures.same tells ∙ c.rows.invariant.same tells;
       lead = λ tells.
           let row = c.in_ok-row.ensures.row tells c.in-Row.row (ap (λ x. Ok x) c.in-Row.is) in
-          lead_next (super_bytes c.args.sup.now) c.args.sup.now.settings.volumes (g.D.Disk.files c.args.disk.now 0).now c.rows.rows.items c.push.new.self.items c.in-Row.row c.rows.end c.in_ok-push-in-Row.ensures.items c.rows.invariant.end (c.rows.invariant.lead tells) row.0
+          lead_next (super_bytes c.args.sup.now) c.args.sup.now.settings.volumes (g.D.Disk.files c.args.disk.now 0).now c.rows.rows.items c.push.new.self.items c.in-Row.row
+          c.rows.end c.in_ok-push-in-Row.ensures.items c.rows.invariant.end (c.rows.invariant.lead tells) row.0
           (subst (λ files. HasBytesAt c.rows.end (journal_row c.in-Row.row) (files 0).now) (c.rows.invariant.same tells) row.1);
       file = c.read_row.ensures.file;
       reaches = subst (λ k. Reaches c.read_row.new.reader k) (sym next) (c.in_ok-row.ensures.next c.in-Row.row (ap (λ x. Ok x) c.in-Row.is));

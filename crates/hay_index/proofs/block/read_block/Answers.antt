@@ -17,7 +17,8 @@ returns-then-count-eq0-clause-none c = λ records begins.
 pub returns-clause-found : goal.returns-clause-found
 returns-clause-found c =
     if_some c.records_of.result _ _ _ _ c.records_of.ensures.found c.records_of.ensures.count c.records_of.ensures.fit
-    (λ records are many fit. block_found c.args.bytes.now _ c.u64_at-count.result records.items (λ i. omega (arith, c.type_inv.bytes i)) c.if-bytes-lt-FRONT_LEN.false c.requires c.u64_at-count.ensures (omega (arith, c.if-count-eq0.false))
+    (λ records are many fit. block_found c.args.bytes.now _ c.u64_at-count.result records.items (λ i. omega (arith, c.type_inv.bytes i)) c.if-bytes-lt-FRONT_LEN.false c.requires
+    c.u64_at-count.ensures (omega (arith, c.if-count-eq0.false))
     (body_piece _ c.args.bytes.now) are many fit)
 
 pub returns-clause-none : goal.returns-clause-none

@@ -15,4 +15,7 @@ returns-then-drained-machine c =
 pub returns : goal.returns
 returns c =
     let test : ℕ → Bool = λ m. slice_index_or c.args.drained.now m false in
-    record { is = sym (map_none test (machine_of c.args.settings.now c.args.volume) (c.args.settings.now).replicas (λ i below. c.loop-replica.invariant i (omega (arith, below, c.loop-replica-test.false)))) }
+    record {
+      is = sym (map_none test (machine_of c.args.settings.now c.args.volume) (c.args.settings.now).replicas
+          (λ i below. c.loop-replica.invariant i (omega (arith, below, c.loop-replica-test.false))));
+    }

@@ -13,7 +13,8 @@ returns-clause-reads g c its =
 pub returns-then-is_empty-clause-shown : goal.returns-then-is_empty-clause-shown
 returns-then-is_empty-clause-shown g c =
     let some = c.requires.first in
-    shown_by_row g.P.Piece.Tells _ (length c.args.row.now) c.args.first c.args.row.now c.args.cookie c.args.passed c.show_more.new.out.items c.show_more.result refl (omega (arith, some)) c.show_more.ensures.reads
+    shown_by_row g.P.Piece.Tells _ (length c.args.row.now) c.args.first c.args.row.now c.args.cookie c.args.passed c.show_more.new.out.items c.show_more.result refl
+    (omega (arith, some)) c.show_more.ensures.reads
 
 pub returns-clause-shown : goal.returns-clause-shown
 returns-clause-shown g c =

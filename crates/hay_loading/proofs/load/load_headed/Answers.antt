@@ -14,8 +14,10 @@ returns-in_err-write_header-clause-ends g c = λ script told.
     let count = g.H.Shelf.fault_count c.args.shelf.now in
     let wrong : Result (Unit {0}) Stop = Err c.in_err-write_header.field-0.0 in
     let same : wrong ≡ c.from_residual.result = (let p = err_from_is_err_and c.from_residual.result c.from_residual.ensures.1 in cc (p.1, p.2)) in
-    subst (λ (r : Result (Unit {0}) Stop). Ends g.H.Disk.Disk.Tells c.args.settings script disks disks count count (g.K.Sink.written c.args.sink.now) (g.K.Sink.written c.write_header.new.sink) (g.S.Source.left c.args.source.now) r) same
-    (ends_unbegun g.H.Disk.Disk.Tells c.args.settings script disks count (g.K.Sink.written c.args.sink.now) (g.K.Sink.written c.write_header.new.sink) (g.S.Source.left c.args.source.now) told c.requires.disks_in
+    subst (λ (r : Result (Unit {0}) Stop). Ends g.H.Disk.Disk.Tells c.args.settings script disks disks count count (g.K.Sink.written c.args.sink.now)
+    (g.K.Sink.written c.write_header.new.sink) (g.S.Source.left c.args.source.now) r) same
+    (ends_unbegun g.H.Disk.Disk.Tells c.args.settings script disks count (g.K.Sink.written c.args.sink.now) (g.K.Sink.written c.write_header.new.sink)
+    (g.S.Source.left c.args.source.now) told c.requires.disks_in
     c.in_err-write_header.ensures.part
     c.in_err-write_header.field-0.0 (same_stop c.in_err-write_header.field-0.0 stop.Output stop.NoMemory c.in_err-write_header.ensures.stops))
 

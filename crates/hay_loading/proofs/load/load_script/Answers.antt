@@ -21,7 +21,8 @@ pub returns-in-Err-clause-ends : goal.returns-in-Err-clause-ends
 returns-in-Err-clause-ends g c = λ script before told header.
     ends_refused g.H.Disk.Disk.Tells c.args.settings script (g.H.Shelf.disks c.args.shelf.now) (g.H.Shelf.disks c.open.new.shelf) (g.H.Shelf.fault_count c.args.shelf.now)
     (g.H.Shelf.fault_count c.open.new.shelf)
-    before (g.K.Sink.written c.args.sink.now) (g.K.Sink.written c.write_refusal.new.sink) (g.S.Source.left c.args.source.now) told c.in-Err.fault c.write_refusal.ensures.fits c.in-Err.ensures.left c.in-Err.ensures.shelf c.in-Err.ensures.failed
+    before (g.K.Sink.written c.args.sink.now) (g.K.Sink.written c.write_refusal.new.sink) (g.S.Source.left c.args.source.now) told c.in-Err.fault c.write_refusal.ensures.fits
+    c.in-Err.ensures.left c.in-Err.ensures.shelf c.in-Err.ensures.failed
     c.in-Err.ensures.damaged header
     c.write_refusal.result c.write_refusal.ensures.told c.write_refusal.ensures.part (λ e. ap g.K.Sink.written (c.write_refusal.ensures.wanting e)) c.write_refusal.ensures.stops
 
@@ -49,7 +50,8 @@ returns-clause-ends g c = λ script before told header.
     (remembers_first D.Tells c.args.settings (reads_of (g.H.Shelf.disks c.args.shelf.now)) c.in-Ok.store c.in-Ok.ensures.shape.0 c.in-Ok.ensures.shape.1 c.in-Ok.ensures.homes c.in-Ok.ensures.ends)
     (g.S.Source.left c.serve-outcome.new.source) c.serve-outcome.result
     (λ done is. serves_at D.Tells D.files (Some script) c.new-load.result.store c.in-Ok.store c.serve-outcome.new.load.store begun after began (rw (is, told) at c.serve-outcome.ensures.served))
-    (λ why is. until_at D.Tells D.files D.fault_count D.fuse_count why (Some script) (g.S.Source.left c.serve-outcome.new.source) c.new-load.result.store c.in-Ok.store c.serve-outcome.new.load.store begun after began
+    (λ why is. until_at D.Tells D.files D.fault_count D.fuse_count why (Some script) (g.S.Source.left c.serve-outcome.new.source) c.new-load.result.store c.in-Ok.store
+    c.serve-outcome.new.load.store begun after began
     (rw told at c.serve-outcome.ensures.stopped why is))
 
 pub returns-clause-disks_back : goal.returns-clause-disks_back

@@ -18,4 +18,5 @@ returns-clause-fits c =
     let few = c.requires.of.volumes in
     let low : c.args.number < 64 = omega (arith, within, few) in
     let large : c.args.line < 2 ^ 64 = omega arith in
-    subst (λ (l : List Note). AllByRecursion FitsNote l) (sym (c.from_vec.ensures ∙ are)) (notes_fit c.args.settings.now c.args.number c.args.line 0 c.args.kept.now low (omega (arith, c.requires.most)) large)
+    subst (λ (l : List Note). AllByRecursion FitsNote l) (sym (c.from_vec.ensures ∙ are))
+    (notes_fit c.args.settings.now c.args.number c.args.line 0 c.args.kept.now low (omega (arith, c.requires.most)) large)

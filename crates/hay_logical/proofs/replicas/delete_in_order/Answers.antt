@@ -63,7 +63,8 @@ returns-in-Err-clause-broken g c =
           subst (λ n. physical.Holds g.D.Disk.files c.delete.new.self (is_stuck here) s (physical.without_cell s n)) c.at.ensures
           ((c.in-Err.ensures.refused tells s stands (subst (λ n. physical.HasLive n s.cells) (sym c.at.ensures) live)).1);
       above = λ i r r' h e f.
-          subst (λ x. LosesRun g.D.Disk.Tells g.D.Disk.files r x) (sym (broken_above _ c.loop-j.j c.args.replicas.now c.loop-j.replicas here c.delete.new.self c.loop-j.invariant.went there i r r' h e f))
+          subst (λ x. LosesRun g.D.Disk.Tells g.D.Disk.files r x) (sym (broken_above _ c.loop-j.j c.args.replicas.now c.loop-j.replicas here c.delete.new.self
+          c.loop-j.invariant.went there i r r' h e f))
           (loses_none g.D.Disk.Tells g.D.Disk.files r);
       rose = delete_rose g.D.Disk.fault_count here c.delete.new.self c.in-Err.field-0 up (λ e. c.in-Err.ensures.thawed (ap Err e)) c.in-Err.ensures.causes;
       printed = c.faults.ensures;
@@ -78,7 +79,8 @@ loop-j-preserved g c =
     let here : Copy g.row.D.Denot = slice_index_or c.loop-j.replicas c.loop-j.j c.index-replicas-j.result in
     let there : At c.loop-j.replicas c.loop-j.j here = at_read c.loop-j.replicas c.loop-j.j c.index-replicas-j.result within in
     let R : ℕ → Copy g.row.D.Denot → Copy g.row.D.Denot → Type 0 =
-    λ i r r'. DeletesAt g.D.Disk.Tells g.D.Disk.files (place_in c.args.row.now i) r r' × Counted g.D.Disk.fault_count g.D.Disk.fuse_count r r' × StaysBeside g.D.Disk.Tells g.D.Disk.files (place_in c.args.row.now i) r r'
+    λ i r r'. DeletesAt g.D.Disk.Tells g.D.Disk.files (place_in c.args.row.now i) r r' × Counted g.D.Disk.fault_count g.D.Disk.fuse_count r r'
+    × StaysBeside g.D.Disk.Tells g.D.Disk.files (place_in c.args.row.now i) r r'
     × FollowsAt g.D.Disk.Tells g.D.Disk.files g.D.Disk.fault_count c.args.pair (place_in c.args.row.now i) r r' in
     let S : ℕ → Copy g.row.D.Denot → Copy g.row.D.Denot → Type 0 = λ i r r'. DeleteSeen (replica_seen r) (replica_seen r') in
     elim c.match-place.branch [
@@ -98,12 +100,13 @@ loop-j-preserved g c =
                 deletes = w.delete.ensures.deletes tells;
                 sees = subst (λ n. physical.KeepsSight g.D.Disk.files (physical.ApartFrom n) here w.delete.new.self) w.at.ensures (w.delete.ensures.sees tells);
               }),
-              follows_on g.D.Disk.Tells g.D.Disk.files g.D.Disk.fault_count c.args.pair here w.delete.new.self (place.Live w.in-Live.needle) (place_in c.args.row.now c.loop-j.j) (sym c.place.ensures ∙ w.in-Live.is) (record {
-                run = λ tells s run stands has last.
-                    subst (λ n. HasRun g.D.Disk.files w.delete.new.self (physical.without_cell s n) (option_map loosened run) ⊎ (goal_of w.delete.new.self ≡ None)) w.at.ensures
-                    (w.in-Ok.ensures.run tells s run stands has (subst (λ n. HasLastAt s.cells c.args.pair n) (sym w.at.ensures) last));
-                goal = ended_or here w.delete.new.self (g.D.Disk.fault_count w.delete.new.self.disk) w.in-Ok.ensures.goal;
-              }),
+              follows_on g.D.Disk.Tells g.D.Disk.files g.D.Disk.fault_count c.args.pair here w.delete.new.self (place.Live w.in-Live.needle) (place_in c.args.row.now c.loop-j.j)
+                  (sym c.place.ensures ∙ w.in-Live.is) (record {
+                    run = λ tells s run stands has last.
+                        subst (λ n. HasRun g.D.Disk.files w.delete.new.self (physical.without_cell s n) (option_map loosened run) ⊎ (goal_of w.delete.new.self ≡ None)) w.at.ensures
+                        (w.in-Ok.ensures.run tells s run stands has (subst (λ n. HasLastAt s.cells c.args.pair n) (sym w.at.ensures) last));
+                    goal = ended_or here w.delete.new.self (g.D.Disk.fault_count w.delete.new.self.disk) w.in-Ok.ensures.goal;
+                  }),
             ));
         seen = subst (λ rs. Went S (c.loop-j.j + 1) c.args.replicas.now rs) (sym w.replicas-is)
             (went_step S S c.loop-j.j c.args.replicas.now c.loop-j.replicas here w.delete.new.self c.loop-j.invariant.seen there (λ i r r' h p. p)

@@ -9,7 +9,8 @@ use Rattle.hay_logical.specs.Steps.{KeepsDisk, LeftAt}
 use Rattle.hay_logical.specs.Volumes.{ReachesPlaces}
 use Rattle.hay_logical.proofs.Calls.{Counted, disk_same, left_same, none_in, opens_on, reach_from, reaches_same, up_thawed, went_counts}
 use Rattle.hay_logical.proofs.Drawing.{drew_on}
-use Rattle.hay_logical.proofs.Lists.{Went, at_below, at_read, at_same, at_there, broken_above, broken_below, broken_is, broken_was, length-slice_set, went_all, went_every, went_next, went_start, went_step}
+use Rattle.hay_logical.proofs.Lists.{Went, at_below, at_read, at_same, at_there, broken_above, broken_below, broken_is, broken_was, length-slice_set, went_all, went_every}
+use Rattle.hay_logical.proofs.Lists.{went_next, went_start, went_step}
 use Rattle.hay_logical.proofs.replicas.open_each.Goals as goal
 
 pub loop-j-init : goal.loop-j-init
@@ -149,12 +150,14 @@ returns-in-Err-clause-thawed g c = λ i r f.
     elim (cases_lt i c.loop-j.j) [
       | inl less ↦ up_thawed r (broken_below _ c.loop-j.j c.args.replicas.now c.loop-j.replicas here c.open_one.new.replica c.loop-j.invariant.went there i old.0 r less old.1 f).0.up
       | inr most ↦ elim (cases_lt c.loop-j.j i) [
-        | inl more ↦ ap (λ (x : Copy g.row.D.Denot). is_frozen x) (broken_above _ c.loop-j.j c.args.replicas.now c.loop-j.replicas here c.open_one.new.replica c.loop-j.invariant.went there i old.0 r more old.1 f)
+        | inl more ↦ ap (λ (x : Copy g.row.D.Denot). is_frozen x) (broken_above _ c.loop-j.j c.args.replicas.now c.loop-j.replicas here c.open_one.new.replica
+            c.loop-j.invariant.went there i old.0 r more old.1 f)
             ∙ ap phase_frozen (c.requires.closed i old.0 old.1)
         | inr no_more ↦
             let same : i ≡ c.loop-j.j = omega (arith, most, no_more) in
             let is = broken_is _ c.loop-j.j c.args.replicas.now c.loop-j.replicas here c.open_one.new.replica c.loop-j.invariant.went there in
-            ap (λ (x : Copy g.row.D.Denot). is_frozen x) (at_same _ c.loop-j.j r c.open_one.new.replica (subst (λ k. At (slice_set c.loop-j.replicas c.loop-j.j c.open_one.new.replica) k r) same f) is) ∙ c.open_one.ensures.thawed
+            ap (λ (x : Copy g.row.D.Denot). is_frozen x) (at_same _ c.loop-j.j r c.open_one.new.replica
+            (subst (λ k. At (slice_set c.loop-j.replicas c.loop-j.j c.open_one.new.replica) k r) same f) is) ∙ c.open_one.ensures.thawed
       ]
     ]
 

@@ -34,12 +34,22 @@ returns-in-Ok-load-clause-opened g c =
           opened_formatted g.D.Disk.files c.args.replica.now c.open.new.self (contents_of g.D.Disk.files (c.args.replica.now).disk 0) refl (λ s opens. (c.in-Ok.ensures.opened tells s opens).0)
           (record { kept = c.open.ensures.kept tells; nothing = c.open.ensures.nothing tells });
       opened = λ tells s opens.
-          let p = c.in-Ok.ensures.opened tells s opens in
-          (p.0, λ pair. photo_at g.D.Piece.Piece.Tells (last_cell s.cells pair) (place_in (row_at c.load.new.self pair) c.args.j) (subst (PlaceOf g.D.Piece.Piece.Tells (last_cell s.cells pair)) (sym (there pair)) (p.1 pair)));
+          let p = c.in-Ok.ensures.opened tells s opens in (
+            p.0,
+            λ pair. photo_at g.D.Piece.Piece.Tells (last_cell s.cells pair) (place_in (row_at c.load.new.self pair) c.args.j)
+                (subst (PlaceOf g.D.Piece.Piece.Tells (last_cell s.cells pair)) (sym (there pair)) (p.1 pair)),
+          );
       reopened = λ tells stuck s t holds.
-          let p = c.in-Ok.ensures.reopened tells stuck s t holds in
-          (p.0, p.1, p.2, λ pair. photo_at g.D.Piece.Piece.Tells (last_cell (p.0).cells pair) (place_in (row_at c.load.new.self pair) c.args.j) (subst (PlaceOf g.D.Piece.Piece.Tells (last_cell (p.0).cells pair)) (sym (there pair)) (p.3 pair)));
-      reach = λ tells. reaches_loaded g.D.Disk.files c.load.new.self c.args.j c.open.new.self (λ pair. last_place c.in-Ok.cells.items pair place.None) there (c.in-Ok.ensures.can_delete tells) (c.in-Ok.ensures.can_see tells) (c.in-Ok.ensures.apart tells) (c.in-Ok.ensures.needles tells);
+          let p = c.in-Ok.ensures.reopened tells stuck s t holds in (
+            p.0,
+            p.1,
+            p.2,
+            λ pair. photo_at g.D.Piece.Piece.Tells (last_cell (p.0).cells pair) (place_in (row_at c.load.new.self pair) c.args.j)
+                (subst (PlaceOf g.D.Piece.Piece.Tells (last_cell (p.0).cells pair)) (sym (there pair)) (p.3 pair)),
+          );
+      reach =
+          λ tells. reaches_loaded g.D.Disk.files c.load.new.self c.args.j c.open.new.self (λ pair. last_place c.in-Ok.cells.items pair place.None) there
+          (c.in-Ok.ensures.can_delete tells) (c.in-Ok.ensures.can_see tells) (c.in-Ok.ensures.apart tells) (c.in-Ok.ensures.needles tells);
     }
 
 pub returns-in-Ok-load-clause-left : goal.returns-in-Ok-load-clause-left
@@ -86,7 +96,8 @@ returns-in-Ok-load-clause-reach g c = λ tells.
     (let long = c.requires.long pair in let h = c.requires.within in let less : c.args.j < length (row_at c.args.rows.now pair) = omega (arith, long, h) in less)
     ∙ ap (λ l. last_place l pair (place_in (row_at c.args.rows.now pair) c.args.j)) c.as_slice.ensures.value
     ∙ ap (λ p. last_place c.in-Ok.cells.items pair p) (c.requires.empty pair) in
-    reaches_loaded g.D.Disk.files c.load.new.self c.args.j c.open.new.self (λ pair. last_place c.in-Ok.cells.items pair place.None) there (c.in-Ok.ensures.can_delete tells) (c.in-Ok.ensures.can_see tells) (c.in-Ok.ensures.apart tells) (c.in-Ok.ensures.needles tells)
+    reaches_loaded g.D.Disk.files c.load.new.self c.args.j c.open.new.self (λ pair. last_place c.in-Ok.cells.items pair place.None) there (c.in-Ok.ensures.can_delete tells)
+    (c.in-Ok.ensures.can_see tells) (c.in-Ok.ensures.apart tells) (c.in-Ok.ensures.needles tells)
 
 pub returns-in-Ok-clause-reach : goal.returns-in-Ok-clause-reach
 returns-in-Ok-clause-reach g c = λ tells.

@@ -49,7 +49,8 @@ returns-after-not-is_untouched-clause-broken g c = elim c.if-not-is_untouched.br
       (put_leaves_on g.D.Disk.Tells g.D.Disk.files g.D.Disk.fault_count c.args.replicas.now c.put_in_order.new.replicas w.drop_runs.new.replicas w.drop_runs.ensures.count w.drop_runs.ensures.each
       c.args.pair c.args.cookie c.args.bytes.now c.in-Err.broken c.in-Err.ensures.broken)
   | else-not-is_untouched w ↦
-      subst (λ rs. PutLeaves g.D.Disk.Tells g.D.Disk.files g.D.Disk.fault_count c.args.pair c.args.cookie c.args.bytes.now c.args.replicas.now rs c.in-Err.broken) (sym w.replicas-is) c.in-Err.ensures.broken
+      subst (λ rs. PutLeaves g.D.Disk.Tells g.D.Disk.files g.D.Disk.fault_count c.args.pair c.args.cookie c.args.bytes.now c.args.replicas.now rs c.in-Err.broken)
+      (sym w.replicas-is) c.in-Err.ensures.broken
 ]
 
 pub returns-after-not-is_untouched-clause-runs : goal.returns-after-not-is_untouched-clause-runs
@@ -57,7 +58,8 @@ returns-after-not-is_untouched-clause-runs g c = elim c.if-not-is_untouched.bran
   | then-not-is_untouched w ↦ subst (λ rs. EndsRuns g.D.Disk.Tells g.D.Disk.files c.args.replicas.now rs c.in-Err.broken) (sym w.replicas-is) (inr (
     w.drop_runs.ensures.idle,
     λ un. not_untouched c.put_in_order.new.replicas c.in-Err.broken (λ e f r there. c.is_untouched.ensures.touched w.if-not-is_untouched.true e f r there)
-        (untouched_back g.D.Disk.Tells g.D.Disk.files g.D.Disk.fault_count c.args.replicas.now c.put_in_order.new.replicas w.drop_runs.new.replicas w.drop_runs.ensures.count w.drop_runs.ensures.each c.in-Err.broken un),
+        (untouched_back g.D.Disk.Tells g.D.Disk.files g.D.Disk.fault_count c.args.replicas.now c.put_in_order.new.replicas w.drop_runs.new.replicas w.drop_runs.ensures.count
+        w.drop_runs.ensures.each c.in-Err.broken un),
   ))
   | else-not-is_untouched w ↦
       subst (λ rs. EndsRuns g.D.Disk.Tells g.D.Disk.files c.args.replicas.now rs c.in-Err.broken) (sym w.replicas-is)
@@ -68,7 +70,8 @@ pub returns-after-not-is_untouched-clause-untouched : goal.returns-after-not-is_
 returns-after-not-is_untouched-clause-untouched g c = elim c.if-not-is_untouched.branch [
   | then-not-is_untouched w ↦ λ un. absurd (
       not_untouched c.put_in_order.new.replicas c.in-Err.broken (λ e f r there. c.is_untouched.ensures.touched w.if-not-is_untouched.true e f r there)
-      (untouched_back g.D.Disk.Tells g.D.Disk.files g.D.Disk.fault_count c.args.replicas.now c.put_in_order.new.replicas w.drop_runs.new.replicas w.drop_runs.ensures.count w.drop_runs.ensures.each c.in-Err.broken
+      (untouched_back g.D.Disk.Tells g.D.Disk.files g.D.Disk.fault_count c.args.replicas.now c.put_in_order.new.replicas w.drop_runs.new.replicas w.drop_runs.ensures.count
+      w.drop_runs.ensures.each c.in-Err.broken
       (subst (λ rs. IsUntouched rs c.in-Err.broken) w.replicas-is un))
       )
   | else-not-is_untouched w ↦
@@ -79,7 +82,8 @@ pub returns-after-not-is_untouched-clause-refused_seen : goal.returns-after-not-
 returns-after-not-is_untouched-clause-refused_seen g c = elim c.if-not-is_untouched.branch [
   | then-not-is_untouched w ↦ λ un. absurd (
       not_untouched c.put_in_order.new.replicas c.in-Err.broken (λ e f r there. c.is_untouched.ensures.touched w.if-not-is_untouched.true e f r there)
-      (untouched_back g.D.Disk.Tells g.D.Disk.files g.D.Disk.fault_count c.args.replicas.now c.put_in_order.new.replicas w.drop_runs.new.replicas w.drop_runs.ensures.count w.drop_runs.ensures.each c.in-Err.broken
+      (untouched_back g.D.Disk.Tells g.D.Disk.files g.D.Disk.fault_count c.args.replicas.now c.put_in_order.new.replicas w.drop_runs.new.replicas w.drop_runs.ensures.count
+      w.drop_runs.ensures.each c.in-Err.broken
       (subst (λ rs. IsUntouched rs c.in-Err.broken) w.replicas-is un))
       )
   | else-not-is_untouched w ↦

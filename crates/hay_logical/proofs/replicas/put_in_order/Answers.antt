@@ -74,8 +74,15 @@ loop-j-preserved g c =
     let last : place_in c.push.new.self c.loop-j.j ≡ place.Live c.in-Ok.needle = rw c.push.ensures (place_last c.loop-j.row (place.Live c.in-Ok.needle) c.loop-j.j places) in
     record {
       went = went_step _ _ c.loop-j.j c.args.replicas.now c.loop-j.replicas here c.put.new.self c.loop-j.invariant.went there
-          (λ i r r' h p. (puts_on g.D.Disk.Tells g.D.Disk.files g.D.Piece.Piece.Tells c.args.pair c.args.cookie c.args.bytes.now r r' (place_in c.loop-j.row i) (place_in c.push.new.self i) (same i h) p.0, p.1, p.2, p.3)) (
-            puts_on g.D.Disk.Tells g.D.Disk.files g.D.Piece.Piece.Tells c.args.pair c.args.cookie c.args.bytes.now here c.put.new.self (place.Live c.in-Ok.needle) (place_in c.push.new.self c.loop-j.j) last
+          (λ i r r' h p. (
+            puts_on g.D.Disk.Tells g.D.Disk.files g.D.Piece.Piece.Tells c.args.pair c.args.cookie c.args.bytes.now r r' (place_in c.loop-j.row i)
+                (place_in c.push.new.self i) (same i h) p.0,
+            p.1,
+            p.2,
+            p.3,
+          )) (
+            puts_on g.D.Disk.Tells g.D.Disk.files g.D.Piece.Piece.Tells c.args.pair c.args.cookie c.args.bytes.now here c.put.new.self (place.Live c.in-Ok.needle)
+                (place_in c.push.new.self c.loop-j.j) last
                 (record {
                   up = c.in-Ok.ensures.up;
                   sup = c.put.ensures.sup;
@@ -119,7 +126,8 @@ returns-in-Err-clause-reach g c = λ j r r' e f.
     let there : At c.loop-j.replicas c.loop-j.j here = at_read c.loop-j.replicas c.loop-j.j c.index-replicas-j.result within in
     let K : ℕ → Copy g.row.D.Denot → Copy g.row.D.Denot → Type 0 = λ i x y. StaysInReach g.D.Disk.Tells g.D.Disk.files x y in
     went_every K (StaysInReach g.D.Disk.Tells g.D.Disk.files) (c.loop-j.j + 1) c.args.replicas.now _
-    (went_step _ K c.loop-j.j c.args.replicas.now c.loop-j.replicas here c.put.new.self c.loop-j.invariant.went there (λ i x y h p. p.3) (λ tells. record { deletes = c.put.ensures.deletes tells; sees = c.put.ensures.sees tells }))
+    (went_step _ K c.loop-j.j c.args.replicas.now c.loop-j.replicas here c.put.new.self c.loop-j.invariant.went there (λ i x y h p. p.3)
+    (λ tells. record { deletes = c.put.ensures.deletes tells; sees = c.put.ensures.sees tells }))
     (λ i x y p. p) (λ x tells. reach_still g.D.Disk.files x) j r r' e f
 
 pub returns-in-Err-clause-others : goal.returns-in-Err-clause-others
@@ -138,8 +146,10 @@ returns-in-Err-clause-run g c = λ r r' e f.
     let is = broken_is _ c.loop-j.j c.args.replicas.now c.loop-j.replicas here c.put.new.self c.loop-j.invariant.went there in
     let r_is : here ≡ r = at_same c.args.replicas.now c.loop-j.j here r was e in
     let r'_is : c.put.new.self ≡ r' = at_same _ c.loop-j.j c.put.new.self r' is f in
-    subst (λ (x : Copy g.row.D.Denot). IsUp r' → g.D.Disk.Tells → (s : Stored) (run : Option Run) → physical.Stands g.D.Disk.files x s → HasRun g.D.Disk.files x s run → HasRun g.D.Disk.files r' s run) r_is
-    (subst (λ (x : Copy g.row.D.Denot). IsUp x → g.D.Disk.Tells → (s : Stored) (run : Option Run) → physical.Stands g.D.Disk.files here s → HasRun g.D.Disk.files here s run → HasRun g.D.Disk.files x s run) r'_is
+    subst (λ (x : Copy g.row.D.Denot). IsUp r' → g.D.Disk.Tells → (s : Stored) (run : Option Run) → physical.Stands g.D.Disk.files x s → HasRun g.D.Disk.files x s run
+    → HasRun g.D.Disk.files r' s run) r_is
+    (subst (λ (x : Copy g.row.D.Denot). IsUp x → g.D.Disk.Tells → (s : Stored) (run : Option Run) → physical.Stands g.D.Disk.files here s → HasRun g.D.Disk.files here s run
+    → HasRun g.D.Disk.files x s run) r'_is
     (λ up tells s run stands has. c.in-Err.ensures.run_stays tells s run stands has up))
 
 pub returns-in-Err-clause-untouched : goal.returns-in-Err-clause-untouched
@@ -149,18 +159,22 @@ returns-in-Err-clause-untouched g c = λ un tells i r r' e f.
     let there : At c.loop-j.replicas c.loop-j.j here = at_read c.loop-j.replicas c.loop-j.j c.index-replicas-j.result within in
     let was : At c.args.replicas.now c.loop-j.j here = broken_was _ c.loop-j.j c.args.replicas.now c.loop-j.replicas here c.put.new.self c.loop-j.invariant.went there in
     let is = broken_is _ c.loop-j.j c.args.replicas.now c.loop-j.replicas here c.put.new.self c.loop-j.invariant.went there in
-    let thawed : is_frozen c.put.new.self ≡ false = subst (λ (x : Copy g.row.D.Denot). is_frozen x ≡ false) (at_same _ c.loop-j.j un.replica c.put.new.self (subst (λ k. At (slice_set c.loop-j.replicas c.loop-j.j c.put.new.self) k un.replica) (sym un.first) un.there) is) un.thawed in
+    let thawed : is_frozen c.put.new.self ≡ false =
+    subst (λ (x : Copy g.row.D.Denot). is_frozen x ≡ false) (at_same _ c.loop-j.j un.replica c.put.new.self
+    (subst (λ k. At (slice_set c.loop-j.replicas c.loop-j.j c.put.new.self) k un.replica) (sym un.first) un.there) is) un.thawed in
     let same = c.put.ensures.unchanged tells (c.in-Err.is ∙ ap Err un.fault) (open_up c.put.new.self c.put.ensures.«open» thawed) in
     elim (cases_lt c.loop-j.j i) [
       | inl more ↦
-          subst (λ (x : Copy g.row.D.Denot). KeepsBytes (g.D.Disk.files r.disk) (g.D.Disk.files x.disk)) (sym (broken_above _ c.loop-j.j c.args.replicas.now c.loop-j.replicas here c.put.new.self c.loop-j.invariant.went there i r r' more e f)) (bytes_same (g.D.Disk.files r.disk))
+          subst (λ (x : Copy g.row.D.Denot). KeepsBytes (g.D.Disk.files r.disk) (g.D.Disk.files x.disk))
+          (sym (broken_above _ c.loop-j.j c.args.replicas.now c.loop-j.replicas here c.put.new.self c.loop-j.invariant.went there i r r' more e f)) (bytes_same (g.D.Disk.files r.disk))
       | inr most ↦
           let first = un.first in
           let at : i ≡ c.loop-j.j = omega (arith, first, most) in
           let before : here ≡ r = at_same c.args.replicas.now c.loop-j.j here r was (subst (λ k. At c.args.replicas.now k r) at e) in
           let after : c.put.new.self ≡ r' = at_same _ c.loop-j.j c.put.new.self r' is (subst (λ k. At (slice_set c.loop-j.replicas c.loop-j.j c.put.new.self) k r') at f) in
           subst (λ (x : Copy g.row.D.Denot). KeepsBytes (g.D.Disk.files x.disk) (g.D.Disk.files r'.disk)) before
-          (subst (λ (x : Copy g.row.D.Denot). KeepsBytes (g.D.Disk.files here.disk) (g.D.Disk.files x.disk)) after (subst (KeepsBytes (g.D.Disk.files here.disk)) (sym same) (bytes_same (g.D.Disk.files here.disk))))
+          (subst (λ (x : Copy g.row.D.Denot). KeepsBytes (g.D.Disk.files here.disk) (g.D.Disk.files x.disk)) after
+          (subst (KeepsBytes (g.D.Disk.files here.disk)) (sym same) (bytes_same (g.D.Disk.files here.disk))))
     ]
 
 pub returns-clause-seen : goal.returns-clause-seen
@@ -173,7 +187,9 @@ returns-in-Err-clause-refused_seen g c = λ un i r r' e f.
     let there : At c.loop-j.replicas c.loop-j.j here = at_read c.loop-j.replicas c.loop-j.j c.index-replicas-j.result within in
     let was : At c.args.replicas.now c.loop-j.j here = broken_was _ c.loop-j.j c.args.replicas.now c.loop-j.replicas here c.put.new.self c.loop-j.invariant.went there in
     let is = broken_is _ c.loop-j.j c.args.replicas.now c.loop-j.replicas here c.put.new.self c.loop-j.invariant.went there in
-    let thawed : is_frozen c.put.new.self ≡ false = subst (λ (x : Copy g.row.D.Denot). is_frozen x ≡ false) (at_same _ c.loop-j.j un.replica c.put.new.self (subst (λ k. At (slice_set c.loop-j.replicas c.loop-j.j c.put.new.self) k un.replica) (sym un.first) un.there) is) un.thawed in
+    let thawed : is_frozen c.put.new.self ≡ false =
+    subst (λ (x : Copy g.row.D.Denot). is_frozen x ≡ false) (at_same _ c.loop-j.j un.replica c.put.new.self
+    (subst (λ k. At (slice_set c.loop-j.replicas c.loop-j.j c.put.new.self) k un.replica) (sym un.first) un.there) is) un.thawed in
     let same = seen_phase here c.put.new.self (c.in-Err.ensures.kept (open_up c.put.new.self c.put.ensures.«open» thawed)) in
     elim (cases_lt c.loop-j.j i) [
       | inl more ↦ ap replica_seen (broken_above _ c.loop-j.j c.args.replicas.now c.loop-j.replicas here c.put.new.self c.loop-j.invariant.went there i r r' more e f)
@@ -187,7 +203,8 @@ returns-in-Err-clause-refused_seen g c = λ un i r r' e f.
 
 pub returns-clause-ends : goal.returns-clause-ends
 returns-clause-ends g c = λ j r r' e f.
-    went_every _ (λ (x y : Copy g.row.D.Denot). end_of x ≤ end_of y) _ c.args.replicas.now _ c.loop-j.invariant.seen (λ i x y p. grown_longer (length c.args.bytes.now) x y p) (λ x. omega arith) j r r' e f
+    went_every _ (λ (x y : Copy g.row.D.Denot). end_of x ≤ end_of y) _ c.args.replicas.now _ c.loop-j.invariant.seen (λ i x y p. grown_longer (length c.args.bytes.now) x y p)
+    (λ x. omega arith) j r r' e f
 
 pub returns-in-Err-clause-ends : goal.returns-in-Err-clause-ends
 returns-in-Err-clause-ends g c = λ j r r' e f.

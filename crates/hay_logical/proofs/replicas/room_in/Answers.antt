@@ -30,7 +30,11 @@ loop-j-preserved g c = λ i r h e.
       | inr most ↦
           let at_j : i ≡ c.loop-j.j = omega (arith, h, most) in
           let r_is : r ≡ here = at_same c.args.replicas.now c.loop-j.j r here (subst (λ k. At c.args.replicas.now k r) at_j e) there in
-          subst (λ x. RoomFor c.args.size x × HasCapacity x) (sym r_is) (room_fits c.args.size here c.room.result c.room.ensures.full (λ f e. not_both_ways c.room.result f c.in-Ok.is e), c.room.ensures.capacity)
+          subst (λ x. RoomFor c.args.size x × HasCapacity x) (sym r_is) (
+            room_fits c.args.size here c.room.result c.room.ensures.full
+                (λ f e. not_both_ways c.room.result f c.in-Ok.is e),
+            c.room.ensures.capacity,
+          )
     ]
 
 pub returns-clause-fits : goal.returns-clause-fits

@@ -25,7 +25,9 @@ loop-replica-preserved g c =
     )
 
 pub returns-clause-stopped : goal.returns-clause-stopped
-returns-clause-stopped g c = λ j r r' e f. (went_all _ _ c.args.replicas.now _ c.loop-replica.invariant (let all : length c.args.replicas.now ≤ c.loop-replica.replica-index = omega arith in all) j r r' e f).0
+returns-clause-stopped g c =
+    λ j r r' e f. (went_all _ _ c.args.replicas.now _ c.loop-replica.invariant (let all : length c.args.replicas.now ≤ c.loop-replica.replica-index = omega arith in all) j r r' e f).0
 
 pub returns-clause-drawn : goal.returns-clause-drawn
-returns-clause-drawn g c = λ tells j r r' e f. (went_all _ _ c.args.replicas.now _ c.loop-replica.invariant (let all : length c.args.replicas.now ≤ c.loop-replica.replica-index = omega arith in all) j r r' e f).1 tells
+returns-clause-drawn g c =
+    λ tells j r r' e f. (went_all _ _ c.args.replicas.now _ c.loop-replica.invariant (let all : length c.args.replicas.now ≤ c.loop-replica.replica-index = omega arith in all) j r r' e f).1 tells

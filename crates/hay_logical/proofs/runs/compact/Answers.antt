@@ -21,7 +21,8 @@ use Rattle.hay_logical.proofs.runs.compact.Goals.{After-begin}
 begun : (g : given.Over) (c : After-begin g) → BeginsAt g.D.Disk.Tells g.D.Disk.files g.D.Disk.fault_count c.args.replica.now c.begin.new.self c.begin.result
 begun g c =
     let e = c.begin.ensures in
-    begins g.D.Disk.Tells g.D.Disk.files g.D.Disk.fault_count c.args.replica.now c.begin.new.self c.begin.result c.requires.up e.«open» e.same e.sup e.stuck e.stands (λ tells. record { deletes = e.deletes tells; sees = e.sees tells })
+    begins g.D.Disk.Tells g.D.Disk.files g.D.Disk.fault_count c.args.replica.now c.begin.new.self c.begin.result c.requires.up e.«open» e.same e.sup e.stuck e.stands
+    (λ tells. record { deletes = e.deletes tells; sees = e.sees tells })
     e.busy e.worn e.thawed e.idle e.most e.last e.begun e.goal e.kept e.causes
 
 pub returns-in-Ok-clause-swaps : goal.returns-in-Ok-clause-swaps
@@ -31,7 +32,8 @@ returns-in-Ok-clause-swaps g c =
     let y : Copy g.row.D.Denot = c.finish.new.replica in
     let began : BeginsAt g.D.Disk.Tells g.D.Disk.files g.D.Disk.fault_count r x (Ok c.in-Ok.field-0) =
     subst (λ z. BeginsAt g.D.Disk.Tells g.D.Disk.files g.D.Disk.fault_count r x z) c.in-Ok.is (begun g (goal.at.returns-in-Ok-clause-swaps g c).After-begin) in
-    swaps_later g.D.Disk.Tells g.D.Disk.files g.D.Disk.fault_count g.D.Piece.Piece.Tells c.args.rows.now c.finish.new.rows c.args.at r x y c.finish.result Fresh Going (λ e. let wrong : Going ≡ Fresh = e in cc)
+    swaps_later g.D.Disk.Tells g.D.Disk.files g.D.Disk.fault_count g.D.Piece.Piece.Tells c.args.rows.now c.finish.new.rows c.args.at r x y c.finish.result Fresh Going
+    (λ e. let wrong : Going ≡ Fresh = e in cc)
     c.requires.up began.on began.rest c.begin.ensures.counts
     (λ place. meets_anew (replica_seen r) (replica_seen x) place c.in-Ok.ensures.first c.begin.ensures.stays.1)
     (λ tells s run stands start places.
@@ -63,7 +65,8 @@ returns-in-Err-clause-swaps g c =
       still = began.on.stuck;
       removed = λ tells s stands. tt;
       refused = λ tells s run stands start places.
-          begin_holds g.D.Disk.Tells g.D.Disk.files g.D.Disk.fault_count r x s run c.in-Err.fault (began.on.stands tells s stands) began.on.stuck (λ e. began.last tells s stands (ap Err e)) began.cause;
+          begin_holds g.D.Disk.Tells g.D.Disk.files g.D.Disk.fault_count r x s run c.in-Err.fault (began.on.stands tells s stands) began.on.stuck
+          (λ e. began.last tells s stands (ap Err e)) began.cause;
       reach = λ tells reach.
           reaches_on g.D.Disk.files c.args.rows.now c.args.rows.now c.args.at r x (λ u. c.requires.up) (λ u. up_open r c.requires.up) (began.on.reach tells) (λ pair. refl) reach;
     }
@@ -90,13 +93,15 @@ returns-in-Err-clause-kept g c = let b = c.begin.ensures in run_changed c.args.r
 pub returns-in-Ok-clause-lead : goal.returns-in-Ok-clause-lead
 returns-in-Ok-clause-lead g c = λ tells.
     on_ok_one c.finish.result _ _
-    (heads_anew (sights_of c.args.rows.now) c.args.at (replica_seen c.args.replica.now) (replica_seen c.begin.new.self) (volume_bytes g.D.Disk.files c.args.replica.now) (volume_bytes g.D.Disk.files c.begin.new.self)
+    (heads_anew (sights_of c.args.rows.now) c.args.at (replica_seen c.args.replica.now) (replica_seen c.begin.new.self) (volume_bytes g.D.Disk.files c.args.replica.now)
+    (volume_bytes g.D.Disk.files c.begin.new.self)
     c.in-Ok.ensures.first c.begin.ensures.stays.1 (c.begin.ensures.bytes tells))
     (c.finish.ensures.lead tells)
 
 pub returns-in-Ok-clause-damaged : goal.returns-in-Ok-clause-damaged
 returns-in-Ok-clause-damaged g c = λ tells place is.
-    lacks_anew (sights_of c.args.rows.now) c.args.at place (replica_seen c.args.replica.now) (replica_seen c.begin.new.self) (volume_bytes g.D.Disk.files c.args.replica.now) (volume_bytes g.D.Disk.files c.begin.new.self)
+    lacks_anew (sights_of c.args.rows.now) c.args.at place (replica_seen c.args.replica.now) (replica_seen c.begin.new.self) (volume_bytes g.D.Disk.files c.args.replica.now)
+    (volume_bytes g.D.Disk.files c.begin.new.self)
     c.in-Ok.ensures.first c.begin.ensures.stays.1 (c.begin.ensures.bytes tells) (c.finish.ensures.damaged tells place is)
 
 pub returns-in-Err-clause-damaged : goal.returns-in-Err-clause-damaged
@@ -106,7 +111,8 @@ returns-in-Err-clause-damaged g c = λ tells place is.
 
 pub returns-in-Ok-clause-unsure : goal.returns-in-Ok-clause-unsure
 returns-in-Ok-clause-unsure g c = λ tells f is.
-    heads_anew (sights_of c.args.rows.now) c.args.at (replica_seen c.args.replica.now) (replica_seen c.begin.new.self) (volume_bytes g.D.Disk.files c.args.replica.now) (volume_bytes g.D.Disk.files c.begin.new.self)
+    heads_anew (sights_of c.args.rows.now) c.args.at (replica_seen c.args.replica.now) (replica_seen c.begin.new.self) (volume_bytes g.D.Disk.files c.args.replica.now)
+    (volume_bytes g.D.Disk.files c.begin.new.self)
     c.in-Ok.ensures.first c.begin.ensures.stays.1 (c.begin.ensures.bytes tells) (c.finish.ensures.unsure tells f is)
 
 pub returns-in-Err-clause-unsure : goal.returns-in-Err-clause-unsure

@@ -31,7 +31,8 @@ loop-replica-preserved g c =
     )
 
 pub returns-clause-each : goal.returns-clause-each
-returns-clause-each g c = λ j r r' e f. (went_all _ _ c.args.replicas.now _ c.loop-replica.invariant (let all : length c.args.replicas.now ≤ c.loop-replica.replica-index = omega arith in all) j r r' e f).0
+returns-clause-each g c =
+    λ j r r' e f. (went_all _ _ c.args.replicas.now _ c.loop-replica.invariant (let all : length c.args.replicas.now ≤ c.loop-replica.replica-index = omega arith in all) j r r' e f).0
 
 pub returns-clause-idle : goal.returns-clause-idle
 returns-clause-idle g c = λ j r' f.

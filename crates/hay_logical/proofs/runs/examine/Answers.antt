@@ -180,7 +180,8 @@ returns-in-Err-clause-bytes g c = c.peek.ensures.bytes
 
 pub returns-in-Ok-None-clause-lead : goal.returns-in-Ok-None-clause-lead
 returns-in-Ok-None-clause-lead g c = λ tells.
-    heads_none (sights_of c.args.rows.now) c.args.at (next_of c.args.replica.now) (next_of c.peek.new.self) (volume_bytes g.D.Disk.files c.args.replica.now) (c.peek.ensures.place c.in-Ok-None.ensures.goal)
+    heads_none (sights_of c.args.rows.now) c.args.at (next_of c.args.replica.now) (next_of c.peek.new.self) (volume_bytes g.D.Disk.files c.args.replica.now)
+    (c.peek.ensures.place c.in-Ok-None.ensures.goal)
 
 pub returns-in-Ok-clause-lead : goal.returns-in-Ok-clause-lead
 returns-in-Ok-clause-lead g c = λ tells.
@@ -202,7 +203,8 @@ returns-in-Err-copy-clause-damaged g c = λ tells place is.
     let here = c.copy.ensures.damaged place (c.in-Err-copy.is ∙ ap (λ (f : ReplicaFault). Err f) same) in
     lacks_there (sights_of c.args.rows.now) c.args.at 1 place (replica_seen r) (replica_seen x) (volume_bytes g.D.Disk.files r) (volume_bytes g.D.Disk.files x)
     (c.peek.ensures.place c.in-Ok-Some.ensures.goal) c.peek.ensures.stays.1 (c.peek.ensures.bytes tells)
-    (lacks_next (sights_of c.args.rows.now) c.args.at place (replica_seen x) (volume_bytes g.D.Disk.files x) here.0 (c.in-Err-copy.ensures.lacks tells head place (ap (λ (f : ReplicaFault). Err f) same)))
+    (lacks_next (sights_of c.args.rows.now) c.args.at place (replica_seen x) (volume_bytes g.D.Disk.files x) here.0
+    (c.in-Err-copy.ensures.lacks tells head place (ap (λ (f : ReplicaFault). Err f) same)))
 
 pub returns-in-Err-clause-damaged : goal.returns-in-Err-clause-damaged
 returns-in-Err-clause-damaged g c = λ tells place is.

@@ -26,7 +26,8 @@ returns-in-Ok-clause-swaps g c =
     let r : Copy g.row.D.Denot = c.args.replica.now in
     let x : Copy g.row.D.Denot = c.step.new.replica in
     let y : Copy g.row.D.Denot = c.swap.new.replica in
-    swaps_later g.D.Disk.Tells g.D.Disk.files g.D.Disk.fault_count g.D.Piece.Piece.Tells c.args.rows.now c.swap.new.rows c.args.at r x y c.swap.result Going Examined (λ e. let wrong : Examined ≡ Fresh = e in cc)
+    swaps_later g.D.Disk.Tells g.D.Disk.files g.D.Disk.fault_count g.D.Piece.Piece.Tells c.args.rows.now c.swap.new.rows c.args.at r x y c.swap.result Going Examined
+    (λ e. let wrong : Examined ≡ Fresh = e in cc)
     c.requires.up c.in-Ok.ensures.steps.on tt c.step.ensures.counts (λ at none. absurd none)
     (λ tells s run stands has places.
     let done = c.in-Ok.ensures.steps.stepped tells s run stands has places in
@@ -71,7 +72,8 @@ returns-in-Err-clause-swaps g c =
           step_holds g.D.Disk.files g.D.Disk.fault_count r x y s run c.end-most.result c.in-Err.fault c.in-Err.ensures.steps.cause (c.in-Err.ensures.steps.refused tells s run stands start places)
           (c.drop_run.ensures.stands tells s (on.stands tells s stands)) (c.drop_run.ensures.stuck ∙ on.stuck);
       reach = λ tells reach.
-          reaches_on g.D.Disk.files c.args.rows.now c.args.rows.now c.args.at r y (λ u. c.requires.up) (λ u. up_open r c.requires.up) (dropped g (goal.at.returns-in-Err-clause-swaps g c).After-drop_run tells) (λ pair. refl) reach;
+          reaches_on g.D.Disk.files c.args.rows.now c.args.rows.now c.args.at r y (λ u. c.requires.up) (λ u. up_open r c.requires.up)
+          (dropped g (goal.at.returns-in-Err-clause-swaps g c).After-drop_run tells) (λ pair. refl) reach;
     }
 
 pub returns-in-Err-clause-places : goal.returns-in-Err-clause-places
@@ -100,7 +102,8 @@ returns-in-Ok-clause-lead g c = λ tells.
     let r : ReplicaSeen = replica_seen c.args.replica.now in
     let x : ReplicaSeen = replica_seen c.step.new.replica in
     always_ok c.swap.result _
-    (heads_all (sights_of c.args.rows.now) c.args.at c.in-Ok.field-0 r x (volume_bytes g.D.Disk.files c.args.replica.now) (subst (λ n. StepsTo n c.in-Ok.field-0 r x) c.end-most.ensures.is c.in-Ok.ensures.seen) (c.in-Ok.ensures.lead tells))
+    (heads_all (sights_of c.args.rows.now) c.args.at c.in-Ok.field-0 r x (volume_bytes g.D.Disk.files c.args.replica.now)
+    (subst (λ n. StepsTo n c.in-Ok.field-0 r x) c.end-most.ensures.is c.in-Ok.ensures.seen) (c.in-Ok.ensures.lead tells))
 
 pub returns-in-Ok-clause-damaged : goal.returns-in-Ok-clause-damaged
 returns-in-Ok-clause-damaged g c = λ tells place is. absurd (c.swap.ensures.undamaged place is)
@@ -115,7 +118,8 @@ pub returns-in-Ok-clause-unsure : goal.returns-in-Ok-clause-unsure
 returns-in-Ok-clause-unsure g c = λ tells f is.
     let r : ReplicaSeen = replica_seen c.args.replica.now in
     let x : ReplicaSeen = replica_seen c.step.new.replica in
-    heads_all (sights_of c.args.rows.now) c.args.at c.in-Ok.field-0 r x (volume_bytes g.D.Disk.files c.args.replica.now) (subst (λ n. StepsTo n c.in-Ok.field-0 r x) c.end-most.ensures.is c.in-Ok.ensures.seen) (c.in-Ok.ensures.lead tells)
+    heads_all (sights_of c.args.rows.now) c.args.at c.in-Ok.field-0 r x (volume_bytes g.D.Disk.files c.args.replica.now)
+    (subst (λ n. StepsTo n c.in-Ok.field-0 r x) c.end-most.ensures.is c.in-Ok.ensures.seen) (c.in-Ok.ensures.lead tells)
 
 pub returns-in-Err-clause-unsure : goal.returns-in-Err-clause-unsure
 returns-in-Err-clause-unsure g c = λ tells f is. absurd cc

@@ -31,29 +31,35 @@ pub returns-clause-one : goal.returns-clause-one
 returns-clause-one g c =
     let here : Copy g.row.D.Denot = slice_index_or c.args.replicas.now c.args.at c.index-replicas-at.result in
     let there : At c.args.replicas.now c.args.at here = at_read c.args.replicas.now c.args.at c.index-replicas-at.result c.requires.within in
-    swaps_one g.D.Disk.Tells g.D.Disk.files g.D.Disk.fault_count g.D.Piece.Piece.Tells Going c.args.rows.now c.finish-result.new.rows c.args.at c.args.replicas.now c.drop_behind.new.replicas here c.finish-result.new.replica c.finish-result.result there
+    swaps_one g.D.Disk.Tells g.D.Disk.files g.D.Disk.fault_count g.D.Piece.Piece.Tells Going c.args.rows.now c.finish-result.new.rows c.args.at c.args.replicas.now
+    c.drop_behind.new.replicas here c.finish-result.new.replica c.finish-result.result there
     (c.requires.up c.args.at here there) c.finish-result.ensures.swaps c.drop_behind.ensures.count c.drop_behind.ensures.each c.drop_behind.ensures.still c.drop_behind.ensures.idle
 
 pub returns-clause-swaps : goal.returns-clause-swaps
 returns-clause-swaps g c = λ r r' e f.
     let here : Copy g.row.D.Denot = slice_index_or c.args.replicas.now c.args.at c.index-replicas-at.result in
     let there : At c.args.replicas.now c.args.at here = at_read c.args.replicas.now c.args.at c.index-replicas-at.result c.requires.within in
-    swaps_there g.D.Disk.Tells g.D.Disk.files g.D.Disk.fault_count g.D.Piece.Piece.Tells Going c.args.rows.now c.finish-result.new.rows c.args.at c.args.replicas.now c.drop_behind.new.replicas here c.finish-result.new.replica c.finish-result.result there
+    swaps_there g.D.Disk.Tells g.D.Disk.files g.D.Disk.fault_count g.D.Piece.Piece.Tells Going c.args.rows.now c.finish-result.new.rows c.args.at c.args.replicas.now
+    c.drop_behind.new.replicas here c.finish-result.new.replica c.finish-result.result there
     (c.requires.up c.args.at here there) c.finish-result.ensures.swaps c.drop_behind.ensures.count c.drop_behind.ensures.each c.drop_behind.ensures.still c.drop_behind.ensures.idle r r' e f
 
 pub returns-clause-stays : goal.returns-clause-stays
 returns-clause-stays g c = λ r r' e f.
     let here : Copy g.row.D.Denot = slice_index_or c.args.replicas.now c.args.at c.index-replicas-at.result in
     let there : At c.args.replicas.now c.args.at here = at_read c.args.replicas.now c.args.at c.index-replicas-at.result c.requires.within in
-    stays_there g.D.Disk.Tells g.D.Disk.files g.D.Disk.fault_count g.D.Piece.Piece.Tells Going c.args.rows.now c.finish-result.new.rows c.args.at c.args.replicas.now c.drop_behind.new.replicas here c.finish-result.new.replica c.finish-result.result there
-    (c.requires.up c.args.at here there) c.finish-result.ensures.swaps c.drop_behind.ensures.count c.drop_behind.ensures.each c.drop_behind.ensures.still c.drop_behind.ensures.idle c.finish-result.ensures.stays r r' e f
+    stays_there g.D.Disk.Tells g.D.Disk.files g.D.Disk.fault_count g.D.Piece.Piece.Tells Going c.args.rows.now c.finish-result.new.rows c.args.at c.args.replicas.now
+    c.drop_behind.new.replicas here c.finish-result.new.replica c.finish-result.result there
+    (c.requires.up c.args.at here there) c.finish-result.ensures.swaps c.drop_behind.ensures.count c.drop_behind.ensures.each c.drop_behind.ensures.still c.drop_behind.ensures.idle
+    c.finish-result.ensures.stays r r' e f
 
 pub returns-clause-counts : goal.returns-clause-counts
 returns-clause-counts g c =
     let here : Copy g.row.D.Denot = slice_index_or c.args.replicas.now c.args.at c.index-replicas-at.result in
     let there : At c.args.replicas.now c.args.at here = at_read c.args.replicas.now c.args.at c.index-replicas-at.result c.requires.within in
-    counts_on g.D.Disk.Tells g.D.Disk.files g.D.Disk.fault_count c.args.replicas.now (slice_set c.args.replicas.now c.args.at c.finish-result.new.replica) c.drop_behind.new.replicas c.drop_behind.ensures.count c.drop_behind.ensures.each
-    g.D.Disk.fuse_count (one_counts g.D.Disk.fault_count g.D.Disk.fuse_count c.args.at c.args.replicas.now here c.finish-result.new.replica there (c.finish-result.ensures.counts, c.finish-result.ensures.fuses))
+    counts_on g.D.Disk.Tells g.D.Disk.files g.D.Disk.fault_count c.args.replicas.now (slice_set c.args.replicas.now c.args.at c.finish-result.new.replica)
+    c.drop_behind.new.replicas c.drop_behind.ensures.count c.drop_behind.ensures.each
+    g.D.Disk.fuse_count (one_counts g.D.Disk.fault_count g.D.Disk.fuse_count c.args.at c.args.replicas.now here c.finish-result.new.replica there
+    (c.finish-result.ensures.counts, c.finish-result.ensures.fuses))
 
 pub returns-clause-seen : goal.returns-clause-seen
 returns-clause-seen g c = λ r r' e f.
@@ -77,18 +83,21 @@ pub returns-clause-damaged : goal.returns-clause-damaged
 returns-clause-damaged g c = λ tells place is r e.
     let here : Copy g.row.D.Denot = slice_index_or c.args.replicas.now c.args.at c.index-replicas-at.result in
     let there : At c.args.replicas.now c.args.at here = at_read c.args.replicas.now c.args.at c.index-replicas-at.result c.requires.within in
-    subst (λ (x : Copy g.row.D.Denot). LacksCellLeft (sights_of c.args.rows.now) c.args.at place (replica_seen x) (volume_bytes g.D.Disk.files x)) (at_same c.args.replicas.now c.args.at here r there e) (c.finish-result.ensures.damaged tells place is)
+    subst (λ (x : Copy g.row.D.Denot). LacksCellLeft (sights_of c.args.rows.now) c.args.at place (replica_seen x) (volume_bytes g.D.Disk.files x))
+    (at_same c.args.replicas.now c.args.at here r there e) (c.finish-result.ensures.damaged tells place is)
 
 pub returns-clause-lead : goal.returns-clause-lead
 returns-clause-lead g c = λ tells.
     let here : Copy g.row.D.Denot = slice_index_or c.args.replicas.now c.args.at c.index-replicas-at.result in
     let there : At c.args.replicas.now c.args.at here = at_read c.args.replicas.now c.args.at c.index-replicas-at.result c.requires.within in
     on_ok_one c.finish-result.result _ _
-    (λ lead r e. subst (λ (x : Copy g.row.D.Denot). HeadsLeadOn (sights_of c.args.rows.now) c.args.at (replica_seen x) (volume_bytes g.D.Disk.files x)) (at_same c.args.replicas.now c.args.at here r there e) lead)
+    (λ lead r e. subst (λ (x : Copy g.row.D.Denot). HeadsLeadOn (sights_of c.args.rows.now) c.args.at (replica_seen x) (volume_bytes g.D.Disk.files x))
+    (at_same c.args.replicas.now c.args.at here r there e) lead)
     (c.finish-result.ensures.lead tells)
 
 pub returns-clause-unsure : goal.returns-clause-unsure
 returns-clause-unsure g c = λ tells f is r e.
     let here : Copy g.row.D.Denot = slice_index_or c.args.replicas.now c.args.at c.index-replicas-at.result in
     let there : At c.args.replicas.now c.args.at here = at_read c.args.replicas.now c.args.at c.index-replicas-at.result c.requires.within in
-    subst (λ (x : Copy g.row.D.Denot). HeadsLeadOn (sights_of c.args.rows.now) c.args.at (replica_seen x) (volume_bytes g.D.Disk.files x)) (at_same c.args.replicas.now c.args.at here r there e) (c.finish-result.ensures.unsure tells f is)
+    subst (λ (x : Copy g.row.D.Denot). HeadsLeadOn (sights_of c.args.rows.now) c.args.at (replica_seen x) (volume_bytes g.D.Disk.files x))
+    (at_same c.args.replicas.now c.args.at here r there e) (c.finish-result.ensures.unsure tells f is)

@@ -37,9 +37,12 @@ loop-examined-preserved g c =
       counts = (let low = was.counts in omega (arith, low, counts));
       bytes = λ tells. c.examine.ensures.bytes tells ∙ was.bytes tells;
       lead = λ tells.
-          heads_more (sights_of c.args.rows.now) c.args.at c.loop-examined.examined 1 (next_of c.args.replica.now) (next_of c.loop-examined.replica) (next_of c.examine.new.replica) (volume_bytes g.D.Disk.files c.args.replica.now) (was.lead tells)
-          (subst (λ more. HeadsLead (sights_of c.args.rows.now) c.args.at (if more then 1 else 0) (next_of c.loop-examined.replica) (next_of c.examine.new.replica) (volume_bytes g.D.Disk.files c.args.replica.now)) c.in-Ok-true.field-0-test
-          (subst (λ (l : List ℕ). HeadsLead (sights_of c.args.rows.now) c.args.at (if c.in-Ok-true.field-0 then 1 else 0) (next_of c.loop-examined.replica) (next_of c.examine.new.replica) l) (was.bytes tells) (c.in-Ok-true.ensures.lead tells)));
+          heads_more (sights_of c.args.rows.now) c.args.at c.loop-examined.examined 1 (next_of c.args.replica.now) (next_of c.loop-examined.replica) (next_of c.examine.new.replica)
+          (volume_bytes g.D.Disk.files c.args.replica.now) (was.lead tells)
+          (subst (λ more. HeadsLead (sights_of c.args.rows.now) c.args.at (if more then 1 else 0) (next_of c.loop-examined.replica) (next_of c.examine.new.replica)
+          (volume_bytes g.D.Disk.files c.args.replica.now)) c.in-Ok-true.field-0-test
+          (subst (λ (l : List ℕ). HeadsLead (sights_of c.args.rows.now) c.args.at (if c.in-Ok-true.field-0 then 1 else 0) (next_of c.loop-examined.replica)
+          (next_of c.examine.new.replica) l) (was.bytes tells) (c.in-Ok-true.ensures.lead tells)));
       fuses = c.examine.ensures.fuses ∙ was.fuses;
       stepped = λ tells s run stands has places.
           let so_far = was.stepped tells s run stands has places in
@@ -143,7 +146,8 @@ returns-in-Ok-false-clause-lead g c = λ tells.
 pub returns-clause-lead : goal.returns-clause-lead
 returns-clause-lead g c = λ tells.
     let done : c.loop-examined.examined ≡ c.args.cells = omega arith in
-    subst (λ n. HeadsLead (sights_of c.args.rows.now) c.args.at n (next_of c.args.replica.now) (next_of c.loop-examined.replica) (volume_bytes g.D.Disk.files c.args.replica.now)) done (c.loop-examined.invariant.lead tells)
+    subst (λ n. HeadsLead (sights_of c.args.rows.now) c.args.at n (next_of c.args.replica.now) (next_of c.loop-examined.replica) (volume_bytes g.D.Disk.files c.args.replica.now))
+    done (c.loop-examined.invariant.lead tells)
 
 pub returns-in-Err-clause-part : goal.returns-in-Err-clause-part
 returns-in-Err-clause-part g c = λ tells is.
@@ -152,5 +156,6 @@ returns-in-Err-clause-part g c = λ tells is.
     let stays = c.in-Err.ensures.wanting (ap (λ (f : ReplicaFault). Err f) same) in (
       c.loop-examined.examined,
       (let test = c.loop-examined-test.true in omega (arith, test)),
-      subst (λ n. HeadsLead (sights_of c.args.rows.now) c.args.at c.loop-examined.examined (next_of c.args.replica.now) n (volume_bytes g.D.Disk.files c.args.replica.now)) (sym stays) (was.lead tells),
+      subst (λ n. HeadsLead (sights_of c.args.rows.now) c.args.at c.loop-examined.examined (next_of c.args.replica.now) n (volume_bytes g.D.Disk.files c.args.replica.now))
+          (sym stays) (was.lead tells),
     )

@@ -64,7 +64,8 @@ pub returns-clause-damaged : goal.returns-clause-damaged
 returns-clause-damaged g c = λ tells place is r e.
     let here : Copy g.row.D.Denot = slice_index_or c.args.replicas.now c.args.at c.index-replicas-at.result in
     let there : At c.args.replicas.now c.args.at here = at_read c.args.replicas.now c.args.at c.index-replicas-at.result c.requires.within in
-    subst (λ (x : Copy g.row.D.Denot). LacksCell (sights_of c.args.rows.now) c.args.at c.args.cells place (replica_seen x) (volume_bytes g.D.Disk.files x)) (at_same c.args.replicas.now c.args.at here r there e) (c.step.ensures.damaged tells place is)
+    subst (λ (x : Copy g.row.D.Denot). LacksCell (sights_of c.args.rows.now) c.args.at c.args.cells place (replica_seen x) (volume_bytes g.D.Disk.files x))
+    (at_same c.args.replicas.now c.args.at here r there e) (c.step.ensures.damaged tells place is)
 
 pub returns-clause-lead : goal.returns-clause-lead
 returns-clause-lead g c = λ tells r r' e f.
@@ -72,7 +73,8 @@ returns-clause-lead g c = λ tells r r' e f.
     let there : At c.args.replicas.now c.args.at here = at_read c.args.replicas.now c.args.at c.index-replicas-at.result c.requires.within in
     let same = one_same c.args.replicas.now c.args.at here c.step.new.replica r r' there e f in
     subst (λ x. IfOk c.step.result (λ number. HeadsLead (sights_of c.args.rows.now) c.args.at number (next_of x) (next_of r') (volume_bytes g.D.Disk.files x))) (sym same.0)
-    (subst (λ x. IfOk c.step.result (λ number. HeadsLead (sights_of c.args.rows.now) c.args.at number (next_of here) (next_of x) (volume_bytes g.D.Disk.files here))) (sym same.1) (c.step.ensures.lead tells))
+    (subst (λ x. IfOk c.step.result (λ number. HeadsLead (sights_of c.args.rows.now) c.args.at number (next_of here) (next_of x) (volume_bytes g.D.Disk.files here))) (sym same.1)
+    (c.step.ensures.lead tells))
 
 pub returns-clause-part : goal.returns-clause-part
 returns-clause-part g c = λ tells r r' e f is.

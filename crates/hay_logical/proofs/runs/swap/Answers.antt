@@ -57,7 +57,9 @@ returns-in-Ok-clause-swaps g c =
           subst (λ n. RemovedBoth (g.D.Disk.files x.disk) (volume_file n) (index_file n) (g.D.Disk.fault_count (c.args.replica.now).disk) (g.D.Disk.fault_count x.disk))
           (stands_generation g.D.Disk.files c.args.replica.now s stands) (c.in-Ok.ensures.removed tells);
       refused = λ tells s run stands start places. tt;
-      reach = λ tells reach. reach_swapped g.D.Piece.Piece.Tells c.args.rows.now c.swap.new.self c.args.at c.in-Ok.places.items photos changed g.D.Disk.files x (c.in-Ok.ensures.can_delete tells) (c.in-Ok.ensures.needles tells);
+      reach =
+          λ tells reach. reach_swapped g.D.Piece.Piece.Tells c.args.rows.now c.swap.new.self c.args.at c.in-Ok.places.items photos changed g.D.Disk.files x
+          (c.in-Ok.ensures.can_delete tells) (c.in-Ok.ensures.needles tells);
     }
 
 pub returns-in-Ok-clause-places : goal.returns-in-Ok-clause-places
@@ -91,7 +93,8 @@ returns-in-Err-clause-swaps g c =
     let r : Copy g.row.D.Denot = c.args.replica.now in
     let x : Copy g.row.D.Denot = c.finish.new.self in
     let stays : g.D.Disk.Tells → ReachesPlaces g.D.Disk.files g.D.Piece.Piece.Tells c.args.rows.now c.args.at r → ReachesPlaces g.D.Disk.files g.D.Piece.Piece.Tells c.args.rows.now c.args.at x =
-    λ tells reach. reaches_on g.D.Disk.files c.args.rows.now c.args.rows.now c.args.at r x (λ u. c.requires.up) (λ u. up_open r c.requires.up) (kept g (goal.at.returns-in-Err-clause-swaps g c).In-Err tells) (λ pair. refl) reach in
+    λ tells reach. reaches_on g.D.Disk.files c.args.rows.now c.args.rows.now c.args.at r x (λ u. c.requires.up) (λ u. up_open r c.requires.up)
+    (kept g (goal.at.returns-in-Err-clause-swaps g c).In-Err tells) (λ pair. refl) reach in
     elim (cases_Bool (is_frozen x)) [
       | inl froze ↦
           let frozen = open_frozen x c.finish.ensures.«open» froze in
@@ -101,7 +104,9 @@ returns-in-Err-clause-swaps g c =
             «open» = c.finish.ensures.«open»;
             sup = c.finish.ensures.sup;
             up = tt;
-            left = subst (λ u. IsLeftBy g.D.Disk.fault_count Examined r x u) (sym is) (unsure_left g.D.Disk.files g.D.Disk.fault_count r x c.finish.result frozen c.finish.ensures.goal failed c.finish.ensures.causes);
+            left =
+                subst (λ u. IsLeftBy g.D.Disk.fault_count Examined r x u) (sym is) (unsure_left g.D.Disk.files g.D.Disk.fault_count r x c.finish.result frozen c.finish.ensures.goal
+                failed c.finish.ensures.causes);
             swapped = λ tells s run stands start places. tt;
             sizes = λ tells. tt;
             still = c.in-Err.ensures.still.0;

@@ -23,21 +23,25 @@ returns-in-Ok-see-clause-sights g c =
     let seen = c.in-Ok.ensures in
     let was : place_in (row_at c.args.rows.now c.args.pair) c.args.at ≡ place.Unseen c.in-Unseen.place c.in-Unseen.size =
     sym (c.place.ensures ∙ ap (λ l. place_in l c.args.at) c.row-row.ensures.row) ∙ c.in-Unseen.is in
-    let long : c.args.at < length (row_at c.args.rows.now c.args.pair) = let w = c.requires.within in let l = c.row-row.ensures.long in subst (λ x. c.args.at < length x) c.row-row.ensures.row (omega (arith, w, l)) in
-    sights_looked T files g.D.Disk.fault_count g.D.Piece.Piece.Tells c.args.pair c.args.rows.now c.see.new.self c.args.at c.args.replica.now c.cell.new.self c.in-Unseen.place c.in-Unseen.size c.in-Ok.seen _
+    let long : c.args.at < length (row_at c.args.rows.now c.args.pair) =
+    let w = c.requires.within in let l = c.row-row.ensures.long in subst (λ x. c.args.at < length x) c.row-row.ensures.row (omega (arith, w, l)) in
+    sights_looked T files g.D.Disk.fault_count g.D.Piece.Piece.Tells c.args.pair c.args.rows.now c.see.new.self c.args.at c.args.replica.now c.cell.new.self c.in-Unseen.place
+    c.in-Unseen.size c.in-Ok.seen _
     (record { same = c.cell.ensures.same; stands = c.cell.ensures.stands; run = c.cell.ensures.run; deletes = c.cell.ensures.deletes; sees = c.cell.ensures.sees }) was
     (set_places c.args.pair c.args.at c.args.rows.now c.see.new.self c.in-Ok.seen c.in-Ok-see.ensures.ok.rows long)
     (λ tells. becomes_seen T files g.D.Piece.Piece.Tells c.in-Unseen.place c.in-Unseen.size c.args.pair c.in-Ok.seen c.args.replica.now c.cell.new.self seen.needle.0 seen.needle.3 seen.needle.1.place
     (λ cell stands here. (seen.known tells cell stands here).1) (seen.can_delete tells)
     (whole_of g.D.Piece.Piece.Tells (Some seen.needle.0) c.in-Ok.seen (seen.known tells seen.needle.0 (seen.needle.4 tells) seen.needle.1.place).1))
-    c.requires.«open» c.cell.ensures.holds (λ tells. record { now = c.cell.ensures.now tells; solid = c.cell.ensures.solid tells; leaves = c.cell.ensures.leaves tells }) (sight_seen T files g.D.Piece.Piece.Tells seen.needle.0 c.in-Ok.seen seen.needle.3) (λ tells k e cell stands here size. cc) tt
+    c.requires.«open» c.cell.ensures.holds (λ tells. record { now = c.cell.ensures.now tells; solid = c.cell.ensures.solid tells; leaves = c.cell.ensures.leaves tells })
+    (sight_seen T files g.D.Piece.Piece.Tells seen.needle.0 c.in-Ok.seen seen.needle.3) (λ tells k e cell stands here size. cc) tt
 
 pub returns-in-Ok-see-clause-row : goal.returns-in-Ok-see-clause-row
 returns-in-Ok-see-clause-row g c =
     let seen = c.in-Ok.ensures in
     let was : place_in (row_at c.args.rows.now c.args.pair) c.args.at ≡ place.Unseen c.in-Unseen.place c.in-Unseen.size =
     sym (c.place.ensures ∙ ap (λ l. place_in l c.args.at) c.row-row.ensures.row) ∙ c.in-Unseen.is in
-    let long : c.args.at < length (row_at c.args.rows.now c.args.pair) = let w = c.requires.within in let l = c.row-row.ensures.long in subst (λ x. c.args.at < length x) c.row-row.ensures.row (omega (arith, w, l)) in
+    let long : c.args.at < length (row_at c.args.rows.now c.args.pair) =
+    let w = c.requires.within in let l = c.row-row.ensures.long in subst (λ x. c.args.at < length x) c.row-row.ensures.row (omega (arith, w, l)) in
     record {
       width = c.in-Ok-see.ensures.ok.replicas;
       set = sets_this c.args.pair c.args.at c.args.rows.now c.see.new.self c.in-Ok.seen c.in-Ok-see.ensures.ok.rows long;
@@ -53,11 +57,19 @@ returns-in-Ok-clause-sights g c =
     let files = g.D.Disk.files in
     let was : place_in (row_at c.args.rows.now c.args.pair) c.args.at ≡ place.Unseen c.in-Unseen.place c.in-Unseen.size =
     sym (c.place.ensures ∙ ap (λ l. place_in l c.args.at) c.row-row.ensures.row) ∙ c.in-Unseen.is in
-    let looked : Looked T files c.in-Unseen.place c.in-Unseen.size c.args.replica.now c.cell.new.self = record { same = c.cell.ensures.same; stands = c.cell.ensures.stands; run = c.cell.ensures.run; deletes = c.cell.ensures.deletes; sees = c.cell.ensures.sees } in
-    sights_looked T files g.D.Disk.fault_count g.D.Piece.Piece.Tells c.args.pair c.args.rows.now c.see.new.self c.args.at c.args.replica.now c.cell.new.self c.in-Unseen.place c.in-Unseen.size (place.Unseen c.in-Unseen.place c.in-Unseen.size) _
+    let looked : Looked T files c.in-Unseen.place c.in-Unseen.size c.args.replica.now c.cell.new.self = record {
+      same = c.cell.ensures.same;
+      stands = c.cell.ensures.stands;
+      run = c.cell.ensures.run;
+      deletes = c.cell.ensures.deletes;
+      sees = c.cell.ensures.sees;
+    } in
+    sights_looked T files g.D.Disk.fault_count g.D.Piece.Piece.Tells c.args.pair c.args.rows.now c.see.new.self c.args.at c.args.replica.now c.cell.new.self c.in-Unseen.place
+    c.in-Unseen.size (place.Unseen c.in-Unseen.place c.in-Unseen.size) _
     looked was (same_places c.args.pair c.args.at c.args.rows.now c.see.new.self (place.Unseen c.in-Unseen.place c.in-Unseen.size) was c.in-Err-see.ensures.err.rows)
     (λ tells. becomes_same T files g.D.Piece.Piece.Tells tells c.in-Unseen.place c.in-Unseen.size c.args.pair c.args.replica.now c.cell.new.self looked)
-    c.requires.«open» c.cell.ensures.holds (λ tells. record { now = c.cell.ensures.now tells; solid = c.cell.ensures.solid tells; leaves = c.cell.ensures.leaves tells }) tt (λ tells k e cell stands here size. cc) tt
+    c.requires.«open» c.cell.ensures.holds (λ tells. record { now = c.cell.ensures.now tells; solid = c.cell.ensures.solid tells; leaves = c.cell.ensures.leaves tells }) tt
+    (λ tells k e cell stands here size. cc) tt
 
 pub returns-in-None-clause-sights : goal.returns-in-None-clause-sights
 returns-in-None-clause-sights g c =
@@ -108,11 +120,19 @@ returns-clause-sights g c =
     let files = g.D.Disk.files in
     let was : place_in (row_at c.args.rows.now c.args.pair) c.args.at ≡ place.Unseen c.in-Unseen.place c.in-Unseen.size =
     sym (c.place.ensures ∙ ap (λ l. place_in l c.args.at) c.row-row.ensures.row) ∙ c.in-Unseen.is in
-    let looked : Looked T files c.in-Unseen.place c.in-Unseen.size c.args.replica.now c.cell.new.self = record { same = c.cell.ensures.same; stands = c.cell.ensures.stands; run = c.cell.ensures.run; deletes = c.cell.ensures.deletes; sees = c.cell.ensures.sees } in
-    sights_looked T files g.D.Disk.fault_count g.D.Piece.Piece.Tells c.args.pair c.args.rows.now c.args.rows.now c.args.at c.args.replica.now c.cell.new.self c.in-Unseen.place c.in-Unseen.size (place.Unseen c.in-Unseen.place c.in-Unseen.size) _
+    let looked : Looked T files c.in-Unseen.place c.in-Unseen.size c.args.replica.now c.cell.new.self = record {
+      same = c.cell.ensures.same;
+      stands = c.cell.ensures.stands;
+      run = c.cell.ensures.run;
+      deletes = c.cell.ensures.deletes;
+      sees = c.cell.ensures.sees;
+    } in
+    sights_looked T files g.D.Disk.fault_count g.D.Piece.Piece.Tells c.args.pair c.args.rows.now c.args.rows.now c.args.at c.args.replica.now c.cell.new.self c.in-Unseen.place
+    c.in-Unseen.size (place.Unseen c.in-Unseen.place c.in-Unseen.size) _
     looked was (same_places c.args.pair c.args.at c.args.rows.now c.args.rows.now (place.Unseen c.in-Unseen.place c.in-Unseen.size) was (λ q. refl))
     (λ tells. becomes_same T files g.D.Piece.Piece.Tells tells c.in-Unseen.place c.in-Unseen.size c.args.pair c.args.replica.now c.cell.new.self looked)
-    c.requires.«open» c.cell.ensures.holds (λ tells. record { now = c.cell.ensures.now tells; solid = c.cell.ensures.solid tells; leaves = c.cell.ensures.leaves tells }) tt (λ tells k e. c.in-Err.ensures.damaged tells k (ap (λ (f : ReplicaFault). Err f) (let same : c.in-Err.fault ≡ ReplicaFault.Damaged k = cc in same))) c.in-Err.ensures.causes
+    c.requires.«open» c.cell.ensures.holds (λ tells. record { now = c.cell.ensures.now tells; solid = c.cell.ensures.solid tells; leaves = c.cell.ensures.leaves tells }) tt
+    (λ tells k e. c.in-Err.ensures.damaged tells k (ap (λ (f : ReplicaFault). Err f) (let same : c.in-Err.fault ≡ ReplicaFault.Damaged k = cc in same))) c.in-Err.ensures.causes
 
 pub returns-in-Ok-see-clause-drawn : goal.returns-in-Ok-see-clause-drawn
 returns-in-Ok-see-clause-drawn g c = λ tells.
@@ -138,7 +158,8 @@ returns-in-None-clause-drawn g c = λ tells n. omega arith
 pub returns-in-Ok-see-clause-needle : goal.returns-in-Ok-see-clause-needle
 returns-in-Ok-see-clause-needle g c = λ unseen.
     let seen = c.in-Ok.ensures in
-    let long : c.args.at < length (row_at c.args.rows.now c.args.pair) = let w = c.requires.within in let l = c.row-row.ensures.long in subst (λ x. c.args.at < length x) c.row-row.ensures.row (omega (arith, w, l)) in
+    let long : c.args.at < length (row_at c.args.rows.now c.args.pair) =
+    let w = c.requires.within in let l = c.row-row.ensures.long in subst (λ x. c.args.at < length x) c.row-row.ensures.row (omega (arith, w, l)) in
     let here : place_in (row_at c.see.new.self c.args.pair) c.args.at ≡ c.in-Ok.seen = set_here c.args.pair c.args.at c.args.rows.now c.see.new.self c.in-Ok.seen c.in-Ok-see.ensures.ok.rows long in
     subst (λ p. IsSeenBy g.D.Disk.Tells g.D.Piece.Piece.Tells c.cell.new.out.items p) (sym here)
     (record { cell = seen.needle.0; needle = seen.needle.1.is; sight = seen.needle.3; place = λ tells. (seen.known tells seen.needle.0 (seen.needle.4 tells) seen.needle.1.place).1 })
@@ -162,7 +183,8 @@ returns-in-Ok-see-clause-told g c = λ tells.
     let file = volume_bytes g.D.Disk.files c.args.replica.now in
     let was : place_in (row_at c.args.rows.now c.args.pair) c.args.at ≡ place.Unseen c.in-Unseen.place c.in-Unseen.size =
     sym (c.place.ensures ∙ ap (λ l. place_in l c.args.at) c.row-row.ensures.row) ∙ c.in-Unseen.is in
-    let long : c.args.at < length (row_at c.args.rows.now c.args.pair) = let w = c.requires.within in let l = c.row-row.ensures.long in subst (λ x. c.args.at < length x) c.row-row.ensures.row (omega (arith, w, l)) in
+    let long : c.args.at < length (row_at c.args.rows.now c.args.pair) =
+    let w = c.requires.within in let l = c.row-row.ensures.long in subst (λ x. c.args.at < length x) c.row-row.ensures.row (omega (arith, w, l)) in
     let here : place_in (row_at c.see.new.self c.args.pair) c.args.at ≡ c.in-Ok.seen = set_here c.args.pair c.args.at c.args.rows.now c.see.new.self c.in-Ok.seen c.in-Ok-see.ensures.ok.rows long in
     record {
       told = subst (λ p. IsToldBy file (sight p) (sights_of c.see.new.self c.args.pair c.args.at)) (sym was)

@@ -34,7 +34,8 @@ returns-clause-sights g c = λ r r' e f.
     let there : At c.args.replicas.now c.args.at here = at_read c.args.replicas.now c.args.at c.index-replicas-at.result c.requires.within in
     let same = one_same c.args.replicas.now c.args.at here c.see.new.replica r r' there e f in
     subst (λ x. SightsAt g.D.Disk.Tells g.D.Disk.files g.D.Disk.fault_count g.D.Piece.Piece.Tells c.args.pair c.args.rows.now c.see.new.rows c.args.at x r' c.see.result) (sym same.0)
-    (subst (λ x. SightsAt g.D.Disk.Tells g.D.Disk.files g.D.Disk.fault_count g.D.Piece.Piece.Tells c.args.pair c.args.rows.now c.see.new.rows c.args.at here x c.see.result) (sym same.1) c.see.ensures.sights)
+    (subst (λ x. SightsAt g.D.Disk.Tells g.D.Disk.files g.D.Disk.fault_count g.D.Piece.Piece.Tells c.args.pair c.args.rows.now c.see.new.rows c.args.at here x c.see.result)
+    (sym same.1) c.see.ensures.sights)
 
 pub returns-clause-counts : goal.returns-clause-counts
 returns-clause-counts g c =
@@ -54,4 +55,5 @@ pub returns-clause-told : goal.returns-clause-told
 returns-clause-told g c = λ tells r e.
     let here : Copy g.row.D.Denot = slice_index_or c.args.replicas.now c.args.at c.index-replicas-at.result in
     let there : At c.args.replicas.now c.args.at here = at_read c.args.replicas.now c.args.at c.index-replicas-at.result c.requires.within in
-    subst (λ (x : Copy g.row.D.Denot). TellsNeedle (volume_bytes g.D.Disk.files x) c.args.pair c.args.at c.args.rows.now c.see.new.rows c.see.result) (at_same c.args.replicas.now c.args.at here r there e) (c.see.ensures.told tells)
+    subst (λ (x : Copy g.row.D.Denot). TellsNeedle (volume_bytes g.D.Disk.files x) c.args.pair c.args.at c.args.rows.now c.see.new.rows c.see.result)
+    (at_same c.args.replicas.now c.args.at here r there e) (c.see.ensures.told tells)

@@ -24,8 +24,12 @@ see_at-requires g c =
     let long = looks.counts.count in
     let most = c.requires.most in
     let within = c.loop-at-test.true in
-    let up = still_open g.D.Disk.Tells g.D.Disk.files g.D.Piece.Piece.Tells g.D.Disk.fault_count g.D.Disk.fuse_count c.args.replicas.now c.loop-at.replicas c.args.rows.now c.loop-at.rows looks c.requires.«open» in
-    let can = still_reached g.D.Disk.Tells g.D.Disk.files g.D.Piece.Piece.Tells g.D.Disk.fault_count g.D.Disk.fuse_count c.args.replicas.now c.loop-at.replicas c.args.rows.now c.loop-at.rows looks c.requires.reach in record {
+    let up =
+    still_open g.D.Disk.Tells g.D.Disk.files g.D.Piece.Piece.Tells g.D.Disk.fault_count g.D.Disk.fuse_count c.args.replicas.now c.loop-at.replicas c.args.rows.now
+    c.loop-at.rows looks c.requires.«open» in
+    let can =
+    still_reached g.D.Disk.Tells g.D.Disk.files g.D.Piece.Piece.Tells g.D.Disk.fault_count g.D.Disk.fuse_count c.args.replicas.now c.loop-at.replicas c.args.rows.now
+    c.loop-at.rows looks c.requires.reach in record {
       within = (let less : c.loop-at.at < length c.loop-at.replicas = omega (arith, within, long) in less);
       most = (let few : length c.loop-at.replicas ≤ 4 = omega (arith, most, long) in few);
       width = looks.width ∙ c.requires.width ∙ sym long;
@@ -47,7 +51,8 @@ returns-in-Some-clause-looks g c =
     let faults = g.D.Disk.fault_count in
     let one = c.see_at.ensures.one in
     let sights = c.see_at.ensures.sights one.before one.after one.was (one_after c.loop-at.at c.loop-at.replicas c.see_at.new.replicas one) in
-    (looks_on T files g.D.Piece.Piece.Tells faults g.D.Disk.fuse_count c.args.replicas.now c.loop-at.replicas c.args.rows.now c.loop-at.rows c.loop-at.invariant.looks c.see_at.new.replicas c.see_at.new.rows c.loop-at.at c.args.pair c.see_at.result one sights c.see_at.ensures.row c.see_at.ensures.counts).each
+    (looks_on T files g.D.Piece.Piece.Tells faults g.D.Disk.fuse_count c.args.replicas.now c.loop-at.replicas c.args.rows.now c.loop-at.rows c.loop-at.invariant.looks
+    c.see_at.new.replicas c.see_at.new.rows c.loop-at.at c.args.pair c.see_at.result one sights c.see_at.ensures.row c.see_at.ensures.counts).each
 
 pub returns-in-Some-clause-counts : goal.returns-in-Some-clause-counts
 returns-in-Some-clause-counts g c =
@@ -56,7 +61,8 @@ returns-in-Some-clause-counts g c =
     let faults = g.D.Disk.fault_count in
     let one = c.see_at.ensures.one in
     let sights = c.see_at.ensures.sights one.before one.after one.was (one_after c.loop-at.at c.loop-at.replicas c.see_at.new.replicas one) in
-    (looks_on T files g.D.Piece.Piece.Tells faults g.D.Disk.fuse_count c.args.replicas.now c.loop-at.replicas c.args.rows.now c.loop-at.rows c.loop-at.invariant.looks c.see_at.new.replicas c.see_at.new.rows c.loop-at.at c.args.pair c.see_at.result one sights c.see_at.ensures.row c.see_at.ensures.counts).counts
+    (looks_on T files g.D.Piece.Piece.Tells faults g.D.Disk.fuse_count c.args.replicas.now c.loop-at.replicas c.args.rows.now c.loop-at.rows c.loop-at.invariant.looks
+    c.see_at.new.replicas c.see_at.new.rows c.loop-at.at c.args.pair c.see_at.result one sights c.see_at.ensures.row c.see_at.ensures.counts).counts
 
 pub returns-in-Some-clause-refused : goal.returns-in-Some-clause-refused
 returns-in-Some-clause-refused g c =
@@ -65,9 +71,13 @@ returns-in-Some-clause-refused g c =
     let faults = g.D.Disk.fault_count in
     let one = c.see_at.ensures.one in
     let sights = c.see_at.ensures.sights one.before one.after one.was (one_after c.loop-at.at c.loop-at.replicas c.see_at.new.replicas one) in
-    let cause : IsSightFault (faults one.before.disk) (faults one.after.disk) c.in-Err.fault = subst (λ x. IfErr x (IsSightFault (faults one.before.disk) (faults one.after.disk))) c.in-Err.is sights.cause in
-    let is = subst (λ x. MatchOption x ((k : ℕ) × (c.in-Err.fault ≡ ReplicaFault.Damaged k)) (IsLookFault (faults one.before.disk) (faults one.after.disk))) c.in-Some.is (c.ending_fault.ensures.cause (faults one.before.disk) (faults one.after.disk) cause) in
-    unseen T files g.D.Piece.Piece.Tells faults g.D.Disk.fuse_count c.args.replicas.now c.loop-at.replicas c.args.rows.now c.loop-at.rows c.loop-at.invariant.looks c.see_at.new.replicas c.see_at.new.rows c.loop-at.at c.args.pair c.see_at.result one sights c.see_at.ensures.row c.see_at.ensures.counts c.in-Some.fault is
+    let cause : IsSightFault (faults one.before.disk) (faults one.after.disk) c.in-Err.fault =
+    subst (λ x. IfErr x (IsSightFault (faults one.before.disk) (faults one.after.disk))) c.in-Err.is sights.cause in
+    let is =
+    subst (λ x. MatchOption x ((k : ℕ) × (c.in-Err.fault ≡ ReplicaFault.Damaged k)) (IsLookFault (faults one.before.disk) (faults one.after.disk))) c.in-Some.is
+    (c.ending_fault.ensures.cause (faults one.before.disk) (faults one.after.disk) cause) in
+    unseen T files g.D.Piece.Piece.Tells faults g.D.Disk.fuse_count c.args.replicas.now c.loop-at.replicas c.args.rows.now c.loop-at.rows c.loop-at.invariant.looks
+    c.see_at.new.replicas c.see_at.new.rows c.loop-at.at c.args.pair c.see_at.result one sights c.see_at.ensures.row c.see_at.ensures.counts c.in-Some.fault is
 
 pub loop-at-preserved : goal.loop-at-preserved
 loop-at-preserved g c =
@@ -79,19 +89,28 @@ loop-at-preserved g c =
     let only : (f : ReplicaFault) → c.see_at.result ≡ Err f → (k : ℕ) × (f ≡ ReplicaFault.Damaged k) =
     (λ f e. elim c.match-see_at.branch [
       | in-Err+in_default-ending_fault w ↦
-          let cause : IsSightFault (faults one.before.disk) (faults one.after.disk) w.in-Err.fault = subst (λ x. IfErr x (IsSightFault (faults one.before.disk) (faults one.after.disk))) w.in-Err.is sights.cause in
+          let cause : IsSightFault (faults one.before.disk) (faults one.after.disk) w.in-Err.fault =
+          subst (λ x. IfErr x (IsSightFault (faults one.before.disk) (faults one.after.disk))) w.in-Err.is sights.cause in
           let damaged = w.in_default-ending_fault.ensures.cause (faults one.before.disk) (faults one.after.disk) cause in
           let same : f ≡ w.in-Err.fault = let both = sym e ∙ w.in-Err.is in cc in
           (damaged.0, same ∙ damaged.1)
       | in_default w ↦ absurd (w.in_default.not-Err f e)
     ]) in
     record {
-      looks = looks_on T files g.D.Piece.Piece.Tells faults g.D.Disk.fuse_count c.args.replicas.now c.loop-at.replicas c.args.rows.now c.loop-at.rows c.loop-at.invariant.looks c.see_at.new.replicas c.see_at.new.rows c.loop-at.at c.args.pair c.see_at.result one sights c.see_at.ensures.row c.see_at.ensures.counts;
+      looks =
+          looks_on T files g.D.Piece.Piece.Tells faults g.D.Disk.fuse_count c.args.replicas.now c.loop-at.replicas c.args.rows.now c.loop-at.rows c.loop-at.invariant.looks
+          c.see_at.new.replicas c.see_at.new.rows c.loop-at.at c.args.pair c.see_at.result one sights c.see_at.ensures.row c.see_at.ensures.counts;
       drawn = λ tells.
-          draws_one g.D.Disk.drawn c.args.pair c.args.rows.now c.loop-at.at c.args.replicas.now c.loop-at.replicas c.see_at.new.replicas c.loop-at.rows c.see_at.new.rows c.see_at.result (c.loop-at.invariant.drawn tells) one c.see_at.ensures.row
+          draws_one g.D.Disk.drawn c.args.pair c.args.rows.now c.loop-at.at c.args.replicas.now c.loop-at.replicas c.see_at.new.replicas c.loop-at.rows c.see_at.new.rows
+          c.see_at.result (c.loop-at.invariant.drawn tells) one c.see_at.ensures.row
           (c.see_at.ensures.drawn tells one.before one.after one.was (one_after c.loop-at.at c.loop-at.replicas c.see_at.new.replicas one));
-      seen = λ tells. seen_on T files g.D.Piece.Piece.Tells faults g.D.Disk.fuse_count c.args.replicas.now c.loop-at.replicas c.args.rows.now c.loop-at.rows c.loop-at.invariant.looks c.see_at.new.replicas c.see_at.new.rows c.loop-at.at c.args.pair c.see_at.result one sights c.see_at.ensures.row c.see_at.ensures.counts tells only (c.loop-at.invariant.seen tells);
-      told = λ tells. told_on T files g.D.Piece.Piece.Tells faults g.D.Disk.fuse_count c.args.replicas.now c.loop-at.replicas c.args.rows.now c.loop-at.rows c.loop-at.invariant.looks c.see_at.new.replicas c.see_at.new.rows c.loop-at.at c.args.pair c.see_at.result one sights c.see_at.ensures.row c.see_at.ensures.counts tells only (c.see_at.ensures.told tells) (c.loop-at.invariant.told tells);
+      seen =
+          λ tells. seen_on T files g.D.Piece.Piece.Tells faults g.D.Disk.fuse_count c.args.replicas.now c.loop-at.replicas c.args.rows.now c.loop-at.rows c.loop-at.invariant.looks
+          c.see_at.new.replicas c.see_at.new.rows c.loop-at.at c.args.pair c.see_at.result one sights c.see_at.ensures.row c.see_at.ensures.counts tells only (c.loop-at.invariant.seen tells);
+      told =
+          λ tells. told_on T files g.D.Piece.Piece.Tells faults g.D.Disk.fuse_count c.args.replicas.now c.loop-at.replicas c.args.rows.now c.loop-at.rows c.loop-at.invariant.looks
+          c.see_at.new.replicas c.see_at.new.rows c.loop-at.at c.args.pair c.see_at.result one sights c.see_at.ensures.row c.see_at.ensures.counts tells only
+          (c.see_at.ensures.told tells) (c.loop-at.invariant.told tells);
     }
 
 pub returns-clause-looks : goal.returns-clause-looks
@@ -111,7 +130,8 @@ pub returns-in-Some-clause-drawn : goal.returns-in-Some-clause-drawn
 returns-in-Some-clause-drawn g c = λ tells.
     let one = c.see_at.ensures.one in
     draws_each g.D.Disk.drawn c.args.pair c.args.rows.now (c.loop-at.at + 1) c.args.replicas.now c.see_at.new.replicas c.see_at.new.rows
-    (draws_one g.D.Disk.drawn c.args.pair c.args.rows.now c.loop-at.at c.args.replicas.now c.loop-at.replicas c.see_at.new.replicas c.loop-at.rows c.see_at.new.rows c.see_at.result (c.loop-at.invariant.drawn tells) one c.see_at.ensures.row
+    (draws_one g.D.Disk.drawn c.args.pair c.args.rows.now c.loop-at.at c.args.replicas.now c.loop-at.replicas c.see_at.new.replicas c.loop-at.rows c.see_at.new.rows c.see_at.result
+    (c.loop-at.invariant.drawn tells) one c.see_at.ensures.row
     (c.see_at.ensures.drawn tells one.before one.after one.was (one_after c.loop-at.at c.loop-at.replicas c.see_at.new.replicas one)))
 
 pub returns-clause-drawn : goal.returns-clause-drawn

@@ -11,10 +11,16 @@ loop-arm-init g c = record { gives = gives-none _ _ _; others = refl; counted = 
 pub loop-arm-preserved : goal.loop-arm-preserved
 loop-arm-preserved g c =
     let held = g.H.Shelf.arms c.give_arm.new.self in
-    let given : (IsGivenArm g.H.Arm.Arm.fault_count g.H.Arm.Arm.is_sure) (held c.len.result) c.in-Some.arm = record { fault_count = c.give_arm.ensures.faults; is_sure = c.give_arm.ensures.sure; back = c.give_arm.ensures.back } in
+    let given : (IsGivenArm g.H.Arm.Arm.fault_count g.H.Arm.Arm.is_sure) (held c.len.result) c.in-Some.arm = record {
+      fault_count = c.give_arm.ensures.faults;
+      is_sure = c.give_arm.ensures.sure;
+      back = c.give_arm.ensures.back;
+    } in
     let at : c.len.result ≡ length c.pop.new.self.items = c.len.ensures ∙ c.pop.new.self.ok.0 in
     record {
-      gives = gives-one (IsGivenArm g.H.Arm.Arm.fault_count g.H.Arm.Arm.is_sure) c.args.arms.items c.loop-arm.arms.items c.pop.new.self.items c.in-Some.arm (g.H.Shelf.arms c.args.shelf.now) (g.H.Shelf.arms c.loop-arm.shelf) held
+      gives =
+          gives-one (IsGivenArm g.H.Arm.Arm.fault_count g.H.Arm.Arm.is_sure) c.args.arms.items c.loop-arm.arms.items c.pop.new.self.items c.in-Some.arm
+          (g.H.Shelf.arms c.args.shelf.now) (g.H.Shelf.arms c.loop-arm.shelf) held
           (c.in-Some.ensures).items c.loop-arm.invariant.gives
           (let Q : ℕ → Type 0 = λ n. (IsGivenArm g.H.Arm.Arm.fault_count g.H.Arm.Arm.is_sure) (held n) c.in-Some.arm in subst Q at given)
           (let Q : ℕ → Type 0 = λ n. KeepsOthers n (g.H.Shelf.arms c.loop-arm.shelf) held in subst Q at c.give_arm.ensures.others);

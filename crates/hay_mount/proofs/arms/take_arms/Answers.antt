@@ -10,7 +10,8 @@ pub returns-in-Err-Failed-clause-put_back : goal.returns-in-Err-Failed-clause-pu
 returns-in-Err-Failed-clause-put_back g c =
     let loop = c.loop-lane.invariant in
     let same : g.H.Shelf.arms c.take_arm.new.self ≡ g.H.Shelf.arms c.loop-lane.shelf = c.in-Err-Failed.ensures.refused refl in
-    arms_back g.H.Arm.Arm.fault_count g.H.Arm.Arm.is_sure c.args.lanes c.loop-lane.arms.items (g.H.Shelf.arms c.args.shelf.now) (g.H.Shelf.arms c.loop-lane.shelf) (g.H.Shelf.arms c.give_arms.new.shelf)
+    arms_back g.H.Arm.Arm.fault_count g.H.Arm.Arm.is_sure c.args.lanes c.loop-lane.arms.items (g.H.Shelf.arms c.args.shelf.now) (g.H.Shelf.arms c.loop-lane.shelf)
+    (g.H.Shelf.arms c.give_arms.new.shelf)
     c.requires.arms_in loop.taken (λ number high. loop.rest number (omega (arith, loop.count)))
     c.give_arms.ensures.given (λ number high. c.give_arms.ensures.others number high ∙ ap (λ (held : ℕ → HeldArm). held number) same)
 
@@ -18,7 +19,8 @@ pub returns-in-Err-NoMemory-clause-put_back : goal.returns-in-Err-NoMemory-claus
 returns-in-Err-NoMemory-clause-put_back g c =
     let loop = c.loop-lane.invariant in
     let same : g.H.Shelf.arms c.take_arm.new.self ≡ g.H.Shelf.arms c.loop-lane.shelf = c.in-Err-NoMemory.ensures.refused refl in
-    arms_back g.H.Arm.Arm.fault_count g.H.Arm.Arm.is_sure c.args.lanes c.loop-lane.arms.items (g.H.Shelf.arms c.args.shelf.now) (g.H.Shelf.arms c.loop-lane.shelf) (g.H.Shelf.arms c.give_arms-in-Err-NoMemory.new.shelf)
+    arms_back g.H.Arm.Arm.fault_count g.H.Arm.Arm.is_sure c.args.lanes c.loop-lane.arms.items (g.H.Shelf.arms c.args.shelf.now) (g.H.Shelf.arms c.loop-lane.shelf)
+    (g.H.Shelf.arms c.give_arms-in-Err-NoMemory.new.shelf)
     c.requires.arms_in loop.taken (λ number high. loop.rest number (omega (arith, loop.count)))
     c.give_arms-in-Err-NoMemory.ensures.given (λ number high. c.give_arms-in-Err-NoMemory.ensures.others number high ∙ ap (λ (held : ℕ → HeldArm). held number) same)
 

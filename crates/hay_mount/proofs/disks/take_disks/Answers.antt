@@ -10,7 +10,8 @@ pub returns-in-Err-Failed-clause-put_back : goal.returns-in-Err-Failed-clause-pu
 returns-in-Err-Failed-clause-put_back g c =
     let loop = c.loop-slot.invariant in
     let same : g.H.Shelf.disks c.take_disk.new.self ≡ g.H.Shelf.disks c.loop-slot.shelf = c.in-Err-Failed.ensures.refused refl in
-    disks_back g.H.Disk.Disk.Tells g.H.Disk.Disk.files g.H.Disk.Disk.drawn g.H.Disk.Disk.fault_count g.H.Disk.Disk.fuse_count c.args.slots c.loop-slot.disks.items (g.H.Shelf.disks c.args.shelf.now) (g.H.Shelf.disks c.loop-slot.shelf) (g.H.Shelf.disks c.give_disks.new.shelf)
+    disks_back g.H.Disk.Disk.Tells g.H.Disk.Disk.files g.H.Disk.Disk.drawn g.H.Disk.Disk.fault_count g.H.Disk.Disk.fuse_count c.args.slots c.loop-slot.disks.items
+    (g.H.Shelf.disks c.args.shelf.now) (g.H.Shelf.disks c.loop-slot.shelf) (g.H.Shelf.disks c.give_disks.new.shelf)
     c.requires.disks_in loop.taken (λ number high. loop.rest number (omega (arith, loop.count)))
     c.give_disks.ensures.given (λ number high. c.give_disks.ensures.others number high ∙ ap (λ (held : ℕ → HeldDisk). held number) same)
 
@@ -18,7 +19,8 @@ pub returns-in-Err-NoMemory-clause-put_back : goal.returns-in-Err-NoMemory-claus
 returns-in-Err-NoMemory-clause-put_back g c =
     let loop = c.loop-slot.invariant in
     let same : g.H.Shelf.disks c.take_disk.new.self ≡ g.H.Shelf.disks c.loop-slot.shelf = c.in-Err-NoMemory.ensures.refused refl in
-    disks_back g.H.Disk.Disk.Tells g.H.Disk.Disk.files g.H.Disk.Disk.drawn g.H.Disk.Disk.fault_count g.H.Disk.Disk.fuse_count c.args.slots c.loop-slot.disks.items (g.H.Shelf.disks c.args.shelf.now) (g.H.Shelf.disks c.loop-slot.shelf) (g.H.Shelf.disks c.give_disks-in-Err-NoMemory.new.shelf)
+    disks_back g.H.Disk.Disk.Tells g.H.Disk.Disk.files g.H.Disk.Disk.drawn g.H.Disk.Disk.fault_count g.H.Disk.Disk.fuse_count c.args.slots c.loop-slot.disks.items
+    (g.H.Shelf.disks c.args.shelf.now) (g.H.Shelf.disks c.loop-slot.shelf) (g.H.Shelf.disks c.give_disks-in-Err-NoMemory.new.shelf)
     c.requires.disks_in loop.taken (λ number high. loop.rest number (omega (arith, loop.count)))
     c.give_disks-in-Err-NoMemory.ensures.given (λ number high. c.give_disks-in-Err-NoMemory.ensures.others number high ∙ ap (λ (held : ℕ → HeldDisk). held number) same)
 
@@ -27,7 +29,8 @@ loop-slot-preserved g c =
     let loop = c.loop-slot.invariant in
     let old = g.H.Shelf.disks c.args.shelf.now in
     let same : g.H.Shelf.disks c.loop-slot.shelf c.loop-slot.slot ≡ old c.loop-slot.slot = loop.rest c.loop-slot.slot (omega arith) in
-    let P : ℕ → g.row.H-Disk.Denot → Type 0 = λ number disk. IsMountedDisk g.H.Disk.Disk.Tells g.H.Disk.Disk.files g.H.Disk.Disk.drawn g.H.Disk.Disk.fault_count g.H.Disk.Disk.fuse_count (old number) disk in
+    let P : ℕ → g.row.H-Disk.Denot → Type 0 =
+    λ number disk. IsMountedDisk g.H.Disk.Disk.Tells g.H.Disk.Disk.files g.H.Disk.Disk.drawn g.H.Disk.Disk.fault_count g.H.Disk.Disk.fuse_count (old number) disk in
     let taken : P c.loop-slot.slot c.in-Ok.disk = record {
       drawn_is = λ tells file. c.in-Ok.ensures.drawn tells file ∙ ap (λ (held : HeldDisk). held.drawn file) same;
       now = λ tells file. c.in-Ok.ensures.now tells file ∙ ap (λ (held : HeldDisk). (held.files file).now) same;

@@ -6,7 +6,9 @@ use Rattle.hay_mount.proofs.mounted.mount.Goals as goal
 
 pub returns-in-Ok-clause-disks : goal.returns-in-Ok-clause-disks
 returns-in-Ok-clause-disks g c =
-    let P : (ℕ → HeldDisk) → Type 0 = λ held. InOrder (λ slot disk. IsMountedDisk g.H.Disk.Disk.Tells g.H.Disk.Disk.files g.H.Disk.Disk.drawn g.H.Disk.Disk.fault_count g.H.Disk.Disk.fuse_count (held slot) disk) 0 c.in-Ok.disks.items in
+    let P : (ℕ → HeldDisk) → Type 0 =
+    λ held. InOrder (λ slot disk. IsMountedDisk g.H.Disk.Disk.Tells g.H.Disk.Disk.files g.H.Disk.Disk.drawn g.H.Disk.Disk.fault_count g.H.Disk.Disk.fuse_count (held slot) disk)
+    0 c.in-Ok.disks.items in
     subst P c.take_arms.ensures.slots c.in-Ok.ensures.disks
 
 pub returns-in-Err-clause-arms_back : goal.returns-in-Err-clause-arms_back

@@ -37,13 +37,27 @@ returns-in_err-check_last-clause-damaged g c = λ tells file at is.
     let f = g.D.Disk.files in
     let generation = r.head.generation in
     let fault = err_from_is_err_and c.from_residual-in_err-check_last.result c.from_residual-in_err-check_last.ensures.1 in
-    let last = c.in_err-check_last.ensures.damaged tells file at (ap (λ x. Err x) (same_refusal c.from_residual-in_err-check_last.result fault.0 c.in_err-check_last.field-0.0 file at fault.1 fault.2 is)) in
+    let last =
+    c.in_err-check_last.ensures.damaged tells file at (ap (λ x. Err x) (same_refusal c.from_residual-in_err-check_last.result fault.0 c.in_err-check_last.field-0.0 file at fault.1 fault.2 is)) in
     let read = c.in_ok-head.ensures.is tells in
     let rows : c.as_slice.result.now ≡ r.records.items = c.as_slice.ensures.value in
     let count : last.0 + 1 ≡ length r.records.items = last.2 ∙ ap (λ (l : List Record). length l) rows in
     let row : slice_get r.records.items last.0 ≡ Some last.1 = ap (λ (l : List Record). slice_get l last.0) (sym rows) ∙ last.3 in
-    let misfit = misfit_there (f c.args.disk.now) (f c.read_recorded.new.disk) c.volume_file-volume.result (volume_file generation) r.index.file _ last.0 file at last.1 (c.read_recorded.ensures.same tells) (c.volume_file-volume.ensures read.head.most) (c.in_ok-head.ensures.number) last.4 in
-    inr (generation, r.records.items, r.index.end, read, inl (last.0, count, misfit_is c.args.sup.now (λ n. (f c.args.disk.now n).now) generation r.records.items r.index.end last.0 file at last.1 read row misfit))
+    let misfit =
+    misfit_there (f c.args.disk.now) (f c.read_recorded.new.disk) c.volume_file-volume.result (volume_file generation) r.index.file _ last.0 file at last.1
+    (c.read_recorded.ensures.same tells) (c.volume_file-volume.ensures read.head.most) (c.in_ok-head.ensures.number) last.4 in
+    inr (
+      generation,
+      r.records.items,
+      r.index.end,
+      read,
+      inl (
+        last.0,
+        count,
+        misfit_is c.args.sup.now (λ n. (f c.args.disk.now n).now) generation r.records.items r.index.end last.0
+            file at last.1 read row misfit,
+      ),
+    )
 
 pub returns-in_err-check_last-clause-only : goal.returns-in_err-check_last-clause-only
 returns-in_err-check_last-clause-only g c = λ tells s stored file at is.
@@ -52,19 +66,25 @@ returns-in_err-check_last-clause-only g c = λ tells s stored file at is.
     let generation = r.head.generation in
     let fits = g.met.D.Disk.fits in
     let fault = err_from_is_err_and c.from_residual-in_err-check_last.result c.from_residual-in_err-check_last.ensures.1 in
-    let last = c.in_err-check_last.ensures.damaged tells file at (ap (λ x. Err x) (same_refusal c.from_residual-in_err-check_last.result fault.0 c.in_err-check_last.field-0.0 file at fault.1 fault.2 is)) in
+    let last =
+    c.in_err-check_last.ensures.damaged tells file at (ap (λ x. Err x) (same_refusal c.from_residual-in_err-check_last.result fault.0 c.in_err-check_last.field-0.0 file at fault.1 fault.2 is)) in
     let read = c.in_ok-head.ensures.is tells in
     let rows : c.as_slice.result.now ≡ r.records.items = c.as_slice.ensures.value in
     let row : slice_get r.records.items last.0 ≡ Some last.1 = ap (λ (l : List Record). slice_get l last.0) (sym rows) ∙ last.3 in
-    let misfit = misfit_there (f c.args.disk.now) (f c.read_recorded.new.disk) c.volume_file-volume.result (volume_file generation) r.index.file _ last.0 file at last.1 (c.read_recorded.ensures.same tells) (c.volume_file-volume.ensures read.head.most) (c.in_ok-head.ensures.number) last.4 in
+    let misfit =
+    misfit_there (f c.args.disk.now) (f c.read_recorded.new.disk) c.volume_file-volume.result (volume_file generation) r.index.file _ last.0 file at last.1
+    (c.read_recorded.ensures.same tells) (c.volume_file-volume.ensures read.head.most) (c.in_ok-head.ensures.number) last.4 in
     let same = stored_same c.args.sup.now (λ n. (f c.args.disk.now n).now) generation r.index.end r.records.items s (λ n. fits c.args.disk.now n tells) read stored in
-    fits_is_no_misfit (λ n. (f c.args.disk.now n).now) (volume_file generation) _ last.0 file at last.1 (stored_fits c.args.sup.now (λ n. (f c.args.disk.now n).now) generation last.0 r.records.items last.1 s stored same row) misfit
+    fits_is_no_misfit (λ n. (f c.args.disk.now n).now) (volume_file generation) _ last.0 file at last.1
+    (stored_fits c.args.sup.now (λ n. (f c.args.disk.now n).now) generation last.0 r.records.items last.1 s stored same row) misfit
 
-last_fits : (g : _) (c : goal.After-drop-index-in_err-orphans g) → (tells : g.D.Disk.Tells) → LastFits c.in_ok-head.field-0.records.items (g.D.Disk.files c.args.disk.now (volume_file c.in_ok-head.field-0.head.generation)).now
+last_fits : (g : _) (c : goal.After-drop-index-in_err-orphans g) → (tells : g.D.Disk.Tells)
+    → LastFits c.in_ok-head.field-0.records.items (g.D.Disk.files c.args.disk.now (volume_file c.in_ok-head.field-0.head.generation)).now
 last_fits g c tells =
     let r = c.in_ok-head.field-0 in
     let read = c.in_ok-head.ensures.is tells in
-    there (λ l. LastFits r.records.items l) (g.D.Disk.files c.args.disk.now) (g.D.Disk.files c.read_recorded.new.disk) c.volume_file-volume.result (volume_file r.head.generation) (c.read_recorded.ensures.same tells) (c.volume_file-volume.ensures read.head.most)
+    there (λ l. LastFits r.records.items l) (g.D.Disk.files c.args.disk.now) (g.D.Disk.files c.read_recorded.new.disk) c.volume_file-volume.result (volume_file r.head.generation)
+    (c.read_recorded.ensures.same tells) (c.volume_file-volume.ensures read.head.most)
     (subst (λ (rows : List Record). LastFits rows (g.D.Disk.files c.read_recorded.new.disk c.volume_file-volume.result).now) c.as_slice.ensures.value (c.in_ok-check_last.ensures.fits tells))
 
 pub returns-in_err-orphans-clause-damaged : goal.returns-in_err-orphans-clause-damaged
@@ -77,7 +97,9 @@ returns-in_err-orphans-clause-damaged g c = λ tells file at is.
     let read = c.in_ok-head.ensures.is tells in
     let start : c.scan_start.result ≡ scan_start r.records.items = c.scan_start.ensures.is ∙ ap (λ (l : List Record). scan_start l) c.as_slice-2.ensures.value in
     let number = c.volume_file-volume.ensures read.head.most in
-    let here = there (λ l. IsDamagedCell c.scan_start.result l at) (f c.args.disk.now) (f c.check_last.new.disk) c.volume_file-volume.result (volume_file generation) (c.check_last.ensures.same tells ∙ c.read_recorded.ensures.same tells) number damage.1 in
+    let here =
+    there (λ l. IsDamagedCell c.scan_start.result l at) (f c.args.disk.now) (f c.check_last.new.disk) c.volume_file-volume.result (volume_file generation)
+    (c.check_last.ensures.same tells ∙ c.read_recorded.ensures.same tells) number damage.1 in
     inr (generation, r.records.items, r.index.end, read, inr (last_fits g c tells, damage.0 ∙ number, subst (λ n. IsDamagedCell n (f c.args.disk.now (volume_file generation)).now at) start here))
 
 pub returns-in_err-orphans-clause-only : goal.returns-in_err-orphans-clause-only
@@ -93,7 +115,9 @@ returns-in_err-orphans-clause-only g c = λ tells s stored file at is.
     let start : c.scan_start.result ≡ scan_start r.records.items = c.scan_start.ensures.is ∙ ap (λ (l : List Record). scan_start l) c.as_slice-2.ensures.value in
     let same = stored_same c.args.sup.now (λ n. (f c.args.disk.now n).now) generation r.index.end r.records.items s (λ n. fits c.args.disk.now n tells) read stored in
     let behind = stored_behind c.args.sup.now (λ n. (f c.args.disk.now n).now) generation r.records.items s stored same in
-    let here = there (λ l. IsDamagedCell c.scan_start.result l at) (f c.args.disk.now) (f c.check_last.new.disk) c.volume_file-volume.result (volume_file generation) (c.check_last.ensures.same tells ∙ c.read_recorded.ensures.same tells) number damage.1 in
+    let here =
+    there (λ l. IsDamagedCell c.scan_start.result l at) (f c.args.disk.now) (f c.check_last.new.disk) c.volume_file-volume.result (volume_file generation)
+    (c.check_last.ensures.same tells ∙ c.read_recorded.ensures.same tells) number damage.1 in
     scan_whole c.scan_start.result s.end at (f c.args.disk.now (volume_file generation)).now r.records.items _ (fits c.args.disk.now (volume_file generation) tells) start behind.0 behind.1 here
 
 pub returns-clause-listing : goal.returns-clause-listing
@@ -109,8 +133,11 @@ returns-clause-listing g c = λ tells.
     let scan = c.in_ok-orphans.ensures.cells tells in
     let last = there (λ l. LastFits r.records.items l) (f c.args.disk.now) (f c.read_recorded.new.disk) c.volume_file-volume.result (volume_file generation) (c.read_recorded.ensures.same tells) number
     (subst (λ (rows : List Record). LastFits rows (f c.read_recorded.new.disk c.volume_file-volume.result).now) c.as_slice.ensures.value (c.in_ok-check_last.ensures.fits tells)) in
-    let has = there (λ l. HasCells c.scan_start.result l scan.0 c.in_ok-orphans.end) (f c.args.disk.now) (f c.check_last.new.disk) c.volume_file-volume.result (volume_file generation) same number scan.1 in
-    let closed = there (λ l. IsClosed needle_magic c.in_ok-orphans.end l) (f c.args.disk.now) (f c.check_last.new.disk) c.volume_file-volume.result (volume_file generation) same number (c.in_ok-orphans.ensures.mark tells) in
+    let has =
+    there (λ l. HasCells c.scan_start.result l scan.0 c.in_ok-orphans.end) (f c.args.disk.now) (f c.check_last.new.disk) c.volume_file-volume.result (volume_file generation) same number scan.1 in
+    let closed =
+    there (λ l. IsClosed needle_magic c.in_ok-orphans.end l) (f c.args.disk.now) (f c.check_last.new.disk) c.volume_file-volume.result (volume_file generation) same number
+    (c.in_ok-orphans.ensures.mark tells) in
     let noted = c.in_ok-note_orphans.ensures.noted in
     let rows_of : map head_record c.as_slice-3.result.now ≡ map cell_record scan.0 = ap (λ (l : List CellHead). map head_record l) (c.as_slice-3.ensures.value ∙ scan.2) ∙ map_heads scan.0 in
     let none : r.index.pending ≡ [] = ap (λ (i : IndexFile). i.pending) c.in_ok-head.ensures.index in
@@ -118,7 +145,9 @@ returns-clause-listing g c = λ tells.
       records = r.records.items;
       orphans = scan.0;
       is = subst (λ n. IsRecorded c.args.sup.now (λ n. (f c.args.disk.now n).now) generation r.records.items n) (sym (ap (λ (i : IndexFile). i.end) noted)) read;
-      behind = orphans_found c.scan_start.result c.in_ok-orphans.end (f c.args.disk.now (volume_file generation)).now r.records.items scan.0 (fits c.args.disk.now (volume_file generation) tells) start last has closed;
+      behind =
+          orphans_found c.scan_start.result c.in_ok-orphans.end (f c.args.disk.now (volume_file generation)).now r.records.items scan.0
+          (fits c.args.disk.now (volume_file generation) tells) start last has closed;
       volume_number = number;
       index_number = ap (λ (i : IndexFile). i.file) noted ∙ c.in_ok-head.ensures.number;
       noted = ap (λ (i : IndexFile). i.pending) noted ∙ ap (λ (l : List Record). l ++ map head_record c.as_slice-3.result.now) none ∙ rows_of;
@@ -142,12 +171,14 @@ returns-clause-drawn g c = λ tells.
     let noted = c.in_ok-note_orphans.ensures.noted in
     let none : r.index.pending ≡ [] = ap (λ (i : IndexFile). i.pending) c.in_ok-head.ensures.index in
     let rows_of : map head_record c.as_slice-3.result.now ≡ map cell_record scan.0 = ap (λ (l : List CellHead). map head_record l) (c.as_slice-3.ensures.value ∙ scan.2) ∙ map_heads scan.0 in
-    let pending : c.note_orphans.new.index.pending ≡ map cell_record scan.0 = ap (λ (i : IndexFile). i.pending) noted ∙ ap (λ (l : List Record). l ++ map head_record c.as_slice-3.result.now) none ∙ rows_of in
+    let pending : c.note_orphans.new.index.pending ≡ map cell_record scan.0 =
+    ap (λ (i : IndexFile). i.pending) noted ∙ ap (λ (l : List Record). l ++ map head_record c.as_slice-3.result.now) none ∙ rows_of in
     let end : c.in_ok-orphans.end ≡ c.scan_start.result + sum_by (λ (x : Record). needle_total x.size) (map cell_record scan.0) =
     sym (has_end c.scan_start.result c.in_ok-orphans.end _ scan.0 scan.1) ∙ behind_sum c.scan_start.result (map cell_record scan.0) in
     let last = c.in_ok-check_last.ensures.drawn tells in
     let more = c.in_ok-orphans.ensures.drawn tells in
-    subst (λ (l : List Record). drawn c.scan.new.disk c.volume_file-volume.result ≤ drawn c.args.disk.now c.volume_file-volume.result + drawn_most l) (sym pending) (omega (arith, front, last, more, end))
+    subst (λ (l : List Record). drawn c.scan.new.disk c.volume_file-volume.result ≤ drawn c.args.disk.now c.volume_file-volume.result + drawn_most l) (sym pending)
+    (omega (arith, front, last, more, end))
 
 pub returns-clause-row : goal.returns-clause-row
 returns-clause-row g c =

@@ -37,7 +37,8 @@ returns-in_err-listing-clause-only g c = λ tells s stored file at is.
 pub open_cells-requires-clause-holds : goal.open_cells-requires-clause-holds
 open_cells-requires-clause-holds g c = λ tells.
     let listing = c.in_ok-listing.listing in
-    subst (λ (fs : Files). HoldsRows (fs listing.volume).now listing) (sym (c.read_listing.ensures.same tells)) (listing_holds c.args.sup.now (λ n. (g.D.Disk.files c.args.disk.now n).now) listing (c.in_ok-listing.ensures.listing tells))
+    subst (λ (fs : Files). HoldsRows (fs listing.volume).now listing) (sym (c.read_listing.ensures.same tells))
+    (listing_holds c.args.sup.now (λ n. (g.D.Disk.files c.args.disk.now n).now) listing (c.in_ok-listing.ensures.listing tells))
 
 pub returns-in_err-cells-clause-damaged : goal.returns-in_err-cells-clause-damaged
 returns-in_err-cells-clause-damaged g c = λ tells file at is.
@@ -57,14 +58,17 @@ returns-clause-places g c = λ tells s stored.
     let contents : ℕ → List ℕ = λ n. (f c.args.disk.now n).now in
     let made = c.in_ok-listing.ensures.listing tells in
     let lists = lists_stored c.args.sup.now contents listing s (λ n. fits c.args.disk.now n tells) made stored in
-    c.in_ok-cells.ensures.places tells s.cells (subst (λ (fs : Files). ListsCells (fs listing.volume).now listing s.cells) (sym (c.read_listing.ensures.same tells)) (lists_cells c.args.sup.now contents listing s made stored lists))
+    c.in_ok-cells.ensures.places tells s.cells (subst (λ (fs : Files). ListsCells (fs listing.volume).now listing s.cells) (sym (c.read_listing.ensures.same tells))
+    (lists_cells c.args.sup.now contents listing s made stored lists))
 
 pub returns-clause-ready : goal.returns-clause-ready
 returns-clause-ready g c = λ tells.
     let listing = c.in_ok-listing.listing in
     let f = g.D.Disk.files in
     let made = c.in_ok-listing.ensures.listing tells in
-    let gives = subst (λ (fs : Files). GivesPieces listing.volume listing.rows.items (place_behind 64 listing.rows.items) fs (f c.open_cells.new.disk)) (c.read_listing.ensures.same tells) (c.open_cells.ensures.pieces tells) in
+    let gives =
+    subst (λ (fs : Files). GivesPieces listing.volume listing.rows.items (place_behind 64 listing.rows.items) fs (f c.open_cells.new.disk)) (c.read_listing.ensures.same tells)
+    (c.open_cells.ensures.pieces tells) in
     let solid = c.requires.solid tells in
     let free = c.requires.free tells in
     let volume = ready_volume c.args.sup.now (f c.args.disk.now) (f c.open_cells.new.disk) listing made (solid listing.volume) (free listing.volume) gives in
@@ -85,7 +89,9 @@ returns-clause-opened g c = λ tells s stored.
     let contents : ℕ → List ℕ = λ n. (f c.args.disk.now n).now in
     let made = c.in_ok-listing.ensures.listing tells in
     let lists = lists_stored sup contents listing s (λ n. fits c.args.disk.now n tells) made stored in
-    let gives = subst (λ (fs : Files). GivesPieces listing.volume listing.rows.items (place_behind 64 listing.rows.items) fs (f c.open_cells.new.disk)) (c.read_listing.ensures.same tells) (c.open_cells.ensures.pieces tells) in
+    let gives =
+    subst (λ (fs : Files). GivesPieces listing.volume listing.rows.items (place_behind 64 listing.rows.items) fs (f c.open_cells.new.disk)) (c.read_listing.ensures.same tells)
+    (c.open_cells.ensures.pieces tells) in
     let solid = c.requires.solid tells in
     let free = c.requires.free tells in
     let number : listing.volume ≡ volume_file s.generation = made.volume_number ∙ ap volume_file (sym lists.generation) in
@@ -122,8 +128,11 @@ returns-clause-whole g c = λ tells.
           let contents : ℕ → List ℕ = λ n. (f c.args.disk.now n).now in
           let first : take listing.recorded listing.rows.items ≡ made.records =
           ap (λ n. take n listing.rows.items) made.recorded ∙ ap (λ (l : List Record). take (length made.records) l) made.rows ∙ take-append_seam made.records (map cell_record made.orphans) in
-          let has = there (λ l. HasCells (place_behind 64 made.records) l made.orphans listing.end) (f c.read_listing.new.disk) (f c.args.disk.now) (volume_file listing.head.generation) listing.volume (sym (c.read_listing.ensures.same tells)) (sym made.volume_number) made.behind.has in
-          subst (λ (l : List Record). AreCellsOf g.D.Piece.Piece.Tells l made.orphans c.in_ok-cells.cells.items) first (c.in_ok-cells.ensures.seen tells made.orphans (place_behind 64 made.records) listing.end has made.heads);
+          let has =
+          there (λ l. HasCells (place_behind 64 made.records) l made.orphans listing.end) (f c.read_listing.new.disk) (f c.args.disk.now) (volume_file listing.head.generation)
+          listing.volume (sym (c.read_listing.ensures.same tells)) (sym made.volume_number) made.behind.has in
+          subst (λ (l : List Record). AreCellsOf g.D.Piece.Piece.Tells l made.orphans c.in_ok-cells.cells.items) first
+          (c.in_ok-cells.ensures.seen tells made.orphans (place_behind 64 made.records) listing.end has made.heads);
     }
 
 pub returns-clause-flags : goal.returns-clause-flags
@@ -133,10 +142,13 @@ returns-clause-flags g c = λ tells.
     let contents : ℕ → List ℕ = λ n. (f c.args.disk.now n).now in
     let made = c.in_ok-listing.ensures.listing tells in
     let holds = listing_holds c.args.sup.now contents listing made in
-    let gives = subst (λ (fs : Files). GivesPieces listing.volume listing.rows.items (place_behind 64 listing.rows.items) fs (f c.open_cells.new.disk)) (c.read_listing.ensures.same tells) (c.open_cells.ensures.pieces tells) in
+    let gives =
+    subst (λ (fs : Files). GivesPieces listing.volume listing.rows.items (place_behind 64 listing.rows.items) fs (f c.open_cells.new.disk)) (c.read_listing.ensures.same tells)
+    (c.open_cells.ensures.pieces tells) in
     let flags = gives.flags (all_free listing.rows.items (f c.args.disk.now listing.volume) (c.requires.free tells listing.volume)) in
     subst (λ (v : VolumeFile). AllByRecursion (λ cell. MayFlagPlace (f c.open_cells.new.disk v.file) v.end cell.place) c.in_ok-cells.cells.items) (sym c.adopt.ensures)
-    (flag_each listing.rows.items (f c.open_cells.new.disk listing.volume) listing.end c.in_ok-cells.cells.items holds.row (omega (arith, rows_end c.args.sup.now contents listing made)) flags c.in_ok-cells.ensures.rows)
+    (flag_each listing.rows.items (f c.open_cells.new.disk listing.volume) listing.end c.in_ok-cells.cells.items holds.row
+    (omega (arith, rows_end c.args.sup.now contents listing made)) flags c.in_ok-cells.ensures.rows)
 
 pub returns-clause-drawn : goal.returns-clause-drawn
 returns-clause-drawn g c = λ tells.

@@ -7,4 +7,5 @@ returns-clause-count g c = λ tells block begins.
     let file = (g.D.Disk.files c.args.disk.now c.args.file).now in
     let fits = g.met.D.Disk.fits c.args.disk.now c.args.file tells in
     counted_once c.u64_at.result c.max.result block (drop c.args.at file) c.max.ensures
-    (c.u64_at.ensures ∙ block_counted c.args.at c.in_ok-read_into.field-0 (replicate 16 0) c.read_into.new.out file block refl (c.in_ok-read_into.ensures.count tells) (c.in_ok-read_into.ensures.bytes tells) fits begins) begins
+    (c.u64_at.ensures ∙ block_counted c.args.at c.in_ok-read_into.field-0 (replicate 16 0) c.read_into.new.out file block refl (c.in_ok-read_into.ensures.count tells)
+    (c.in_ok-read_into.ensures.bytes tells) fits begins) begins

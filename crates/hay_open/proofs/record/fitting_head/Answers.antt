@@ -25,5 +25,6 @@ returns-then-ne-clause-damaged g c = λ tells file at told.
       (head_of_cell head, stands, differs),
       λ superblock records end is below.
           subst (λ n. IsRecordAt superblock (g.D.Disk.files c.args.disk.now c.args.index).now c.args.number n) here
-          (subst (λ l. IsRecordAt superblock l c.args.number c.in_ok-at.at) same (c.in_ok-at.ensures.place tells superblock records end (subst (λ l. IsIndex superblock l records end) (sym same) is) below)),
+          (subst (λ l. IsRecordAt superblock l c.args.number c.in_ok-at.at) same (c.in_ok-at.ensures.place tells superblock records end
+          (subst (λ l. IsIndex superblock l records end) (sym same) is) below)),
     )

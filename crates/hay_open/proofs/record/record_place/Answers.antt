@@ -17,8 +17,10 @@ returns-then-left-count-clause-place g c = λ tells superblock records end is be
     let fits = g.met.D.Disk.fits c.args.disk.now c.args.file tells in
     let w = c.blocks-2.invariant.walked tells superblock records end is below in
     let b = walk_block superblock file records c.blocks-2.start c.blocks-2.left c.args.number below w in
-    let counts = c.in_ok-count.ensures.count tells b.block (subst (λ files. BeginsWithBlock (drop c.blocks-2.start (files c.args.file).now) b.block) (sym (c.blocks-2.invariant.same tells)) b.begins) in
-    walk_ends superblock file records c.blocks-2.start c.blocks-2.left c.args.number c.in_ok-count.count c.saturating_add-first.result c.saturating_add.result w b fits counts c.if-left-count.true c.saturating_add-first.ensures
+    let counts =
+    c.in_ok-count.ensures.count tells b.block (subst (λ files. BeginsWithBlock (drop c.blocks-2.start (files c.args.file).now) b.block) (sym (c.blocks-2.invariant.same tells)) b.begins) in
+    walk_ends superblock file records c.blocks-2.start c.blocks-2.left c.args.number c.in_ok-count.count c.saturating_add-first.result c.saturating_add.result w b fits counts
+    c.if-left-count.true c.saturating_add-first.ensures
     (omega (arith, c.saturating_add.ensures, c.saturating_mul.ensures))
 
 pub blocks-2-preserved : goal.blocks-2-preserved
@@ -29,8 +31,10 @@ blocks-2-preserved g c = record {
       let fits = g.met.D.Disk.fits c.args.disk.now c.args.file tells in
       let w = c.blocks-2.invariant.walked tells superblock records end is below in
       let b = walk_block superblock file records c.blocks-2.start c.blocks-2.left c.args.number below w in
-      let counts = c.in_ok-count.ensures.count tells b.block (subst (λ files. BeginsWithBlock (drop c.blocks-2.start (files c.args.file).now) b.block) (sym (c.blocks-2.invariant.same tells)) b.begins) in
-      walk_on superblock file records c.blocks-2.start c.blocks-2.left c.args.number c.in_ok-count.count c.saturating_add-first.result _ c.saturating_add-start.result w b fits counts c.if-left-count.false c.saturating_add-first.ensures refl
+      let counts =
+      c.in_ok-count.ensures.count tells b.block (subst (λ files. BeginsWithBlock (drop c.blocks-2.start (files c.args.file).now) b.block) (sym (c.blocks-2.invariant.same tells)) b.begins) in
+      walk_on superblock file records c.blocks-2.start c.blocks-2.left c.args.number c.in_ok-count.count c.saturating_add-first.result _ c.saturating_add-start.result w b fits
+      counts c.if-left-count.false c.saturating_add-first.ensures refl
       (omega (arith, c.saturating_add-start.ensures, c.saturating_mul-in-blocks-2.ensures));
   faults = omega (arith, c.block_len.ensures.counted.later, c.blocks-2.invariant.faults);
   fuses = c.block_len.ensures.fuses ∙ c.blocks-2.invariant.fuses;

@@ -15,7 +15,9 @@ loop-init g c = let n = vec_len c.args.bench.kit.outs in let streams = ap (λ t.
 }
 
 pub returns-in_default-clause-served : goal.returns-in_default-clause-served
-returns-in_default-clause-served g c = serving_ends g.W.Work.answers c.args.share.seat c.args.share.seats c.args.jobs.now c.args.bench.worker c.loop.taker.streams c.take.new.worker.streams c.loop.bench.worker c.loop.bench.kit.outs.items
+returns-in_default-clause-served g c =
+    serving_ends g.W.Work.answers c.args.share.seat c.args.share.seats c.args.jobs.now c.args.bench.worker c.loop.taker.streams c.take.new.worker.streams c.loop.bench.worker
+    c.loop.bench.kit.outs.items
     c.in_default.ensures.none.0 c.loop.invariant.served
 
 pub answer_call-requires-clause-client : goal.answer_call-requires-clause-client
@@ -27,8 +29,12 @@ answer_call-requires-clause-client g c κs within =
 pub answer_call-requires-clause-next : goal.answer_call-requires-clause-next
 answer_call-requires-clause-next g c κs within js os at here lt =
     let i = c.loop.invariant in let taken = c.in-Some-take.ensures.job in
-    let between = serving_ends g.W.Work.answers c.args.share.seat c.args.share.seats c.args.jobs.now c.args.bench.worker c.loop.taker.streams taken.between c.loop.bench.worker c.loop.bench.kit.outs.items taken.ends i.served in
-    let room = serving_room g.W.Work.answers c.args.share.seat c.args.share.seats c.args.jobs.now c.args.bench.worker taken.between c.loop.bench.worker c.loop.bench.kit.outs.items c.in-Some-take.client c.in-Some-take.place taken.names js os
+    let between =
+    serving_ends g.W.Work.answers c.args.share.seat c.args.share.seats c.args.jobs.now c.args.bench.worker c.loop.taker.streams taken.between c.loop.bench.worker
+    c.loop.bench.kit.outs.items taken.ends i.served in
+    let room =
+    serving_room g.W.Work.answers c.args.share.seat c.args.share.seats c.args.jobs.now c.args.bench.worker taken.between c.loop.bench.worker c.loop.bench.kit.outs.items
+    c.in-Some-take.client c.in-Some-take.place taken.names js os
     between taken.going_on taken.next at here lt in omega (arith, os.ok)
 
 pub loop-preserved : goal.loop-preserved
@@ -43,7 +49,12 @@ loop-preserved g c =
     record {
       own = search rules;
       many = ap length taken.after ∙ (length-set taken.between client (stream _ false) ∙ (taken.ends.clients ∙ i.many));
-      served = serving_taken g.W.Work.answers c.args.share.seat c.args.share.seats c.args.jobs.now c.args.bench.worker c.loop.taker.streams c.take.new.worker.streams c.loop.bench c.answer_call.new.bench client place _ js.0 os.0
-          (some_seat c.args.share.seat c.args.share.seats (vec_len c.args.bench.kit.outs) client c.args.jobs.now c.requires.lanes.0 low (ℕ_discrete c.args.share.seats 0)) taken js.1 os.1 call i.served;
-      ready = stays_ready g.W.Work.may_answer g.W.Work.answers c.args.share.seat c.args.share.seats c.args.jobs.now c.requires.may.1 c.loop.bench c.answer_call.new.bench client place js.0 os.0 call (dec_lt place (length js.0.items)) i.ready;
+      served =
+          serving_taken g.W.Work.answers c.args.share.seat c.args.share.seats c.args.jobs.now c.args.bench.worker c.loop.taker.streams c.take.new.worker.streams c.loop.bench
+          c.answer_call.new.bench client place _ js.0 os.0
+          (some_seat c.args.share.seat c.args.share.seats (vec_len c.args.bench.kit.outs) client c.args.jobs.now c.requires.lanes.0 low (ℕ_discrete c.args.share.seats 0)) taken
+          js.1 os.1 call i.served;
+      ready =
+          stays_ready g.W.Work.may_answer g.W.Work.answers c.args.share.seat c.args.share.seats c.args.jobs.now c.requires.may.1 c.loop.bench c.answer_call.new.bench client place
+          js.0 os.0 call (dec_lt place (length js.0.items)) i.ready;
     }

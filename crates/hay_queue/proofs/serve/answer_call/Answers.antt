@@ -6,7 +6,8 @@ use Rattle.hay_queue.proofs.serve.answer_call.Goals as goal
 pub returns-in-Some : goal.returns-in-Some
 returns-in-Some g c js os at here =
     let lane : c.lane-lane.result ≡ lane_at c.args.share.seat c.args.share.seats c.args.client = search rules in
-    let list : c.index-jobs-lane.result ≡ js = c.index-jobs-lane.is ∙ (ap (λ n. get_or c.args.jobs.now n c.index-jobs-lane.result) lane ∙ get_or_from_slice_get c.args.jobs.now _ js c.index-jobs-lane.result at) in
+    let list : c.index-jobs-lane.result ≡ js =
+    c.index-jobs-lane.is ∙ (ap (λ n. get_or c.args.jobs.now n c.index-jobs-lane.result) lane ∙ get_or_from_slice_get c.args.jobs.now _ js c.index-jobs-lane.result at) in
     let items : c.as_slice.result.now ≡ js.items = c.as_slice.ensures.value ∙ ap (λ v. v.items) list in
     let inside : c.args.place < length c.as_slice.result.now = search rules in
     let inside_js : c.args.place < length js.items = subst (λ l. c.args.place < length l) items inside in
@@ -27,7 +28,8 @@ returns-in-Some g c js os at here =
 pub returns-in_default : goal.returns-in_default
 returns-in_default g c js os at here =
     let lane : c.lane-lane.result ≡ lane_at c.args.share.seat c.args.share.seats c.args.client = search rules in
-    let list : c.index-jobs-lane.result ≡ js = c.index-jobs-lane.is ∙ (ap (λ n. get_or c.args.jobs.now n c.index-jobs-lane.result) lane ∙ get_or_from_slice_get c.args.jobs.now _ js c.index-jobs-lane.result at) in
+    let list : c.index-jobs-lane.result ≡ js =
+    c.index-jobs-lane.is ∙ (ap (λ n. get_or c.args.jobs.now n c.index-jobs-lane.result) lane ∙ get_or_from_slice_get c.args.jobs.now _ js c.index-jobs-lane.result at) in
     let items : c.as_slice.result.now ≡ js.items = c.as_slice.ensures.value ∙ ap (λ v. v.items) list in
     let past : length c.as_slice.result.now ≤ c.args.place = search rules in record {
       some = λ job is. let lt = slice_get_within js.items c.args.place job is in let past_js : length js.items ≤ c.args.place = subst (λ l. length l ≤ c.args.place) items past in absurd (omega arith);

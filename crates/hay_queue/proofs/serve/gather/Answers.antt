@@ -9,7 +9,8 @@ pub take_outs-outs-requires : goal.take_outs-outs-requires
 take_outs-outs-requires g c = let i = c.loop-lane.invariant in
     let first = c.requires.all c.loop-lane.lane c.loop-lane-test.true in
     let there = i.kept c.loop-lane.lane first.0 (omega arith) (subst (λ n. OutsAt c.args.kits.items n c.loop-lane.lane first.0) (sym c.len-seats.ensures) first.1) in
-    let kit : c.index_mut.result.now ≡ there.0 = c.index_mut.ensures.value ∙ get_or_from_slice_get c.loop-lane.kits.items (c.loop-lane.lane % c.len-seats.result) there.0 c.index_mut.result.now there.1 in
+    let kit : c.index_mut.result.now ≡ there.0 =
+    c.index_mut.ensures.value ∙ get_or_from_slice_get c.loop-lane.kits.items (c.loop-lane.lane % c.len-seats.result) there.0 c.index_mut.result.now there.1 in
     subst (λ k. c.loop-lane.lane / c.len-seats.result < length k.outs.items) (sym kit) (slice_get_within there.0.outs.items (c.loop-lane.lane / c.len-seats.result) first.0 there.2)
 
 pub loop-lane-preserved : goal.loop-lane-preserved
@@ -22,8 +23,12 @@ loop-lane-preserved g c = let i = c.loop-lane.invariant in let n = c.len-seats.r
       seats = (length-set kits (lane % n) c.take_outs-outs.new.kit ∙ i.seats.0, i.seats.1);
       many = search rules;
       room = search rules;
-      kept = λ other os le at_first. kept_on kits n lane c.index_mut.result.now c.take_outs-outs.new.kit at c.take_outs-outs.ensures.others other os (omega arith) (i.kept other os (omega arith) at_first);
-      given = λ other os lt at_first. given_on kits n lane c.index_mut.result.now at c.loop-lane.answers.items c.push_reserved.new.self.items c.take_outs-outs.result as_many c.push_reserved.ensures.items c.take_outs-outs.ensures.taken
+      kept =
+          λ other os le at_first. kept_on kits n lane c.index_mut.result.now c.take_outs-outs.new.kit at c.take_outs-outs.ensures.others other os (omega arith)
+          (i.kept other os (omega arith) at_first);
+      given =
+          λ other os lt at_first. given_on kits n lane c.index_mut.result.now at c.loop-lane.answers.items c.push_reserved.new.self.items c.take_outs-outs.result as_many
+          c.push_reserved.ensures.items c.take_outs-outs.ensures.taken
           other os (i.kept other os) (i.given other os) lt at_first;
     }
 

@@ -22,4 +22,5 @@ returns-clause-served g c seat slot after at now =
     let rest = drop (length c.for_each_mut.new.s) c.args.benches.items in
     let is : get_or c.for_each_mut.new.s seat slot ≡ after = sym (get_or_append_left c.for_each_mut.new.s rest slot seat (omega arith))
     ∙ (sym (get_or-take c.args.benches.len (c.for_each_mut.new.s ++ rest) seat slot in_len) ∙ get_or_from_slice_get (take c.args.benches.len (c.for_each_mut.new.s ++ rest)) seat after slot now) in
-    subst (λ x. IsServed seat c.args.seats g.W.Work.answers c.args.jobs.now slot x) (change.left ∙ is) (subst (λ x. IsServed seat c.args.seats g.W.Work.answers c.args.jobs.now x change.after_call.now) (change.argument_is ∙ was) change.call)
+    subst (λ x. IsServed seat c.args.seats g.W.Work.answers c.args.jobs.now slot x) (change.left ∙ is)
+    (subst (λ x. IsServed seat c.args.seats g.W.Work.answers c.args.jobs.now x change.after_call.now) (change.argument_is ∙ was) change.call)

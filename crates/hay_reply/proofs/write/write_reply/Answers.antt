@@ -8,7 +8,8 @@ pub returns-in_ok-write-in-WrongCookie : goal.returns-in_ok-write-in-WrongCookie
 returns-in_ok-write-in-WrongCookie c =
     let a = c.in-WrongCookie in
     let out = string_bytes c.args.out.now in
-    let wrote : string_bytes c.write-in-WrongCookie.new.self ≡ out ++ (codes "wrong cookie " ++ (decimal a.volume ++ (codes " " ++ (decimal a.machine ++ (codes " " ++ (decimal a.front ++ (codes " " ++ decimal a.rows))))))) = c.in_ok-write-in-WrongCookie.ensures.bytes in
+    let wrote : string_bytes c.write-in-WrongCookie.new.self ≡ out ++ (codes "wrong cookie "
+    ++ (decimal a.volume ++ (codes " " ++ (decimal a.machine ++ (codes " " ++ (decimal a.front ++ (codes " " ++ decimal a.rows))))))) = c.in_ok-write-in-WrongCookie.ensures.bytes in
     rw c.in-WrongCookie.is (wrote ∙ join_sight out (codes "wrong cookie") (codes " ") (decimal a.volume) (decimal a.machine) (decimal a.front) (decimal a.rows))
 
 pub returns-in_ok-url_text-in-Url : goal.returns-in_ok-url_text-in-Url
@@ -25,6 +26,8 @@ pub returns-in_ok-write_groups-in-Unreadable : goal.returns-in_ok-write_groups-i
 returns-in_ok-write_groups-in-Unreadable c =
     let a = c.in-Unreadable in
     let out = string_bytes c.args.out.now in
-    let wrote : string_bytes c.write-in-Unreadable.new.self ≡ out ++ (codes "unreadable " ++ (decimal a.volume ++ (codes " " ++ (decimal a.front ++ (codes " " ++ decimal a.rows))))) = c.in_ok-write-in-Unreadable.ensures.bytes in
+    let wrote : string_bytes c.write-in-Unreadable.new.self ≡ out ++ (codes "unreadable "
+    ++ (decimal a.volume ++ (codes " " ++ (decimal a.front ++ (codes " " ++ decimal a.rows))))) = c.in_ok-write-in-Unreadable.ensures.bytes in
     let groups : string_bytes c.write_groups-in-Unreadable.new.out ≡ string_bytes c.write-in-Unreadable.new.self ++ flat_map passed_text a.causes = c.in_ok-write_groups-in-Unreadable.ensures in
-    rw c.in-Unreadable.is (groups ∙ ap (λ t. t ++ flat_map passed_text a.causes) wrote ∙ join_causes out (codes "unreadable") (codes " ") (decimal a.volume) (decimal a.front) (decimal a.rows) (flat_map passed_text a.causes))
+    rw c.in-Unreadable.is (groups ∙ ap (λ t. t ++ flat_map passed_text a.causes) wrote
+    ∙ join_causes out (codes "unreadable") (codes " ") (decimal a.volume) (decimal a.front) (decimal a.rows) (flat_map passed_text a.causes))

@@ -83,7 +83,8 @@ lines-preserved g c =
     let says : SaysNext (Some c.lines.block.lanes) (Some c.in-Some.said) mid after c.next_said.new.script.ended = rw c.lanes.ensures at (rw c.in-Some.is at c.in_ok-said.ensures.said) in
     let adds = c.in_ok-closed.ensures.«open» (rw c.if-closed.false refl) in
     let unmet = sym c.is_ended.ensures ∙ c.if-is_ended.false in
-    let more = asked_more inv.texts says.0 c.args.number c.lines.next (Some c.args.block) (Some c.lines.block) c.in-Some.said [] [] (Some c.take.new.self) inv.nothing inv.behind inv.next_is says.2 adds in
+    let more =
+    asked_more inv.texts says.0 c.args.number c.lines.next (Some c.args.block) (Some c.lines.block) c.in-Some.said [] [] (Some c.take.new.self) inv.nothing inv.behind inv.next_is says.2 adds in
     record {
       texts = inv.texts ++ says.0 ∷ [];
       feeds = took_fed_more inv.texts before mid after says.0 inv.feeds (fed_line mid after says.0 c.next_said.new.script.ended says.1 unmet);
@@ -93,7 +94,8 @@ lines-preserved g c =
       below = c.in_ok-closed.ensures.below;
       lanes = c.in_ok-closed.ensures.lanes ∙ inv.lanes;
       unmet = unmet;
-      accounts = accounts_more (left c.args.source.now) (left c.lines.source) (left c.next_said.new.source) c.args.script.now c.lines.script c.next_said.new.script inv.accounts c.in_ok-said.ensures.accounts;
+      accounts =
+          accounts_more (left c.args.source.now) (left c.lines.source) (left c.next_said.new.source) c.args.script.now c.lines.script c.next_said.new.script inv.accounts c.in_ok-said.ensures.accounts;
       few = omega (arith, inv.few, c.in_ok-said.ensures.left);
       less = omega (arith, inv.less, c.in_ok-said.ensures.left);
       count = omega (arith, inv.count, c.in_ok-said.ensures.count);

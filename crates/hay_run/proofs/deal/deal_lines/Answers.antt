@@ -25,7 +25,8 @@ loop-line-init c = record {
 pub deal-requires : goal.deal-requires
 deal-requires c =
     let inv = c.loop-line.invariant in
-    let low = next_low c.args.lanes inv.done (into_iter_items c.next.new.self) (into_iter_items c.loop-line.line-iterator) c.args.lines.items c.in-Some.line (c.in-Some.ensures.steps).0 inv.all c.requires in
+    let low =
+    next_low c.args.lanes inv.done (into_iter_items c.next.new.self) (into_iter_items c.loop-line.line-iterator) c.args.lines.items c.in-Some.line (c.in-Some.ensures.steps).0 inv.all c.requires in
     let long = jobs_long c.args.lanes inv.done c.loop-line.jobs.items inv.jobs in
     let same = ap length c.as_mut_slice.ensures.value in
     omega (arith, low, long, same)

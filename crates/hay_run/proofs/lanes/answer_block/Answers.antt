@@ -9,7 +9,8 @@ use Rattle.hay_run.specs.declared.stops.Stop.TheVariants as stop
 use Rattle.hay_run.specs.Blocks.{answered_text}
 use Rattle.hay_run.specs.Causing.{tally_of}
 use Rattle.hay_run.specs.Turns.{AnswersPart}
-use Rattle.hay_run.proofs.Answering.{Dealt, answered, block_caused, block_part, block_stops, block_whole, dealt, few_jobs, items_are, items_differ, items_fit, low_lines, notes_told, served_jobs, some_jobs, text_told, wanted_stops}
+use Rattle.hay_run.proofs.Answering.{Dealt, answered, block_caused, block_part, block_stops, block_whole, dealt, few_jobs, items_are, items_differ, items_fit, low_lines}
+use Rattle.hay_run.proofs.Answering.{notes_told, served_jobs, some_jobs, text_told, wanted_stops}
 use Rattle.hay_run.proofs.Blocked.{err_here, same_block, wanted_block}
 use Rattle.hay_run.proofs.Counting.{NoneFalls-same, StaySure-lanes}
 use Rattle.hay_run.proofs.lanes.answer_block.Goals as goal
@@ -23,7 +24,8 @@ pub run_block-cluster-requires-clause-some : goal.run_block-cluster-requires-cla
 run_block-cluster-requires-clause-some g c κs within =
     let lines = c.args.block.lines in
     let d : Dealt c.args.block.lanes lines c.as_slice.result.now c.in-Ok.places.items =
-    dealt c.args.block.lanes c.lanes-lanes.result lines c.into_lines.result.items c.in-Ok.jobs.items c.as_slice.result.now c.in-Ok.places.items c.in-Ok.places.items c.requires.block c.lanes-lanes.ensures c.into_lines.ensures
+    dealt c.args.block.lanes c.lanes-lanes.result lines c.into_lines.result.items c.in-Ok.jobs.items c.as_slice.result.now c.in-Ok.places.items c.in-Ok.places.items
+    c.requires.block c.lanes-lanes.ensures c.into_lines.ensures
     c.in-Ok.ensures.jobs c.in-Ok.ensures.places c.as_slice.ensures.value refl in
     some_jobs c.args.block.lanes lines c.as_slice.result.now c.in-Ok.places.items d
 
@@ -31,7 +33,8 @@ pub run_block-cluster-requires-clause-few : goal.run_block-cluster-requires-clau
 run_block-cluster-requires-clause-few g c κs within =
     let lines = c.args.block.lines in
     let d : Dealt c.args.block.lanes lines c.as_slice.result.now c.in-Ok.places.items =
-    dealt c.args.block.lanes c.lanes-lanes.result lines c.into_lines.result.items c.in-Ok.jobs.items c.as_slice.result.now c.in-Ok.places.items c.in-Ok.places.items c.requires.block c.lanes-lanes.ensures c.into_lines.ensures
+    dealt c.args.block.lanes c.lanes-lanes.result lines c.into_lines.result.items c.in-Ok.jobs.items c.as_slice.result.now c.in-Ok.places.items c.in-Ok.places.items
+    c.requires.block c.lanes-lanes.ensures c.into_lines.ensures
     c.in-Ok.ensures.jobs c.in-Ok.ensures.places c.as_slice.ensures.value refl in
     few_jobs c.args.block.lanes lines c.as_slice.result.now c.in-Ok.places.items d
 
@@ -39,7 +42,8 @@ pub run_block-cluster-requires-clause-served : goal.run_block-cluster-requires-c
 run_block-cluster-requires-clause-served g c κs within =
     let lines = c.args.block.lines in
     let d : Dealt c.args.block.lanes lines c.as_slice.result.now c.in-Ok.places.items =
-    dealt c.args.block.lanes c.lanes-lanes.result lines c.into_lines.result.items c.in-Ok.jobs.items c.as_slice.result.now c.in-Ok.places.items c.in-Ok.places.items c.requires.block c.lanes-lanes.ensures c.into_lines.ensures
+    dealt c.args.block.lanes c.lanes-lanes.result lines c.into_lines.result.items c.in-Ok.jobs.items c.as_slice.result.now c.in-Ok.places.items c.in-Ok.places.items
+    c.requires.block c.lanes-lanes.ensures c.into_lines.ensures
     c.in-Ok.ensures.jobs c.in-Ok.ensures.places c.as_slice.ensures.value refl in
     served_jobs c.args.block.lanes lines c.as_slice.result.now c.in-Ok.places.items d
 
@@ -48,7 +52,8 @@ write_answers-written-requires g c =
     let lines = c.args.block.lines in
     let places = c.as_slice-in-Ok-outcome.result.now in
     let d : Dealt c.args.block.lanes lines c.as_slice.result.now places =
-    dealt c.args.block.lanes c.lanes-lanes.result lines c.into_lines.result.items c.in-Ok.jobs.items c.as_slice.result.now c.in-Ok.places.items places c.requires.block c.lanes-lanes.ensures c.into_lines.ensures
+    dealt c.args.block.lanes c.lanes-lanes.result lines c.into_lines.result.items c.in-Ok.jobs.items c.as_slice.result.now c.in-Ok.places.items places c.requires.block
+    c.lanes-lanes.ensures c.into_lines.ensures
     c.in-Ok.ensures.jobs c.in-Ok.ensures.places c.as_slice.ensures.value c.as_slice-in-Ok-outcome.ensures.value in
     let jobs = c.as_slice.result.now in
     let replies = c.in-Ok-outcome.answers.replies.items in
@@ -67,15 +72,19 @@ returns-in-Ok-outcome-clause-answers g c =
     let lines = c.args.block.lines in
     let places = c.as_slice-in-Ok-outcome.result.now in
     let d : Dealt c.args.block.lanes lines c.as_slice.result.now places =
-    dealt c.args.block.lanes c.lanes-lanes.result lines c.into_lines.result.items c.in-Ok.jobs.items c.as_slice.result.now c.in-Ok.places.items places c.requires.block c.lanes-lanes.ensures c.into_lines.ensures
+    dealt c.args.block.lanes c.lanes-lanes.result lines c.into_lines.result.items c.in-Ok.jobs.items c.as_slice.result.now c.in-Ok.places.items places c.requires.block
+    c.lanes-lanes.ensures c.into_lines.ensures
     c.in-Ok.ensures.jobs c.in-Ok.ensures.places c.as_slice.ensures.value c.as_slice-in-Ok-outcome.ensures.value in
     let jobs = c.as_slice.result.now in
     let replies = c.in-Ok-outcome.answers.replies.items in
     let told = c.in-Ok-outcome.answers.notes in
     let same = rw c.in-Ok-outcome.is at c.run_block-cluster.ensures.replies in
     let a = answered c.args.block.lanes lines jobs places d replies same in
-    block_whole D.files D.Tells g.D.Piece.Piece.Tells D.fault_count D.fuse_count A.fault_count lines a.0 told (K.written c.args.sink.now) (K.written c.write_answers-written.new.sink) c.args.cluster c.run_block-cluster.result.0 a.1.asked (items_fit c.args.block.lanes lines jobs places d replies same a.0 a.1 (rw c.in-Ok-outcome.is at c.run_block-cluster.ensures.fits))
-    (λ tells k stands. (rw c.in-Ok-outcome.is at (c.run_block-cluster.ensures.legal tells)) k stands a.0 (items_are c.args.block.lanes lines jobs places d replies same a.0 a.1) (items_differ c.args.block.lanes lines jobs places d replies same a.0 a.1)) c.write_answers-written.result
+    block_whole D.files D.Tells g.D.Piece.Piece.Tells D.fault_count D.fuse_count A.fault_count lines a.0 told (K.written c.args.sink.now)
+    (K.written c.write_answers-written.new.sink) c.args.cluster c.run_block-cluster.result.0 a.1.asked
+    (items_fit c.args.block.lanes lines jobs places d replies same a.0 a.1 (rw c.in-Ok-outcome.is at c.run_block-cluster.ensures.fits))
+    (λ tells k stands. (rw c.in-Ok-outcome.is at (c.run_block-cluster.ensures.legal tells)) k stands a.0 (items_are c.args.block.lanes lines jobs places d replies same a.0 a.1)
+    (items_differ c.args.block.lanes lines jobs places d replies same a.0 a.1)) c.write_answers-written.result
     (λ notes are. c.write_answers-written.ensures.wrote lines a.0 notes d.places_are a.1 are)
 
 pub returns-in-Ok-outcome-clause-part : goal.returns-in-Ok-outcome-clause-part
@@ -86,16 +95,21 @@ returns-in-Ok-outcome-clause-part g c =
     let lines = c.args.block.lines in
     let places = c.as_slice-in-Ok-outcome.result.now in
     let d : Dealt c.args.block.lanes lines c.as_slice.result.now places =
-    dealt c.args.block.lanes c.lanes-lanes.result lines c.into_lines.result.items c.in-Ok.jobs.items c.as_slice.result.now c.in-Ok.places.items places c.requires.block c.lanes-lanes.ensures c.into_lines.ensures
+    dealt c.args.block.lanes c.lanes-lanes.result lines c.into_lines.result.items c.in-Ok.jobs.items c.as_slice.result.now c.in-Ok.places.items places c.requires.block
+    c.lanes-lanes.ensures c.into_lines.ensures
     c.in-Ok.ensures.jobs c.in-Ok.ensures.places c.as_slice.ensures.value c.as_slice-in-Ok-outcome.ensures.value in
     let jobs = c.as_slice.result.now in
     let replies = c.in-Ok-outcome.answers.replies.items in
     let told = c.in-Ok-outcome.answers.notes in
     let same = rw c.in-Ok-outcome.is at c.run_block-cluster.ensures.replies in
     let a = answered c.args.block.lanes lines jobs places d replies same in
-    λ is. err_here (AnswersPart D.Tells (Stands D.files g.D.Piece.Piece.Tells D.fault_count D.fuse_count A.fault_count) (Holds D.files D.fault_count D.fuse_count A.fault_count) (Block lines ∷ []) c.args.cluster (K.written c.args.sink.now) c.run_block-cluster.result.0 (K.written c.write_answers-written.new.sink)) c.write_answers-written.result stop.Output is
-    (block_part D.files D.Tells g.D.Piece.Piece.Tells D.fault_count D.fuse_count A.fault_count lines a.0 told (K.written c.args.sink.now) (K.written c.write_answers-written.new.sink) c.args.cluster c.run_block-cluster.result.0 a.1.asked (items_fit c.args.block.lanes lines jobs places d replies same a.0 a.1 (rw c.in-Ok-outcome.is at c.run_block-cluster.ensures.fits))
-    (λ tells k stands. (rw c.in-Ok-outcome.is at (c.run_block-cluster.ensures.legal tells)) k stands a.0 (items_are c.args.block.lanes lines jobs places d replies same a.0 a.1) (items_differ c.args.block.lanes lines jobs places d replies same a.0 a.1)) c.write_answers-written.result
+    λ is. err_here (AnswersPart D.Tells (Stands D.files g.D.Piece.Piece.Tells D.fault_count D.fuse_count A.fault_count) (Holds D.files D.fault_count D.fuse_count A.fault_count)
+    (Block lines ∷ []) c.args.cluster (K.written c.args.sink.now) c.run_block-cluster.result.0 (K.written c.write_answers-written.new.sink)) c.write_answers-written.result stop.Output is
+    (block_part D.files D.Tells g.D.Piece.Piece.Tells D.fault_count D.fuse_count A.fault_count lines a.0 told (K.written c.args.sink.now)
+    (K.written c.write_answers-written.new.sink) c.args.cluster c.run_block-cluster.result.0 a.1.asked
+    (items_fit c.args.block.lanes lines jobs places d replies same a.0 a.1 (rw c.in-Ok-outcome.is at c.run_block-cluster.ensures.fits))
+    (λ tells k stands. (rw c.in-Ok-outcome.is at (c.run_block-cluster.ensures.legal tells)) k stands a.0 (items_are c.args.block.lanes lines jobs places d replies same a.0 a.1)
+    (items_differ c.args.block.lanes lines jobs places d replies same a.0 a.1)) c.write_answers-written.result
     (λ notes are. c.write_answers-written.ensures.part lines a.0 notes d.places_are a.1 are))
 
 pub returns-in-Ok-outcome-clause-memory : goal.returns-in-Ok-outcome-clause-memory
@@ -106,16 +120,22 @@ returns-in-Ok-outcome-clause-memory g c =
     let lines = c.args.block.lines in
     let places = c.as_slice-in-Ok-outcome.result.now in
     let d : Dealt c.args.block.lanes lines c.as_slice.result.now places =
-    dealt c.args.block.lanes c.lanes-lanes.result lines c.into_lines.result.items c.in-Ok.jobs.items c.as_slice.result.now c.in-Ok.places.items places c.requires.block c.lanes-lanes.ensures c.into_lines.ensures
+    dealt c.args.block.lanes c.lanes-lanes.result lines c.into_lines.result.items c.in-Ok.jobs.items c.as_slice.result.now c.in-Ok.places.items places c.requires.block
+    c.lanes-lanes.ensures c.into_lines.ensures
     c.in-Ok.ensures.jobs c.in-Ok.ensures.places c.as_slice.ensures.value c.as_slice-in-Ok-outcome.ensures.value in
     let jobs = c.as_slice.result.now in
     let replies = c.in-Ok-outcome.answers.replies.items in
     let told = c.in-Ok-outcome.answers.notes in
     let same = rw c.in-Ok-outcome.is at c.run_block-cluster.ensures.replies in
     let a = answered c.args.block.lanes lines jobs places d replies same in
-    λ is. inl (err_here (AnswersPart D.Tells (Stands D.files g.D.Piece.Piece.Tells D.fault_count D.fuse_count A.fault_count) (Holds D.files D.fault_count D.fuse_count A.fault_count) (Block lines ∷ []) c.args.cluster (K.written c.args.sink.now) c.run_block-cluster.result.0 (K.written c.write_answers-written.new.sink)) c.write_answers-written.result stop.NoMemory is
-    (block_part D.files D.Tells g.D.Piece.Piece.Tells D.fault_count D.fuse_count A.fault_count lines a.0 told (K.written c.args.sink.now) (K.written c.write_answers-written.new.sink) c.args.cluster c.run_block-cluster.result.0 a.1.asked (items_fit c.args.block.lanes lines jobs places d replies same a.0 a.1 (rw c.in-Ok-outcome.is at c.run_block-cluster.ensures.fits))
-    (λ tells k stands. (rw c.in-Ok-outcome.is at (c.run_block-cluster.ensures.legal tells)) k stands a.0 (items_are c.args.block.lanes lines jobs places d replies same a.0 a.1) (items_differ c.args.block.lanes lines jobs places d replies same a.0 a.1)) c.write_answers-written.result
+    λ is. inl (err_here (AnswersPart D.Tells (Stands D.files g.D.Piece.Piece.Tells D.fault_count D.fuse_count A.fault_count)
+    (Holds D.files D.fault_count D.fuse_count A.fault_count) (Block lines ∷ []) c.args.cluster (K.written c.args.sink.now) c.run_block-cluster.result.0
+    (K.written c.write_answers-written.new.sink)) c.write_answers-written.result stop.NoMemory is
+    (block_part D.files D.Tells g.D.Piece.Piece.Tells D.fault_count D.fuse_count A.fault_count lines a.0 told (K.written c.args.sink.now)
+    (K.written c.write_answers-written.new.sink) c.args.cluster c.run_block-cluster.result.0 a.1.asked
+    (items_fit c.args.block.lanes lines jobs places d replies same a.0 a.1 (rw c.in-Ok-outcome.is at c.run_block-cluster.ensures.fits))
+    (λ tells k stands. (rw c.in-Ok-outcome.is at (c.run_block-cluster.ensures.legal tells)) k stands a.0 (items_are c.args.block.lanes lines jobs places d replies same a.0 a.1)
+    (items_differ c.args.block.lanes lines jobs places d replies same a.0 a.1)) c.write_answers-written.result
     (λ notes are. c.write_answers-written.ensures.part lines a.0 notes d.places_are a.1 are)))
 
 pub returns-in-Ok-outcome-clause-caused : goal.returns-in-Ok-outcome-clause-caused
@@ -126,7 +146,8 @@ returns-in-Ok-outcome-clause-caused g c =
     let lines = c.args.block.lines in
     let places = c.as_slice-in-Ok-outcome.result.now in
     let d : Dealt c.args.block.lanes lines c.as_slice.result.now places =
-    dealt c.args.block.lanes c.lanes-lanes.result lines c.into_lines.result.items c.in-Ok.jobs.items c.as_slice.result.now c.in-Ok.places.items places c.requires.block c.lanes-lanes.ensures c.into_lines.ensures
+    dealt c.args.block.lanes c.lanes-lanes.result lines c.into_lines.result.items c.in-Ok.jobs.items c.as_slice.result.now c.in-Ok.places.items places c.requires.block
+    c.lanes-lanes.ensures c.into_lines.ensures
     c.in-Ok.ensures.jobs c.in-Ok.ensures.places c.as_slice.ensures.value c.as_slice-in-Ok-outcome.ensures.value in
     let jobs = c.as_slice.result.now in
     let replies = c.in-Ok-outcome.answers.replies.items in
@@ -134,10 +155,20 @@ returns-in-Ok-outcome-clause-caused g c =
     let same = rw c.in-Ok-outcome.is at c.run_block-cluster.ensures.replies in
     let a = answered c.args.block.lanes lines jobs places d replies same in
     let home = home_of c.run_block-cluster.result.0.directory in
-    let n = notes_told c.args.block.lanes lines jobs places d c.args.cluster.settings home told (rw c.in-Ok-outcome.is at c.run_block-cluster.ensures.notes) (rw c.in-Ok-outcome.is at c.run_block-cluster.ensures.rows) in
-    let text = text_told c.args.block.lanes lines jobs places d replies same a.0 told a.1 (rw c.in-Ok-outcome.is at c.run_block-cluster.ensures.fits) (rw c.in-Ok-outcome.is at c.run_block-cluster.ensures.bad) c.args.cluster.settings home (rw c.in-Ok-outcome.is at c.run_block-cluster.ensures.suits) n in
-    block_caused D.Tells c.args.cluster.settings (tally_of D.files D.drawn D.fault_count D.fuse_count A.fault_count A.is_sure c.args.cluster) (tally_of D.files D.drawn D.fault_count D.fuse_count A.fault_count A.is_sure c.run_block-cluster.result.0) lines (answered_text a.0 n.notes)
-    (K.written c.args.sink.now) (K.written c.write_answers-written.new.sink) (c.run_block-cluster.ensures.counts, c.run_block-cluster.ensures.arm_counts, StaySure-lanes A.is_sure A.fault_count c.args.cluster.arms c.run_block-cluster.result.0.arms c.run_block-cluster.ensures.sure_arms) text c.write_answers-written.result (c.write_answers-written.ensures.wrote lines a.0 n.notes d.places_are a.1 n.are)
+    let n =
+    notes_told c.args.block.lanes lines jobs places d c.args.cluster.settings home told (rw c.in-Ok-outcome.is at c.run_block-cluster.ensures.notes)
+    (rw c.in-Ok-outcome.is at c.run_block-cluster.ensures.rows) in
+    let text =
+    text_told c.args.block.lanes lines jobs places d replies same a.0 told a.1 (rw c.in-Ok-outcome.is at c.run_block-cluster.ensures.fits)
+    (rw c.in-Ok-outcome.is at c.run_block-cluster.ensures.bad) c.args.cluster.settings home (rw c.in-Ok-outcome.is at c.run_block-cluster.ensures.suits) n in
+    block_caused D.Tells c.args.cluster.settings (tally_of D.files D.drawn D.fault_count D.fuse_count A.fault_count A.is_sure c.args.cluster)
+    (tally_of D.files D.drawn D.fault_count D.fuse_count A.fault_count A.is_sure c.run_block-cluster.result.0) lines (answered_text a.0 n.notes)
+    (K.written c.args.sink.now) (K.written c.write_answers-written.new.sink) (
+      c.run_block-cluster.ensures.counts,
+      c.run_block-cluster.ensures.arm_counts,
+      StaySure-lanes A.is_sure A.fault_count c.args.cluster.arms c.run_block-cluster.result.0.arms c.run_block-cluster.ensures.sure_arms,
+    ) text c.write_answers-written.result
+    (c.write_answers-written.ensures.wrote lines a.0 n.notes d.places_are a.1 n.are)
 
 pub returns-in-Ok-outcome-clause-stop_caused : goal.returns-in-Ok-outcome-clause-stop_caused
 returns-in-Ok-outcome-clause-stop_caused g c =
@@ -147,7 +178,8 @@ returns-in-Ok-outcome-clause-stop_caused g c =
     let lines = c.args.block.lines in
     let places = c.as_slice-in-Ok-outcome.result.now in
     let d : Dealt c.args.block.lanes lines c.as_slice.result.now places =
-    dealt c.args.block.lanes c.lanes-lanes.result lines c.into_lines.result.items c.in-Ok.jobs.items c.as_slice.result.now c.in-Ok.places.items places c.requires.block c.lanes-lanes.ensures c.into_lines.ensures
+    dealt c.args.block.lanes c.lanes-lanes.result lines c.into_lines.result.items c.in-Ok.jobs.items c.as_slice.result.now c.in-Ok.places.items places c.requires.block
+    c.lanes-lanes.ensures c.into_lines.ensures
     c.in-Ok.ensures.jobs c.in-Ok.ensures.places c.as_slice.ensures.value c.as_slice-in-Ok-outcome.ensures.value in
     let jobs = c.as_slice.result.now in
     let replies = c.in-Ok-outcome.answers.replies.items in
@@ -155,10 +187,20 @@ returns-in-Ok-outcome-clause-stop_caused g c =
     let same = rw c.in-Ok-outcome.is at c.run_block-cluster.ensures.replies in
     let a = answered c.args.block.lanes lines jobs places d replies same in
     let home = home_of c.run_block-cluster.result.0.directory in
-    let n = notes_told c.args.block.lanes lines jobs places d c.args.cluster.settings home told (rw c.in-Ok-outcome.is at c.run_block-cluster.ensures.notes) (rw c.in-Ok-outcome.is at c.run_block-cluster.ensures.rows) in
-    let text = text_told c.args.block.lanes lines jobs places d replies same a.0 told a.1 (rw c.in-Ok-outcome.is at c.run_block-cluster.ensures.fits) (rw c.in-Ok-outcome.is at c.run_block-cluster.ensures.bad) c.args.cluster.settings home (rw c.in-Ok-outcome.is at c.run_block-cluster.ensures.suits) n in
-    λ why is. block_stops D.Tells c.args.cluster.settings (tally_of D.files D.drawn D.fault_count D.fuse_count A.fault_count A.is_sure c.args.cluster) (tally_of D.files D.drawn D.fault_count D.fuse_count A.fault_count A.is_sure c.run_block-cluster.result.0) lines (answered_text a.0 n.notes)
-    (K.written c.args.sink.now) (K.written c.write_answers-written.new.sink) (c.run_block-cluster.ensures.counts, c.run_block-cluster.ensures.arm_counts, StaySure-lanes A.is_sure A.fault_count c.args.cluster.arms c.run_block-cluster.result.0.arms c.run_block-cluster.ensures.sure_arms) text c.write_answers-written.result why is c.write_answers-written.ensures.stops (c.write_answers-written.ensures.part lines a.0 n.notes d.places_are a.1 n.are)
+    let n =
+    notes_told c.args.block.lanes lines jobs places d c.args.cluster.settings home told (rw c.in-Ok-outcome.is at c.run_block-cluster.ensures.notes)
+    (rw c.in-Ok-outcome.is at c.run_block-cluster.ensures.rows) in
+    let text =
+    text_told c.args.block.lanes lines jobs places d replies same a.0 told a.1 (rw c.in-Ok-outcome.is at c.run_block-cluster.ensures.fits)
+    (rw c.in-Ok-outcome.is at c.run_block-cluster.ensures.bad) c.args.cluster.settings home (rw c.in-Ok-outcome.is at c.run_block-cluster.ensures.suits) n in
+    λ why is. block_stops D.Tells c.args.cluster.settings (tally_of D.files D.drawn D.fault_count D.fuse_count A.fault_count A.is_sure c.args.cluster)
+    (tally_of D.files D.drawn D.fault_count D.fuse_count A.fault_count A.is_sure c.run_block-cluster.result.0) lines (answered_text a.0 n.notes)
+    (K.written c.args.sink.now) (K.written c.write_answers-written.new.sink) (
+      c.run_block-cluster.ensures.counts,
+      c.run_block-cluster.ensures.arm_counts,
+      StaySure-lanes A.is_sure A.fault_count c.args.cluster.arms c.run_block-cluster.result.0.arms c.run_block-cluster.ensures.sure_arms,
+    ) text c.write_answers-written.result why
+    is c.write_answers-written.ensures.stops (c.write_answers-written.ensures.part lines a.0 n.notes d.places_are a.1 n.are)
 
 pub returns-in-Ok-outcome-clause-formatted : goal.returns-in-Ok-outcome-clause-formatted
 returns-in-Ok-outcome-clause-formatted g c =
@@ -168,7 +210,8 @@ returns-in-Ok-outcome-clause-formatted g c =
     let lines = c.args.block.lines in
     let places = c.as_slice-in-Ok-outcome.result.now in
     let d : Dealt c.args.block.lanes lines c.as_slice.result.now places =
-    dealt c.args.block.lanes c.lanes-lanes.result lines c.into_lines.result.items c.in-Ok.jobs.items c.as_slice.result.now c.in-Ok.places.items places c.requires.block c.lanes-lanes.ensures c.into_lines.ensures
+    dealt c.args.block.lanes c.lanes-lanes.result lines c.into_lines.result.items c.in-Ok.jobs.items c.as_slice.result.now c.in-Ok.places.items places c.requires.block
+    c.lanes-lanes.ensures c.into_lines.ensures
     c.in-Ok.ensures.jobs c.in-Ok.ensures.places c.as_slice.ensures.value c.as_slice-in-Ok-outcome.ensures.value in
     let jobs = c.as_slice.result.now in
     let replies = c.in-Ok-outcome.answers.replies.items in
@@ -176,8 +219,11 @@ returns-in-Ok-outcome-clause-formatted g c =
     let same = rw c.in-Ok-outcome.is at c.run_block-cluster.ensures.replies in
     let a = answered c.args.block.lanes lines jobs places d replies same in
     λ tells k stands.
-    let ran = (rw c.in-Ok-outcome.is at (c.run_block-cluster.ensures.legal tells)) k stands a.0 (items_are c.args.block.lanes lines jobs places d replies same a.0 a.1) (items_differ c.args.block.lanes lines jobs places d replies same a.0 a.1) in
-    stands_formatted D.files (λ disk n. (g.met.D.Disk g.world.𝓛 g.world.𝓜 g.world.𝓡 ((λ s x. x), (λ x. x), (λ x. x), λ x. x)).may_leave_now disk n tells) g.D.Piece.Piece.Tells D.fault_count D.fuse_count A.fault_count c.run_block-cluster.result.0 ran.known ran.stands
+    let ran =
+    (rw c.in-Ok-outcome.is at (c.run_block-cluster.ensures.legal tells)) k stands a.0 (items_are c.args.block.lanes lines jobs places d replies same a.0 a.1)
+    (items_differ c.args.block.lanes lines jobs places d replies same a.0 a.1) in
+    stands_formatted D.files (λ disk n. (g.met.D.Disk g.world.𝓛 g.world.𝓜 g.world.𝓡 ((λ s x. x), (λ x. x), (λ x. x), λ x. x)).may_leave_now disk n tells) g.D.Piece.Piece.Tells
+    D.fault_count D.fuse_count A.fault_count c.run_block-cluster.result.0 ran.known ran.stands
 
 -- the block wanted memory
 
@@ -194,7 +240,8 @@ returns-clause-stop_caused g c =
     let kept = rw c.in-Err.is at c.run_block-cluster.ensures.refused in
     λ why is.
     let same : stop.NoMemory ≡ why = cc in
-    wanted_stops D.Tells c.args.cluster.settings (tally_of D.files D.drawn D.fault_count D.fuse_count A.fault_count A.is_sure c.args.cluster) (tally_of D.files D.drawn D.fault_count D.fuse_count A.fault_count A.is_sure c.run_block-cluster.result.0) c.args.block.lines (K.written c.args.sink.now) why same
+    wanted_stops D.Tells c.args.cluster.settings (tally_of D.files D.drawn D.fault_count D.fuse_count A.fault_count A.is_sure c.args.cluster)
+    (tally_of D.files D.drawn D.fault_count D.fuse_count A.fault_count A.is_sure c.run_block-cluster.result.0) c.args.block.lines (K.written c.args.sink.now) why same
     (wanted_block D.Tells D.files g.D.Piece.Piece.Tells D.drawn D.fault_count D.fuse_count A.fault_count A.is_sure c.args.block.lines c.args.cluster c.run_block-cluster.result.0 kept)
 
 pub returns-clause-formatted : goal.returns-clause-formatted
@@ -204,7 +251,8 @@ returns-clause-formatted g c =
     let K = g.K.Sink in
     let kept = rw c.in-Err.is at c.run_block-cluster.ensures.refused in
     λ tells k stands.
-    stands_formatted D.files (λ disk n. (g.met.D.Disk g.world.𝓛 g.world.𝓜 g.world.𝓡 ((λ s x. x), (λ x. x), (λ x. x), λ x. x)).may_leave_now disk n tells) g.D.Piece.Piece.Tells D.fault_count D.fuse_count A.fault_count c.run_block-cluster.result.0 k (kept.stands tells k stands)
+    stands_formatted D.files (λ disk n. (g.met.D.Disk g.world.𝓛 g.world.𝓜 g.world.𝓡 ((λ s x. x), (λ x. x), (λ x. x), λ x. x)).may_leave_now disk n tells) g.D.Piece.Piece.Tells
+    D.fault_count D.fuse_count A.fault_count c.run_block-cluster.result.0 k (kept.stands tells k stands)
 
 -- so did its lines, before they were dealt out
 
@@ -219,7 +267,8 @@ returns-in_default-clause-stop_caused g c =
     let K = g.K.Sink in
     λ why is.
     let same : stop.NoMemory ≡ why = cc in
-    wanted_stops D.Tells c.args.cluster.settings (tally_of D.files D.drawn D.fault_count D.fuse_count A.fault_count A.is_sure c.args.cluster) (tally_of D.files D.drawn D.fault_count D.fuse_count A.fault_count A.is_sure c.args.cluster) c.args.block.lines (K.written c.args.sink.now) why same
+    wanted_stops D.Tells c.args.cluster.settings (tally_of D.files D.drawn D.fault_count D.fuse_count A.fault_count A.is_sure c.args.cluster)
+    (tally_of D.files D.drawn D.fault_count D.fuse_count A.fault_count A.is_sure c.args.cluster) c.args.block.lines (K.written c.args.sink.now) why same
     (same_block D.files D.drawn D.fault_count D.fuse_count A.fault_count A.is_sure c.args.block.lines c.args.cluster)
 
 pub returns-in_default-clause-faults : goal.returns-in_default-clause-faults
@@ -239,4 +288,5 @@ returns-in_default-clause-formatted g c =
     let D = g.D.Disk in
     let A = g.A.Arm in
     let K = g.K.Sink in
-    λ tells k stands. stands_formatted D.files (λ disk n. (g.met.D.Disk g.world.𝓛 g.world.𝓜 g.world.𝓡 ((λ s x. x), (λ x. x), (λ x. x), λ x. x)).may_leave_now disk n tells) g.D.Piece.Piece.Tells D.fault_count D.fuse_count A.fault_count c.args.cluster k stands
+    λ tells k stands. stands_formatted D.files (λ disk n. (g.met.D.Disk g.world.𝓛 g.world.𝓜 g.world.𝓡 ((λ s x. x), (λ x. x), (λ x. x), λ x. x)).may_leave_now disk n tells)
+    g.D.Piece.Piece.Tells D.fault_count D.fuse_count A.fault_count c.args.cluster k stands

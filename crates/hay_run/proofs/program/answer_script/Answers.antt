@@ -97,11 +97,14 @@ returns-clause-ran g c = λ tells.
     subst P is_settings (c.close.ensures.stands tells known held) in
     on_ok_weaker c.serve-cluster.result.1 (λ both k taken_is script held told told_sink.
     let opened = c.in-Ok.ensures.opened tells k taken_is in
-    let served : Serves D.Tells (Stands D.files g.H.Disk.Piece.Piece.Tells D.fault_count D.fuse_count A.fault_count) (Some script) c.in-Ok.cluster (Some (held ++ header_line c.args.settings)) store' (g.K.Sink.written c.serve-cluster.new.sink) =
+    let served : Serves D.Tells (Stands D.files g.H.Disk.Piece.Piece.Tells D.fault_count D.fuse_count A.fault_count) (Some script) c.in-Ok.cluster
+    (Some (held ++ header_line c.args.settings)) store' (g.K.Sink.written c.serve-cluster.new.sink) =
     rw (told, told_sink) at both.0 in
     let over : g.S.Source.left c.serve-cluster.new.source ≡ Some [] = rw told at both.1 in
-    ran_all D.Tells (Stands D.files g.H.Disk.Piece.Piece.Tells D.fault_count D.fuse_count A.fault_count) (Holds D.files D.fault_count D.fuse_count A.fault_count) c.args.settings taken given c.in-Ok.cluster store' k opened.0
-    tells opened.1 c.in-Ok.ensures.settings is_settings opened.2 (λ between is known stands. stands_holds D.files g.H.Disk.Piece.Piece.Tells D.fault_count D.fuse_count A.fault_count between known stands) closed
+    ran_all D.Tells (Stands D.files g.H.Disk.Piece.Piece.Tells D.fault_count D.fuse_count A.fault_count) (Holds D.files D.fault_count D.fuse_count A.fault_count) c.args.settings
+    taken given c.in-Ok.cluster store' k opened.0
+    tells opened.1 c.in-Ok.ensures.settings is_settings opened.2 (λ between is known stands.
+    stands_holds D.files g.H.Disk.Piece.Piece.Tells D.fault_count D.fuse_count A.fault_count between known stands) closed
     script held (g.S.Source.left c.serve-cluster.new.source) (g.K.Sink.written c.serve-cluster.new.sink)
     served.asked served.all (served.answers tells opened.0 opened.2) over)
     (on_ok_both _ _ c.serve-cluster.result.1 c.serve-cluster.ensures.served c.serve-cluster.ensures.ended)
@@ -119,10 +122,13 @@ returns-clause-stopped g c = λ tells why is k taken_is script held told told_si
     let P : Settings → Type 0 = λ s. StandsOn (IsReplica s) (OpensRows s) s known given in
     subst P is_settings (c.close.ensures.stands tells known held) in
     let opened = c.in-Ok.ensures.opened tells k taken_is in
-    let u : ServedUntil D.Tells (Stands D.files g.H.Disk.Piece.Piece.Tells D.fault_count D.fuse_count A.fault_count) (Holds D.files D.fault_count D.fuse_count A.fault_count) why (Some script) c.in-Ok.cluster (Some (held ++ header_line c.args.settings)) (g.S.Source.left c.serve-cluster.new.source) store' (g.K.Sink.written c.serve-cluster.new.sink) =
+    let u : ServedUntil D.Tells (Stands D.files g.H.Disk.Piece.Piece.Tells D.fault_count D.fuse_count A.fault_count) (Holds D.files D.fault_count D.fuse_count A.fault_count) why
+    (Some script) c.in-Ok.cluster (Some (held ++ header_line c.args.settings)) (g.S.Source.left c.serve-cluster.new.source) store' (g.K.Sink.written c.serve-cluster.new.sink) =
     rw (told, told_sink) at (c.serve-cluster.ensures.stopped why is) in
-    ran_stopped D.Tells (Stands D.files g.H.Disk.Piece.Piece.Tells D.fault_count D.fuse_count A.fault_count) (Holds D.files D.fault_count D.fuse_count A.fault_count) c.args.settings taken given c.in-Ok.cluster store' k opened.0
-    tells opened.1 c.in-Ok.ensures.settings is_settings opened.2 (λ between is known stands. stands_holds D.files g.H.Disk.Piece.Piece.Tells D.fault_count D.fuse_count A.fault_count between known stands) closed
+    ran_stopped D.Tells (Stands D.files g.H.Disk.Piece.Piece.Tells D.fault_count D.fuse_count A.fault_count) (Holds D.files D.fault_count D.fuse_count A.fault_count)
+    c.args.settings taken given c.in-Ok.cluster store' k opened.0
+    tells opened.1 c.in-Ok.ensures.settings is_settings opened.2 (λ between is known stands.
+    stands_holds D.files g.H.Disk.Piece.Piece.Tells D.fault_count D.fuse_count A.fault_count between known stands) closed
     script held (g.S.Source.left c.serve-cluster.new.source) (g.K.Sink.written c.serve-cluster.new.sink)
     u.asked u.number u.rest u.mid u.text u.held u.took u.settings (u.answers tells opened.0 opened.2)
     why u.none (λ e last left_is.
@@ -146,9 +152,11 @@ returns-clause-store g c = λ is.
     (λ tells k taken_is. let opened = c.in-Ok.ensures.opened tells k taken_is in (opened.0, opened.2))
     c.in-Ok.ensures.sound (g.S.Source.left c.args.source.now) (g.S.Source.left c.serve-cluster.new.source) (g.K.Sink.written c.args.sink.now) (g.K.Sink.written c.serve-cluster.new.sink)
     (λ unread.
-    let u : ServedUntil D.Tells (Stands D.files g.H.Disk.Piece.Piece.Tells D.fault_count D.fuse_count A.fault_count) (Holds D.files D.fault_count D.fuse_count A.fault_count) stop.Store (Some unread.0) c.in-Ok.cluster (g.K.Sink.written c.args.sink.now) (g.S.Source.left c.serve-cluster.new.source) store' (g.K.Sink.written c.serve-cluster.new.sink) =
+    let u : ServedUntil D.Tells (Stands D.files g.H.Disk.Piece.Piece.Tells D.fault_count D.fuse_count A.fault_count) (Holds D.files D.fault_count D.fuse_count A.fault_count)
+    stop.Store (Some unread.0) c.in-Ok.cluster (g.K.Sink.written c.args.sink.now) (g.S.Source.left c.serve-cluster.new.source) store' (g.K.Sink.written c.serve-cluster.new.sink) =
     rw unread.1 at (c.serve-cluster.ensures.stopped stop.Store is) in
-    was_read D.Tells (Stands D.files g.H.Disk.Piece.Piece.Tells D.fault_count D.fuse_count A.fault_count) (Holds D.files D.fault_count D.fuse_count A.fault_count) unread.0 (g.S.Source.left c.serve-cluster.new.source) c.in-Ok.cluster store' (g.K.Sink.written c.args.sink.now) (g.K.Sink.written c.serve-cluster.new.sink) u unread.2)
+    was_read D.Tells (Stands D.files g.H.Disk.Piece.Piece.Tells D.fault_count D.fuse_count A.fault_count) (Holds D.files D.fault_count D.fuse_count A.fault_count) unread.0
+    (g.S.Source.left c.serve-cluster.new.source) c.in-Ok.cluster store' (g.K.Sink.written c.args.sink.now) (g.K.Sink.written c.serve-cluster.new.sink) u unread.2)
     (c.serve-cluster.ensures.halted is))
 
 -- each arm that is sure is given back so
@@ -217,7 +225,8 @@ returns-clause-caused g c = λ script held told told_sink.
     all_caused D.Tells c.args.settings script left taken given sure disks disks' held written old new begins ends c.in-Ok.ensures.sound all (rw told at both.1))
     (on_ok_both _ _ c.serve-cluster.result.1 c.serve-cluster.ensures.caused c.serve-cluster.ensures.ended))
     (λ why is.
-    let u : CausedUntil g.H.Disk.Disk.Tells c.args.settings old new why (Some script) (Some (held ++ header_line c.args.settings)) left written = rw (c.in-Ok.ensures.settings, told, told_sink) at (c.serve-cluster.ensures.stop_caused why is) in
+    let u : CausedUntil g.H.Disk.Disk.Tells c.args.settings old new why (Some script) (Some (held ++ header_line c.args.settings)) left written =
+    rw (c.in-Ok.ensures.settings, told, told_sink) at (c.serve-cluster.ensures.stop_caused why is) in
     until_caused D.Tells c.args.settings script left taken given sure disks disks' held written old new begins ends c.in-Ok.ensures.sound why
     (λ e last left_is.
     let long = c.serve-cluster.ensures.long (cc (is, e)) script told in
@@ -234,9 +243,17 @@ returns-in-Err-clause-caused g c = λ script held told told_sink.
     let sure : ℕ → Bool = (λ lane. (g.H.Shelf.arms c.args.shelf.now lane).is_sure) in
     let taken = outside_of shelf (g.H.Shelf.disks c.args.shelf.now) (g.H.Shelf.arms c.args.shelf.now) in
     let given = outside_of shelf' (g.H.Shelf.disks c.open.new.shelf) (g.H.Shelf.arms c.open.new.shelf) in
-    refused_caused g.H.Disk.Disk.Tells c.args.settings script (g.S.Source.left c.args.source.now) taken given sure disks disks' held (g.K.Sink.written c.write_refusal.new.sink) c.in-Err.ensures.kept (λ lane within. (c.in-Err.ensures.back_arms lane within).fault_count) (λ slot within. (c.in-Err.ensures.back_counts slot within).fuses_are) c.write_refusal.result c.in-Err.fault c.write_refusal.ensures.fits
+    refused_caused g.H.Disk.Disk.Tells c.args.settings script (g.S.Source.left c.args.source.now) taken given sure disks disks' held (g.K.Sink.written c.write_refusal.new.sink)
+    c.in-Err.ensures.kept (λ lane within. (c.in-Err.ensures.back_arms lane within).fault_count) (λ slot within. (c.in-Err.ensures.back_counts slot within).fuses_are)
+    c.write_refusal.result c.in-Err.fault c.write_refusal.ensures.fits
     (cause_of g.H.Disk.Disk.Tells c.args.settings taken given c.in-Err.fault c.in-Err.ensures.shelf c.in-Err.ensures.failed
-    (λ t slot count e. (c.in-Err.ensures.failed_lowest t slot count (ap (λ f. Err f) e), c.in-Err.ensures.failed_first t slot count (ap (λ f. Err f) e))) (λ slot file at e. c.in-Err.ensures.damaged_within slot file at (ap (λ f. Err f) e)) (λ t slot file at e. ((c.in-Err.ensures.damaged t slot file at (ap (λ f. Err f) e)).0, (c.in-Err.ensures.damaged t slot file at (ap (λ f. Err f) e)).1, c.in-Err.ensures.damaged_first t slot file at (ap (λ f. Err f) e))))
+    (λ t slot count e. (c.in-Err.ensures.failed_lowest t slot count (ap (λ f. Err f) e), c.in-Err.ensures.failed_first t slot count (ap (λ f. Err f) e)))
+    (λ slot file at e. c.in-Err.ensures.damaged_within slot file at (ap (λ f. Err f) e))
+    (λ t slot file at e. (
+      (c.in-Err.ensures.damaged t slot file at (ap (λ f. Err f) e)).0,
+      (c.in-Err.ensures.damaged t slot file at (ap (λ f. Err f) e)).1,
+      c.in-Err.ensures.damaged_first t slot file at (ap (λ f. Err f) e),
+    )))
     (rw told_sink at c.write_refusal.ensures.told) (rw told_sink at c.write_refusal.ensures.part)
     (λ none. let w = c.write_refusal.ensures.wanting none in (w.0, ap g.K.Sink.written w.1 ∙ told_sink)) c.write_refusal.ensures.stops told
 
@@ -259,7 +276,15 @@ returns-in-Err-clause-stopped g c = λ tells why is k taken_is script held told 
     (ran_unopened c.args.settings shelf shelf' disks disks' arms arms' k taken_is (c.in-Err.ensures.kept tells) c.in-Err.ensures.back_counts c.in-Err.ensures.back_arms c.requires.built.some_replicas
     script held written' D.Tells tells c.in-Err.fault why
     (cause_of D.Tells c.args.settings (outside_of shelf disks arms) (outside_of shelf' disks' arms') c.in-Err.fault
-    c.in-Err.ensures.shelf c.in-Err.ensures.failed (λ t slot count e. (c.in-Err.ensures.failed_lowest t slot count (ap (λ f. Err f) e), c.in-Err.ensures.failed_first t slot count (ap (λ f. Err f) e))) (λ slot file at e. c.in-Err.ensures.damaged_within slot file at (ap (λ f. Err f) e)) (λ t slot file at e. ((c.in-Err.ensures.damaged t slot file at (ap (λ f. Err f) e)).0, (c.in-Err.ensures.damaged t slot file at (ap (λ f. Err f) e)).1, c.in-Err.ensures.damaged_first t slot file at (ap (λ f. Err f) e))))
+    c.in-Err.ensures.shelf c.in-Err.ensures.failed (λ t slot count e. (
+      c.in-Err.ensures.failed_lowest t slot count (ap (λ f. Err f) e),
+      c.in-Err.ensures.failed_first t slot count (ap (λ f. Err f) e),
+    )) (λ slot file at e. c.in-Err.ensures.damaged_within slot file at (ap (λ f. Err f) e))
+    (λ t slot file at e. (
+      (c.in-Err.ensures.damaged t slot file at (ap (λ f. Err f) e)).0,
+      (c.in-Err.ensures.damaged t slot file at (ap (λ f. Err f) e)).1,
+      c.in-Err.ensures.damaged_first t slot file at (ap (λ f. Err f) e),
+    )))
     (rw (told_sink, same) at c.write_refusal.ensures.told) (rw (told_sink, same) at c.write_refusal.ensures.part)
     (λ none. let w = c.write_refusal.ensures.wanting none in (sym same ∙ w.0, ap g.K.Sink.written w.1 ∙ told_sink)) (rw same at c.write_refusal.ensures.stops))
 
@@ -273,7 +298,15 @@ returns-in-Err-clause-store g c = λ is.
       note = note.0;
       why = cause_of D.Tells c.args.settings (outside_of shelf (g.H.Shelf.disks c.args.shelf.now) (g.H.Shelf.arms c.args.shelf.now))
           (outside_of shelf' (g.H.Shelf.disks c.open.new.shelf) (g.H.Shelf.arms c.open.new.shelf)) c.in-Err.fault
-          c.in-Err.ensures.shelf c.in-Err.ensures.failed (λ t slot count e. (c.in-Err.ensures.failed_lowest t slot count (ap (λ f. Err f) e), c.in-Err.ensures.failed_first t slot count (ap (λ f. Err f) e))) (λ slot file at e. c.in-Err.ensures.damaged_within slot file at (ap (λ f. Err f) e)) (λ t slot file at e. ((c.in-Err.ensures.damaged t slot file at (ap (λ f. Err f) e)).0, (c.in-Err.ensures.damaged t slot file at (ap (λ f. Err f) e)).1, c.in-Err.ensures.damaged_first t slot file at (ap (λ f. Err f) e))) note.0 note.1;
+          c.in-Err.ensures.shelf c.in-Err.ensures.failed (λ t slot count e. (
+            c.in-Err.ensures.failed_lowest t slot count (ap (λ f. Err f) e),
+            c.in-Err.ensures.failed_first t slot count (ap (λ f. Err f) e),
+          )) (λ slot file at e. c.in-Err.ensures.damaged_within slot file at (ap (λ f. Err f) e))
+          (λ t slot file at e. (
+            (c.in-Err.ensures.damaged t slot file at (ap (λ f. Err f) e)).0,
+            (c.in-Err.ensures.damaged t slot file at (ap (λ f. Err f) e)).1,
+            c.in-Err.ensures.damaged_first t slot file at (ap (λ f. Err f) e),
+          )) note.0 note.1;
       told = λ held told_sink. (let wrote : Wrote (Some held) (note_line note.0) (g.K.Sink.written c.write_refusal.new.sink) = rw told_sink at note.2 in wrote);
       unread = refl;
       kept = c.in-Err.ensures.kept;
@@ -303,7 +336,8 @@ returns-clause-drew g c = λ tells.
     let before = drawn_of (g.H.Shelf.disks c.args.shelf.now) in
     let is_settings = c.serve-cluster.ensures.settings ∙ c.in-Ok.ensures.settings in
     on_ok_weaker c.serve-cluster.result.1 (λ all nothing.
-    let same : new ≡ old = nothing_asked D.Tells c.in-Ok.cluster.settings old new (g.S.Source.left c.args.source.now) (g.K.Sink.written c.args.sink.now) (g.K.Sink.written c.serve-cluster.new.sink) all nothing in
+    let same : new ≡ old =
+    nothing_asked D.Tells c.in-Ok.cluster.settings old new (g.S.Source.left c.args.source.now) (g.K.Sink.written c.args.sink.now) (g.K.Sink.written c.serve-cluster.new.sink) all nothing in
     given_drew c.args.settings new.contents before new.drawn given
     (subst (λ s. (slot : ℕ) → slot < disk_count s → read_of (given slot) ≡ new.contents slot) is_settings (c.close.ensures.contents tells))
     (subst (λ s. (slot : ℕ) → slot < disk_count s → (given slot).drawn ≡ new.drawn slot) is_settings (c.close.ensures.drawn tells))
@@ -319,7 +353,8 @@ returns-clause-flushed g c = λ tells.
     let before = drawn_of (g.H.Shelf.disks c.args.shelf.now) in
     let is_settings = c.serve-cluster.ensures.settings ∙ c.in-Ok.ensures.settings in
     on_ok_weaker c.serve-cluster.result.1 (λ all k taken nothing.
-    let same : new ≡ old = nothing_asked D.Tells c.in-Ok.cluster.settings old new (g.S.Source.left c.args.source.now) (g.K.Sink.written c.args.sink.now) (g.K.Sink.written c.serve-cluster.new.sink) all nothing in
+    let same : new ≡ old =
+    nothing_asked D.Tells c.in-Ok.cluster.settings old new (g.S.Source.left c.args.source.now) (g.K.Sink.written c.args.sink.now) (g.K.Sink.written c.serve-cluster.new.sink) all nothing in
     given_flushed c.args.settings new.contents before new.drawn given
     (subst (λ s. (slot : ℕ) → slot < disk_count s → read_of (given slot) ≡ new.contents slot) is_settings (c.close.ensures.contents tells))
     (subst (λ s. (slot : ℕ) → slot < disk_count s → (given slot).drawn ≡ new.drawn slot) is_settings (c.close.ensures.drawn tells))
@@ -336,7 +371,9 @@ returns-clause-contents g c = λ tells nothing.
     let given = g.H.Shelf.disks c.close.new.shelf in
     let is_settings = c.serve-cluster.ensures.settings ∙ c.in-Ok.ensures.settings in
     let closed = subst (λ s. (slot : ℕ) → slot < disk_count s → read_of (given slot) ≡ new.contents slot) is_settings (c.close.ensures.contents tells) in
-    let same : new ≡ old = nothing_done D.Tells c.in-Ok.cluster.settings old new (g.S.Source.left c.args.source.now) (g.K.Sink.written c.args.sink.now) (g.S.Source.left c.serve-cluster.new.source) (g.K.Sink.written c.serve-cluster.new.sink)
+    let same : new ≡ old =
+    nothing_done D.Tells c.in-Ok.cluster.settings old new (g.S.Source.left c.args.source.now) (g.K.Sink.written c.args.sink.now) (g.S.Source.left c.serve-cluster.new.source)
+    (g.K.Sink.written c.serve-cluster.new.sink)
     c.serve-cluster.result.1 c.serve-cluster.ensures.caused c.serve-cluster.ensures.stop_caused nothing in
     λ slot file below some.
     ap (λ (contents : Contents). contents file) (closed slot below) ∙ ap (λ (t : Tally). t.contents slot file) same ∙ c.in-Ok.ensures.contents tells slot file below some

@@ -21,7 +21,8 @@ use Rattle.hay_run.proofs.Auditing.{audit_never_two, audit_nothing, audit_status
 use Rattle.hay_run.proofs.Caused.{nothing_caused}
 use Rattle.hay_legal.specs.Stands.{Outside}
 use Rattle.hay_run.proofs.Checking.{check_nothing, check_statuses}
-use Rattle.hay_run.proofs.Commanding.{audit_no_drill, audit_no_load, check_no_drill, load_no_drill, run_no_drill, same_drill, check_no_audit, check_no_load, load_no_audit, run_no_audit, run_no_load, same_audit, same_check, same_load, same_run}
+use Rattle.hay_run.proofs.Commanding.{audit_no_drill, audit_no_load, check_no_drill, load_no_drill, run_no_drill, same_drill, check_no_audit, check_no_load, load_no_audit}
+use Rattle.hay_run.proofs.Commanding.{run_no_audit, run_no_load, same_audit, same_check, same_load, same_run}
 use Rattle.hay_run.proofs.Loading.{load_nothing, never_two}
 use Rattle.hay_run.proofs.Giving.{disks_in, arms_in, none_fell}
 use Rattle.hay_run.proofs.Refusing.{by_status, opened_by, ran_nothing, ran_by, store_by}
@@ -42,7 +43,8 @@ pub returns-in-Ok-clause-ran : goal.returns-in-Ok-clause-ran
 returns-in-Ok-clause-ran g c = λ tells settings k says taken script held told told_sink ending is.
     let given = outside_of (g.H.Shelf.fault_count c.run_script.new.shelf) (g.H.Shelf.disks c.run_script.new.shelf) (g.H.Shelf.arms c.run_script.new.shelf) in
     let outside = outside_of (g.H.Shelf.fault_count c.args.shelf.now) (g.H.Shelf.disks c.args.shelf.now) (g.H.Shelf.arms c.args.shelf.now) in
-    let same : c.in-Ok-Some-Run.settings ≡ settings = (let run : SaysRun (map string_bytes c.args.words.now) c.in-Ok-Some-Run.settings = rw (c.in-Ok-Some-Run.field-0-is, c.in-Ok-Some-Run.field-0-0-is) at c.in-Ok-Some-Run.ensures.says in
+    let same : c.in-Ok-Some-Run.settings ≡ settings =
+    (let run : SaysRun (map string_bytes c.args.words.now) c.in-Ok-Some-Run.settings = rw (c.in-Ok-Some-Run.field-0-is, c.in-Ok-Some-Run.field-0-0-is) at c.in-Ok-Some-Run.ensures.says in
     same_run (map string_bytes c.args.words.now) c.in-Ok-Some-Run.settings settings run says) in
     let P : Settings → Type 0 = λ s. RanTo s k ending script (g.S.Source.left c.run_script.new.source) outside given held (g.K.Sink.written c.run_script.new.sink) in
     let Q : Settings → Type 0 = λ s. IsTaken s outside k in
@@ -67,7 +69,8 @@ returns-in-Ok-clause-arm_faults g c = none_fell (λ (a : HeldArm). a.fault_count
 
 pub returns-in-Ok-clause-other_slots : goal.returns-in-Ok-clause-other_slots
 returns-in-Ok-clause-other_slots g c = λ settings says.
-    let same : c.in-Ok-Some-Run.settings ≡ settings = (let run : SaysRun (map string_bytes c.args.words.now) c.in-Ok-Some-Run.settings = rw (c.in-Ok-Some-Run.field-0-is, c.in-Ok-Some-Run.field-0-0-is) at c.in-Ok-Some-Run.ensures.says in
+    let same : c.in-Ok-Some-Run.settings ≡ settings =
+    (let run : SaysRun (map string_bytes c.args.words.now) c.in-Ok-Some-Run.settings = rw (c.in-Ok-Some-Run.field-0-is, c.in-Ok-Some-Run.field-0-0-is) at c.in-Ok-Some-Run.ensures.says in
     same_run (map string_bytes c.args.words.now) c.in-Ok-Some-Run.settings settings run says) in
     let P : Settings → Type 0 = λ s. SameFrom (disk_count s) (g.H.Shelf.disks c.args.shelf.now) (g.H.Shelf.disks c.run_script.new.shelf) in
     subst P same c.in-Ok.ensures.other_slots
@@ -78,11 +81,13 @@ pub returns-in-Err-run_script-clause-ran : goal.returns-in-Err-run_script-clause
 returns-in-Err-run_script-clause-ran g c = λ tells settings k says taken script held told told_sink ending is.
     let given = outside_of (g.H.Shelf.fault_count c.run_script.new.shelf) (g.H.Shelf.disks c.run_script.new.shelf) (g.H.Shelf.arms c.run_script.new.shelf) in
     let outside = outside_of (g.H.Shelf.fault_count c.args.shelf.now) (g.H.Shelf.disks c.args.shelf.now) (g.H.Shelf.arms c.args.shelf.now) in
-    let same : c.in-Ok-Some-Run.settings ≡ settings = (let run : SaysRun (map string_bytes c.args.words.now) c.in-Ok-Some-Run.settings = rw (c.in-Ok-Some-Run.field-0-is, c.in-Ok-Some-Run.field-0-0-is) at c.in-Ok-Some-Run.ensures.says in
+    let same : c.in-Ok-Some-Run.settings ≡ settings =
+    (let run : SaysRun (map string_bytes c.args.words.now) c.in-Ok-Some-Run.settings = rw (c.in-Ok-Some-Run.field-0-is, c.in-Ok-Some-Run.field-0-0-is) at c.in-Ok-Some-Run.ensures.says in
     same_run (map string_bytes c.args.words.now) c.in-Ok-Some-Run.settings settings run says) in
     let P : Settings → Type 0 = λ s. RanTo s k ending script (g.S.Source.left c.run_script.new.source) outside given held (g.K.Sink.written c.run_script.new.sink) in
     let Q : Settings → Type 0 = λ s. IsTaken s outside k in
-    subst P same (ran_by c.in-Ok-Some-Run.settings k script (g.S.Source.left c.run_script.new.source) outside given held (g.K.Sink.written c.run_script.new.sink) ending (ending_of c.in-Err-run_script.stop)
+    subst P same (ran_by c.in-Ok-Some-Run.settings k script (g.S.Source.left c.run_script.new.source) outside given held (g.K.Sink.written c.run_script.new.sink) ending
+    (ending_of c.in-Err-run_script.stop)
     (sym c.status-in-Err-run_script.ensures ∙ is)
     (c.in-Err-run_script.ensures.stopped tells c.in-Err-run_script.stop refl k (subst Q (sym same) taken) script held told told_sink))
 
@@ -95,7 +100,8 @@ returns-in-Err-run_script-clause-arms_back g c = arms_in 8 (g.H.Shelf.arms c.arg
     c.requires.arms_in c.in-Err-run_script.ensures.arms_back c.in-Err-run_script.ensures.other_lanes
 
 pub returns-in-Err-run_script-clause-faults : goal.returns-in-Err-run_script-clause-faults
-returns-in-Err-run_script-clause-faults g c = none_fell (λ (d : HeldDisk). d.fault_count) (disk_count c.in-Ok-Some-Run.settings) (g.H.Shelf.disks c.args.shelf.now) (g.H.Shelf.disks c.run_script.new.shelf)
+returns-in-Err-run_script-clause-faults g c =
+    none_fell (λ (d : HeldDisk). d.fault_count) (disk_count c.in-Ok-Some-Run.settings) (g.H.Shelf.disks c.args.shelf.now) (g.H.Shelf.disks c.run_script.new.shelf)
     c.in-Err-run_script.ensures.faults c.in-Err-run_script.ensures.other_slots
 
 pub returns-in-Err-run_script-clause-arm_faults : goal.returns-in-Err-run_script-clause-arm_faults
@@ -104,14 +110,16 @@ returns-in-Err-run_script-clause-arm_faults g c = none_fell (λ (a : HeldArm). a
 
 pub returns-in-Err-run_script-clause-other_slots : goal.returns-in-Err-run_script-clause-other_slots
 returns-in-Err-run_script-clause-other_slots g c = λ settings says.
-    let same : c.in-Ok-Some-Run.settings ≡ settings = (let run : SaysRun (map string_bytes c.args.words.now) c.in-Ok-Some-Run.settings = rw (c.in-Ok-Some-Run.field-0-is, c.in-Ok-Some-Run.field-0-0-is) at c.in-Ok-Some-Run.ensures.says in
+    let same : c.in-Ok-Some-Run.settings ≡ settings =
+    (let run : SaysRun (map string_bytes c.args.words.now) c.in-Ok-Some-Run.settings = rw (c.in-Ok-Some-Run.field-0-is, c.in-Ok-Some-Run.field-0-0-is) at c.in-Ok-Some-Run.ensures.says in
     same_run (map string_bytes c.args.words.now) c.in-Ok-Some-Run.settings settings run says) in
     let P : Settings → Type 0 = λ s. SameFrom (disk_count s) (g.H.Shelf.disks c.args.shelf.now) (g.H.Shelf.disks c.run_script.new.shelf) in
     subst P same c.in-Err-run_script.ensures.other_slots
 
 pub returns-in-Err-run_script-clause-store : goal.returns-in-Err-run_script-clause-store
 returns-in-Err-run_script-clause-store g c = λ six settings says.
-    let same : c.in-Ok-Some-Run.settings ≡ settings = (let run : SaysRun (map string_bytes c.args.words.now) c.in-Ok-Some-Run.settings = rw (c.in-Ok-Some-Run.field-0-is, c.in-Ok-Some-Run.field-0-0-is) at c.in-Ok-Some-Run.ensures.says in
+    let same : c.in-Ok-Some-Run.settings ≡ settings =
+    (let run : SaysRun (map string_bytes c.args.words.now) c.in-Ok-Some-Run.settings = rw (c.in-Ok-Some-Run.field-0-is, c.in-Ok-Some-Run.field-0-0-is) at c.in-Ok-Some-Run.ensures.says in
     same_run (map string_bytes c.args.words.now) c.in-Ok-Some-Run.settings settings run says) in
     let taken = outside_of (g.H.Shelf.fault_count c.args.shelf.now) (g.H.Shelf.disks c.args.shelf.now) (g.H.Shelf.arms c.args.shelf.now) in
     let given = outside_of (g.H.Shelf.fault_count c.run_script.new.shelf) (g.H.Shelf.disks c.run_script.new.shelf) (g.H.Shelf.arms c.run_script.new.shelf) in
@@ -121,30 +129,36 @@ returns-in-Err-run_script-clause-store g c = λ six settings says.
 
 pub returns-in-Ok-clause-sound : goal.returns-in-Ok-clause-sound
 returns-in-Ok-clause-sound g c = λ tells status settings says.
-    let same : c.in-Ok-Some-Run.settings ≡ settings = (let run : SaysRun (map string_bytes c.args.words.now) c.in-Ok-Some-Run.settings = rw (c.in-Ok-Some-Run.field-0-is, c.in-Ok-Some-Run.field-0-0-is) at c.in-Ok-Some-Run.ensures.says in
+    let same : c.in-Ok-Some-Run.settings ≡ settings =
+    (let run : SaysRun (map string_bytes c.args.words.now) c.in-Ok-Some-Run.settings = rw (c.in-Ok-Some-Run.field-0-is, c.in-Ok-Some-Run.field-0-0-is) at c.in-Ok-Some-Run.ensures.says in
     same_run (map string_bytes c.args.words.now) c.in-Ok-Some-Run.settings settings run says) in
     subst (λ (s : Settings). IsUndamaged s (λ slot. read_of (g.H.Shelf.disks c.args.shelf.now slot))) same (c.in-Ok.ensures.sound tells (inl tt))
 
 pub returns-in-Err-run_script-clause-sound : goal.returns-in-Err-run_script-clause-sound
 returns-in-Err-run_script-clause-sound g c = λ tells status settings says.
-    let same : c.in-Ok-Some-Run.settings ≡ settings = (let run : SaysRun (map string_bytes c.args.words.now) c.in-Ok-Some-Run.settings = rw (c.in-Ok-Some-Run.field-0-is, c.in-Ok-Some-Run.field-0-0-is) at c.in-Ok-Some-Run.ensures.says in
+    let same : c.in-Ok-Some-Run.settings ≡ settings =
+    (let run : SaysRun (map string_bytes c.args.words.now) c.in-Ok-Some-Run.settings = rw (c.in-Ok-Some-Run.field-0-is, c.in-Ok-Some-Run.field-0-0-is) at c.in-Ok-Some-Run.ensures.says in
     same_run (map string_bytes c.args.words.now) c.in-Ok-Some-Run.settings settings run says) in
     subst (λ (s : Settings). IsUndamaged s (λ slot. read_of (g.H.Shelf.disks c.args.shelf.now slot))) same
     (c.in-Err-run_script.ensures.sound tells (opened_by c.in-Err-run_script.stop c.status-in-Err-run_script.result c.status-in-Err-run_script.ensures status))
 
 pub returns-in-Ok-clause-formatted : goal.returns-in-Ok-clause-formatted
 returns-in-Ok-clause-formatted g c = λ tells status settings k says taken slot within.
-    let same : c.in-Ok-Some-Run.settings ≡ settings = (let run : SaysRun (map string_bytes c.args.words.now) c.in-Ok-Some-Run.settings = rw (c.in-Ok-Some-Run.field-0-is, c.in-Ok-Some-Run.field-0-0-is) at c.in-Ok-Some-Run.ensures.says in
+    let same : c.in-Ok-Some-Run.settings ≡ settings =
+    (let run : SaysRun (map string_bytes c.args.words.now) c.in-Ok-Some-Run.settings = rw (c.in-Ok-Some-Run.field-0-is, c.in-Ok-Some-Run.field-0-0-is) at c.in-Ok-Some-Run.ensures.says in
     same_run (map string_bytes c.args.words.now) c.in-Ok-Some-Run.settings settings run says) in
     c.in-Ok.ensures.formatted tells (inl tt) k
-    (subst (λ (s : Settings). IsTaken s (outside_of (g.H.Shelf.fault_count c.args.shelf.now) (g.H.Shelf.disks c.args.shelf.now) (g.H.Shelf.arms c.args.shelf.now)) k) (sym same) taken) slot (subst (λ (s : Settings). slot < disk_count s) (sym same) within)
+    (subst (λ (s : Settings). IsTaken s (outside_of (g.H.Shelf.fault_count c.args.shelf.now) (g.H.Shelf.disks c.args.shelf.now) (g.H.Shelf.arms c.args.shelf.now)) k) (sym same)
+    taken) slot (subst (λ (s : Settings). slot < disk_count s) (sym same) within)
 
 pub returns-in-Err-run_script-clause-formatted : goal.returns-in-Err-run_script-clause-formatted
 returns-in-Err-run_script-clause-formatted g c = λ tells status settings k says taken slot within.
-    let same : c.in-Ok-Some-Run.settings ≡ settings = (let run : SaysRun (map string_bytes c.args.words.now) c.in-Ok-Some-Run.settings = rw (c.in-Ok-Some-Run.field-0-is, c.in-Ok-Some-Run.field-0-0-is) at c.in-Ok-Some-Run.ensures.says in
+    let same : c.in-Ok-Some-Run.settings ≡ settings =
+    (let run : SaysRun (map string_bytes c.args.words.now) c.in-Ok-Some-Run.settings = rw (c.in-Ok-Some-Run.field-0-is, c.in-Ok-Some-Run.field-0-0-is) at c.in-Ok-Some-Run.ensures.says in
     same_run (map string_bytes c.args.words.now) c.in-Ok-Some-Run.settings settings run says) in
     c.in-Err-run_script.ensures.formatted tells (opened_by c.in-Err-run_script.stop c.status-in-Err-run_script.result c.status-in-Err-run_script.ensures status) k
-    (subst (λ (s : Settings). IsTaken s (outside_of (g.H.Shelf.fault_count c.args.shelf.now) (g.H.Shelf.disks c.args.shelf.now) (g.H.Shelf.arms c.args.shelf.now)) k) (sym same) taken) slot (subst (λ (s : Settings). slot < disk_count s) (sym same) within)
+    (subst (λ (s : Settings). IsTaken s (outside_of (g.H.Shelf.fault_count c.args.shelf.now) (g.H.Shelf.disks c.args.shelf.now) (g.H.Shelf.arms c.args.shelf.now)) k) (sym same)
+    taken) slot (subst (λ (s : Settings). slot < disk_count s) (sym same) within)
 
 -- what was written, and its causes
 
@@ -154,8 +168,10 @@ returns-in-Err-clause-caused g c = λ settings says script held told told_sink e
     let disks' : ℕ → HeldDisk = g.H.Shelf.disks c.args.shelf.now in
     let sure : ℕ → Bool = (λ lane. (g.H.Shelf.arms c.args.shelf.now lane).is_sure) in
     let outside = outside_of (g.H.Shelf.fault_count c.args.shelf.now) (g.H.Shelf.disks c.args.shelf.now) (g.H.Shelf.arms c.args.shelf.now) in
-    by_status (λ (e : Ending). CausedRun g.H.Disk.Disk.Tells settings e script (g.S.Source.left c.args.source.now) outside outside sure disks disks' held (g.K.Sink.written c.args.sink.now)) NoMemory ending (sym c.status.ensures ∙ is)
-    (nothing_caused g.H.Disk.Disk.Tells settings script (g.S.Source.left c.args.source.now) outside outside sure disks disks' held (g.K.Sink.written c.args.sink.now) (λ tells slot within. inr (inl refl)) (λ lane within. refl) (λ slot within. refl) told_sink told)
+    by_status (λ (e : Ending). CausedRun g.H.Disk.Disk.Tells settings e script (g.S.Source.left c.args.source.now) outside outside sure disks disks' held
+    (g.K.Sink.written c.args.sink.now)) NoMemory ending (sym c.status.ensures ∙ is)
+    (nothing_caused g.H.Disk.Disk.Tells settings script (g.S.Source.left c.args.source.now) outside outside sure disks disks' held (g.K.Sink.written c.args.sink.now)
+    (λ tells slot within. inr (inl refl)) (λ lane within. refl) (λ slot within. refl) told_sink told)
 
 pub returns-in-Ok-clause-caused : goal.returns-in-Ok-clause-caused
 returns-in-Ok-clause-caused g c = λ settings says script held told told_sink ending is.
@@ -164,11 +180,14 @@ returns-in-Ok-clause-caused g c = λ settings says script held told told_sink en
     let sure : ℕ → Bool = (λ lane. (g.H.Shelf.arms c.args.shelf.now lane).is_sure) in
     let outside = outside_of (g.H.Shelf.fault_count c.args.shelf.now) (g.H.Shelf.disks c.args.shelf.now) (g.H.Shelf.arms c.args.shelf.now) in
     let given = outside_of (g.H.Shelf.fault_count c.run_script.new.shelf) (g.H.Shelf.disks c.run_script.new.shelf) (g.H.Shelf.arms c.run_script.new.shelf) in
-    let same : c.in-Ok-Some-Run.settings ≡ settings = (let run : SaysRun (map string_bytes c.args.words.now) c.in-Ok-Some-Run.settings = rw (c.in-Ok-Some-Run.field-0-is, c.in-Ok-Some-Run.field-0-0-is) at c.in-Ok-Some-Run.ensures.says in
+    let same : c.in-Ok-Some-Run.settings ≡ settings =
+    (let run : SaysRun (map string_bytes c.args.words.now) c.in-Ok-Some-Run.settings = rw (c.in-Ok-Some-Run.field-0-is, c.in-Ok-Some-Run.field-0-0-is) at c.in-Ok-Some-Run.ensures.says in
     same_run (map string_bytes c.args.words.now) c.in-Ok-Some-Run.settings settings run says) in
-    let P : Settings → Type 0 = λ s. CausedRun g.H.Disk.Disk.Tells s ending script (g.S.Source.left c.run_script.new.source) outside given sure disks disks' held (g.K.Sink.written c.run_script.new.sink) in
+    let P : Settings → Type 0 =
+    λ s. CausedRun g.H.Disk.Disk.Tells s ending script (g.S.Source.left c.run_script.new.source) outside given sure disks disks' held (g.K.Sink.written c.run_script.new.sink) in
     subst P same
-    (by_status (λ (e : Ending). CausedRun g.H.Disk.Disk.Tells c.in-Ok-Some-Run.settings e script (g.S.Source.left c.run_script.new.source) outside given sure disks disks' held (g.K.Sink.written c.run_script.new.sink)) ReadAll ending is
+    (by_status (λ (e : Ending). CausedRun g.H.Disk.Disk.Tells c.in-Ok-Some-Run.settings e script (g.S.Source.left c.run_script.new.source) outside given sure disks disks' held
+    (g.K.Sink.written c.run_script.new.sink)) ReadAll ending is
     (c.in-Ok.ensures.caused script held told told_sink))
 
 pub returns-in-Err-run_script-clause-caused : goal.returns-in-Err-run_script-clause-caused
@@ -178,11 +197,14 @@ returns-in-Err-run_script-clause-caused g c = λ settings says script held told 
     let sure : ℕ → Bool = (λ lane. (g.H.Shelf.arms c.args.shelf.now lane).is_sure) in
     let outside = outside_of (g.H.Shelf.fault_count c.args.shelf.now) (g.H.Shelf.disks c.args.shelf.now) (g.H.Shelf.arms c.args.shelf.now) in
     let given = outside_of (g.H.Shelf.fault_count c.run_script.new.shelf) (g.H.Shelf.disks c.run_script.new.shelf) (g.H.Shelf.arms c.run_script.new.shelf) in
-    let same : c.in-Ok-Some-Run.settings ≡ settings = (let run : SaysRun (map string_bytes c.args.words.now) c.in-Ok-Some-Run.settings = rw (c.in-Ok-Some-Run.field-0-is, c.in-Ok-Some-Run.field-0-0-is) at c.in-Ok-Some-Run.ensures.says in
+    let same : c.in-Ok-Some-Run.settings ≡ settings =
+    (let run : SaysRun (map string_bytes c.args.words.now) c.in-Ok-Some-Run.settings = rw (c.in-Ok-Some-Run.field-0-is, c.in-Ok-Some-Run.field-0-0-is) at c.in-Ok-Some-Run.ensures.says in
     same_run (map string_bytes c.args.words.now) c.in-Ok-Some-Run.settings settings run says) in
-    let P : Settings → Type 0 = λ s. CausedRun g.H.Disk.Disk.Tells s ending script (g.S.Source.left c.run_script.new.source) outside given sure disks disks' held (g.K.Sink.written c.run_script.new.sink) in
+    let P : Settings → Type 0 =
+    λ s. CausedRun g.H.Disk.Disk.Tells s ending script (g.S.Source.left c.run_script.new.source) outside given sure disks disks' held (g.K.Sink.written c.run_script.new.sink) in
     subst P same
-    (by_status (λ (e : Ending). CausedRun g.H.Disk.Disk.Tells c.in-Ok-Some-Run.settings e script (g.S.Source.left c.run_script.new.source) outside given sure disks disks' held (g.K.Sink.written c.run_script.new.sink))
+    (by_status (λ (e : Ending). CausedRun g.H.Disk.Disk.Tells c.in-Ok-Some-Run.settings e script (g.S.Source.left c.run_script.new.source) outside given sure disks disks' held
+    (g.K.Sink.written c.run_script.new.sink))
     (ending_of c.in-Err-run_script.stop) ending (sym c.status-in-Err-run_script.ensures ∙ is)
     (c.in-Err-run_script.ensures.caused script held told told_sink))
 
@@ -210,7 +232,8 @@ returns-in-Ok-Some-Check-clause-status g c =
     let given : Outside = outside_of (g.H.Shelf.fault_count c.check_store.new.shelf) (g.H.Shelf.disks c.check_store.new.shelf) (g.H.Shelf.arms c.check_store.new.shelf) in
     let words = map string_bytes c.args.words.now in
     let check : SaysCheck words c.in-Ok-Some-Check.settings = rw (c.in-Ok-Some-Check.field-0-is, c.in-Ok-Some-Check.field-0-0-is) at c.in-Ok-Some-Check.ensures.says in
-    check_statuses g.H.Disk.Disk.Tells c.in-Ok-Some-Check.settings c.check_store.result taken given (g.K.Sink.written c.args.sink.now) (g.K.Sink.written c.check_store.new.sink) c.check_store.ensures.checked
+    check_statuses g.H.Disk.Disk.Tells c.in-Ok-Some-Check.settings c.check_store.result taken given (g.K.Sink.written c.args.sink.now) (g.K.Sink.written c.check_store.new.sink)
+    c.check_store.ensures.checked
     (c.in-Ok-Some-Check.settings, check)
 
 -- memory was wanting for the words
@@ -224,15 +247,18 @@ returns-in-Err-clause-checked g c = λ settings says.
 
 pub returns-in-Ok-clause-drew : goal.returns-in-Ok-clause-drew
 returns-in-Ok-clause-drew g c = λ tells zero settings says nothing.
-    let same : c.in-Ok-Some-Run.settings ≡ settings = (let run : SaysRun (map string_bytes c.args.words.now) c.in-Ok-Some-Run.settings = rw (c.in-Ok-Some-Run.field-0-is, c.in-Ok-Some-Run.field-0-0-is) at c.in-Ok-Some-Run.ensures.says in
+    let same : c.in-Ok-Some-Run.settings ≡ settings =
+    (let run : SaysRun (map string_bytes c.args.words.now) c.in-Ok-Some-Run.settings = rw (c.in-Ok-Some-Run.field-0-is, c.in-Ok-Some-Run.field-0-0-is) at c.in-Ok-Some-Run.ensures.says in
     same_run (map string_bytes c.args.words.now) c.in-Ok-Some-Run.settings settings run says) in
-    subst (λ (s : Settings). EachDrewLittle s (λ slot. read_of (g.H.Shelf.disks c.run_script.new.shelf slot)) no_look (drawn_of (g.H.Shelf.disks c.args.shelf.now)) (drawn_of (g.H.Shelf.disks c.run_script.new.shelf))) same
+    subst (λ (s : Settings). EachDrewLittle s (λ slot. read_of (g.H.Shelf.disks c.run_script.new.shelf slot)) no_look (drawn_of (g.H.Shelf.disks c.args.shelf.now))
+    (drawn_of (g.H.Shelf.disks c.run_script.new.shelf))) same
     (c.in-Ok.ensures.drew tells nothing)
 
 pub returns-in-Ok-clause-flushed : goal.returns-in-Ok-clause-flushed
 returns-in-Ok-clause-flushed g c = λ tells zero settings k says taken nothing.
     let outside = outside_of (g.H.Shelf.fault_count c.args.shelf.now) (g.H.Shelf.disks c.args.shelf.now) (g.H.Shelf.arms c.args.shelf.now) in
-    let same : c.in-Ok-Some-Run.settings ≡ settings = (let run : SaysRun (map string_bytes c.args.words.now) c.in-Ok-Some-Run.settings = rw (c.in-Ok-Some-Run.field-0-is, c.in-Ok-Some-Run.field-0-0-is) at c.in-Ok-Some-Run.ensures.says in
+    let same : c.in-Ok-Some-Run.settings ≡ settings =
+    (let run : SaysRun (map string_bytes c.args.words.now) c.in-Ok-Some-Run.settings = rw (c.in-Ok-Some-Run.field-0-is, c.in-Ok-Some-Run.field-0-0-is) at c.in-Ok-Some-Run.ensures.says in
     same_run (map string_bytes c.args.words.now) c.in-Ok-Some-Run.settings settings run says) in
     subst (λ (s : Settings). FlushedDrewLittle s k (drawn_of (g.H.Shelf.disks c.args.shelf.now)) (drawn_of (g.H.Shelf.disks c.run_script.new.shelf))) same
     (c.in-Ok.ensures.flushed tells k (subst (λ (s : Settings). IsTaken s outside k) (sym same) taken) nothing)
@@ -241,14 +267,16 @@ returns-in-Ok-clause-flushed g c = λ tells zero settings k says taken nothing.
 
 pub returns-in-Ok-clause-contents : goal.returns-in-Ok-clause-contents
 returns-in-Ok-clause-contents g c = λ tells settings says nothing.
-    let same : c.in-Ok-Some-Run.settings ≡ settings = (let run : SaysRun (map string_bytes c.args.words.now) c.in-Ok-Some-Run.settings = rw (c.in-Ok-Some-Run.field-0-is, c.in-Ok-Some-Run.field-0-0-is) at c.in-Ok-Some-Run.ensures.says in
+    let same : c.in-Ok-Some-Run.settings ≡ settings =
+    (let run : SaysRun (map string_bytes c.args.words.now) c.in-Ok-Some-Run.settings = rw (c.in-Ok-Some-Run.field-0-is, c.in-Ok-Some-Run.field-0-0-is) at c.in-Ok-Some-Run.ensures.says in
     same_run (map string_bytes c.args.words.now) c.in-Ok-Some-Run.settings settings run says) in
     subst (λ (s : Settings). KeepsContents s (λ slot. read_of (g.H.Shelf.disks c.args.shelf.now slot)) (λ slot. read_of (g.H.Shelf.disks c.run_script.new.shelf slot))) same
     (c.in-Ok.ensures.contents tells nothing)
 
 pub returns-in-Err-run_script-clause-contents : goal.returns-in-Err-run_script-clause-contents
 returns-in-Err-run_script-clause-contents g c = λ tells settings says nothing.
-    let same : c.in-Ok-Some-Run.settings ≡ settings = (let run : SaysRun (map string_bytes c.args.words.now) c.in-Ok-Some-Run.settings = rw (c.in-Ok-Some-Run.field-0-is, c.in-Ok-Some-Run.field-0-0-is) at c.in-Ok-Some-Run.ensures.says in
+    let same : c.in-Ok-Some-Run.settings ≡ settings =
+    (let run : SaysRun (map string_bytes c.args.words.now) c.in-Ok-Some-Run.settings = rw (c.in-Ok-Some-Run.field-0-is, c.in-Ok-Some-Run.field-0-0-is) at c.in-Ok-Some-Run.ensures.says in
     same_run (map string_bytes c.args.words.now) c.in-Ok-Some-Run.settings settings run says) in
     subst (λ (s : Settings). KeepsContents s (λ slot. read_of (g.H.Shelf.disks c.args.shelf.now slot)) (λ slot. read_of (g.H.Shelf.disks c.run_script.new.shelf slot))) same
     (c.in-Err-run_script.ensures.contents tells nothing)
@@ -380,7 +408,8 @@ returns-in-Err-clause-audited g c = λ settings says.
 
 pub returns-in-Ok-Some-Drill-clause-drilled : goal.returns-in-Ok-Some-Drill-clause-drilled
 returns-in-Ok-Some-Drill-clause-drilled g c = λ tells count first k says taken held told ending is.
-    let drill : SaysDrill (map string_bytes c.args.words.now) c.in-Ok-Some-Drill.count c.in-Ok-Some-Drill.first = rw (c.in-Ok-Some-Drill.field-0-is, c.in-Ok-Some-Drill.field-0-0-is) at c.in-Ok-Some-Drill.ensures.says in
+    let drill : SaysDrill (map string_bytes c.args.words.now) c.in-Ok-Some-Drill.count c.in-Ok-Some-Drill.first =
+    rw (c.in-Ok-Some-Drill.field-0-is, c.in-Ok-Some-Drill.field-0-0-is) at c.in-Ok-Some-Drill.ensures.says in
     let same = same_drill (map string_bytes c.args.words.now) c.in-Ok-Some-Drill.count c.in-Ok-Some-Drill.first count first drill says in
     let outside : Outside = outside_of (g.H.Shelf.fault_count c.args.shelf.now) (g.H.Shelf.disks c.args.shelf.now) (g.H.Shelf.arms c.args.shelf.now) in
     let given : Outside = outside_of (g.H.Shelf.fault_count c.drill_store.new.shelf) (g.H.Shelf.disks c.drill_store.new.shelf) (g.H.Shelf.arms c.drill_store.new.shelf) in
@@ -397,12 +426,14 @@ returns-in-Ok-Some-Drill-clause-usage g c = λ two says.
 
 pub returns-in-Ok-Some-Drill-clause-command : goal.returns-in-Ok-Some-Drill-clause-command
 returns-in-Ok-Some-Drill-clause-command g c = λ none.
-    let drill : SaysDrill (map string_bytes c.args.words.now) c.in-Ok-Some-Drill.count c.in-Ok-Some-Drill.first = rw (c.in-Ok-Some-Drill.field-0-is, c.in-Ok-Some-Drill.field-0-0-is) at c.in-Ok-Some-Drill.ensures.says in
+    let drill : SaysDrill (map string_bytes c.args.words.now) c.in-Ok-Some-Drill.count c.in-Ok-Some-Drill.first =
+    rw (c.in-Ok-Some-Drill.field-0-is, c.in-Ok-Some-Drill.field-0-0-is) at c.in-Ok-Some-Drill.ensures.says in
     absurd (none (inr (c.in-Ok-Some-Drill.count, c.in-Ok-Some-Drill.first, drill)))
 
 pub returns-in-Ok-Some-Drill-clause-untouched : goal.returns-in-Ok-Some-Drill-clause-untouched
 returns-in-Ok-Some-Drill-clause-untouched g c = λ either.
-    let drill : SaysDrill (map string_bytes c.args.words.now) c.in-Ok-Some-Drill.count c.in-Ok-Some-Drill.first = rw (c.in-Ok-Some-Drill.field-0-is, c.in-Ok-Some-Drill.field-0-0-is) at c.in-Ok-Some-Drill.ensures.says in
+    let drill : SaysDrill (map string_bytes c.args.words.now) c.in-Ok-Some-Drill.count c.in-Ok-Some-Drill.first =
+    rw (c.in-Ok-Some-Drill.field-0-is, c.in-Ok-Some-Drill.field-0-0-is) at c.in-Ok-Some-Drill.ensures.says in
     elim either [
       | inl two ↦ absurd (drill_never c.drill_store.result c.drill_store.ensures.status (inl two))
       | inr none ↦ absurd (none (inr (c.in-Ok-Some-Drill.count, c.in-Ok-Some-Drill.first, drill)))
@@ -422,82 +453,98 @@ returns-in-Ok-Some-Drill-clause-drill_unused g c = λ says.
 
 pub returns-in-Ok-Some-Drill-clause-ran : goal.returns-in-Ok-Some-Drill-clause-ran
 returns-in-Ok-Some-Drill-clause-ran g c = λ tells settings k says taken script held told told_sink ending is.
-    let drill : SaysDrill (map string_bytes c.args.words.now) c.in-Ok-Some-Drill.count c.in-Ok-Some-Drill.first = rw (c.in-Ok-Some-Drill.field-0-is, c.in-Ok-Some-Drill.field-0-0-is) at c.in-Ok-Some-Drill.ensures.says in
+    let drill : SaysDrill (map string_bytes c.args.words.now) c.in-Ok-Some-Drill.count c.in-Ok-Some-Drill.first =
+    rw (c.in-Ok-Some-Drill.field-0-is, c.in-Ok-Some-Drill.field-0-0-is) at c.in-Ok-Some-Drill.ensures.says in
     absurd (run_no_drill (map string_bytes c.args.words.now) settings c.in-Ok-Some-Drill.count c.in-Ok-Some-Drill.first says drill)
 
 pub returns-in-Ok-Some-Drill-clause-caused : goal.returns-in-Ok-Some-Drill-clause-caused
 returns-in-Ok-Some-Drill-clause-caused g c = λ settings says script held told told_sink ending is.
-    let drill : SaysDrill (map string_bytes c.args.words.now) c.in-Ok-Some-Drill.count c.in-Ok-Some-Drill.first = rw (c.in-Ok-Some-Drill.field-0-is, c.in-Ok-Some-Drill.field-0-0-is) at c.in-Ok-Some-Drill.ensures.says in
+    let drill : SaysDrill (map string_bytes c.args.words.now) c.in-Ok-Some-Drill.count c.in-Ok-Some-Drill.first =
+    rw (c.in-Ok-Some-Drill.field-0-is, c.in-Ok-Some-Drill.field-0-0-is) at c.in-Ok-Some-Drill.ensures.says in
     absurd (run_no_drill (map string_bytes c.args.words.now) settings c.in-Ok-Some-Drill.count c.in-Ok-Some-Drill.first says drill)
 
 pub returns-in-Ok-Some-Drill-clause-checked : goal.returns-in-Ok-Some-Drill-clause-checked
 returns-in-Ok-Some-Drill-clause-checked g c = λ settings says.
-    let drill : SaysDrill (map string_bytes c.args.words.now) c.in-Ok-Some-Drill.count c.in-Ok-Some-Drill.first = rw (c.in-Ok-Some-Drill.field-0-is, c.in-Ok-Some-Drill.field-0-0-is) at c.in-Ok-Some-Drill.ensures.says in
+    let drill : SaysDrill (map string_bytes c.args.words.now) c.in-Ok-Some-Drill.count c.in-Ok-Some-Drill.first =
+    rw (c.in-Ok-Some-Drill.field-0-is, c.in-Ok-Some-Drill.field-0-0-is) at c.in-Ok-Some-Drill.ensures.says in
     absurd (check_no_drill (map string_bytes c.args.words.now) settings c.in-Ok-Some-Drill.count c.in-Ok-Some-Drill.first says drill)
 
 pub returns-in-Ok-Some-Drill-clause-unchanged : goal.returns-in-Ok-Some-Drill-clause-unchanged
 returns-in-Ok-Some-Drill-clause-unchanged g c = λ settings says slot.
-    let drill : SaysDrill (map string_bytes c.args.words.now) c.in-Ok-Some-Drill.count c.in-Ok-Some-Drill.first = rw (c.in-Ok-Some-Drill.field-0-is, c.in-Ok-Some-Drill.field-0-0-is) at c.in-Ok-Some-Drill.ensures.says in
+    let drill : SaysDrill (map string_bytes c.args.words.now) c.in-Ok-Some-Drill.count c.in-Ok-Some-Drill.first =
+    rw (c.in-Ok-Some-Drill.field-0-is, c.in-Ok-Some-Drill.field-0-0-is) at c.in-Ok-Some-Drill.ensures.says in
     absurd (check_no_drill (map string_bytes c.args.words.now) settings c.in-Ok-Some-Drill.count c.in-Ok-Some-Drill.first says drill)
 
 pub returns-in-Ok-Some-Drill-clause-unused : goal.returns-in-Ok-Some-Drill-clause-unused
 returns-in-Ok-Some-Drill-clause-unused g c = λ settings says.
-    let drill : SaysDrill (map string_bytes c.args.words.now) c.in-Ok-Some-Drill.count c.in-Ok-Some-Drill.first = rw (c.in-Ok-Some-Drill.field-0-is, c.in-Ok-Some-Drill.field-0-0-is) at c.in-Ok-Some-Drill.ensures.says in
+    let drill : SaysDrill (map string_bytes c.args.words.now) c.in-Ok-Some-Drill.count c.in-Ok-Some-Drill.first =
+    rw (c.in-Ok-Some-Drill.field-0-is, c.in-Ok-Some-Drill.field-0-0-is) at c.in-Ok-Some-Drill.ensures.says in
     absurd (check_no_drill (map string_bytes c.args.words.now) settings c.in-Ok-Some-Drill.count c.in-Ok-Some-Drill.first says drill)
 
 pub returns-in-Ok-Some-Drill-clause-loaded : goal.returns-in-Ok-Some-Drill-clause-loaded
 returns-in-Ok-Some-Drill-clause-loaded g c = λ settings says.
-    let drill : SaysDrill (map string_bytes c.args.words.now) c.in-Ok-Some-Drill.count c.in-Ok-Some-Drill.first = rw (c.in-Ok-Some-Drill.field-0-is, c.in-Ok-Some-Drill.field-0-0-is) at c.in-Ok-Some-Drill.ensures.says in
+    let drill : SaysDrill (map string_bytes c.args.words.now) c.in-Ok-Some-Drill.count c.in-Ok-Some-Drill.first =
+    rw (c.in-Ok-Some-Drill.field-0-is, c.in-Ok-Some-Drill.field-0-0-is) at c.in-Ok-Some-Drill.ensures.says in
     absurd (load_no_drill (map string_bytes c.args.words.now) settings c.in-Ok-Some-Drill.count c.in-Ok-Some-Drill.first says drill)
 
 pub returns-in-Ok-Some-Drill-clause-audited : goal.returns-in-Ok-Some-Drill-clause-audited
 returns-in-Ok-Some-Drill-clause-audited g c = λ settings says.
-    let drill : SaysDrill (map string_bytes c.args.words.now) c.in-Ok-Some-Drill.count c.in-Ok-Some-Drill.first = rw (c.in-Ok-Some-Drill.field-0-is, c.in-Ok-Some-Drill.field-0-0-is) at c.in-Ok-Some-Drill.ensures.says in
+    let drill : SaysDrill (map string_bytes c.args.words.now) c.in-Ok-Some-Drill.count c.in-Ok-Some-Drill.first =
+    rw (c.in-Ok-Some-Drill.field-0-is, c.in-Ok-Some-Drill.field-0-0-is) at c.in-Ok-Some-Drill.ensures.says in
     absurd (audit_no_drill (map string_bytes c.args.words.now) settings c.in-Ok-Some-Drill.count c.in-Ok-Some-Drill.first says drill)
 
 pub returns-in-Ok-Some-Drill-clause-ended : goal.returns-in-Ok-Some-Drill-clause-ended
 returns-in-Ok-Some-Drill-clause-ended g c = λ zero settings says.
-    let drill : SaysDrill (map string_bytes c.args.words.now) c.in-Ok-Some-Drill.count c.in-Ok-Some-Drill.first = rw (c.in-Ok-Some-Drill.field-0-is, c.in-Ok-Some-Drill.field-0-0-is) at c.in-Ok-Some-Drill.ensures.says in
+    let drill : SaysDrill (map string_bytes c.args.words.now) c.in-Ok-Some-Drill.count c.in-Ok-Some-Drill.first =
+    rw (c.in-Ok-Some-Drill.field-0-is, c.in-Ok-Some-Drill.field-0-0-is) at c.in-Ok-Some-Drill.ensures.says in
     absurd (run_no_drill (map string_bytes c.args.words.now) settings c.in-Ok-Some-Drill.count c.in-Ok-Some-Drill.first says drill)
 
 pub returns-in-Ok-Some-Drill-clause-store : goal.returns-in-Ok-Some-Drill-clause-store
 returns-in-Ok-Some-Drill-clause-store g c = λ six settings says.
-    let drill : SaysDrill (map string_bytes c.args.words.now) c.in-Ok-Some-Drill.count c.in-Ok-Some-Drill.first = rw (c.in-Ok-Some-Drill.field-0-is, c.in-Ok-Some-Drill.field-0-0-is) at c.in-Ok-Some-Drill.ensures.says in
+    let drill : SaysDrill (map string_bytes c.args.words.now) c.in-Ok-Some-Drill.count c.in-Ok-Some-Drill.first =
+    rw (c.in-Ok-Some-Drill.field-0-is, c.in-Ok-Some-Drill.field-0-0-is) at c.in-Ok-Some-Drill.ensures.says in
     absurd (run_no_drill (map string_bytes c.args.words.now) settings c.in-Ok-Some-Drill.count c.in-Ok-Some-Drill.first says drill)
 
 pub returns-in-Ok-Some-Drill-clause-sound : goal.returns-in-Ok-Some-Drill-clause-sound
 returns-in-Ok-Some-Drill-clause-sound g c = λ tells status settings says.
-    let drill : SaysDrill (map string_bytes c.args.words.now) c.in-Ok-Some-Drill.count c.in-Ok-Some-Drill.first = rw (c.in-Ok-Some-Drill.field-0-is, c.in-Ok-Some-Drill.field-0-0-is) at c.in-Ok-Some-Drill.ensures.says in
+    let drill : SaysDrill (map string_bytes c.args.words.now) c.in-Ok-Some-Drill.count c.in-Ok-Some-Drill.first =
+    rw (c.in-Ok-Some-Drill.field-0-is, c.in-Ok-Some-Drill.field-0-0-is) at c.in-Ok-Some-Drill.ensures.says in
     absurd (run_no_drill (map string_bytes c.args.words.now) settings c.in-Ok-Some-Drill.count c.in-Ok-Some-Drill.first says drill)
 
 pub returns-in-Ok-Some-Drill-clause-formatted : goal.returns-in-Ok-Some-Drill-clause-formatted
 returns-in-Ok-Some-Drill-clause-formatted g c = λ tells status settings k says taken slot within.
-    let drill : SaysDrill (map string_bytes c.args.words.now) c.in-Ok-Some-Drill.count c.in-Ok-Some-Drill.first = rw (c.in-Ok-Some-Drill.field-0-is, c.in-Ok-Some-Drill.field-0-0-is) at c.in-Ok-Some-Drill.ensures.says in
+    let drill : SaysDrill (map string_bytes c.args.words.now) c.in-Ok-Some-Drill.count c.in-Ok-Some-Drill.first =
+    rw (c.in-Ok-Some-Drill.field-0-is, c.in-Ok-Some-Drill.field-0-0-is) at c.in-Ok-Some-Drill.ensures.says in
     absurd (run_no_drill (map string_bytes c.args.words.now) settings c.in-Ok-Some-Drill.count c.in-Ok-Some-Drill.first says drill)
 
 pub returns-in-Ok-Some-Drill-clause-contents : goal.returns-in-Ok-Some-Drill-clause-contents
 returns-in-Ok-Some-Drill-clause-contents g c = λ tells settings says nothing.
-    let drill : SaysDrill (map string_bytes c.args.words.now) c.in-Ok-Some-Drill.count c.in-Ok-Some-Drill.first = rw (c.in-Ok-Some-Drill.field-0-is, c.in-Ok-Some-Drill.field-0-0-is) at c.in-Ok-Some-Drill.ensures.says in
+    let drill : SaysDrill (map string_bytes c.args.words.now) c.in-Ok-Some-Drill.count c.in-Ok-Some-Drill.first =
+    rw (c.in-Ok-Some-Drill.field-0-is, c.in-Ok-Some-Drill.field-0-0-is) at c.in-Ok-Some-Drill.ensures.says in
     absurd (run_no_drill (map string_bytes c.args.words.now) settings c.in-Ok-Some-Drill.count c.in-Ok-Some-Drill.first says drill)
 
 pub returns-in-Ok-Some-Drill-clause-drew : goal.returns-in-Ok-Some-Drill-clause-drew
 returns-in-Ok-Some-Drill-clause-drew g c = λ tells zero settings says nothing.
-    let drill : SaysDrill (map string_bytes c.args.words.now) c.in-Ok-Some-Drill.count c.in-Ok-Some-Drill.first = rw (c.in-Ok-Some-Drill.field-0-is, c.in-Ok-Some-Drill.field-0-0-is) at c.in-Ok-Some-Drill.ensures.says in
+    let drill : SaysDrill (map string_bytes c.args.words.now) c.in-Ok-Some-Drill.count c.in-Ok-Some-Drill.first =
+    rw (c.in-Ok-Some-Drill.field-0-is, c.in-Ok-Some-Drill.field-0-0-is) at c.in-Ok-Some-Drill.ensures.says in
     absurd (run_no_drill (map string_bytes c.args.words.now) settings c.in-Ok-Some-Drill.count c.in-Ok-Some-Drill.first says drill)
 
 pub returns-in-Ok-Some-Drill-clause-flushed : goal.returns-in-Ok-Some-Drill-clause-flushed
 returns-in-Ok-Some-Drill-clause-flushed g c = λ tells zero settings k says taken nothing.
-    let drill : SaysDrill (map string_bytes c.args.words.now) c.in-Ok-Some-Drill.count c.in-Ok-Some-Drill.first = rw (c.in-Ok-Some-Drill.field-0-is, c.in-Ok-Some-Drill.field-0-0-is) at c.in-Ok-Some-Drill.ensures.says in
+    let drill : SaysDrill (map string_bytes c.args.words.now) c.in-Ok-Some-Drill.count c.in-Ok-Some-Drill.first =
+    rw (c.in-Ok-Some-Drill.field-0-is, c.in-Ok-Some-Drill.field-0-0-is) at c.in-Ok-Some-Drill.ensures.says in
     absurd (run_no_drill (map string_bytes c.args.words.now) settings c.in-Ok-Some-Drill.count c.in-Ok-Some-Drill.first says drill)
 
 pub returns-in-Ok-Some-Drill-clause-short : goal.returns-in-Ok-Some-Drill-clause-short
 returns-in-Ok-Some-Drill-clause-short g c = λ zero settings says script told.
-    let drill : SaysDrill (map string_bytes c.args.words.now) c.in-Ok-Some-Drill.count c.in-Ok-Some-Drill.first = rw (c.in-Ok-Some-Drill.field-0-is, c.in-Ok-Some-Drill.field-0-0-is) at c.in-Ok-Some-Drill.ensures.says in
+    let drill : SaysDrill (map string_bytes c.args.words.now) c.in-Ok-Some-Drill.count c.in-Ok-Some-Drill.first =
+    rw (c.in-Ok-Some-Drill.field-0-is, c.in-Ok-Some-Drill.field-0-0-is) at c.in-Ok-Some-Drill.ensures.says in
     absurd (run_no_drill (map string_bytes c.args.words.now) settings c.in-Ok-Some-Drill.count c.in-Ok-Some-Drill.first says drill)
 
 pub returns-in-Ok-Some-Drill-clause-other_slots : goal.returns-in-Ok-Some-Drill-clause-other_slots
 returns-in-Ok-Some-Drill-clause-other_slots g c = λ settings says.
-    let drill : SaysDrill (map string_bytes c.args.words.now) c.in-Ok-Some-Drill.count c.in-Ok-Some-Drill.first = rw (c.in-Ok-Some-Drill.field-0-is, c.in-Ok-Some-Drill.field-0-0-is) at c.in-Ok-Some-Drill.ensures.says in
+    let drill : SaysDrill (map string_bytes c.args.words.now) c.in-Ok-Some-Drill.count c.in-Ok-Some-Drill.first =
+    rw (c.in-Ok-Some-Drill.field-0-is, c.in-Ok-Some-Drill.field-0-0-is) at c.in-Ok-Some-Drill.ensures.says in
     absurd (run_no_drill (map string_bytes c.args.words.now) settings c.in-Ok-Some-Drill.count c.in-Ok-Some-Drill.first says drill)
 
 pub returns-in-Ok-clause-drilled : goal.returns-in-Ok-clause-drilled
@@ -658,7 +705,8 @@ returns-in-Ok-Some-Audit-clause-drill_status g c = λ says.
 
 pub returns-in-Ok-Some-Drill-clause-drill_refused : goal.returns-in-Ok-Some-Drill-clause-drill_refused
 returns-in-Ok-Some-Drill-clause-drill_refused g c = λ six count first says.
-    let drill : SaysDrill (map string_bytes c.args.words.now) c.in-Ok-Some-Drill.count c.in-Ok-Some-Drill.first = rw (c.in-Ok-Some-Drill.field-0-is, c.in-Ok-Some-Drill.field-0-0-is) at c.in-Ok-Some-Drill.ensures.says in
+    let drill : SaysDrill (map string_bytes c.args.words.now) c.in-Ok-Some-Drill.count c.in-Ok-Some-Drill.first =
+    rw (c.in-Ok-Some-Drill.field-0-is, c.in-Ok-Some-Drill.field-0-0-is) at c.in-Ok-Some-Drill.ensures.says in
     let same = same_drill (map string_bytes c.args.words.now) c.in-Ok-Some-Drill.count c.in-Ok-Some-Drill.first count first drill says in
     let outside : Outside = outside_of (g.H.Shelf.fault_count c.args.shelf.now) (g.H.Shelf.disks c.args.shelf.now) (g.H.Shelf.arms c.args.shelf.now) in
     let given : Outside = outside_of (g.H.Shelf.fault_count c.drill_store.new.shelf) (g.H.Shelf.disks c.drill_store.new.shelf) (g.H.Shelf.arms c.drill_store.new.shelf) in

@@ -37,7 +37,8 @@ returns-in-Ok-clause-drilled g c = λ tells k taken held told.
     let ran = c.in-Ok.ensures.ran tells k (subst (λ (s : Settings). IsTaken s outside k) (sym c.drill_settings-settings.ensures) taken) script [] c.new-source.ensures c.new-transcript.ensures in
     summary_told c.args.count c.args.first k (script_left c.run_script.new.source) outside given held c.bytes.result.now (g.K.Sink.written c.write_summary.new.sink)
     (g.K.Sink.written c.args.sink.now) told c.write_summary.result
-    (held_run c.args.count c.args.first k (script_left c.run_script.new.source) outside given c.bytes.result.now ReadAll c.drill_settings-settings.result script (transcript_written c.run_script.new.sink)
+    (held_run c.args.count c.args.first k (script_left c.run_script.new.source) outside given c.bytes.result.now ReadAll c.drill_settings-settings.result script
+    (transcript_written c.run_script.new.sink)
     c.drill_settings-settings.ensures is c.bytes.ensures ran)
     (record {
       whole = c.write_summary.ensures.wrote;
@@ -52,10 +53,13 @@ returns-clause-drilled g c = λ tells k taken held told.
     let given : Outside = outside_of (g.H.Shelf.fault_count c.run_script.new.shelf) (g.H.Shelf.disks c.run_script.new.shelf) (g.H.Shelf.arms c.run_script.new.shelf) in
     let script : List ℕ = c.drill_script.new.out.items in
     let is : script ≡ drill_script c.args.count c.args.first = c.in_ok-drill_script.ensures.ok ∙ ap (λ (l : List ℕ). l ++ drill_script c.args.count c.args.first) c.new-script.ensures.items in
-    let ran = c.in-Err.ensures.stopped tells c.in-Err.stop refl k (subst (λ (s : Settings). IsTaken s outside k) (sym c.drill_settings-settings.ensures) taken) script [] c.new-source.ensures c.new-transcript.ensures in
+    let ran =
+    c.in-Err.ensures.stopped tells c.in-Err.stop refl k (subst (λ (s : Settings). IsTaken s outside k) (sym c.drill_settings-settings.ensures) taken) script []
+    c.new-source.ensures c.new-transcript.ensures in
     stop_told c.args.count c.args.first k (script_left c.run_script.new.source) outside given held c.bytes-in-Err.result.now (g.K.Sink.written c.tell_stop.new.sink)
     (g.K.Sink.written c.args.sink.now) told c.in-Err.stop c.tell_stop.result
-    (held_run c.args.count c.args.first k (script_left c.run_script.new.source) outside given c.bytes-in-Err.result.now (ending_of c.in-Err.stop) c.drill_settings-settings.result script (transcript_written c.run_script.new.sink)
+    (held_run c.args.count c.args.first k (script_left c.run_script.new.source) outside given c.bytes-in-Err.result.now (ending_of c.in-Err.stop) c.drill_settings-settings.result
+    script (transcript_written c.run_script.new.sink)
     c.drill_settings-settings.ensures is c.bytes-in-Err.ensures ran)
     (λ e. never_rose (c.in-Err.ensures.source (ap (λ (s : Stop). Err s) e)))
     (λ e. let over = c.in-Err.ensures.long (ap (λ (s : Stop). Err s) e) script c.new-source.ensures in never_long c.args.count c.args.first (length over.0) script c.requires.few is over.2)

@@ -32,13 +32,15 @@ returns-clause-store g c = λ is.
     let before = g.K.Sink.written c.args.sink.now in
     let mid = g.K.Sink.written c.write_header.new.sink in
     let after = g.K.Sink.written c.answer_script.new.sink in
-    behind_header g.H.Disk.Disk.Tells c.args.settings (g.H.Shelf.disks c.args.shelf.now) (g.H.Shelf.disks c.answer_script.new.shelf) taken given (g.S.Source.left c.args.source.now) (g.S.Source.left c.answer_script.new.source) before mid after
+    behind_header g.H.Disk.Disk.Tells c.args.settings (g.H.Shelf.disks c.args.shelf.now) (g.H.Shelf.disks c.answer_script.new.shelf) taken given (g.S.Source.left c.args.source.now)
+    (g.S.Source.left c.answer_script.new.source) before mid after
     (λ held told. (let wrote : Wrote (Some held) (header_line c.args.settings) mid = rw told at c.in_ok-write_header.ensures.wrote in wrote))
     (c.answer_script.ensures.store is)
 
 pub returns-clause-appends : goal.returns-clause-appends
 returns-clause-appends g c =
-    appends_more (g.K.Sink.written c.args.sink.now) (g.K.Sink.written c.write_header.new.sink) (g.K.Sink.written c.answer_script.new.sink) c.write_header.ensures.appends c.answer_script.ensures.appends
+    appends_more (g.K.Sink.written c.args.sink.now) (g.K.Sink.written c.write_header.new.sink) (g.K.Sink.written c.answer_script.new.sink) c.write_header.ensures.appends
+    c.answer_script.ensures.appends
 
 pub returns-in_err-write_header-clause-caused : goal.returns-in_err-write_header-clause-caused
 returns-in_err-write_header-clause-caused g c = λ script held told told_sink.
@@ -51,8 +53,10 @@ returns-in_err-write_header-clause-caused g c = λ script held told told_sink.
     let wrote : WrotePart (Some held) (header_line c.args.settings) written' = rw told_sink at c.in_err-write_header.ensures.part in
     let wrong : Result (Unit {0}) Stop = Err c.in_err-write_header.field-0.0 in
     let same : wrong ≡ c.from_residual.result = cc (p.1, p.2) in
-    let P : Result (Unit {0}) Stop → Type 0 = λ r. CausedRun g.H.Disk.Disk.Tells c.args.settings (ending_in r) script (g.S.Source.left c.args.source.now) outside outside sure disks disks' held written' in
-    subst P same (header_caused g.H.Disk.Disk.Tells c.args.settings script (g.S.Source.left c.args.source.now) outside outside sure disks disks' held written' (λ tells slot within. inr (inl refl)) (λ lane within. refl) (λ slot within. refl) wrong c.in_err-write_header.ensures.stops wrote told)
+    let P : Result (Unit {0}) Stop → Type 0 =
+    λ r. CausedRun g.H.Disk.Disk.Tells c.args.settings (ending_in r) script (g.S.Source.left c.args.source.now) outside outside sure disks disks' held written' in
+    subst P same (header_caused g.H.Disk.Disk.Tells c.args.settings script (g.S.Source.left c.args.source.now) outside outside sure disks disks' held written'
+    (λ tells slot within. inr (inl refl)) (λ lane within. refl) (λ slot within. refl) wrong c.in_err-write_header.ensures.stops wrote told)
 
 pub returns-clause-caused : goal.returns-clause-caused
 returns-clause-caused g c = λ script held told told_sink. c.answer_script.ensures.caused script held told (rw told_sink at c.in_ok-write_header.ensures.wrote)

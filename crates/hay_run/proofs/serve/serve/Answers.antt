@@ -26,10 +26,14 @@ turns-init g c = record {
   same = refl;
   asked = [];
   took = took_first 1 (g.S.Source.left c.args.source.now) c.new-script.result c.new-script.ensures.bytes;
-  answers = λ tells k stands. answers_nothing (Stands g.D.Disk.files g.D.Piece.Piece.Tells g.D.Disk.fault_count g.D.Disk.fuse_count g.A.Arm.fault_count) k (g.K.Sink.written c.args.sink.now) c.args.cluster stands;
+  answers =
+      λ tells k stands. answers_nothing (Stands g.D.Disk.files g.D.Piece.Piece.Tells g.D.Disk.fault_count g.D.Disk.fuse_count g.A.Arm.fault_count) k
+      (g.K.Sink.written c.args.sink.now) c.args.cluster stands;
   said = [];
   read = took_first 1 (g.S.Source.left c.args.source.now) c.new-script.result c.new-script.ensures.bytes;
-  caused = caused_nothing g.D.Disk.Tells c.args.cluster.settings (tally_of g.D.Disk.files g.D.Disk.drawn g.D.Disk.fault_count g.D.Disk.fuse_count g.A.Arm.fault_count g.A.Arm.is_sure c.args.cluster) (g.K.Sink.written c.args.sink.now);
+  caused =
+      caused_nothing g.D.Disk.Tells c.args.cluster.settings (tally_of g.D.Disk.files g.D.Disk.drawn g.D.Disk.fault_count g.D.Disk.fuse_count g.A.Arm.fault_count g.A.Arm.is_sure
+      c.args.cluster) (g.K.Sink.written c.args.sink.now);
   first = c.new-script.result;
   at_first = c.new-script.ensures.taken;
   accounts = accounts_same (g.S.Source.left c.args.source.now) c.new-script.result;
@@ -57,8 +61,11 @@ returns-in-Err-clause-stopped g c = λ why is.
       settings = inv.same;
       held = c.turn-after.new.script;
       none = holds_none c.turn-after.result.1 c.turn-after.new.script why same c.turn-after.ensures.none_held;
-      stops = stops_by g.D.Disk.Tells (Stands g.D.Disk.files g.D.Piece.Piece.Tells g.D.Disk.fault_count g.D.Disk.fuse_count g.A.Arm.fault_count) (Holds g.D.Disk.files g.D.Disk.fault_count g.D.Disk.fuse_count g.A.Arm.fault_count)
-          c.turns.number (rest_of (left c.turns.source) c.turns.script) (g.K.Sink.written c.turns.sink) (rest_of (left c.turn-after.new.source) c.turn-after.new.script) (g.K.Sink.written c.turn-after.new.sink)
+      stops =
+          stops_by g.D.Disk.Tells (Stands g.D.Disk.files g.D.Piece.Piece.Tells g.D.Disk.fault_count g.D.Disk.fuse_count g.A.Arm.fault_count)
+          (Holds g.D.Disk.files g.D.Disk.fault_count g.D.Disk.fuse_count g.A.Arm.fault_count)
+          c.turns.number (rest_of (left c.turns.source) c.turns.script) (g.K.Sink.written c.turns.sink) (rest_of (left c.turn-after.new.source) c.turn-after.new.script)
+          (g.K.Sink.written c.turn-after.new.sink)
           c.turns.cluster c.turn-after.result.0 c.turn-after.result.1 why same
           (λ e. let h = c.turn-after.ensures.input e in (h.0, h.1, ap g.K.Sink.written h.2))
           (λ e. let h = c.turn-after.ensures.over e in (h.0, h.1, ap g.K.Sink.written h.2))
@@ -70,7 +77,8 @@ returns-in-Err-clause-stopped g c = λ why is.
 pub returns-in-Err-clause-halted : goal.returns-in-Err-clause-halted
 returns-in-Err-clause-halted g c = λ is.
     let inv = c.turns.invariant in
-    halts_more g.D.Disk.Tells (Stands g.D.Disk.files g.D.Piece.Piece.Tells g.D.Disk.fault_count g.D.Disk.fuse_count g.A.Arm.fault_count) g.D.Disk.files g.D.Disk.fault_count inv.asked (g.K.Sink.written c.args.sink.now) (g.K.Sink.written c.turns.sink) (g.K.Sink.written c.turn-after.new.sink)
+    halts_more g.D.Disk.Tells (Stands g.D.Disk.files g.D.Piece.Piece.Tells g.D.Disk.fault_count g.D.Disk.fuse_count g.A.Arm.fault_count) g.D.Disk.files g.D.Disk.fault_count
+    inv.asked (g.K.Sink.written c.args.sink.now) (g.K.Sink.written c.turns.sink) (g.K.Sink.written c.turn-after.new.sink)
     c.args.cluster c.turns.cluster c.turn-after.result.0 inv.same inv.faults inv.appends inv.answers
     (c.turn-after.ensures.halted (let same : c.in-Err.stop ≡ stop.Store = cc in c.in-Err.is ∙ ap (λ (w : Stop). Err w) same))
 
@@ -99,7 +107,8 @@ returns-then-is_ended-clause-ended g c =
     let turned = rw c.in-Ok.is at c.turn-after.ensures.turned in
     let met = sym c.is_ended.ensures ∙ c.if-is_ended.true in
     read_to_end (left c.args.source.now) (left c.turns.source) (left c.turn-after.new.source) inv.first c.turns.script c.turn-after.new.script inv.accounts
-    (at_end_turn c.turns.number c.in-Ok.next (rest_of (left c.turns.source) c.turns.script) (rest_of (left c.turn-after.new.source) c.turn-after.new.script) turned.asked c.turn-after.new.script.ended turned.took met)
+    (at_end_turn c.turns.number c.in-Ok.next (rest_of (left c.turns.source) c.turns.script) (rest_of (left c.turn-after.new.source) c.turn-after.new.script) turned.asked
+    c.turn-after.new.script.ended turned.took met)
 
 pub returns-then-is_ended-clause-short : goal.returns-then-is_ended-clause-short
 returns-then-is_ended-clause-short g c = λ script told.
@@ -109,7 +118,8 @@ returns-then-is_ended-clause-short g c = λ script told.
     let met = sym c.is_ended.ensures ∙ c.if-is_ended.true in
     let accounts : Accounts (Some script) inv.first (left c.turns.source) c.turns.script = rw told at inv.accounts in
     short_script 1073741824 script (left c.turns.source) (left c.turn-after.new.source) inv.first c.turns.script c.turn-after.new.script accounts (rw c.in-Ok.is at c.turn-after.ensures.accounts)
-    (at_end_turn c.turns.number c.in-Ok.next (rest_of (left c.turns.source) c.turns.script) (rest_of (left c.turn-after.new.source) c.turn-after.new.script) turned.asked c.turn-after.new.script.ended turned.took met)
+    (at_end_turn c.turns.number c.in-Ok.next (rest_of (left c.turns.source) c.turns.script) (rest_of (left c.turn-after.new.source) c.turn-after.new.script) turned.asked
+    c.turn-after.new.script.ended turned.took met)
     inv.at_first c.turn-after.ensures.limit
 
 pub turns-preserved : goal.turns-preserved
@@ -119,7 +129,9 @@ turns-preserved g c =
     let turned = rw c.in-Ok.is at c.turn-after.ensures.turned in
     let unmet : c.turn-after.new.script.ended ≡ false = sym c.is_ended.ensures ∙ c.if-is_ended.false in
     let caused = rw c.in-Ok.is at c.turn-after.ensures.caused in
-    let P : Settings → Type 0 = λ s. Caused g.D.Disk.Tells Wrote s (tally_of g.D.Disk.files g.D.Disk.drawn g.D.Disk.fault_count g.D.Disk.fuse_count g.A.Arm.fault_count g.A.Arm.is_sure c.turns.cluster) (tally_of g.D.Disk.files g.D.Disk.drawn g.D.Disk.fault_count g.D.Disk.fuse_count g.A.Arm.fault_count g.A.Arm.is_sure c.turn-after.result.0)
+    let P : Settings → Type 0 =
+    λ s. Caused g.D.Disk.Tells Wrote s (tally_of g.D.Disk.files g.D.Disk.drawn g.D.Disk.fault_count g.D.Disk.fuse_count g.A.Arm.fault_count g.A.Arm.is_sure c.turns.cluster)
+    (tally_of g.D.Disk.files g.D.Disk.drawn g.D.Disk.fault_count g.D.Disk.fuse_count g.A.Arm.fault_count g.A.Arm.is_sure c.turn-after.result.0)
     caused.asked (g.K.Sink.written c.turns.sink) (g.K.Sink.written c.turn-after.new.sink) in
     record {
       unmet = unmet;
@@ -128,7 +140,8 @@ turns-preserved g c =
       same = c.turn-after.ensures.settings ∙ inv.same;
       asked = inv.asked ++ turned.asked;
       took = took_items_more 1 c.turns.number c.in-Ok.next (left c.args.source.now) (rest_of (left c.turns.source) c.turns.script) (rest_of (left c.turn-after.new.source) c.turn-after.new.script)
-          inv.asked turned.asked false inv.took (subst (λ (b : Bool). TookItems c.turns.number None (rest_of (left c.turns.source) c.turns.script) turned.asked c.in-Ok.next (rest_of (left c.turn-after.new.source) c.turn-after.new.script) b) unmet turned.took);
+          inv.asked turned.asked false inv.took (subst (λ (b : Bool). TookItems c.turns.number None (rest_of (left c.turns.source) c.turns.script) turned.asked c.in-Ok.next
+          (rest_of (left c.turn-after.new.source) c.turn-after.new.script) b) unmet turned.took);
       answers = λ tells k stands.
           let first = inv.answers tells k stands in
           answers_more (Stands g.D.Disk.files g.D.Piece.Piece.Tells g.D.Disk.fault_count g.D.Disk.fuse_count g.A.Arm.fault_count) k inv.asked turned.asked
@@ -136,13 +149,19 @@ turns-preserved g c =
           first (turned.answers tells first.t first.left);
       said = inv.said ++ caused.asked;
       read = took_items_more 1 c.turns.number c.in-Ok.next (left c.args.source.now) (rest_of (left c.turns.source) c.turns.script) (rest_of (left c.turn-after.new.source) c.turn-after.new.script)
-          inv.said caused.asked false inv.read (subst (λ (b : Bool). TookItems c.turns.number None (rest_of (left c.turns.source) c.turns.script) caused.asked c.in-Ok.next (rest_of (left c.turn-after.new.source) c.turn-after.new.script) b) unmet caused.took);
-      caused = caused_more g.D.Disk.Tells c.args.cluster.settings (tally_of g.D.Disk.files g.D.Disk.drawn g.D.Disk.fault_count g.D.Disk.fuse_count g.A.Arm.fault_count g.A.Arm.is_sure c.args.cluster) (tally_of g.D.Disk.files g.D.Disk.drawn g.D.Disk.fault_count g.D.Disk.fuse_count g.A.Arm.fault_count g.A.Arm.is_sure c.turns.cluster)
-          (tally_of g.D.Disk.files g.D.Disk.drawn g.D.Disk.fault_count g.D.Disk.fuse_count g.A.Arm.fault_count g.A.Arm.is_sure c.turn-after.result.0) inv.said caused.asked (g.K.Sink.written c.args.sink.now) (g.K.Sink.written c.turns.sink) (g.K.Sink.written c.turn-after.new.sink)
+          inv.said caused.asked false inv.read (subst (λ (b : Bool). TookItems c.turns.number None (rest_of (left c.turns.source) c.turns.script) caused.asked c.in-Ok.next
+          (rest_of (left c.turn-after.new.source) c.turn-after.new.script) b) unmet caused.took);
+      caused =
+          caused_more g.D.Disk.Tells c.args.cluster.settings (tally_of g.D.Disk.files g.D.Disk.drawn g.D.Disk.fault_count g.D.Disk.fuse_count g.A.Arm.fault_count g.A.Arm.is_sure
+          c.args.cluster) (tally_of g.D.Disk.files g.D.Disk.drawn g.D.Disk.fault_count g.D.Disk.fuse_count g.A.Arm.fault_count g.A.Arm.is_sure c.turns.cluster)
+          (tally_of g.D.Disk.files g.D.Disk.drawn g.D.Disk.fault_count g.D.Disk.fuse_count g.A.Arm.fault_count g.A.Arm.is_sure c.turn-after.result.0) inv.said caused.asked
+          (g.K.Sink.written c.args.sink.now) (g.K.Sink.written c.turns.sink) (g.K.Sink.written c.turn-after.new.sink)
           inv.caused (subst P inv.same caused.caused);
       first = inv.first;
       at_first = inv.at_first;
-      accounts = accounts_more (left c.args.source.now) (left c.turns.source) (left c.turn-after.new.source) inv.first c.turns.script c.turn-after.new.script inv.accounts (rw c.in-Ok.is at c.turn-after.ensures.accounts);
+      accounts =
+          accounts_more (left c.args.source.now) (left c.turns.source) (left c.turn-after.new.source) inv.first c.turns.script c.turn-after.new.script inv.accounts
+          (rw c.in-Ok.is at c.turn-after.ensures.accounts);
       source = omega (arith, inv.source, c.turn-after.ensures.source_count);
       sink = omega (arith, inv.sink, c.turn-after.ensures.sink_count);
       faults = NoneFalls-more (map g.D.Disk.fault_count (disks_of c.args.cluster)) (map g.D.Disk.fault_count (disks_of c.turns.cluster)) (map g.D.Disk.fault_count (disks_of c.turn-after.result.0))
@@ -178,7 +197,8 @@ returns-in-Err-clause-long g c = λ is script told.
     let inv = c.turns.invariant in
     let left = g.S.Source.left in
     let accounts : Accounts (Some script) inv.first (left c.turns.source) c.turns.script = rw told at inv.accounts in
-    long_script 1073741824 script (left c.turns.source) (left c.turn-after.new.source) inv.first c.turns.script accounts (c.turn-after.ensures.long (let same : c.in-Err.stop ≡ stop.TooLong = cc in c.in-Err.is ∙ ap (λ (w : Stop). Err w) same)) inv.at_first
+    long_script 1073741824 script (left c.turns.source) (left c.turn-after.new.source) inv.first c.turns.script accounts
+    (c.turn-after.ensures.long (let same : c.in-Err.stop ≡ stop.TooLong = cc in c.in-Err.is ∙ ap (λ (w : Stop). Err w) same)) inv.at_first
 
 pub returns-in-Err-clause-source : goal.returns-in-Err-clause-source
 returns-in-Err-clause-source g c = λ is.
@@ -233,15 +253,20 @@ returns-then-is_ended-clause-caused g c =
     let left = g.S.Source.left in
     let met = sym c.is_ended.ensures ∙ c.if-is_ended.true in
     let caused = rw c.in-Ok.is at c.turn-after.ensures.caused in
-    let P : Settings → Type 0 = λ s. Caused g.D.Disk.Tells Wrote s (tally_of g.D.Disk.files g.D.Disk.drawn g.D.Disk.fault_count g.D.Disk.fuse_count g.A.Arm.fault_count g.A.Arm.is_sure c.turns.cluster) (tally_of g.D.Disk.files g.D.Disk.drawn g.D.Disk.fault_count g.D.Disk.fuse_count g.A.Arm.fault_count g.A.Arm.is_sure c.turn-after.result.0)
+    let P : Settings → Type 0 =
+    λ s. Caused g.D.Disk.Tells Wrote s (tally_of g.D.Disk.files g.D.Disk.drawn g.D.Disk.fault_count g.D.Disk.fuse_count g.A.Arm.fault_count g.A.Arm.is_sure c.turns.cluster)
+    (tally_of g.D.Disk.files g.D.Disk.drawn g.D.Disk.fault_count g.D.Disk.fuse_count g.A.Arm.fault_count g.A.Arm.is_sure c.turn-after.result.0)
     caused.asked (g.K.Sink.written c.turns.sink) (g.K.Sink.written c.turn-after.new.sink) in
     record {
       asked = inv.said ++ caused.asked;
       all = asks_all c.in-Ok.next (left c.args.source.now) (rest_of (left c.turn-after.new.source) c.turn-after.new.script) (inv.said ++ caused.asked) c.turn-after.new.script.ended
           (took_items_more 1 c.turns.number c.in-Ok.next (left c.args.source.now) (rest_of (left c.turns.source) c.turns.script) (rest_of (left c.turn-after.new.source) c.turn-after.new.script)
           inv.said caused.asked c.turn-after.new.script.ended inv.read caused.took) met;
-      caused = caused_more g.D.Disk.Tells c.args.cluster.settings (tally_of g.D.Disk.files g.D.Disk.drawn g.D.Disk.fault_count g.D.Disk.fuse_count g.A.Arm.fault_count g.A.Arm.is_sure c.args.cluster) (tally_of g.D.Disk.files g.D.Disk.drawn g.D.Disk.fault_count g.D.Disk.fuse_count g.A.Arm.fault_count g.A.Arm.is_sure c.turns.cluster)
-          (tally_of g.D.Disk.files g.D.Disk.drawn g.D.Disk.fault_count g.D.Disk.fuse_count g.A.Arm.fault_count g.A.Arm.is_sure c.turn-after.result.0) inv.said caused.asked (g.K.Sink.written c.args.sink.now) (g.K.Sink.written c.turns.sink) (g.K.Sink.written c.turn-after.new.sink)
+      caused =
+          caused_more g.D.Disk.Tells c.args.cluster.settings (tally_of g.D.Disk.files g.D.Disk.drawn g.D.Disk.fault_count g.D.Disk.fuse_count g.A.Arm.fault_count g.A.Arm.is_sure
+          c.args.cluster) (tally_of g.D.Disk.files g.D.Disk.drawn g.D.Disk.fault_count g.D.Disk.fuse_count g.A.Arm.fault_count g.A.Arm.is_sure c.turns.cluster)
+          (tally_of g.D.Disk.files g.D.Disk.drawn g.D.Disk.fault_count g.D.Disk.fuse_count g.A.Arm.fault_count g.A.Arm.is_sure c.turn-after.result.0) inv.said caused.asked
+          (g.K.Sink.written c.args.sink.now) (g.K.Sink.written c.turns.sink) (g.K.Sink.written c.turn-after.new.sink)
           inv.caused (subst P inv.same caused.caused);
     }
 
@@ -250,7 +275,9 @@ returns-in-Err-clause-stop_caused g c = λ why is.
     let inv = c.turns.invariant in
     let left = g.S.Source.left in
     let same : IsErrOf c.turn-after.result.1 why = (let one : c.in-Err.stop ≡ why = cc in c.in-Err.is ∙ ap (λ (w : Stop). Err w) one) in
-    let P : Settings → Type 0 = λ s. TurnStops g.D.Disk.Tells s (tally_of g.D.Disk.files g.D.Disk.drawn g.D.Disk.fault_count g.D.Disk.fuse_count g.A.Arm.fault_count g.A.Arm.is_sure c.turns.cluster) (tally_of g.D.Disk.files g.D.Disk.drawn g.D.Disk.fault_count g.D.Disk.fuse_count g.A.Arm.fault_count g.A.Arm.is_sure c.turn-after.result.0) why c.turns.number
+    let P : Settings → Type 0 =
+    λ s. TurnStops g.D.Disk.Tells s (tally_of g.D.Disk.files g.D.Disk.drawn g.D.Disk.fault_count g.D.Disk.fuse_count g.A.Arm.fault_count g.A.Arm.is_sure c.turns.cluster)
+    (tally_of g.D.Disk.files g.D.Disk.drawn g.D.Disk.fault_count g.D.Disk.fuse_count g.A.Arm.fault_count g.A.Arm.is_sure c.turn-after.result.0) why c.turns.number
     (rest_of (left c.turns.source) c.turns.script) (g.K.Sink.written c.turns.sink) (rest_of (left c.turn-after.new.source) c.turn-after.new.script) (g.K.Sink.written c.turn-after.new.sink) in
     record {
       asked = inv.said;

@@ -19,10 +19,13 @@ invariant-turns g l = record {
   same : l.cluster.settings ≡ l.fn.cluster.settings;
   asked : List Asked;
   took : TookItems 1 None (g.S.Source.left l.fn.source) asked l.number (rest_of (g.S.Source.left l.source) l.script) false;
-  answers : AnswersAll g.D.Disk.Tells (Stands g.D.Disk.files g.D.Piece.Piece.Tells g.D.Disk.fault_count g.D.Disk.fuse_count g.A.Arm.fault_count) asked l.fn.cluster (g.K.Sink.written l.fn.sink) l.cluster (g.K.Sink.written l.sink);
+  answers : AnswersAll g.D.Disk.Tells (Stands g.D.Disk.files g.D.Piece.Piece.Tells g.D.Disk.fault_count g.D.Disk.fuse_count g.A.Arm.fault_count) asked l.fn.cluster
+      (g.K.Sink.written l.fn.sink) l.cluster (g.K.Sink.written l.sink);
   said : List Asked;
   read : TookItems 1 None (g.S.Source.left l.fn.source) said l.number (rest_of (g.S.Source.left l.source) l.script) false;
-  caused : Caused g.D.Disk.Tells Wrote l.fn.cluster.settings (tally_of g.D.Disk.files g.D.Disk.drawn g.D.Disk.fault_count g.D.Disk.fuse_count g.A.Arm.fault_count g.A.Arm.is_sure l.fn.cluster) (tally_of g.D.Disk.files g.D.Disk.drawn g.D.Disk.fault_count g.D.Disk.fuse_count g.A.Arm.fault_count g.A.Arm.is_sure l.cluster) said (g.K.Sink.written l.fn.sink) (g.K.Sink.written l.sink);
+  caused : Caused g.D.Disk.Tells Wrote l.fn.cluster.settings (tally_of g.D.Disk.files g.D.Disk.drawn g.D.Disk.fault_count g.D.Disk.fuse_count g.A.Arm.fault_count g.A.Arm.is_sure
+      l.fn.cluster) (tally_of g.D.Disk.files g.D.Disk.drawn g.D.Disk.fault_count g.D.Disk.fuse_count g.A.Arm.fault_count g.A.Arm.is_sure l.cluster) said
+      (g.K.Sink.written l.fn.sink) (g.K.Sink.written l.sink);
   first : Held;
   at_first : first.taken ≡ 0;
   accounts : Accounts (g.S.Source.left l.fn.source) first (g.S.Source.left l.source) l.script;

@@ -37,7 +37,8 @@ returns-in-Nothing-clause-sure_arms g c = same_sure g.A.Arm.is_sure g.A.Arm.faul
 
 pub returns-in-Nothing-clause-formatted : goal.returns-in-Nothing-clause-formatted
 returns-in-Nothing-clause-formatted g c = λ tells k stands.
-    stands_formatted g.D.Disk.files (λ disk n. (g.met.D.Disk g.world.𝓛 g.world.𝓜 g.world.𝓡 ((λ s x. x), (λ x. x), (λ x. x), λ x. x)).may_leave_now disk n tells) g.D.Piece.Piece.Tells g.D.Disk.fault_count g.D.Disk.fuse_count g.A.Arm.fault_count c.args.cluster k stands
+    stands_formatted g.D.Disk.files (λ disk n. (g.met.D.Disk g.world.𝓛 g.world.𝓜 g.world.𝓡 ((λ s x. x), (λ x. x), (λ x. x), λ x. x)).may_leave_now disk n tells)
+    g.D.Piece.Piece.Tells g.D.Disk.fault_count g.D.Disk.fuse_count g.A.Arm.fault_count c.args.cluster k stands
 
 -- a line alone
 
@@ -77,4 +78,6 @@ pub returns-in-Block-clause-stop_caused : goal.returns-in-Block-clause-stop_caus
 returns-in-Block-clause-stop_caused g c = λ why is. rw c.in-Block.is (c.answer_block.ensures.stop_caused why is)
 
 pub returns-in-Block-clause-stops : goal.returns-in-Block-clause-stops
-returns-in-Block-clause-stops g c = on_err_weaker c.answer_block.result.1 (λ (two : (c.answer_block.result.1 ≡ Err stop.Output) ⊎ (c.answer_block.result.1 ≡ Err stop.NoMemory)). three_kinds c.answer_block.result.1 two) c.answer_block.ensures.stops
+returns-in-Block-clause-stops g c =
+    on_err_weaker c.answer_block.result.1 (λ (two : (c.answer_block.result.1 ≡ Err stop.Output) ⊎ (c.answer_block.result.1 ≡ Err stop.NoMemory)).
+    three_kinds c.answer_block.result.1 two) c.answer_block.ensures.stops

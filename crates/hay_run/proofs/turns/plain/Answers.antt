@@ -40,23 +40,30 @@ returns-clause-caused g c =
     let D = g.D.Disk in
     let A = g.A.Arm in
     on_ok_weaker c.write_reply.result (λ wrote.
-    caused_reply g.D.Disk.Tells Wrote c.args.cluster.now.settings (tally_of D.files D.drawn D.fault_count D.fuse_count A.fault_count A.is_sure c.args.cluster.now) (tally_of D.files D.drawn D.fault_count D.fuse_count A.fault_count A.is_sure c.answer-reply.new.self) c.args.number c.args.command.now c.answer-reply.result
-    (g.K.Sink.written c.args.sink.now) (g.K.Sink.written c.write_reply.new.sink) c.requires.goes_on (c.answer-reply.ensures.counts, c.answer-reply.ensures.arm_counts, StaySure-lanes A.is_sure A.fault_count c.args.cluster.now.arms c.answer-reply.new.self.arms c.answer-reply.ensures.sure_arms)
+    caused_reply g.D.Disk.Tells Wrote c.args.cluster.now.settings (tally_of D.files D.drawn D.fault_count D.fuse_count A.fault_count A.is_sure c.args.cluster.now)
+    (tally_of D.files D.drawn D.fault_count D.fuse_count A.fault_count A.is_sure c.answer-reply.new.self) c.args.number c.args.command.now c.answer-reply.result
+    (g.K.Sink.written c.args.sink.now) (g.K.Sink.written c.write_reply.new.sink) c.requires.goes_on
+    (c.answer-reply.ensures.counts, c.answer-reply.ensures.arm_counts, StaySure-lanes A.is_sure A.fault_count c.args.cluster.now.arms c.answer-reply.new.self.arms c.answer-reply.ensures.sure_arms)
     c.answer-reply.ensures.fuses c.answer-reply.ensures.fits c.answer-reply.ensures.suits c.answer-reply.ensures.causes
-    c.answer-reply.ensures.passes c.answer-reply.ensures.seen c.answer-reply.ensures.sights c.answer-reply.ensures.ended c.answer-reply.ensures.contents c.answer-reply.ensures.damaged c.answer-reply.ensures.told wrote)
+    c.answer-reply.ensures.passes c.answer-reply.ensures.seen c.answer-reply.ensures.sights c.answer-reply.ensures.ended c.answer-reply.ensures.contents
+    c.answer-reply.ensures.damaged c.answer-reply.ensures.told wrote)
     c.write_reply.ensures.wrote
 
 pub returns-clause-stop_caused : goal.returns-clause-stop_caused
 returns-clause-stop_caused g c = λ why is.
     let D = g.D.Disk in
     let A = g.A.Arm in
-    part_stops g.D.Disk.Tells c.args.cluster.now.settings (tally_of D.files D.drawn D.fault_count D.fuse_count A.fault_count A.is_sure c.args.cluster.now) (tally_of D.files D.drawn D.fault_count D.fuse_count A.fault_count A.is_sure c.answer-reply.new.self) (Alone c.args.number (item.Command c.args.command.now) ∷ [])
+    part_stops g.D.Disk.Tells c.args.cluster.now.settings (tally_of D.files D.drawn D.fault_count D.fuse_count A.fault_count A.is_sure c.args.cluster.now)
+    (tally_of D.files D.drawn D.fault_count D.fuse_count A.fault_count A.is_sure c.answer-reply.new.self) (Alone c.args.number (item.Command c.args.command.now) ∷ [])
     (g.K.Sink.written c.args.sink.now) (g.K.Sink.written c.write_reply.new.sink) c.write_reply.result why is c.write_reply.ensures.stops
     (on_err_weaker c.write_reply.result (λ wrote.
-    caused_reply g.D.Disk.Tells WrotePart c.args.cluster.now.settings (tally_of D.files D.drawn D.fault_count D.fuse_count A.fault_count A.is_sure c.args.cluster.now) (tally_of D.files D.drawn D.fault_count D.fuse_count A.fault_count A.is_sure c.answer-reply.new.self) c.args.number c.args.command.now c.answer-reply.result
-    (g.K.Sink.written c.args.sink.now) (g.K.Sink.written c.write_reply.new.sink) c.requires.goes_on (c.answer-reply.ensures.counts, c.answer-reply.ensures.arm_counts, StaySure-lanes A.is_sure A.fault_count c.args.cluster.now.arms c.answer-reply.new.self.arms c.answer-reply.ensures.sure_arms)
+    caused_reply g.D.Disk.Tells WrotePart c.args.cluster.now.settings (tally_of D.files D.drawn D.fault_count D.fuse_count A.fault_count A.is_sure c.args.cluster.now)
+    (tally_of D.files D.drawn D.fault_count D.fuse_count A.fault_count A.is_sure c.answer-reply.new.self) c.args.number c.args.command.now c.answer-reply.result
+    (g.K.Sink.written c.args.sink.now) (g.K.Sink.written c.write_reply.new.sink) c.requires.goes_on
+    (c.answer-reply.ensures.counts, c.answer-reply.ensures.arm_counts, StaySure-lanes A.is_sure A.fault_count c.args.cluster.now.arms c.answer-reply.new.self.arms c.answer-reply.ensures.sure_arms)
     c.answer-reply.ensures.fuses c.answer-reply.ensures.fits c.answer-reply.ensures.suits c.answer-reply.ensures.causes
-    c.answer-reply.ensures.passes c.answer-reply.ensures.seen c.answer-reply.ensures.sights c.answer-reply.ensures.ended c.answer-reply.ensures.contents c.answer-reply.ensures.damaged c.answer-reply.ensures.told wrote)
+    c.answer-reply.ensures.passes c.answer-reply.ensures.seen c.answer-reply.ensures.sights c.answer-reply.ensures.ended c.answer-reply.ensures.contents
+    c.answer-reply.ensures.damaged c.answer-reply.ensures.told wrote)
     c.write_reply.ensures.part)
 
 -- none of its disks is void

@@ -23,13 +23,15 @@ returns-in_err-said-clause-over g c = λ is.
 pub read_block-requires-clause-some : goal.read_block-requires-clause-some
 read_block-requires-clause-some g c =
     let left = g.S.Source.left in
-    let says : SaysNext None (Some (line.Lanes c.in-Lanes.lanes)) (rest_of (left c.args.source.now) c.args.script.now) (rest_of (left c.next_said.new.source) c.next_said.new.script) c.next_said.new.script.ended = rw c.in-Lanes.is at (rw c.in-Some.is at c.in_ok-said.ensures.said) in
+    let says : SaysNext None (Some (line.Lanes c.in-Lanes.lanes)) (rest_of (left c.args.source.now) c.args.script.now)
+    (rest_of (left c.next_said.new.source) c.next_said.new.script) c.next_said.new.script.ended = rw c.in-Lanes.is at (rw c.in-Some.is at c.in_ok-said.ensures.said) in
     (block_lanes says.0 c.in-Lanes.lanes says.2).0
 
 pub read_block-requires-clause-most : goal.read_block-requires-clause-most
 read_block-requires-clause-most g c =
     let left = g.S.Source.left in
-    let says : SaysNext None (Some (line.Lanes c.in-Lanes.lanes)) (rest_of (left c.args.source.now) c.args.script.now) (rest_of (left c.next_said.new.source) c.next_said.new.script) c.next_said.new.script.ended = rw c.in-Lanes.is at (rw c.in-Some.is at c.in_ok-said.ensures.said) in
+    let says : SaysNext None (Some (line.Lanes c.in-Lanes.lanes)) (rest_of (left c.args.source.now) c.args.script.now)
+    (rest_of (left c.next_said.new.source) c.next_said.new.script) c.next_said.new.script.ended = rw c.in-Lanes.is at (rw c.in-Some.is at c.in_ok-said.ensures.said) in
     (block_lanes says.0 c.in-Lanes.lanes says.2).1
 
 pub returns-in_err-block-clause-input : goal.returns-in_err-block-clause-input

@@ -76,8 +76,10 @@ returns-clause-caused g c =
     let says : (outside c.args.number c.args.said).0 ≡ Alone c.args.number item.Bad ∷ [] = outside-bad c.args.number c.args.said c.in-Bad.is in
     rw says
     (on_ok_weaker c.write_reply.result (λ wrote.
-    caused_one g.D.Disk.Tells Wrote c.args.cluster.now.settings (tally_of D.files D.drawn D.fault_count D.fuse_count A.fault_count A.is_sure c.args.cluster.now) (tally_of D.files D.drawn D.fault_count D.fuse_count A.fault_count A.is_sure c.args.cluster.now) (Alone c.args.number item.Bad) (numbered_line c.args.number BadLine)
-    (g.K.Sink.written c.args.sink.now) (g.K.Sink.written c.write_reply.new.sink) (same_tally (tally_of D.files D.drawn D.fault_count D.fuse_count A.fault_count A.is_sure c.args.cluster.now)) (refl, refl) wrote)
+    caused_one g.D.Disk.Tells Wrote c.args.cluster.now.settings (tally_of D.files D.drawn D.fault_count D.fuse_count A.fault_count A.is_sure c.args.cluster.now)
+    (tally_of D.files D.drawn D.fault_count D.fuse_count A.fault_count A.is_sure c.args.cluster.now) (Alone c.args.number item.Bad) (numbered_line c.args.number BadLine)
+    (g.K.Sink.written c.args.sink.now) (g.K.Sink.written c.write_reply.new.sink) (same_tally
+    (tally_of D.files D.drawn D.fault_count D.fuse_count A.fault_count A.is_sure c.args.cluster.now)) (refl, refl) wrote)
     c.write_reply.ensures.wrote)
 
 pub returns-clause-stop_caused : goal.returns-clause-stop_caused
@@ -86,11 +88,14 @@ returns-clause-stop_caused g c = λ why is.
     let A = g.A.Arm in
     let says : (outside c.args.number c.args.said).0 ≡ Alone c.args.number item.Bad ∷ [] = outside-bad c.args.number c.args.said c.in-Bad.is in
     rw says
-    (part_stops g.D.Disk.Tells c.args.cluster.now.settings (tally_of D.files D.drawn D.fault_count D.fuse_count A.fault_count A.is_sure c.args.cluster.now) (tally_of D.files D.drawn D.fault_count D.fuse_count A.fault_count A.is_sure c.args.cluster.now) (Alone c.args.number item.Bad ∷ [])
+    (part_stops g.D.Disk.Tells c.args.cluster.now.settings (tally_of D.files D.drawn D.fault_count D.fuse_count A.fault_count A.is_sure c.args.cluster.now)
+    (tally_of D.files D.drawn D.fault_count D.fuse_count A.fault_count A.is_sure c.args.cluster.now) (Alone c.args.number item.Bad ∷ [])
     (g.K.Sink.written c.args.sink.now) (g.K.Sink.written c.write_reply.new.sink) c.write_reply.result why is c.write_reply.ensures.stops
     (on_err_weaker c.write_reply.result (λ wrote.
-    caused_one g.D.Disk.Tells WrotePart c.args.cluster.now.settings (tally_of D.files D.drawn D.fault_count D.fuse_count A.fault_count A.is_sure c.args.cluster.now) (tally_of D.files D.drawn D.fault_count D.fuse_count A.fault_count A.is_sure c.args.cluster.now) (Alone c.args.number item.Bad) (numbered_line c.args.number BadLine)
-    (g.K.Sink.written c.args.sink.now) (g.K.Sink.written c.write_reply.new.sink) (same_tally (tally_of D.files D.drawn D.fault_count D.fuse_count A.fault_count A.is_sure c.args.cluster.now)) (refl, refl) wrote)
+    caused_one g.D.Disk.Tells WrotePart c.args.cluster.now.settings (tally_of D.files D.drawn D.fault_count D.fuse_count A.fault_count A.is_sure c.args.cluster.now)
+    (tally_of D.files D.drawn D.fault_count D.fuse_count A.fault_count A.is_sure c.args.cluster.now) (Alone c.args.number item.Bad) (numbered_line c.args.number BadLine)
+    (g.K.Sink.written c.args.sink.now) (g.K.Sink.written c.write_reply.new.sink) (same_tally
+    (tally_of D.files D.drawn D.fault_count D.fuse_count A.fault_count A.is_sure c.args.cluster.now)) (refl, refl) wrote)
     c.write_reply.ensures.part))
 
 pub returns-in-Skip-clause-caused : goal.returns-in-Skip-clause-caused
@@ -98,7 +103,8 @@ returns-in-Skip-clause-caused g c =
     let D = g.D.Disk in
     let A = g.A.Arm in
     let says : (outside c.args.number c.args.said).0 ≡ [] = outside-none c.args.number c.args.said c.in-Skip.is in
-    rw says (caused_nothing g.D.Disk.Tells c.args.cluster.now.settings (tally_of D.files D.drawn D.fault_count D.fuse_count A.fault_count A.is_sure c.args.cluster.now) (g.K.Sink.written c.args.sink.now))
+    rw says (caused_nothing g.D.Disk.Tells c.args.cluster.now.settings (tally_of D.files D.drawn D.fault_count D.fuse_count A.fault_count A.is_sure c.args.cluster.now)
+    (g.K.Sink.written c.args.sink.now))
 
 -- none of its disks is void
 

@@ -30,7 +30,8 @@ returns-in-Ok-clause-answers g c =
     let large : c.rows.result < 2 ^ 64 = omega arith in
     on_ok_weaker c.write_restarted.result (λ wrote tells k stands.
     let done = c.in-Ok.ensures.reopened tells k stands in
-    restarted (Stands D.files g.D.Piece.Piece.Tells D.fault_count D.fuse_count A.fault_count) IsGoingOn restarted_goes_on Wrote k done.0 c.args.number c.args.pick c.rows.result _ c.in-Ok.notes c.as_slice.result.now
+    restarted (Stands D.files g.D.Piece.Piece.Tells D.fault_count D.fuse_count A.fault_count) IsGoingOn restarted_goes_on Wrote k done.0 c.args.number c.args.pick c.rows.result _
+    c.in-Ok.notes c.as_slice.result.now
     (g.K.Sink.written c.args.sink.now) (g.K.Sink.written c.write_restarted.new.sink) c.restart.new.self
     done.1 large c.in-Ok.ensures.fits c.rows.ensures.count c.as_slice.ensures done.2 wrote)
     c.write_restarted.ensures.wrote
@@ -42,7 +43,8 @@ returns-in-Ok-clause-broke g c = λ stopped.
     let large : c.rows.result < 2 ^ 64 = omega arith in
     inl (λ tells k stands.
     let done = c.in-Ok.ensures.reopened tells k stands in
-    restarted (Holds D.files D.fault_count D.fuse_count A.fault_count) AnyTurn (λ line pick d notes after. tt) WrotePart k done.0 c.args.number c.args.pick c.rows.result _ c.in-Ok.notes c.as_slice.result.now
+    restarted (Holds D.files D.fault_count D.fuse_count A.fault_count) AnyTurn (λ line pick d notes after. tt) WrotePart k done.0 c.args.number c.args.pick c.rows.result _
+    c.in-Ok.notes c.as_slice.result.now
     (g.K.Sink.written c.args.sink.now) (g.K.Sink.written c.write_restarted.new.sink) c.restart.new.self
     done.1 large c.in-Ok.ensures.fits c.rows.ensures.count c.as_slice.ensures (stands_holds D.files g.D.Piece.Piece.Tells D.fault_count D.fuse_count A.fault_count c.restart.new.self done.0 done.2)
     (on_either c.write_restarted.result stop.Output stop.NoMemory c.write_restarted.ensures.part stopped))
@@ -51,7 +53,8 @@ pub returns-in-Err-clause-broke : goal.returns-in-Err-clause-broke
 returns-in-Err-clause-broke g c = λ stopped.
     let D = g.D.Disk in
     let A = g.A.Arm in
-    broke D.Tells (Stands D.files g.D.Piece.Piece.Tells D.fault_count D.fuse_count A.fault_count) (Holds D.files D.fault_count D.fuse_count A.fault_count) D.files D.fault_count c.args.cluster.now c.restart.new.self
+    broke D.Tells (Stands D.files g.D.Piece.Piece.Tells D.fault_count D.fuse_count A.fault_count) (Holds D.files D.fault_count D.fuse_count A.fault_count) D.files D.fault_count
+    c.args.cluster.now c.restart.new.self
     c.args.number c.args.pick (g.K.Sink.written c.args.sink.now) (g.K.Sink.written c.refuse.new.sink) c.refuse.result
     c.in-Err.ensures.settings (λ k stands. stands_counts D.files g.D.Piece.Piece.Tells D.fault_count D.fuse_count A.fault_count c.args.cluster.now k stands)
     (λ t holds. holds_counts D.files D.fault_count D.fuse_count A.fault_count c.restart.new.self t holds)
@@ -64,7 +67,8 @@ returns-in-Err-clause-refused g c = λ stopped.
     let D = g.D.Disk in
     let A = g.A.Arm in
     let is_store : c.refuse.result ≡ stop.Store = cc in
-    refused D.Tells (Stands D.files g.D.Piece.Piece.Tells D.fault_count D.fuse_count A.fault_count) (Holds D.files D.fault_count D.fuse_count A.fault_count) D.files D.fault_count c.args.cluster.now c.restart.new.self
+    refused D.Tells (Stands D.files g.D.Piece.Piece.Tells D.fault_count D.fuse_count A.fault_count) (Holds D.files D.fault_count D.fuse_count A.fault_count) D.files D.fault_count
+    c.args.cluster.now c.restart.new.self
     c.args.number c.args.pick (g.K.Sink.written c.args.sink.now) (g.K.Sink.written c.refuse.new.sink) c.refuse.result
     c.in-Err.ensures.settings (λ k stands. stands_counts D.files g.D.Piece.Piece.Tells D.fault_count D.fuse_count A.fault_count c.args.cluster.now k stands)
     (λ t holds. holds_counts D.files D.fault_count D.fuse_count A.fault_count c.restart.new.self t holds)
@@ -77,7 +81,8 @@ returns-in-Err-clause-halted g c = λ stopped.
     let D = g.D.Disk in
     let A = g.A.Arm in
     let is_store : c.refuse.result ≡ stop.Store = cc in
-    halts D.Tells (Stands D.files g.D.Piece.Piece.Tells D.fault_count D.fuse_count A.fault_count) (Holds D.files D.fault_count D.fuse_count A.fault_count) D.files D.fault_count c.args.cluster.now c.restart.new.self
+    halts D.Tells (Stands D.files g.D.Piece.Piece.Tells D.fault_count D.fuse_count A.fault_count) (Holds D.files D.fault_count D.fuse_count A.fault_count) D.files D.fault_count
+    c.args.cluster.now c.restart.new.self
     c.args.number c.args.pick (g.K.Sink.written c.args.sink.now) (g.K.Sink.written c.refuse.new.sink) c.refuse.result
     c.in-Err.ensures.settings (λ k stands. stands_counts D.files g.D.Piece.Piece.Tells D.fault_count D.fuse_count A.fault_count c.args.cluster.now k stands)
     (λ t holds. holds_counts D.files D.fault_count D.fuse_count A.fault_count c.restart.new.self t holds)
@@ -110,11 +115,19 @@ returns-in-Ok-clause-caused g c =
     let D = g.D.Disk in
     let A = g.A.Arm in
     let large : c.rows.result < 2 ^ 64 = omega arith in
-    let none : IsLaterTally (tally_of D.files D.drawn D.fault_count D.fuse_count A.fault_count A.is_sure c.args.cluster.now) (tally_of D.files D.drawn D.fault_count D.fuse_count A.fault_count A.is_sure c.restart.new.self) = (c.in-Ok.ensures.counts, NoneFalls-kept (map A.fault_count c.args.cluster.now.arms) (map A.fault_count c.restart.new.self.arms) (ap (map A.fault_count) c.in-Ok.ensures.arms), λ lane is. subst (λ arms. slice_get (map A.is_sure arms) lane ≡ Some true) (sym c.in-Ok.ensures.arms) is) in
+    let none : IsLaterTally (tally_of D.files D.drawn D.fault_count D.fuse_count A.fault_count A.is_sure c.args.cluster.now)
+    (tally_of D.files D.drawn D.fault_count D.fuse_count A.fault_count A.is_sure c.restart.new.self) = (
+      c.in-Ok.ensures.counts,
+      NoneFalls-kept (map A.fault_count c.args.cluster.now.arms) (map A.fault_count c.restart.new.self.arms) (ap (map A.fault_count) c.in-Ok.ensures.arms),
+      λ lane is. subst (λ arms. slice_get (map A.is_sure arms) lane ≡ Some true) (sym c.in-Ok.ensures.arms) is,
+    ) in
     on_ok_weaker c.write_restarted.result (λ wrote.
-    caused_restart g.D.Disk.Tells Wrote c.args.cluster.now.settings (tally_of D.files D.drawn D.fault_count D.fuse_count A.fault_count A.is_sure c.args.cluster.now) (tally_of D.files D.drawn D.fault_count D.fuse_count A.fault_count A.is_sure c.restart.new.self) c.args.number c.args.pick c.rows.result c.as_slice.result.now
-    (g.K.Sink.written c.args.sink.now) (g.K.Sink.written c.write_restarted.new.sink) none c.in-Ok.ensures.fuses (ap (map A.fault_count) c.in-Ok.ensures.arms) large (subst (λ (l : List Note). TellsSeen c.args.cluster.now.settings (store_seen c.args.cluster.now) (store_seen c.restart.new.self) l) (sym c.as_slice.ensures) c.in-Ok.ensures.tells)
-    (subst (λ (l : List Note). AllByRecursion FitsNote l) (sym c.as_slice.ensures) c.in-Ok.ensures.fits) c.in-Ok.ensures.opens c.rows.ensures.count (λ tells. (c.in-Ok.ensures.sound tells, c.in-Ok.ensures.told tells)) wrote)
+    caused_restart g.D.Disk.Tells Wrote c.args.cluster.now.settings (tally_of D.files D.drawn D.fault_count D.fuse_count A.fault_count A.is_sure c.args.cluster.now)
+    (tally_of D.files D.drawn D.fault_count D.fuse_count A.fault_count A.is_sure c.restart.new.self) c.args.number c.args.pick c.rows.result c.as_slice.result.now
+    (g.K.Sink.written c.args.sink.now) (g.K.Sink.written c.write_restarted.new.sink) none c.in-Ok.ensures.fuses (ap (map A.fault_count) c.in-Ok.ensures.arms) large
+    (subst (λ (l : List Note). TellsSeen c.args.cluster.now.settings (store_seen c.args.cluster.now) (store_seen c.restart.new.self) l) (sym c.as_slice.ensures) c.in-Ok.ensures.tells)
+    (subst (λ (l : List Note). AllByRecursion FitsNote l) (sym c.as_slice.ensures) c.in-Ok.ensures.fits) c.in-Ok.ensures.opens c.rows.ensures.count
+    (λ tells. (c.in-Ok.ensures.sound tells, c.in-Ok.ensures.told tells)) wrote)
     c.write_restarted.ensures.wrote
 
 pub returns-in-Ok-clause-stop_caused : goal.returns-in-Ok-clause-stop_caused
@@ -122,13 +135,22 @@ returns-in-Ok-clause-stop_caused g c = λ why is.
     let D = g.D.Disk in
     let A = g.A.Arm in
     let large : c.rows.result < 2 ^ 64 = omega arith in
-    let none : IsLaterTally (tally_of D.files D.drawn D.fault_count D.fuse_count A.fault_count A.is_sure c.args.cluster.now) (tally_of D.files D.drawn D.fault_count D.fuse_count A.fault_count A.is_sure c.restart.new.self) = (c.in-Ok.ensures.counts, NoneFalls-kept (map A.fault_count c.args.cluster.now.arms) (map A.fault_count c.restart.new.self.arms) (ap (map A.fault_count) c.in-Ok.ensures.arms), λ lane is. subst (λ arms. slice_get (map A.is_sure arms) lane ≡ Some true) (sym c.in-Ok.ensures.arms) is) in
-    part_stops g.D.Disk.Tells c.args.cluster.now.settings (tally_of D.files D.drawn D.fault_count D.fuse_count A.fault_count A.is_sure c.args.cluster.now) (tally_of D.files D.drawn D.fault_count D.fuse_count A.fault_count A.is_sure c.restart.new.self) (Alone c.args.number (item.Command (asks.Restart c.args.pick)) ∷ [])
+    let none : IsLaterTally (tally_of D.files D.drawn D.fault_count D.fuse_count A.fault_count A.is_sure c.args.cluster.now)
+    (tally_of D.files D.drawn D.fault_count D.fuse_count A.fault_count A.is_sure c.restart.new.self) = (
+      c.in-Ok.ensures.counts,
+      NoneFalls-kept (map A.fault_count c.args.cluster.now.arms) (map A.fault_count c.restart.new.self.arms) (ap (map A.fault_count) c.in-Ok.ensures.arms),
+      λ lane is. subst (λ arms. slice_get (map A.is_sure arms) lane ≡ Some true) (sym c.in-Ok.ensures.arms) is,
+    ) in
+    part_stops g.D.Disk.Tells c.args.cluster.now.settings (tally_of D.files D.drawn D.fault_count D.fuse_count A.fault_count A.is_sure c.args.cluster.now)
+    (tally_of D.files D.drawn D.fault_count D.fuse_count A.fault_count A.is_sure c.restart.new.self) (Alone c.args.number (item.Command (asks.Restart c.args.pick)) ∷ [])
     (g.K.Sink.written c.args.sink.now) (g.K.Sink.written c.write_restarted.new.sink) c.write_restarted.result why is c.write_restarted.ensures.stops
     (on_err_weaker c.write_restarted.result (λ wrote.
-    caused_restart g.D.Disk.Tells WrotePart c.args.cluster.now.settings (tally_of D.files D.drawn D.fault_count D.fuse_count A.fault_count A.is_sure c.args.cluster.now) (tally_of D.files D.drawn D.fault_count D.fuse_count A.fault_count A.is_sure c.restart.new.self) c.args.number c.args.pick c.rows.result c.as_slice.result.now
-    (g.K.Sink.written c.args.sink.now) (g.K.Sink.written c.write_restarted.new.sink) none c.in-Ok.ensures.fuses (ap (map A.fault_count) c.in-Ok.ensures.arms) large (subst (λ (l : List Note). TellsSeen c.args.cluster.now.settings (store_seen c.args.cluster.now) (store_seen c.restart.new.self) l) (sym c.as_slice.ensures) c.in-Ok.ensures.tells)
-    (subst (λ (l : List Note). AllByRecursion FitsNote l) (sym c.as_slice.ensures) c.in-Ok.ensures.fits) c.in-Ok.ensures.opens c.rows.ensures.count (λ tells. (c.in-Ok.ensures.sound tells, c.in-Ok.ensures.told tells)) wrote)
+    caused_restart g.D.Disk.Tells WrotePart c.args.cluster.now.settings (tally_of D.files D.drawn D.fault_count D.fuse_count A.fault_count A.is_sure c.args.cluster.now)
+    (tally_of D.files D.drawn D.fault_count D.fuse_count A.fault_count A.is_sure c.restart.new.self) c.args.number c.args.pick c.rows.result c.as_slice.result.now
+    (g.K.Sink.written c.args.sink.now) (g.K.Sink.written c.write_restarted.new.sink) none c.in-Ok.ensures.fuses (ap (map A.fault_count) c.in-Ok.ensures.arms) large
+    (subst (λ (l : List Note). TellsSeen c.args.cluster.now.settings (store_seen c.args.cluster.now) (store_seen c.restart.new.self) l) (sym c.as_slice.ensures) c.in-Ok.ensures.tells)
+    (subst (λ (l : List Note). AllByRecursion FitsNote l) (sym c.as_slice.ensures) c.in-Ok.ensures.fits) c.in-Ok.ensures.opens c.rows.ensures.count
+    (λ tells. (c.in-Ok.ensures.sound tells, c.in-Ok.ensures.told tells)) wrote)
     c.write_restarted.ensures.part)
 
 pub returns-in-Err-clause-stop_caused : goal.returns-in-Err-clause-stop_caused
@@ -136,12 +158,16 @@ returns-in-Err-clause-stop_caused g c = λ why is.
     let D = g.D.Disk in
     let A = g.A.Arm in
     let same : c.refuse.result ≡ why = cc in
-    let back : NotReopened (tally_of D.files D.drawn D.fault_count D.fuse_count A.fault_count A.is_sure c.args.cluster.now) (tally_of D.files D.drawn D.fault_count D.fuse_count A.fault_count A.is_sure c.restart.new.self) (Alone c.args.number (item.Command (asks.Restart c.args.pick)) ∷ []) =
+    let back : NotReopened (tally_of D.files D.drawn D.fault_count D.fuse_count A.fault_count A.is_sure c.args.cluster.now)
+    (tally_of D.files D.drawn D.fault_count D.fuse_count A.fault_count A.is_sure c.restart.new.self) (Alone c.args.number (item.Command (asks.Restart c.args.pick)) ∷ []) =
     record { restart = (c.args.number, c.args.pick, refl); disks = c.in-Err.ensures.counts; arms = ap (map A.fault_count) c.in-Err.ensures.arms; fuses = c.in-Err.ensures.fuses } in
-    let P : Stop → Type 0 = λ w. StopCaused g.D.Disk.Tells c.args.cluster.now.settings (tally_of D.files D.drawn D.fault_count D.fuse_count A.fault_count A.is_sure c.args.cluster.now) (tally_of D.files D.drawn D.fault_count D.fuse_count A.fault_count A.is_sure c.restart.new.self) w (Alone c.args.number (item.Command (asks.Restart c.args.pick)) ∷ [])
+    let P : Stop → Type 0 =
+    λ w. StopCaused g.D.Disk.Tells c.args.cluster.now.settings (tally_of D.files D.drawn D.fault_count D.fuse_count A.fault_count A.is_sure c.args.cluster.now)
+    (tally_of D.files D.drawn D.fault_count D.fuse_count A.fault_count A.is_sure c.restart.new.self) w (Alone c.args.number (item.Command (asks.Restart c.args.pick)) ∷ [])
     (g.K.Sink.written c.args.sink.now) (g.K.Sink.written c.refuse.new.sink) in
     subst P same
-    (refused_stops g.D.Disk.Tells c.args.cluster.now.settings (tally_of D.files D.drawn D.fault_count D.fuse_count A.fault_count A.is_sure c.args.cluster.now) (tally_of D.files D.drawn D.fault_count D.fuse_count A.fault_count A.is_sure c.restart.new.self) c.args.number c.args.pick
+    (refused_stops g.D.Disk.Tells c.args.cluster.now.settings (tally_of D.files D.drawn D.fault_count D.fuse_count A.fault_count A.is_sure c.args.cluster.now)
+    (tally_of D.files D.drawn D.fault_count D.fuse_count A.fault_count A.is_sure c.restart.new.self) c.args.number c.args.pick
     (g.K.Sink.written c.args.sink.now) (g.K.Sink.written c.refuse.new.sink) c.refuse.result back
     c.in-Err.fault c.refuse.ensures.fits c.in-Err.ensures.cause (λ tells slot count e. c.in-Err.ensures.failed_first tells slot count (ap (λ f. Err f) e))
     (λ tells slot file at e. (c.in-Err.ensures.damaged tells slot file at (ap (λ f. Err f) e), c.in-Err.ensures.damaged_first tells slot file at (ap (λ f. Err f) e)))

@@ -23,9 +23,12 @@ pub returns-in-Err-outcome-clause-output : goal.returns-in-Err-outcome-clause-ou
 returns-in-Err-outcome-clause-output g c = λ is.
     let left = g.S.Source.left in
     let D = g.D.Disk in
-    broke_asked D.Tells (Stands D.files g.D.Piece.Piece.Tells D.fault_count D.fuse_count g.A.Arm.fault_count) (Holds D.files D.fault_count D.fuse_count g.A.Arm.fault_count) c.args.number c.in-Ok.next (items_asked c.args.number c.in-Ok.read)
-    c.args.cluster c.answer-cluster.result.0 (g.K.Sink.written c.args.sink.now) (g.K.Sink.written c.answer-cluster.new.sink) (rest_of (left c.args.source.now) c.args.script.now) (rest_of (left c.read_turn.new.source) c.read_turn.new.script) c.read_turn.new.script.ended
-    (asked-one c.args.number c.in-Ok.read) c.in-Ok.ensures.took (c.answer-cluster.ensures.broke (let same : c.in-Err-outcome.stop ≡ stop.Output = cc in c.in-Err-outcome.is ∙ ap (λ (w : Stop). Err w) same))
+    broke_asked D.Tells (Stands D.files g.D.Piece.Piece.Tells D.fault_count D.fuse_count g.A.Arm.fault_count) (Holds D.files D.fault_count D.fuse_count g.A.Arm.fault_count)
+    c.args.number c.in-Ok.next (items_asked c.args.number c.in-Ok.read)
+    c.args.cluster c.answer-cluster.result.0 (g.K.Sink.written c.args.sink.now) (g.K.Sink.written c.answer-cluster.new.sink) (rest_of (left c.args.source.now) c.args.script.now)
+    (rest_of (left c.read_turn.new.source) c.read_turn.new.script) c.read_turn.new.script.ended
+    (asked-one c.args.number c.in-Ok.read) c.in-Ok.ensures.took (c.answer-cluster.ensures.broke
+    (let same : c.in-Err-outcome.stop ≡ stop.Output = cc in c.in-Err-outcome.is ∙ ap (λ (w : Stop). Err w) same))
 
 pub returns-in-Err-outcome-clause-memory : goal.returns-in-Err-outcome-clause-memory
 returns-in-Err-outcome-clause-memory g c = λ is.
@@ -34,8 +37,10 @@ returns-in-Err-outcome-clause-memory g c = λ is.
     let before = rest_of (left c.args.source.now) c.args.script.now in
     let after = rest_of (left c.read_turn.new.source) c.read_turn.new.script in
     elim (c.answer-cluster.ensures.memory (let same : c.in-Err-outcome.stop ≡ stop.NoMemory = cc in c.in-Err-outcome.is ∙ ap (λ (w : Stop). Err w) same)) [
-      | inl broke ↦ inr (broke_asked D.Tells (Stands D.files g.D.Piece.Piece.Tells D.fault_count D.fuse_count g.A.Arm.fault_count) (Holds D.files D.fault_count D.fuse_count g.A.Arm.fault_count) c.args.number c.in-Ok.next (items_asked c.args.number c.in-Ok.read)
-          c.args.cluster c.answer-cluster.result.0 (g.K.Sink.written c.args.sink.now) (g.K.Sink.written c.answer-cluster.new.sink) before after c.read_turn.new.script.ended (asked-one c.args.number c.in-Ok.read) c.in-Ok.ensures.took broke)
+      | inl broke ↦ inr (broke_asked D.Tells (Stands D.files g.D.Piece.Piece.Tells D.fault_count D.fuse_count g.A.Arm.fault_count)
+          (Holds D.files D.fault_count D.fuse_count g.A.Arm.fault_count) c.args.number c.in-Ok.next (items_asked c.args.number c.in-Ok.read)
+          c.args.cluster c.answer-cluster.result.0 (g.K.Sink.written c.args.sink.now) (g.K.Sink.written c.answer-cluster.new.sink) before after c.read_turn.new.script.ended
+          (asked-one c.args.number c.in-Ok.read) c.in-Ok.ensures.took broke)
       | inr kept ↦ inl (some_items c.args.number None before after (items_asked c.args.number c.in-Ok.read) c.in-Ok.next c.read_turn.new.script.ended c.in-Ok.ensures.took, kept.0, kept.1)
     ]
 
@@ -43,8 +48,10 @@ pub returns-in-Err-outcome-clause-store : goal.returns-in-Err-outcome-clause-sto
 returns-in-Err-outcome-clause-store g c = λ is.
     let left = g.S.Source.left in
     let D = g.D.Disk in
-    refused_asked D.Tells Wrote (Stands D.files g.D.Piece.Piece.Tells D.fault_count D.fuse_count g.A.Arm.fault_count) (Holds D.files D.fault_count D.fuse_count g.A.Arm.fault_count) c.args.number c.in-Ok.next (items_asked c.args.number c.in-Ok.read)
-    c.args.cluster c.answer-cluster.result.0 (g.K.Sink.written c.args.sink.now) (g.K.Sink.written c.answer-cluster.new.sink) (rest_of (left c.args.source.now) c.args.script.now) (rest_of (left c.read_turn.new.source) c.read_turn.new.script) c.read_turn.new.script.ended
+    refused_asked D.Tells Wrote (Stands D.files g.D.Piece.Piece.Tells D.fault_count D.fuse_count g.A.Arm.fault_count) (Holds D.files D.fault_count D.fuse_count g.A.Arm.fault_count)
+    c.args.number c.in-Ok.next (items_asked c.args.number c.in-Ok.read)
+    c.args.cluster c.answer-cluster.result.0 (g.K.Sink.written c.args.sink.now) (g.K.Sink.written c.answer-cluster.new.sink) (rest_of (left c.args.source.now) c.args.script.now)
+    (rest_of (left c.read_turn.new.source) c.read_turn.new.script) c.read_turn.new.script.ended
     c.in-Ok.ensures.took (c.answer-cluster.ensures.refused (let same : c.in-Err-outcome.stop ≡ stop.Store = cc in c.in-Err-outcome.is ∙ ap (λ (w : Stop). Err w) same))
 
 pub returns-in-Err-outcome-clause-stop_caused : goal.returns-in-Err-outcome-clause-stop_caused
@@ -53,9 +60,12 @@ returns-in-Err-outcome-clause-stop_caused g c = λ why is.
     let D = g.D.Disk in
     let A = g.A.Arm in
     let same : c.answer-cluster.result.1 ≡ Err why = (let one : c.in-Err-outcome.stop ≡ why = cc in c.in-Err-outcome.is ∙ ap (λ (w : Stop). Err w) one) in
-    item_stops D.Tells c.args.cluster.settings (tally_of D.files D.drawn D.fault_count D.fuse_count A.fault_count A.is_sure c.args.cluster) (tally_of D.files D.drawn D.fault_count D.fuse_count A.fault_count A.is_sure c.answer-cluster.result.0)
-    c.args.number (items_asked c.args.number c.in-Ok.read) (rest_of (left c.args.source.now) c.args.script.now) (rest_of (left c.read_turn.new.source) c.read_turn.new.script) (g.K.Sink.written c.args.sink.now) (g.K.Sink.written c.answer-cluster.new.sink)
-    c.answer-cluster.result.1 why same (asked-one c.args.number c.in-Ok.read, (c.in-Ok.next, c.read_turn.new.script.ended, c.in-Ok.ensures.took)) c.answer-cluster.ensures.stops (c.answer-cluster.ensures.stop_caused why same)
+    item_stops D.Tells c.args.cluster.settings (tally_of D.files D.drawn D.fault_count D.fuse_count A.fault_count A.is_sure c.args.cluster)
+    (tally_of D.files D.drawn D.fault_count D.fuse_count A.fault_count A.is_sure c.answer-cluster.result.0)
+    c.args.number (items_asked c.args.number c.in-Ok.read) (rest_of (left c.args.source.now) c.args.script.now) (rest_of (left c.read_turn.new.source) c.read_turn.new.script)
+    (g.K.Sink.written c.args.sink.now) (g.K.Sink.written c.answer-cluster.new.sink)
+    c.answer-cluster.result.1 why same (asked-one c.args.number c.in-Ok.read, (c.in-Ok.next, c.read_turn.new.script.ended, c.in-Ok.ensures.took)) c.answer-cluster.ensures.stops
+    (c.answer-cluster.ensures.stop_caused why same)
 
 pub returns-in-Err-outcome-clause-none_held : goal.returns-in-Err-outcome-clause-none_held
 returns-in-Err-outcome-clause-none_held g c = λ is. absurd (not_reading c.answer-cluster.result.1 c.in-Err-outcome.stop c.answer-cluster.ensures.stops c.in-Err-outcome.is (elim is [
@@ -111,8 +121,10 @@ returns-in-Err-clause-stop_caused g c = λ why is.
     let D = g.D.Disk in
     let A = g.A.Arm in
     let same : c.in-Err.stop ≡ why = cc in
-    reading_stops D.Tells c.args.cluster.settings (tally_of D.files D.drawn D.fault_count D.fuse_count A.fault_count A.is_sure c.args.cluster) c.args.number (rest_of (left c.args.source.now) c.args.script.now) (rest_of (left c.read_turn.new.source) c.read_turn.new.script)
-    (g.K.Sink.written c.args.sink.now) c.read_turn.result why (c.in-Err.is ∙ ap (λ (w : Stop). Err w) same) c.read_turn.ensures.input c.read_turn.ensures.memory c.read_turn.ensures.over c.read_turn.ensures.stops
+    reading_stops D.Tells c.args.cluster.settings (tally_of D.files D.drawn D.fault_count D.fuse_count A.fault_count A.is_sure c.args.cluster) c.args.number
+    (rest_of (left c.args.source.now) c.args.script.now) (rest_of (left c.read_turn.new.source) c.read_turn.new.script)
+    (g.K.Sink.written c.args.sink.now) c.read_turn.result why (c.in-Err.is ∙ ap (λ (w : Stop). Err w) same) c.read_turn.ensures.input c.read_turn.ensures.memory
+    c.read_turn.ensures.over c.read_turn.ensures.stops
 
 pub returns-in-Err-clause-long : goal.returns-in-Err-clause-long
 returns-in-Err-clause-long g c = λ is. let same : c.in-Err.stop ≡ stop.TooLong = cc in c.read_turn.ensures.long (c.in-Err.is ∙ ap (λ (w : Stop). Err w) same)
@@ -137,4 +149,5 @@ returns-in-Err-clause-sure_arms g c = same_sure g.A.Arm.is_sure g.A.Arm.fault_co
 
 pub returns-in-Err-clause-formatted : goal.returns-in-Err-clause-formatted
 returns-in-Err-clause-formatted g c = λ tells k stands.
-    stands_formatted g.D.Disk.files (λ disk n. (g.met.D.Disk g.world.𝓛 g.world.𝓜 g.world.𝓡 ((λ s x. x), (λ x. x), (λ x. x), λ x. x)).may_leave_now disk n tells) g.D.Piece.Piece.Tells g.D.Disk.fault_count g.D.Disk.fuse_count g.A.Arm.fault_count c.args.cluster k stands
+    stands_formatted g.D.Disk.files (λ disk n. (g.met.D.Disk g.world.𝓛 g.world.𝓜 g.world.𝓡 ((λ s x. x), (λ x. x), (λ x. x), λ x. x)).may_leave_now disk n tells)
+    g.D.Piece.Piece.Tells g.D.Disk.fault_count g.D.Disk.fuse_count g.A.Arm.fault_count c.args.cluster k stands

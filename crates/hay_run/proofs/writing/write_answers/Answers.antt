@@ -15,7 +15,8 @@ use Rattle.hay_run.proofs.Writes.{on_failure, part_behind, part_longer}
 use Rattle.hay_run.proofs.writing.write_answers.Goals as goal
 
 -- the replies as they are passed
-answered_now : (lines : List InBlock) (replies now : List (Vec Reply Global)) (items : List LaneItem) → now ≡ replies → AreAnswered lines (map (λ own. own.items) replies) items → AreAnswered lines (map (λ own. own.items) now) items
+answered_now : (lines : List InBlock) (replies now : List (Vec Reply Global)) (items : List LaneItem) → now ≡ replies → AreAnswered lines (map (λ own. own.items) replies) items
+    → AreAnswered lines (map (λ own. own.items) now) items
 answered_now lines replies now items is answered = subst (λ (l : List (Vec Reply Global)). AreAnswered lines (map (λ own. own.items) l) items) (sym is) answered
 
 pub write_replies-requires : goal.write_replies-requires

@@ -23,7 +23,9 @@ loop-note-preserved g c =
     let i : ℕ = c.loop-note.note-index in
     let at : slice_get notes i ≡ Some c.note-item.result = slice_get_read notes (length notes) i c.note-item.result refl c.loop-note-test.true c.note-item.is in
     record {
-      wrote = wrote_next note_line notes i c.note-item.result (written c.args.sink.now) (written c.loop-note.sink) (written c.write_note.new.sink) at c.loop-note.invariant.wrote c.in_ok-write_note.ensures.wrote;
+      wrote =
+          wrote_next note_line notes i c.note-item.result (written c.args.sink.now) (written c.loop-note.sink) (written c.write_note.new.sink) at c.loop-note.invariant.wrote
+          c.in_ok-write_note.ensures.wrote;
       count = omega (arith, c.loop-note.invariant.count, c.in_ok-write_note.ensures.count);
       appends = appends_more (written c.args.sink.now) (written c.loop-note.sink) (written c.write_note.new.sink) c.loop-note.invariant.appends c.in_ok-write_note.ensures.appends;
     }
@@ -35,7 +37,8 @@ returns-in_err-write_note-clause-part g c =
     let i : ℕ = c.loop-note.note-index in
     let at : slice_get notes i ≡ Some c.note-item.result = slice_get_read notes (length notes) i c.note-item.result refl c.loop-note-test.true c.note-item.is in
     on_failure c.from_residual.result
-    (part_next note_line notes i c.note-item.result (written c.args.sink.now) (written c.loop-note.sink) (written c.write_note.new.sink) at c.loop-note.invariant.wrote c.in_err-write_note.ensures.part)
+    (part_next note_line notes i c.note-item.result (written c.args.sink.now) (written c.loop-note.sink) (written c.write_note.new.sink) at c.loop-note.invariant.wrote
+    c.in_err-write_note.ensures.part)
 
 pub returns-in_err-write_note-clause-appends : goal.returns-in_err-write_note-clause-appends
 returns-in_err-write_note-clause-appends g c =

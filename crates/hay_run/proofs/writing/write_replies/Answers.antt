@@ -72,7 +72,8 @@ loop-place-preserved g c =
       wrote = λ lines items are answered.
           let line = line_here lines places c.args.replies.now items i c.loop-place-test.true are answered in
           let text = line_text places c.args.replies.now items i place c.index-replies-place.result reply c.index-replies-place.is here line in
-          wrote_next answered_line items i line.item (written c.args.sink.now) (written c.loop-place.sink) (written c.write_line.new.sink) line.here (c.loop-place.invariant.wrote lines items are answered)
+          wrote_next answered_line items i line.item (written c.args.sink.now) (written c.loop-place.sink) (written c.write_line.new.sink) line.here
+          (c.loop-place.invariant.wrote lines items are answered)
           (subst (λ (l : List ℕ). Wrote (written c.loop-place.sink) l (written c.write_line.new.sink)) text c.in_ok-write_line.ensures.wrote);
       count = omega (arith, c.loop-place.invariant.count, c.in_ok-write_line.ensures.count);
       appends = appends_more (written c.args.sink.now) (written c.loop-place.sink) (written c.write_line.new.sink) c.loop-place.invariant.appends c.in_ok-write_line.ensures.appends;

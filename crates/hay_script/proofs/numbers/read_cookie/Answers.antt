@@ -8,5 +8,6 @@ read_digits-requires-clause-digits c = all_hex c.args.text.now (sym c.if-not-is_
 
 pub returns-in_err-read_digits : goal.returns-in_err-read_digits
 returns-in_err-read_digits c =
-    let read : c.read_digits.result ≡ Some (digits_value 16 c.args.text.now) = hex_number 16 c.args.text.now c.read_digits.result (omega arith) (omega arith) (sym c.if-not-is_hex.ensures) c.read_digits.ensures in
+    let read : c.read_digits.result ≡ Some (digits_value 16 c.args.text.now) =
+    hex_number 16 c.args.text.now c.read_digits.result (omega arith) (omega arith) (sym c.if-not-is_hex.ensures) c.read_digits.ensures in
     cc (c.in_err-read_digits.was)

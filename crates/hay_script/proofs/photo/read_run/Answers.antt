@@ -11,4 +11,5 @@ returns-clause-photo c =
     let count = c.in-Some-read_count.count in
     let byte = c.in-Some-read_byte.byte in
     let filled : c.in_ok-bytes.bytes.items ≡ replicate count byte = search rules in
-    rw (c.in-Some.ensures) (ap Some (c.from_vec.ensures ∙ filled) ∙ sym (some_run c.in-Some.count.now c.in-Some.digits.now byte count (sym c.in-Some-read_byte.is ∙ c.read_byte.ensures) (sym c.in-Some-read_count.is ∙ c.read_count.ensures)))
+    rw (c.in-Some.ensures) (ap Some (c.from_vec.ensures ∙ filled) ∙ sym (some_run c.in-Some.count.now c.in-Some.digits.now byte count
+    (sym c.in-Some-read_byte.is ∙ c.read_byte.ensures) (sym c.in-Some-read_count.is ∙ c.read_count.ensures)))

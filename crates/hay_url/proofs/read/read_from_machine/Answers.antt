@@ -16,8 +16,10 @@ returns-in_err-machine-clause-fault c =
 
 pub returns-in-Ok-clause-url : goal.returns-in-Ok-clause-url
 returns-in-Ok-clause-url c =
-    joined_number 47 c.args.text.now (volume_text c.in-Ok.volume c.in-Ok.pair c.in-Ok.cookie) c.in_ok-machine.machine c.in_ok-machine.used c.in_ok-machine.ensures.number (simp take_rest at c.in-Ok.ensures.url)
+    joined_number 47 c.args.text.now (volume_text c.in-Ok.volume c.in-Ok.pair c.in-Ok.cookie) c.in_ok-machine.machine c.in_ok-machine.used c.in_ok-machine.ensures.number
+    (simp take_rest at c.in-Ok.ensures.url)
 
 pub returns-in-Err-clause-fault : goal.returns-in-Err-clause-fault
 returns-in-Err-clause-fault c =
-    behind_number 47 (omega arith) FromVolume c.args.text.now c.in_ok-machine.machine c.in_ok-machine.used c.in-Err.at (omega arith) c.in_ok-machine.ensures.within c.in_ok-machine.ensures.number (simp take_rest at c.in-Err.ensures.fault)
+    behind_number 47 (omega arith) FromVolume c.args.text.now c.in_ok-machine.machine c.in_ok-machine.used c.in-Err.at (omega arith) c.in_ok-machine.ensures.within
+    c.in_ok-machine.ensures.number (simp take_rest at c.in-Err.ensures.fault)

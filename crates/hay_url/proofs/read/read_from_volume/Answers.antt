@@ -20,4 +20,5 @@ returns-in-Ok-clause-url c =
 
 pub returns-in-Err-clause-fault : goal.returns-in-Err-clause-fault
 returns-in-Err-clause-fault c =
-    behind_number 44 (omega arith) FromKey c.args.text.now c.in_ok-volume.volume c.in_ok-volume.used c.in-Err.at (omega arith) c.in_ok-volume.ensures.within c.in_ok-volume.ensures.number (simp take_rest at c.in-Err.ensures.fault)
+    behind_number 44 (omega arith) FromKey c.args.text.now c.in_ok-volume.volume c.in_ok-volume.used c.in-Err.at (omega arith) c.in_ok-volume.ensures.within
+    c.in_ok-volume.ensures.number (simp take_rest at c.in-Err.ensures.fault)

@@ -6,7 +6,8 @@ use Rattle.hay_url.proofs.read.read_number.Goals as goal
 
 pub returns-in-None-clause-fault : goal.returns-in-None-clause-fault
 returns-in-None-clause-fault c =
-    stuck_at c.args.mark c.requires c.args.text.now c.loop-at.at c.loop-at.number c.loop-at-test.true c.loop-at.invariant (λ some e. absurd (false≢true (c.if-ends_number.ensures.1 (some, e)))) c.in-None.ensures
+    stuck_at c.args.mark c.requires c.args.text.now c.loop-at.at c.loop-at.number c.loop-at-test.true c.loop-at.invariant
+    (λ some e. absurd (false≢true (c.if-ends_number.ensures.1 (some, e)))) c.in-None.ensures
 
 pub loop-at-preserved : goal.loop-at-preserved
 loop-at-preserved c =

@@ -8,7 +8,8 @@ use Rattle.hay_url.proofs.read.read_whole.Goals as goal
 
 pub returns-in-Some-clause-fault : goal.returns-in-Some-clause-fault
 returns-in-Some-clause-fault c =
-    in_part (Fits (codes "http://store/")) FromMachine c.args.text.now c.in-Some.at (misfit_fault (codes "http://store/") c.args.text.now c.in-Some.at (sym c.first_misfit.ensures.place ∙ c.in-Some.is)) some_machine.0 some_machine.1
+    in_part (Fits (codes "http://store/")) FromMachine c.args.text.now c.in-Some.at (misfit_fault (codes "http://store/") c.args.text.now c.in-Some.at
+    (sym c.first_misfit.ensures.place ∙ c.in-Some.is)) some_machine.0 some_machine.1
 
 pub returns-in-Err-clause-fault : goal.returns-in-Err-clause-fault
 returns-in-Err-clause-fault c =

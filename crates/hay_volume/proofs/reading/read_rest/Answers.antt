@@ -14,7 +14,9 @@ returns-in_err-read_up_to-clause-drawn g c = λ tells.
 
 pub returns-in_default-clause-damaged : goal.returns-in_default-clause-damaged
 returns-in_default-clause-damaged g c = λ tells front is n begins.
-    let here = in_bytes c.args.head.at (vec_len c.args.bytes.now) c.total_of.result c.args.bytes.now.items c.read_up_to.new.bytes.items (g.D.Disk.files c.args.disk.now c.args.file).now (head_of_cell c.args.head) n
+    let here =
+    in_bytes c.args.head.at (vec_len c.args.bytes.now) c.total_of.result c.args.bytes.now.items c.read_up_to.new.bytes.items (g.D.Disk.files c.args.disk.now c.args.file).now
+    (head_of_cell c.args.head) n
     c.requires c.total_of.ensures front (c.in_ok-read_up_to.ensures.read tells) (omega (arith, c.args.bytes.now.ok.0)) begins in
     c.in_default.ensures.only n (subst (λ l. BeginsWithNeedle l n) (sym c.as_slice.ensures.value) here)
 

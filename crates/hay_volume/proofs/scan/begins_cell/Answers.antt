@@ -10,6 +10,7 @@ returns-then-u64_at-ne-NEEDLE_MAGIC-clause-mark g c = λ tells.
 
 pub returns-clause-magic : goal.returns-clause-magic
 returns-clause-magic g c = λ tells.
-    magic_here c.args.at c.as_slice.result.now c.read_up_to.new.bytes.items (g.D.Disk.files c.args.disk.now c.args.file).now (are_bytes c.read_up_to.new.bytes.items c.type_inv.bytes) c.as_slice.ensures.value
+    magic_here c.args.at c.as_slice.result.now c.read_up_to.new.bytes.items (g.D.Disk.files c.args.disk.now c.args.file).now
+    (are_bytes c.read_up_to.new.bytes.items c.type_inv.bytes) c.as_slice.ensures.value
     (c.in_ok-read_up_to.ensures.read tells (nothing_yet (vec_len c.clear.new.self) c.clear.new.self.items _ c.clear.ensures.items c.clear.ensures.len))
     (omega (arith, c.read_up_to.new.bytes.ok.0, c.len.ensures, c.in_ok-read_up_to.ensures.within)) (sym c.u64_at.ensures ∙ c.if-u64_at-ne-NEEDLE_MAGIC.false)

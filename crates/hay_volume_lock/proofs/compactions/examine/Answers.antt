@@ -14,7 +14,8 @@ loop-examined-init g c = record {
   told = λ tells k run stands thawed stood. (
     (let low : 0 ≤ run.left = omega arith in low),
     (let many = all_known g.D.Disk.files g.D.Piece.Piece.Tells c.args.logical.now k stands in let within = c.requires.within in
-        subst (λ (z : VolumeKnown). Stands g.D.Disk.files g.D.Piece.Piece.Tells c.args.logical.now z) (sym (behind_none k c.args.replica run (let less : c.args.replica < length k.replicas = omega (arith, many, within) in less) stood)) stands),
+        subst (λ (z : VolumeKnown). Stands g.D.Disk.files g.D.Piece.Piece.Tells c.args.logical.now z)
+        (sym (behind_none k c.args.replica run (let less : c.args.replica < length k.replicas = omega (arith, many, within) in less) stood)) stands),
   );
   tight = λ tells k run stands thawed stood j was. was;
   others = λ j other r r' e f. at_same c.args.logical.now.replicas j r' r f e;
@@ -33,7 +34,8 @@ loop-examined-preserved g c =
           let many = all_known g.D.Disk.files g.D.Piece.Piece.Tells c.args.logical.now k stands in
           let within = c.requires.within in
           let less : c.args.replica < length k.replicas = omega (arith, many, within) in
-          let one = one_more g.D.Disk.files g.D.Piece.Piece.Tells k c.args.replica run less c.loop-examined.examined c.in-Ok-eq1.field-0 c.step.new.self (c.in-Ok-eq1.ensures.stepped tells _ so_far.1) in
+          let one =
+          one_more g.D.Disk.files g.D.Piece.Piece.Tells k c.args.replica run less c.loop-examined.examined c.in-Ok-eq1.field-0 c.step.new.self (c.in-Ok-eq1.ensures.stepped tells _ so_far.1) in
           let few = so_far.0 in
           let some = one.0 in
           let is = c.in-Ok-eq1.field-0-test in (
@@ -71,7 +73,8 @@ returns-in-Ok-clause-counts g c =
 
 pub returns-in-Ok-clause-same : goal.returns-in-Ok-clause-same
 returns-in-Ok-clause-same g c =
-    same_after g.D.Disk.fault_count g.D.Disk.fuse_count c.args.logical.now c.loop-examined.logical c.step.new.self c.loop-examined.invariant.counts.count c.loop-examined.invariant.same c.step.ensures.same
+    same_after g.D.Disk.fault_count g.D.Disk.fuse_count c.args.logical.now c.loop-examined.logical c.step.new.self c.loop-examined.invariant.counts.count
+    c.loop-examined.invariant.same c.step.ensures.same
 
 pub returns-in-Err-clause-told : goal.returns-in-Err-clause-told
 returns-in-Err-clause-told g c = λ tells k run stands thawed stood.
@@ -85,7 +88,8 @@ returns-in-Err-clause-told g c = λ tells k run stands thawed stood.
 
 pub returns-in-Err-clause-causes : goal.returns-in-Err-clause-causes
 returns-in-Err-clause-causes g c =
-    fault_after g.D.Disk.fault_count g.D.Disk.fuse_count c.args.logical.now c.loop-examined.logical c.step.new.self c.loop-examined.invariant.counts c.loop-examined.invariant.same c.args.replica c.in-Err.fault c.in-Err.ensures.causes
+    fault_after g.D.Disk.fault_count g.D.Disk.fuse_count c.args.logical.now c.loop-examined.logical c.step.new.self c.loop-examined.invariant.counts c.loop-examined.invariant.same
+    c.args.replica c.in-Err.fault c.in-Err.ensures.causes
 
 pub returns-in-Err-clause-counts : goal.returns-in-Err-clause-counts
 returns-in-Err-clause-counts g c =
@@ -93,7 +97,8 @@ returns-in-Err-clause-counts g c =
 
 pub returns-in-Err-clause-same : goal.returns-in-Err-clause-same
 returns-in-Err-clause-same g c =
-    same_after g.D.Disk.fault_count g.D.Disk.fuse_count c.args.logical.now c.loop-examined.logical c.step.new.self c.loop-examined.invariant.counts.count c.loop-examined.invariant.same c.step.ensures.same
+    same_after g.D.Disk.fault_count g.D.Disk.fuse_count c.args.logical.now c.loop-examined.logical c.step.new.self c.loop-examined.invariant.counts.count
+    c.loop-examined.invariant.same c.step.ensures.same
 
 pub returns-clause-told : goal.returns-clause-told
 returns-clause-told g c = λ tells k run stands thawed stood.
@@ -112,7 +117,8 @@ returns-in-Ok-clause-tight g c = λ tells k run stands thawed stood still j tigh
 
 pub returns-in-Ok-clause-others : goal.returns-in-Ok-clause-others
 returns-in-Ok-clause-others g c =
-    others_after g.D.Disk.fault_count g.D.Disk.fuse_count c.args.logical.now c.loop-examined.logical c.step.new.self c.loop-examined.invariant.counts c.args.replica c.loop-examined.invariant.others c.step.ensures.others
+    others_after g.D.Disk.fault_count g.D.Disk.fuse_count c.args.logical.now c.loop-examined.logical c.step.new.self c.loop-examined.invariant.counts c.args.replica
+    c.loop-examined.invariant.others c.step.ensures.others
 
 pub returns-in-Err-clause-tight : goal.returns-in-Err-clause-tight
 returns-in-Err-clause-tight g c = λ tells k run stands thawed stood still j tight.
@@ -121,7 +127,8 @@ returns-in-Err-clause-tight g c = λ tells k run stands thawed stood still j tig
 
 pub returns-in-Err-clause-others : goal.returns-in-Err-clause-others
 returns-in-Err-clause-others g c =
-    others_after g.D.Disk.fault_count g.D.Disk.fuse_count c.args.logical.now c.loop-examined.logical c.step.new.self c.loop-examined.invariant.counts c.args.replica c.loop-examined.invariant.others c.step.ensures.others
+    others_after g.D.Disk.fault_count g.D.Disk.fuse_count c.args.logical.now c.loop-examined.logical c.step.new.self c.loop-examined.invariant.counts c.args.replica
+    c.loop-examined.invariant.others c.step.ensures.others
 
 pub returns-clause-tight : goal.returns-clause-tight
 returns-clause-tight g c = λ tells k run stands thawed stood still j tight. c.loop-examined.invariant.tight tells k run stands thawed stood j tight

@@ -10,11 +10,14 @@ use Rattle.hay_volume_lock.proofs.deletes.note_ended.Goals as goal
 pub loop-replica-preserved : goal.loop-replica-preserved
 loop-replica-preserved g c =
     let faults = counts g.D.Disk.fault_count c.args.logical.now.replicas in
-    let there = at_there c.args.logical.now.replicas c.loop-replica.replica (let less : c.loop-replica.replica < length c.args.logical.now.replicas = omega (arith, c.loop-replica-test.true, c.requires.all) in less) in
+    let there =
+    at_there c.args.logical.now.replicas c.loop-replica.replica (let less : c.loop-replica.replica
+    < length c.args.logical.now.replicas = omega (arith, c.loop-replica-test.true, c.requires.all) in less) in
     elim c.if-over-at.branch [
       | then-over-at w ↦
           let more = noted_over c.args.over.now c.args.begun.now faults c.args.ended.now c.loop-replica.ended w.set.new.self c.loop-replica.replica w.faults.result
-          c.loop-replica.invariant.done c.loop-replica.invariant.rest w.if-over-at.true (count_there g.D.Disk.fault_count c.args.logical.now.replicas c.loop-replica.replica there.0 there.1 ∙ sym (w.faults.ensures there.0 there.1))
+          c.loop-replica.invariant.done c.loop-replica.invariant.rest w.if-over-at.true (count_there g.D.Disk.fault_count c.args.logical.now.replicas c.loop-replica.replica there.0
+          there.1 ∙ sym (w.faults.ensures there.0 there.1))
           w.set.ensures.set w.set.ensures.others in
           record {
             done = λ j lane less few. ap (λ e. ended_at e j lane) w.ended-is ∙ more.0 j lane less few;

@@ -15,7 +15,9 @@ loop-replica-preserved g c =
     let j = c.loop-replica.replica in
     let run = at_there runs j (let less : j < length runs = omega (arith, c.loop-replica-test.true, c.requires.runs) in less) in
     let there = at_there replicas j (let less : j < length replicas = omega (arith, c.loop-replica-test.true, c.requires.all) in less) in record {
-      taken = next_taken (over_since runs replicas) c.loop-replica.over.items c.push.new.self.items j c.is_over.result (has_ended run.0 (goal_of there.0)) (over_next runs replicas j run.0 there.0 run.1 there.1)
+      taken =
+          next_taken (over_since runs replicas) c.loop-replica.over.items c.push.new.self.items j c.is_over.result (has_ended run.0 (goal_of there.0))
+          (over_next runs replicas j run.0 there.0 run.1 there.1)
           (c.is_over.ensures ∙ ap (λ o. has_ended o c.standing.result) (ap (λ l. slice_index_or l j None) c.as_slice.ensures.value ∙ at_or runs j run.0 None run.1)
           ∙ ap (λ o. has_ended run.0 o) (c.standing.ensures.is there.0 there.1)) c.loop-replica.invariant.taken c.push.ensures.items;
       count = ap length c.push.ensures.items ∙ length-append c.loop-replica.over.items (c.is_over.result ∷ []) ∙ ap (λ n. n + 1) c.loop-replica.invariant.count;

@@ -19,4 +19,5 @@ loop-replica-preserved g c =
 pub returns : goal.returns
 returns g c =
     c.loop-replica.invariant.taken
-    ∙ take_whole (map goal_of c.args.logical.now.replicas) c.loop-replica.replica (omega (arith, length-map c.args.logical.now.replicas (λ (r : Copy g.row.D.Denot). goal_of r), c.requires.all, c.loop-replica-test.false))
+    ∙ take_whole (map goal_of c.args.logical.now.replicas) c.loop-replica.replica (omega
+    (arith, length-map c.args.logical.now.replicas (λ (r : Copy g.row.D.Denot). goal_of r), c.requires.all, c.loop-replica-test.false))

@@ -17,18 +17,22 @@ returns-in_default-clause-left g c = λ tells. may_settle_same g.D.Disk.files c.
 -- the append was begun
 pub returns-in_err-settle_many-clause-left : goal.returns-in_err-settle_many-clause-left
 returns-in_err-settle_many-clause-left g c = λ tells.
-    may_settle g.D.Disk.files c.args.volume c.args.photos.now c.as_slice-2.result.now c.args.self.now _ (c.as_slice-2.ensures.value ∙ c.in_ok-rows.ensures) (c.settle_many.ensures.left tells) (c.settle_many.ensures.others tells)
+    may_settle g.D.Disk.files c.args.volume c.args.photos.now c.as_slice-2.result.now c.args.self.now _ (c.as_slice-2.ensures.value ∙ c.in_ok-rows.ensures)
+    (c.settle_many.ensures.left tells) (c.settle_many.ensures.others tells)
 
 pub returns-clause-left : goal.returns-clause-left
 returns-clause-left g c = λ tells.
-    may_settle g.D.Disk.files c.args.volume c.args.photos.now c.as_slice-2.result.now c.args.self.now _ (c.as_slice-2.ensures.value ∙ c.in_ok-rows.ensures) (c.settle_many.ensures.left tells) (c.settle_many.ensures.others tells)
+    may_settle g.D.Disk.files c.args.volume c.args.photos.now c.as_slice-2.result.now c.args.self.now _ (c.as_slice-2.ensures.value ∙ c.in_ok-rows.ensures)
+    (c.settle_many.ensures.left tells) (c.settle_many.ensures.others tells)
 
 -- the rows were added
 pub returns-clause-settled : goal.returns-clause-settled
 returns-clause-settled g c = λ tells superblock volumes rows below has.
     let many : c.len.result ≡ length c.as_slice-2.result.now = omega (arith, c.len.ensures, c.as_slice-2.ensures.len) in
-    settled g.D.Disk.files c.args.volume c.len.result c.args.photos.now c.as_slice.result.now c.as_slice-2.result.now c.args.self.now _ (c.as_slice.ensures.value ∙ c.in_ok-rows.ensures) (c.as_slice-2.ensures.value ∙ c.in_ok-rows.ensures) many (λ disk. g.met.D.Disk.fits disk 0 tells)
-    (c.in_ok-settle_many.ensures.moved tells) c.saturating_add-self.ensures (c.in_ok-settle_many.ensures.added tells) (c.in_ok-settle_many.ensures.solid tells) (c.in_ok-settle_many.ensures.next tells) c.in-Ok.ensures superblock volumes rows below has
+    settled g.D.Disk.files c.args.volume c.len.result c.args.photos.now c.as_slice.result.now c.as_slice-2.result.now c.args.self.now _
+    (c.as_slice.ensures.value ∙ c.in_ok-rows.ensures) (c.as_slice-2.ensures.value ∙ c.in_ok-rows.ensures) many (λ disk. g.met.D.Disk.fits disk 0 tells)
+    (c.in_ok-settle_many.ensures.moved tells) c.saturating_add-self.ensures (c.in_ok-settle_many.ensures.added tells) (c.in_ok-settle_many.ensures.solid tells)
+    (c.in_ok-settle_many.ensures.next tells) c.in-Ok.ensures superblock volumes rows below has
 
 pub returns-clause-homes : goal.returns-clause-homes
 returns-clause-homes g c = record {

@@ -15,4 +15,5 @@ loop-row-preserved c = λ pair.
     let i = c.loop-row.row-index in
     let row = get_or rows i none in
     let step : take (i + 1) rows ≡ take i rows ++ row ∷ [] = take_more rows i none c.loop-row-test.true in
-    row_behind (home_among c.args.self.now pair) (home_among c.loop-row.self pair) (home_among c.add_row.new.self pair) (take i rows) (take (i + 1) rows) row pair step (c.loop-row.invariant pair) (c.in_ok-add_row.ensures pair)
+    row_behind (home_among c.args.self.now pair) (home_among c.loop-row.self pair) (home_among c.add_row.new.self pair) (take i rows) (take (i + 1) rows) row pair step
+    (c.loop-row.invariant pair) (c.in_ok-add_row.ensures pair)

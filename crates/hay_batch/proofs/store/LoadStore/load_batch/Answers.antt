@@ -28,7 +28,8 @@ pub returns-in-Err-clause-full : goal.returns-in-Err-clause-full
 returns-in-Err-clause-full g c = λ tries is key all.
     let first : NewPhoto = get_or c.args.photos.now 0 c.index-photos-0.result in
     let same : first.pair.key ≡ key = all 0 c.index-photos-0.result c.requires.batch.some in
-    same_tries c.args.self.now first.pair.key key c.batch_total-need.result (batch_total c.args.photos.now) c.args.self.now.settings.volumes tries same c.batch_total-need.ensures (c.in-Err.ensures.full tries is)
+    same_tries c.args.self.now first.pair.key key c.batch_total-need.result (batch_total c.args.photos.now) c.args.self.now.settings.volumes tries same c.batch_total-need.ensures
+    (c.in-Err.ensures.full tries is)
 
 pub returns-in-Ok-clause-room : goal.returns-in-Ok-clause-room
 returns-in-Ok-clause-room g c =
@@ -90,4 +91,5 @@ returns-in-Ok-clause-stored g c = λ tells s was.
     let told = c.load_into.ensures in
     on_ok_if c.load_into.result _ _ _ (told.loaded tells) told.answer (λ loads loaded answer.
     subst (λ v. StandsAs g.D.Disk.files c.load_into.new.self (with_stored v c.args.photos.now s)) (sym answer.0)
-    (stands_stored g.D.Disk.files c.args.photos.now s c.args.self.now c.load_into.new.self c.requires.shape told.shape.1 told.shape.0 (told.files tells) was c.in-Ok.volume (loads (contents_of c.args.self.now.settings s) was.contents)))
+    (stands_stored g.D.Disk.files c.args.photos.now s c.args.self.now c.load_into.new.self c.requires.shape told.shape.1 told.shape.0 (told.files tells) was c.in-Ok.volume
+    (loads (contents_of c.args.self.now.settings s) was.contents)))

@@ -35,11 +35,26 @@ returns-clause-stands g c =
     let arms = g.H.Shelf.arms c.give_seats.new.shelf in
     let mid = g.H.Shelf.disks c.give_disk.new.self in
     let low = g.H.Shelf.disks c.give_volumes.new.shelf in
-    let inside : Open g.row.D.Denot g.row.D-Piece.Denot g.row.A.Denot = record { settings = c.self.inside.settings; directory = c.self.inside.directory; volumes = c.self.inside.volumes.items; arms = c.self.inside.seats.items } in
-    let first : IsGivenDisk g.D.Disk.Tells g.D.Disk.files g.D.Disk.drawn g.D.Disk.fault_count g.D.Disk.fuse_count (mid 0) c.self.inside.directory.disk = subst (λ (d : g.row.D.Denot). IsGivenDisk g.D.Disk.Tells g.D.Disk.files g.D.Disk.drawn g.D.Disk.fault_count g.D.Disk.fuse_count (mid 0) d) c.into_disk.ensures
-    (record { drawn_is = c.give_disk.ensures.drawn; files_are = c.give_disk.ensures.files; fault_count = c.give_disk.ensures.faults; fuse_count = c.give_disk.ensures.fuses; back = c.give_disk.ensures.back }) in
-    let gives = gives_back g.D.Disk.Tells g.D.Disk.files g.D.Disk.drawn g.D.Disk.fault_count g.D.Disk.fuse_count g.A.Arm.fault_count g.A.Arm.is_sure disks arms low mid inside c.args.self c.self.view_is c.self.invariant c.give_volumes.ensures.given c.give_disk.ensures.others first c.give_seats.ensures.slots c.give_seats.ensures.given in
-    λ tells k holds. stands_on g.D.Disk.Tells g.D.Disk.files g.D.Disk.drawn g.D.Disk.fault_count g.D.Disk.fuse_count g.A.Arm.fault_count g.A.Arm.is_sure disks arms (g.H.Shelf.fault_count c.give_seats.new.shelf) tells c.args.self gives k holds
+    let inside : Open g.row.D.Denot g.row.D-Piece.Denot g.row.A.Denot = record {
+      settings = c.self.inside.settings;
+      directory = c.self.inside.directory;
+      volumes = c.self.inside.volumes.items;
+      arms = c.self.inside.seats.items;
+    } in
+    let first : IsGivenDisk g.D.Disk.Tells g.D.Disk.files g.D.Disk.drawn g.D.Disk.fault_count g.D.Disk.fuse_count (mid 0) c.self.inside.directory.disk =
+    subst (λ (d : g.row.D.Denot). IsGivenDisk g.D.Disk.Tells g.D.Disk.files g.D.Disk.drawn g.D.Disk.fault_count g.D.Disk.fuse_count (mid 0) d) c.into_disk.ensures
+    (record {
+      drawn_is = c.give_disk.ensures.drawn;
+      files_are = c.give_disk.ensures.files;
+      fault_count = c.give_disk.ensures.faults;
+      fuse_count = c.give_disk.ensures.fuses;
+      back = c.give_disk.ensures.back;
+    }) in
+    let gives =
+    gives_back g.D.Disk.Tells g.D.Disk.files g.D.Disk.drawn g.D.Disk.fault_count g.D.Disk.fuse_count g.A.Arm.fault_count g.A.Arm.is_sure disks arms low mid inside c.args.self
+    c.self.view_is c.self.invariant c.give_volumes.ensures.given c.give_disk.ensures.others first c.give_seats.ensures.slots c.give_seats.ensures.given in
+    λ tells k holds. stands_on g.D.Disk.Tells g.D.Disk.files g.D.Disk.drawn g.D.Disk.fault_count g.D.Disk.fuse_count g.A.Arm.fault_count g.A.Arm.is_sure disks arms
+    (g.H.Shelf.fault_count c.give_seats.new.shelf) tells c.args.self gives k holds
 
 pub returns-clause-disks : goal.returns-clause-disks
 returns-clause-disks g c =
@@ -47,10 +62,24 @@ returns-clause-disks g c =
     let arms = g.H.Shelf.arms c.give_seats.new.shelf in
     let mid = g.H.Shelf.disks c.give_disk.new.self in
     let low = g.H.Shelf.disks c.give_volumes.new.shelf in
-    let inside : Open g.row.D.Denot g.row.D-Piece.Denot g.row.A.Denot = record { settings = c.self.inside.settings; directory = c.self.inside.directory; volumes = c.self.inside.volumes.items; arms = c.self.inside.seats.items } in
-    let first : IsGivenDisk g.D.Disk.Tells g.D.Disk.files g.D.Disk.drawn g.D.Disk.fault_count g.D.Disk.fuse_count (mid 0) c.self.inside.directory.disk = subst (λ (d : g.row.D.Denot). IsGivenDisk g.D.Disk.Tells g.D.Disk.files g.D.Disk.drawn g.D.Disk.fault_count g.D.Disk.fuse_count (mid 0) d) c.into_disk.ensures
-    (record { drawn_is = c.give_disk.ensures.drawn; files_are = c.give_disk.ensures.files; fault_count = c.give_disk.ensures.faults; fuse_count = c.give_disk.ensures.fuses; back = c.give_disk.ensures.back }) in
-    let gives = gives_back g.D.Disk.Tells g.D.Disk.files g.D.Disk.drawn g.D.Disk.fault_count g.D.Disk.fuse_count g.A.Arm.fault_count g.A.Arm.is_sure disks arms low mid inside c.args.self c.self.view_is c.self.invariant c.give_volumes.ensures.given c.give_disk.ensures.others first c.give_seats.ensures.slots c.give_seats.ensures.given in
+    let inside : Open g.row.D.Denot g.row.D-Piece.Denot g.row.A.Denot = record {
+      settings = c.self.inside.settings;
+      directory = c.self.inside.directory;
+      volumes = c.self.inside.volumes.items;
+      arms = c.self.inside.seats.items;
+    } in
+    let first : IsGivenDisk g.D.Disk.Tells g.D.Disk.files g.D.Disk.drawn g.D.Disk.fault_count g.D.Disk.fuse_count (mid 0) c.self.inside.directory.disk =
+    subst (λ (d : g.row.D.Denot). IsGivenDisk g.D.Disk.Tells g.D.Disk.files g.D.Disk.drawn g.D.Disk.fault_count g.D.Disk.fuse_count (mid 0) d) c.into_disk.ensures
+    (record {
+      drawn_is = c.give_disk.ensures.drawn;
+      files_are = c.give_disk.ensures.files;
+      fault_count = c.give_disk.ensures.faults;
+      fuse_count = c.give_disk.ensures.fuses;
+      back = c.give_disk.ensures.back;
+    }) in
+    let gives =
+    gives_back g.D.Disk.Tells g.D.Disk.files g.D.Disk.drawn g.D.Disk.fault_count g.D.Disk.fuse_count g.A.Arm.fault_count g.A.Arm.is_sure disks arms low mid inside c.args.self
+    c.self.view_is c.self.invariant c.give_volumes.ensures.given c.give_disk.ensures.others first c.give_seats.ensures.slots c.give_seats.ensures.given in
     gives.disks_are
 
 pub returns-clause-fault_counts : goal.returns-clause-fault_counts
@@ -59,10 +88,24 @@ returns-clause-fault_counts g c =
     let arms = g.H.Shelf.arms c.give_seats.new.shelf in
     let mid = g.H.Shelf.disks c.give_disk.new.self in
     let low = g.H.Shelf.disks c.give_volumes.new.shelf in
-    let inside : Open g.row.D.Denot g.row.D-Piece.Denot g.row.A.Denot = record { settings = c.self.inside.settings; directory = c.self.inside.directory; volumes = c.self.inside.volumes.items; arms = c.self.inside.seats.items } in
-    let first : IsGivenDisk g.D.Disk.Tells g.D.Disk.files g.D.Disk.drawn g.D.Disk.fault_count g.D.Disk.fuse_count (mid 0) c.self.inside.directory.disk = subst (λ (d : g.row.D.Denot). IsGivenDisk g.D.Disk.Tells g.D.Disk.files g.D.Disk.drawn g.D.Disk.fault_count g.D.Disk.fuse_count (mid 0) d) c.into_disk.ensures
-    (record { drawn_is = c.give_disk.ensures.drawn; files_are = c.give_disk.ensures.files; fault_count = c.give_disk.ensures.faults; fuse_count = c.give_disk.ensures.fuses; back = c.give_disk.ensures.back }) in
-    let gives = gives_back g.D.Disk.Tells g.D.Disk.files g.D.Disk.drawn g.D.Disk.fault_count g.D.Disk.fuse_count g.A.Arm.fault_count g.A.Arm.is_sure disks arms low mid inside c.args.self c.self.view_is c.self.invariant c.give_volumes.ensures.given c.give_disk.ensures.others first c.give_seats.ensures.slots c.give_seats.ensures.given in
+    let inside : Open g.row.D.Denot g.row.D-Piece.Denot g.row.A.Denot = record {
+      settings = c.self.inside.settings;
+      directory = c.self.inside.directory;
+      volumes = c.self.inside.volumes.items;
+      arms = c.self.inside.seats.items;
+    } in
+    let first : IsGivenDisk g.D.Disk.Tells g.D.Disk.files g.D.Disk.drawn g.D.Disk.fault_count g.D.Disk.fuse_count (mid 0) c.self.inside.directory.disk =
+    subst (λ (d : g.row.D.Denot). IsGivenDisk g.D.Disk.Tells g.D.Disk.files g.D.Disk.drawn g.D.Disk.fault_count g.D.Disk.fuse_count (mid 0) d) c.into_disk.ensures
+    (record {
+      drawn_is = c.give_disk.ensures.drawn;
+      files_are = c.give_disk.ensures.files;
+      fault_count = c.give_disk.ensures.faults;
+      fuse_count = c.give_disk.ensures.fuses;
+      back = c.give_disk.ensures.back;
+    }) in
+    let gives =
+    gives_back g.D.Disk.Tells g.D.Disk.files g.D.Disk.drawn g.D.Disk.fault_count g.D.Disk.fuse_count g.A.Arm.fault_count g.A.Arm.is_sure disks arms low mid inside c.args.self
+    c.self.view_is c.self.invariant c.give_volumes.ensures.given c.give_disk.ensures.others first c.give_seats.ensures.slots c.give_seats.ensures.given in
     given_faults g.D.Disk.Tells g.D.Disk.files g.D.Disk.drawn g.D.Disk.fault_count g.D.Disk.fuse_count g.A.Arm.fault_count g.A.Arm.is_sure disks arms c.args.self gives
 
 pub returns-clause-fuse_counts : goal.returns-clause-fuse_counts
@@ -71,10 +114,24 @@ returns-clause-fuse_counts g c =
     let arms = g.H.Shelf.arms c.give_seats.new.shelf in
     let mid = g.H.Shelf.disks c.give_disk.new.self in
     let low = g.H.Shelf.disks c.give_volumes.new.shelf in
-    let inside : Open g.row.D.Denot g.row.D-Piece.Denot g.row.A.Denot = record { settings = c.self.inside.settings; directory = c.self.inside.directory; volumes = c.self.inside.volumes.items; arms = c.self.inside.seats.items } in
-    let first : IsGivenDisk g.D.Disk.Tells g.D.Disk.files g.D.Disk.drawn g.D.Disk.fault_count g.D.Disk.fuse_count (mid 0) c.self.inside.directory.disk = subst (λ (d : g.row.D.Denot). IsGivenDisk g.D.Disk.Tells g.D.Disk.files g.D.Disk.drawn g.D.Disk.fault_count g.D.Disk.fuse_count (mid 0) d) c.into_disk.ensures
-    (record { drawn_is = c.give_disk.ensures.drawn; files_are = c.give_disk.ensures.files; fault_count = c.give_disk.ensures.faults; fuse_count = c.give_disk.ensures.fuses; back = c.give_disk.ensures.back }) in
-    let gives = gives_back g.D.Disk.Tells g.D.Disk.files g.D.Disk.drawn g.D.Disk.fault_count g.D.Disk.fuse_count g.A.Arm.fault_count g.A.Arm.is_sure disks arms low mid inside c.args.self c.self.view_is c.self.invariant c.give_volumes.ensures.given c.give_disk.ensures.others first c.give_seats.ensures.slots c.give_seats.ensures.given in
+    let inside : Open g.row.D.Denot g.row.D-Piece.Denot g.row.A.Denot = record {
+      settings = c.self.inside.settings;
+      directory = c.self.inside.directory;
+      volumes = c.self.inside.volumes.items;
+      arms = c.self.inside.seats.items;
+    } in
+    let first : IsGivenDisk g.D.Disk.Tells g.D.Disk.files g.D.Disk.drawn g.D.Disk.fault_count g.D.Disk.fuse_count (mid 0) c.self.inside.directory.disk =
+    subst (λ (d : g.row.D.Denot). IsGivenDisk g.D.Disk.Tells g.D.Disk.files g.D.Disk.drawn g.D.Disk.fault_count g.D.Disk.fuse_count (mid 0) d) c.into_disk.ensures
+    (record {
+      drawn_is = c.give_disk.ensures.drawn;
+      files_are = c.give_disk.ensures.files;
+      fault_count = c.give_disk.ensures.faults;
+      fuse_count = c.give_disk.ensures.fuses;
+      back = c.give_disk.ensures.back;
+    }) in
+    let gives =
+    gives_back g.D.Disk.Tells g.D.Disk.files g.D.Disk.drawn g.D.Disk.fault_count g.D.Disk.fuse_count g.A.Arm.fault_count g.A.Arm.is_sure disks arms low mid inside c.args.self
+    c.self.view_is c.self.invariant c.give_volumes.ensures.given c.give_disk.ensures.others first c.give_seats.ensures.slots c.give_seats.ensures.given in
     given_fuses g.D.Disk.Tells g.D.Disk.files g.D.Disk.drawn g.D.Disk.fault_count g.D.Disk.fuse_count g.A.Arm.fault_count g.A.Arm.is_sure disks arms c.args.self gives
 
 pub returns-clause-arm_counts : goal.returns-clause-arm_counts
@@ -83,10 +140,24 @@ returns-clause-arm_counts g c =
     let arms = g.H.Shelf.arms c.give_seats.new.shelf in
     let mid = g.H.Shelf.disks c.give_disk.new.self in
     let low = g.H.Shelf.disks c.give_volumes.new.shelf in
-    let inside : Open g.row.D.Denot g.row.D-Piece.Denot g.row.A.Denot = record { settings = c.self.inside.settings; directory = c.self.inside.directory; volumes = c.self.inside.volumes.items; arms = c.self.inside.seats.items } in
-    let first : IsGivenDisk g.D.Disk.Tells g.D.Disk.files g.D.Disk.drawn g.D.Disk.fault_count g.D.Disk.fuse_count (mid 0) c.self.inside.directory.disk = subst (λ (d : g.row.D.Denot). IsGivenDisk g.D.Disk.Tells g.D.Disk.files g.D.Disk.drawn g.D.Disk.fault_count g.D.Disk.fuse_count (mid 0) d) c.into_disk.ensures
-    (record { drawn_is = c.give_disk.ensures.drawn; files_are = c.give_disk.ensures.files; fault_count = c.give_disk.ensures.faults; fuse_count = c.give_disk.ensures.fuses; back = c.give_disk.ensures.back }) in
-    let gives = gives_back g.D.Disk.Tells g.D.Disk.files g.D.Disk.drawn g.D.Disk.fault_count g.D.Disk.fuse_count g.A.Arm.fault_count g.A.Arm.is_sure disks arms low mid inside c.args.self c.self.view_is c.self.invariant c.give_volumes.ensures.given c.give_disk.ensures.others first c.give_seats.ensures.slots c.give_seats.ensures.given in
+    let inside : Open g.row.D.Denot g.row.D-Piece.Denot g.row.A.Denot = record {
+      settings = c.self.inside.settings;
+      directory = c.self.inside.directory;
+      volumes = c.self.inside.volumes.items;
+      arms = c.self.inside.seats.items;
+    } in
+    let first : IsGivenDisk g.D.Disk.Tells g.D.Disk.files g.D.Disk.drawn g.D.Disk.fault_count g.D.Disk.fuse_count (mid 0) c.self.inside.directory.disk =
+    subst (λ (d : g.row.D.Denot). IsGivenDisk g.D.Disk.Tells g.D.Disk.files g.D.Disk.drawn g.D.Disk.fault_count g.D.Disk.fuse_count (mid 0) d) c.into_disk.ensures
+    (record {
+      drawn_is = c.give_disk.ensures.drawn;
+      files_are = c.give_disk.ensures.files;
+      fault_count = c.give_disk.ensures.faults;
+      fuse_count = c.give_disk.ensures.fuses;
+      back = c.give_disk.ensures.back;
+    }) in
+    let gives =
+    gives_back g.D.Disk.Tells g.D.Disk.files g.D.Disk.drawn g.D.Disk.fault_count g.D.Disk.fuse_count g.A.Arm.fault_count g.A.Arm.is_sure disks arms low mid inside c.args.self
+    c.self.view_is c.self.invariant c.give_volumes.ensures.given c.give_disk.ensures.others first c.give_seats.ensures.slots c.give_seats.ensures.given in
     given_arms g.D.Disk.Tells g.D.Disk.files g.D.Disk.drawn g.D.Disk.fault_count g.D.Disk.fuse_count g.A.Arm.fault_count g.A.Arm.is_sure disks arms c.args.self gives
 
 pub returns-clause-sure_arms : goal.returns-clause-sure_arms
@@ -95,10 +166,24 @@ returns-clause-sure_arms g c =
     let arms = g.H.Shelf.arms c.give_seats.new.shelf in
     let mid = g.H.Shelf.disks c.give_disk.new.self in
     let low = g.H.Shelf.disks c.give_volumes.new.shelf in
-    let inside : Open g.row.D.Denot g.row.D-Piece.Denot g.row.A.Denot = record { settings = c.self.inside.settings; directory = c.self.inside.directory; volumes = c.self.inside.volumes.items; arms = c.self.inside.seats.items } in
-    let first : IsGivenDisk g.D.Disk.Tells g.D.Disk.files g.D.Disk.drawn g.D.Disk.fault_count g.D.Disk.fuse_count (mid 0) c.self.inside.directory.disk = subst (λ (d : g.row.D.Denot). IsGivenDisk g.D.Disk.Tells g.D.Disk.files g.D.Disk.drawn g.D.Disk.fault_count g.D.Disk.fuse_count (mid 0) d) c.into_disk.ensures
-    (record { drawn_is = c.give_disk.ensures.drawn; files_are = c.give_disk.ensures.files; fault_count = c.give_disk.ensures.faults; fuse_count = c.give_disk.ensures.fuses; back = c.give_disk.ensures.back }) in
-    let gives = gives_back g.D.Disk.Tells g.D.Disk.files g.D.Disk.drawn g.D.Disk.fault_count g.D.Disk.fuse_count g.A.Arm.fault_count g.A.Arm.is_sure disks arms low mid inside c.args.self c.self.view_is c.self.invariant c.give_volumes.ensures.given c.give_disk.ensures.others first c.give_seats.ensures.slots c.give_seats.ensures.given in
+    let inside : Open g.row.D.Denot g.row.D-Piece.Denot g.row.A.Denot = record {
+      settings = c.self.inside.settings;
+      directory = c.self.inside.directory;
+      volumes = c.self.inside.volumes.items;
+      arms = c.self.inside.seats.items;
+    } in
+    let first : IsGivenDisk g.D.Disk.Tells g.D.Disk.files g.D.Disk.drawn g.D.Disk.fault_count g.D.Disk.fuse_count (mid 0) c.self.inside.directory.disk =
+    subst (λ (d : g.row.D.Denot). IsGivenDisk g.D.Disk.Tells g.D.Disk.files g.D.Disk.drawn g.D.Disk.fault_count g.D.Disk.fuse_count (mid 0) d) c.into_disk.ensures
+    (record {
+      drawn_is = c.give_disk.ensures.drawn;
+      files_are = c.give_disk.ensures.files;
+      fault_count = c.give_disk.ensures.faults;
+      fuse_count = c.give_disk.ensures.fuses;
+      back = c.give_disk.ensures.back;
+    }) in
+    let gives =
+    gives_back g.D.Disk.Tells g.D.Disk.files g.D.Disk.drawn g.D.Disk.fault_count g.D.Disk.fuse_count g.A.Arm.fault_count g.A.Arm.is_sure disks arms low mid inside c.args.self
+    c.self.view_is c.self.invariant c.give_volumes.ensures.given c.give_disk.ensures.others first c.give_seats.ensures.slots c.give_seats.ensures.given in
     given_sure g.D.Disk.Tells g.D.Disk.files g.D.Disk.drawn g.D.Disk.fault_count g.D.Disk.fuse_count g.A.Arm.fault_count g.A.Arm.is_sure disks arms c.args.self gives
 
 pub returns-clause-contents : goal.returns-clause-contents
@@ -107,10 +192,24 @@ returns-clause-contents g c =
     let arms = g.H.Shelf.arms c.give_seats.new.shelf in
     let mid = g.H.Shelf.disks c.give_disk.new.self in
     let low = g.H.Shelf.disks c.give_volumes.new.shelf in
-    let inside : Open g.row.D.Denot g.row.D-Piece.Denot g.row.A.Denot = record { settings = c.self.inside.settings; directory = c.self.inside.directory; volumes = c.self.inside.volumes.items; arms = c.self.inside.seats.items } in
-    let first : IsGivenDisk g.D.Disk.Tells g.D.Disk.files g.D.Disk.drawn g.D.Disk.fault_count g.D.Disk.fuse_count (mid 0) c.self.inside.directory.disk = subst (λ (d : g.row.D.Denot). IsGivenDisk g.D.Disk.Tells g.D.Disk.files g.D.Disk.drawn g.D.Disk.fault_count g.D.Disk.fuse_count (mid 0) d) c.into_disk.ensures
-    (record { drawn_is = c.give_disk.ensures.drawn; files_are = c.give_disk.ensures.files; fault_count = c.give_disk.ensures.faults; fuse_count = c.give_disk.ensures.fuses; back = c.give_disk.ensures.back }) in
-    let gives = gives_back g.D.Disk.Tells g.D.Disk.files g.D.Disk.drawn g.D.Disk.fault_count g.D.Disk.fuse_count g.A.Arm.fault_count g.A.Arm.is_sure disks arms low mid inside c.args.self c.self.view_is c.self.invariant c.give_volumes.ensures.given c.give_disk.ensures.others first c.give_seats.ensures.slots c.give_seats.ensures.given in
+    let inside : Open g.row.D.Denot g.row.D-Piece.Denot g.row.A.Denot = record {
+      settings = c.self.inside.settings;
+      directory = c.self.inside.directory;
+      volumes = c.self.inside.volumes.items;
+      arms = c.self.inside.seats.items;
+    } in
+    let first : IsGivenDisk g.D.Disk.Tells g.D.Disk.files g.D.Disk.drawn g.D.Disk.fault_count g.D.Disk.fuse_count (mid 0) c.self.inside.directory.disk =
+    subst (λ (d : g.row.D.Denot). IsGivenDisk g.D.Disk.Tells g.D.Disk.files g.D.Disk.drawn g.D.Disk.fault_count g.D.Disk.fuse_count (mid 0) d) c.into_disk.ensures
+    (record {
+      drawn_is = c.give_disk.ensures.drawn;
+      files_are = c.give_disk.ensures.files;
+      fault_count = c.give_disk.ensures.faults;
+      fuse_count = c.give_disk.ensures.fuses;
+      back = c.give_disk.ensures.back;
+    }) in
+    let gives =
+    gives_back g.D.Disk.Tells g.D.Disk.files g.D.Disk.drawn g.D.Disk.fault_count g.D.Disk.fuse_count g.A.Arm.fault_count g.A.Arm.is_sure disks arms low mid inside c.args.self
+    c.self.view_is c.self.invariant c.give_volumes.ensures.given c.give_disk.ensures.others first c.give_seats.ensures.slots c.give_seats.ensures.given in
     λ tells. given_contents g.D.Disk.Tells g.D.Disk.files g.D.Disk.drawn g.D.Disk.fault_count g.D.Disk.fuse_count g.A.Arm.fault_count g.A.Arm.is_sure disks arms tells c.args.self gives
 
 pub returns-clause-disks_back : goal.returns-clause-disks_back
@@ -119,10 +218,24 @@ returns-clause-disks_back g c =
     let arms = g.H.Shelf.arms c.give_seats.new.shelf in
     let mid = g.H.Shelf.disks c.give_disk.new.self in
     let low = g.H.Shelf.disks c.give_volumes.new.shelf in
-    let inside : Open g.row.D.Denot g.row.D-Piece.Denot g.row.A.Denot = record { settings = c.self.inside.settings; directory = c.self.inside.directory; volumes = c.self.inside.volumes.items; arms = c.self.inside.seats.items } in
-    let first : IsGivenDisk g.D.Disk.Tells g.D.Disk.files g.D.Disk.drawn g.D.Disk.fault_count g.D.Disk.fuse_count (mid 0) c.self.inside.directory.disk = subst (λ (d : g.row.D.Denot). IsGivenDisk g.D.Disk.Tells g.D.Disk.files g.D.Disk.drawn g.D.Disk.fault_count g.D.Disk.fuse_count (mid 0) d) c.into_disk.ensures
-    (record { drawn_is = c.give_disk.ensures.drawn; files_are = c.give_disk.ensures.files; fault_count = c.give_disk.ensures.faults; fuse_count = c.give_disk.ensures.fuses; back = c.give_disk.ensures.back }) in
-    let gives = gives_back g.D.Disk.Tells g.D.Disk.files g.D.Disk.drawn g.D.Disk.fault_count g.D.Disk.fuse_count g.A.Arm.fault_count g.A.Arm.is_sure disks arms low mid inside c.args.self c.self.view_is c.self.invariant c.give_volumes.ensures.given c.give_disk.ensures.others first c.give_seats.ensures.slots c.give_seats.ensures.given in
+    let inside : Open g.row.D.Denot g.row.D-Piece.Denot g.row.A.Denot = record {
+      settings = c.self.inside.settings;
+      directory = c.self.inside.directory;
+      volumes = c.self.inside.volumes.items;
+      arms = c.self.inside.seats.items;
+    } in
+    let first : IsGivenDisk g.D.Disk.Tells g.D.Disk.files g.D.Disk.drawn g.D.Disk.fault_count g.D.Disk.fuse_count (mid 0) c.self.inside.directory.disk =
+    subst (λ (d : g.row.D.Denot). IsGivenDisk g.D.Disk.Tells g.D.Disk.files g.D.Disk.drawn g.D.Disk.fault_count g.D.Disk.fuse_count (mid 0) d) c.into_disk.ensures
+    (record {
+      drawn_is = c.give_disk.ensures.drawn;
+      files_are = c.give_disk.ensures.files;
+      fault_count = c.give_disk.ensures.faults;
+      fuse_count = c.give_disk.ensures.fuses;
+      back = c.give_disk.ensures.back;
+    }) in
+    let gives =
+    gives_back g.D.Disk.Tells g.D.Disk.files g.D.Disk.drawn g.D.Disk.fault_count g.D.Disk.fuse_count g.A.Arm.fault_count g.A.Arm.is_sure disks arms low mid inside c.args.self
+    c.self.view_is c.self.invariant c.give_volumes.ensures.given c.give_disk.ensures.others first c.give_seats.ensures.slots c.give_seats.ensures.given in
     given_in g.D.Disk.Tells g.D.Disk.files g.D.Disk.drawn g.D.Disk.fault_count g.D.Disk.fuse_count g.A.Arm.fault_count g.A.Arm.is_sure disks arms c.args.self gives
 
 pub returns-clause-arms_back : goal.returns-clause-arms_back
@@ -131,10 +244,24 @@ returns-clause-arms_back g c =
     let arms = g.H.Shelf.arms c.give_seats.new.shelf in
     let mid = g.H.Shelf.disks c.give_disk.new.self in
     let low = g.H.Shelf.disks c.give_volumes.new.shelf in
-    let inside : Open g.row.D.Denot g.row.D-Piece.Denot g.row.A.Denot = record { settings = c.self.inside.settings; directory = c.self.inside.directory; volumes = c.self.inside.volumes.items; arms = c.self.inside.seats.items } in
-    let first : IsGivenDisk g.D.Disk.Tells g.D.Disk.files g.D.Disk.drawn g.D.Disk.fault_count g.D.Disk.fuse_count (mid 0) c.self.inside.directory.disk = subst (λ (d : g.row.D.Denot). IsGivenDisk g.D.Disk.Tells g.D.Disk.files g.D.Disk.drawn g.D.Disk.fault_count g.D.Disk.fuse_count (mid 0) d) c.into_disk.ensures
-    (record { drawn_is = c.give_disk.ensures.drawn; files_are = c.give_disk.ensures.files; fault_count = c.give_disk.ensures.faults; fuse_count = c.give_disk.ensures.fuses; back = c.give_disk.ensures.back }) in
-    let gives = gives_back g.D.Disk.Tells g.D.Disk.files g.D.Disk.drawn g.D.Disk.fault_count g.D.Disk.fuse_count g.A.Arm.fault_count g.A.Arm.is_sure disks arms low mid inside c.args.self c.self.view_is c.self.invariant c.give_volumes.ensures.given c.give_disk.ensures.others first c.give_seats.ensures.slots c.give_seats.ensures.given in
+    let inside : Open g.row.D.Denot g.row.D-Piece.Denot g.row.A.Denot = record {
+      settings = c.self.inside.settings;
+      directory = c.self.inside.directory;
+      volumes = c.self.inside.volumes.items;
+      arms = c.self.inside.seats.items;
+    } in
+    let first : IsGivenDisk g.D.Disk.Tells g.D.Disk.files g.D.Disk.drawn g.D.Disk.fault_count g.D.Disk.fuse_count (mid 0) c.self.inside.directory.disk =
+    subst (λ (d : g.row.D.Denot). IsGivenDisk g.D.Disk.Tells g.D.Disk.files g.D.Disk.drawn g.D.Disk.fault_count g.D.Disk.fuse_count (mid 0) d) c.into_disk.ensures
+    (record {
+      drawn_is = c.give_disk.ensures.drawn;
+      files_are = c.give_disk.ensures.files;
+      fault_count = c.give_disk.ensures.faults;
+      fuse_count = c.give_disk.ensures.fuses;
+      back = c.give_disk.ensures.back;
+    }) in
+    let gives =
+    gives_back g.D.Disk.Tells g.D.Disk.files g.D.Disk.drawn g.D.Disk.fault_count g.D.Disk.fuse_count g.A.Arm.fault_count g.A.Arm.is_sure disks arms low mid inside c.args.self
+    c.self.view_is c.self.invariant c.give_volumes.ensures.given c.give_disk.ensures.others first c.give_seats.ensures.slots c.give_seats.ensures.given in
     given_arms_in g.D.Disk.Tells g.D.Disk.files g.D.Disk.drawn g.D.Disk.fault_count g.D.Disk.fuse_count g.A.Arm.fault_count g.A.Arm.is_sure disks arms c.args.self gives
 
 pub returns-clause-other_slots : goal.returns-clause-other_slots
@@ -158,10 +285,24 @@ returns-clause-drawn g c =
     let arms = g.H.Shelf.arms c.give_seats.new.shelf in
     let mid = g.H.Shelf.disks c.give_disk.new.self in
     let low = g.H.Shelf.disks c.give_volumes.new.shelf in
-    let inside : Open g.row.D.Denot g.row.D-Piece.Denot g.row.A.Denot = record { settings = c.self.inside.settings; directory = c.self.inside.directory; volumes = c.self.inside.volumes.items; arms = c.self.inside.seats.items } in
-    let first : IsGivenDisk g.D.Disk.Tells g.D.Disk.files g.D.Disk.drawn g.D.Disk.fault_count g.D.Disk.fuse_count (mid 0) c.self.inside.directory.disk = subst (λ (d : g.row.D.Denot). IsGivenDisk g.D.Disk.Tells g.D.Disk.files g.D.Disk.drawn g.D.Disk.fault_count g.D.Disk.fuse_count (mid 0) d) c.into_disk.ensures
-    (record { drawn_is = c.give_disk.ensures.drawn; files_are = c.give_disk.ensures.files; fault_count = c.give_disk.ensures.faults; fuse_count = c.give_disk.ensures.fuses; back = c.give_disk.ensures.back }) in
-    let gives = gives_back g.D.Disk.Tells g.D.Disk.files g.D.Disk.drawn g.D.Disk.fault_count g.D.Disk.fuse_count g.A.Arm.fault_count g.A.Arm.is_sure disks arms low mid inside c.args.self c.self.view_is c.self.invariant c.give_volumes.ensures.given c.give_disk.ensures.others first c.give_seats.ensures.slots c.give_seats.ensures.given in
+    let inside : Open g.row.D.Denot g.row.D-Piece.Denot g.row.A.Denot = record {
+      settings = c.self.inside.settings;
+      directory = c.self.inside.directory;
+      volumes = c.self.inside.volumes.items;
+      arms = c.self.inside.seats.items;
+    } in
+    let first : IsGivenDisk g.D.Disk.Tells g.D.Disk.files g.D.Disk.drawn g.D.Disk.fault_count g.D.Disk.fuse_count (mid 0) c.self.inside.directory.disk =
+    subst (λ (d : g.row.D.Denot). IsGivenDisk g.D.Disk.Tells g.D.Disk.files g.D.Disk.drawn g.D.Disk.fault_count g.D.Disk.fuse_count (mid 0) d) c.into_disk.ensures
+    (record {
+      drawn_is = c.give_disk.ensures.drawn;
+      files_are = c.give_disk.ensures.files;
+      fault_count = c.give_disk.ensures.faults;
+      fuse_count = c.give_disk.ensures.fuses;
+      back = c.give_disk.ensures.back;
+    }) in
+    let gives =
+    gives_back g.D.Disk.Tells g.D.Disk.files g.D.Disk.drawn g.D.Disk.fault_count g.D.Disk.fuse_count g.A.Arm.fault_count g.A.Arm.is_sure disks arms low mid inside c.args.self
+    c.self.view_is c.self.invariant c.give_volumes.ensures.given c.give_disk.ensures.others first c.give_seats.ensures.slots c.give_seats.ensures.given in
     λ tells. given_drawn g.D.Disk.Tells g.D.Disk.files g.D.Disk.drawn g.D.Disk.fault_count g.D.Disk.fuse_count g.A.Arm.fault_count g.A.Arm.is_sure disks arms tells c.args.self gives
 
 pub returns-clause-formatted : goal.returns-clause-formatted
@@ -170,11 +311,26 @@ returns-clause-formatted g c =
     let arms = g.H.Shelf.arms c.give_seats.new.shelf in
     let mid = g.H.Shelf.disks c.give_disk.new.self in
     let low = g.H.Shelf.disks c.give_volumes.new.shelf in
-    let inside : Open g.row.D.Denot g.row.D-Piece.Denot g.row.A.Denot = record { settings = c.self.inside.settings; directory = c.self.inside.directory; volumes = c.self.inside.volumes.items; arms = c.self.inside.seats.items } in
-    let first : IsGivenDisk g.D.Disk.Tells g.D.Disk.files g.D.Disk.drawn g.D.Disk.fault_count g.D.Disk.fuse_count (mid 0) c.self.inside.directory.disk = subst (λ (d : g.row.D.Denot). IsGivenDisk g.D.Disk.Tells g.D.Disk.files g.D.Disk.drawn g.D.Disk.fault_count g.D.Disk.fuse_count (mid 0) d) c.into_disk.ensures
-    (record { drawn_is = c.give_disk.ensures.drawn; files_are = c.give_disk.ensures.files; fault_count = c.give_disk.ensures.faults; fuse_count = c.give_disk.ensures.fuses; back = c.give_disk.ensures.back }) in
-    let gives = gives_back g.D.Disk.Tells g.D.Disk.files g.D.Disk.drawn g.D.Disk.fault_count g.D.Disk.fuse_count g.A.Arm.fault_count g.A.Arm.is_sure disks arms low mid inside c.args.self c.self.view_is c.self.invariant c.give_volumes.ensures.given c.give_disk.ensures.others first c.give_seats.ensures.slots c.give_seats.ensures.given in
+    let inside : Open g.row.D.Denot g.row.D-Piece.Denot g.row.A.Denot = record {
+      settings = c.self.inside.settings;
+      directory = c.self.inside.directory;
+      volumes = c.self.inside.volumes.items;
+      arms = c.self.inside.seats.items;
+    } in
+    let first : IsGivenDisk g.D.Disk.Tells g.D.Disk.files g.D.Disk.drawn g.D.Disk.fault_count g.D.Disk.fuse_count (mid 0) c.self.inside.directory.disk =
+    subst (λ (d : g.row.D.Denot). IsGivenDisk g.D.Disk.Tells g.D.Disk.files g.D.Disk.drawn g.D.Disk.fault_count g.D.Disk.fuse_count (mid 0) d) c.into_disk.ensures
+    (record {
+      drawn_is = c.give_disk.ensures.drawn;
+      files_are = c.give_disk.ensures.files;
+      fault_count = c.give_disk.ensures.faults;
+      fuse_count = c.give_disk.ensures.fuses;
+      back = c.give_disk.ensures.back;
+    }) in
+    let gives =
+    gives_back g.D.Disk.Tells g.D.Disk.files g.D.Disk.drawn g.D.Disk.fault_count g.D.Disk.fuse_count g.A.Arm.fault_count g.A.Arm.is_sure disks arms low mid inside c.args.self
+    c.self.view_is c.self.invariant c.give_volumes.ensures.given c.give_disk.ensures.others first c.give_seats.ensures.slots c.give_seats.ensures.given in
     λ tells k stands slot below void.
     let read = given_contents g.D.Disk.Tells g.D.Disk.files g.D.Disk.drawn g.D.Disk.fault_count g.D.Disk.fuse_count g.A.Arm.fault_count g.A.Arm.is_sure disks arms tells c.args.self gives slot below in
-    stands_formatted g.D.Disk.files (λ disk n. g.met.D.Disk.may_leave_now disk n tells) g.D.Piece.Piece.Tells g.D.Disk.fault_count g.D.Disk.fuse_count g.A.Arm.fault_count c.args.self k stands slot below
+    stands_formatted g.D.Disk.files (λ disk n. g.met.D.Disk.may_leave_now disk n tells) g.D.Piece.Piece.Tells g.D.Disk.fault_count g.D.Disk.fuse_count g.A.Arm.fault_count
+    c.args.self k stands slot below
     (ap (λ (contents : Contents). contents 0) (sym read) ∙ void)

@@ -40,72 +40,120 @@ refused_keeps settings v pending pending' old new tag before after pair Kept (Er
 
 pub offset_bounds-as_mut_slice-volume : goal.offset_bounds-as_mut_slice-volume
 offset_bounds-as_mut_slice-volume g c =
-    let within : c.args.volume < length c.self.inside.volumes.items = let same = ap (λ (st : Open g.row.D.Denot g.row.D-Piece.Denot g.row.A.Denot). (st.settings).volumes) c.self.view_is in omega (arith, c.requires.volume, c.self.invariant.many, same) in
+    let within : c.args.volume < length c.self.inside.volumes.items =
+    let same = ap (λ (st : Open g.row.D.Denot g.row.D-Piece.Denot g.row.A.Denot). (st.settings).volumes) c.self.view_is in omega (arith, c.requires.volume, c.self.invariant.many, same) in
     let long = ap length c.as_mut_slice.ensures.value in
     scaled_Fits c.args.volume (length c.as_mut_slice.result.now) _ (omega (arith, within, long)) c.as_mut_slice.type_inv.1
 
 pub invariant_of-self : goal.invariant_of-self
 invariant_of-self g c =
-    let store : Open g.row.D.Denot g.row.D-Piece.Denot g.row.A.Denot = record { settings = c.self.inside.settings; directory = c.self.inside.directory; volumes = c.self.inside.volumes.items; arms = c.self.inside.seats.items } in
-    let within : c.args.volume < length c.self.inside.volumes.items = let same = ap (λ (st : Open g.row.D.Denot g.row.D-Piece.Denot g.row.A.Denot). (st.settings).volumes) c.self.view_is in omega (arith, c.requires.volume, c.self.invariant.many, same) in
+    let store : Open g.row.D.Denot g.row.D-Piece.Denot g.row.A.Denot = record {
+      settings = c.self.inside.settings;
+      directory = c.self.inside.directory;
+      volumes = c.self.inside.volumes.items;
+      arms = c.self.inside.seats.items;
+    } in
+    let within : c.args.volume < length c.self.inside.volumes.items =
+    let same = ap (λ (st : Open g.row.D.Denot g.row.D-Piece.Denot g.row.A.Denot). (st.settings).volumes) c.self.view_is in omega (arith, c.requires.volume, c.self.invariant.many, same) in
     let volume : Volume g.row.D.Denot g.row.D-Piece.Denot = slice_index_or c.as_mut_slice.result.now c.args.volume c.index-as_mut_slice-volume.result in
     let at : At store.volumes c.args.volume volume = subst (λ (vs : List (Volume g.row.D.Denot g.row.D-Piece.Denot)). At vs c.args.volume volume) c.as_mut_slice.ensures.value
     (at_read c.as_mut_slice.result.now c.args.volume c.index-as_mut_slice-volume.result (let long = ap length c.as_mut_slice.ensures.value in omega (arith, within, long))) in
-    let items = with_items_is c.self.inside.volumes (slice_set c.as_mut_slice.result.now c.args.volume c.delete.new.self) (length-set c.as_mut_slice.result.now c.args.volume c.delete.new.self ∙ c.as_mut_slice.ensures.len)
+    let items =
+    with_items_is c.self.inside.volumes (slice_set c.as_mut_slice.result.now c.args.volume c.delete.new.self)
+    (length-set c.as_mut_slice.result.now c.args.volume c.delete.new.self ∙ c.as_mut_slice.ensures.len)
     ∙ ap (λ (vs : List (Volume g.row.D.Denot g.row.D-Piece.Denot)). slice_set vs c.args.volume c.delete.new.self) c.as_mut_slice.ensures.value in
     let called : Called g.D.Disk.fault_count g.D.Disk.fuse_count store c.args.volume volume c.delete.new.self = record { at = at; same = c.delete.ensures.same; counts = c.delete.ensures.counts } in
     rw items (called_shape g.D.Disk.fault_count g.D.Disk.fuse_count store c.args.volume volume c.delete.new.self c.self.invariant called)
 
 pub returns-clause-moves : goal.returns-clause-moves
 returns-clause-moves g c = λ tells k stands.
-    let store : Open g.row.D.Denot g.row.D-Piece.Denot g.row.A.Denot = record { settings = c.self.inside.settings; directory = c.self.inside.directory; volumes = c.self.inside.volumes.items; arms = c.self.inside.seats.items } in
-    let within : c.args.volume < length c.self.inside.volumes.items = let same = ap (λ (st : Open g.row.D.Denot g.row.D-Piece.Denot g.row.A.Denot). (st.settings).volumes) c.self.view_is in omega (arith, c.requires.volume, c.self.invariant.many, same) in
+    let store : Open g.row.D.Denot g.row.D-Piece.Denot g.row.A.Denot = record {
+      settings = c.self.inside.settings;
+      directory = c.self.inside.directory;
+      volumes = c.self.inside.volumes.items;
+      arms = c.self.inside.seats.items;
+    } in
+    let within : c.args.volume < length c.self.inside.volumes.items =
+    let same = ap (λ (st : Open g.row.D.Denot g.row.D-Piece.Denot g.row.A.Denot). (st.settings).volumes) c.self.view_is in omega (arith, c.requires.volume, c.self.invariant.many, same) in
     let volume : Volume g.row.D.Denot g.row.D-Piece.Denot = slice_index_or c.as_mut_slice.result.now c.args.volume c.index-as_mut_slice-volume.result in
     let at : At store.volumes c.args.volume volume = subst (λ (vs : List (Volume g.row.D.Denot g.row.D-Piece.Denot)). At vs c.args.volume volume) c.as_mut_slice.ensures.value
     (at_read c.as_mut_slice.result.now c.args.volume c.index-as_mut_slice-volume.result (let long = ap length c.as_mut_slice.ensures.value in omega (arith, within, long))) in
-    let items = with_items_is c.self.inside.volumes (slice_set c.as_mut_slice.result.now c.args.volume c.delete.new.self) (length-set c.as_mut_slice.result.now c.args.volume c.delete.new.self ∙ c.as_mut_slice.ensures.len)
+    let items =
+    with_items_is c.self.inside.volumes (slice_set c.as_mut_slice.result.now c.args.volume c.delete.new.self)
+    (length-set c.as_mut_slice.result.now c.args.volume c.delete.new.self ∙ c.as_mut_slice.ensures.len)
     ∙ ap (λ (vs : List (Volume g.row.D.Denot g.row.D-Piece.Denot)). slice_set vs c.args.volume c.delete.new.self) c.as_mut_slice.ensures.value in
     let called : Called g.D.Disk.fault_count g.D.Disk.fuse_count store c.args.volume volume c.delete.new.self = record { at = at; same = c.delete.ensures.same; counts = c.delete.ensures.counts } in
     rw items
-    (in_volume g.D.Disk.files g.D.Piece.Piece.Tells g.D.Disk.fault_count g.D.Disk.fuse_count g.A.Arm.fault_count c.args.self.now store k c.args.volume volume c.delete.new.self _ c.self.view_is c.self.invariant called stands
+    (in_volume g.D.Disk.files g.D.Piece.Piece.Tells g.D.Disk.fault_count g.D.Disk.fuse_count g.A.Arm.fault_count c.args.self.now store k c.args.volume volume c.delete.new.self _
+    c.self.view_is c.self.invariant called stands
     (λ stood. (c.delete.ensures.deleted tells _ stood, c.delete.ensures.refused tells _ stood)))
 
 pub returns-clause-causes : goal.returns-clause-causes
 returns-clause-causes g c =
-    let store : Open g.row.D.Denot g.row.D-Piece.Denot g.row.A.Denot = record { settings = c.self.inside.settings; directory = c.self.inside.directory; volumes = c.self.inside.volumes.items; arms = c.self.inside.seats.items } in
-    let within : c.args.volume < length c.self.inside.volumes.items = let same = ap (λ (st : Open g.row.D.Denot g.row.D-Piece.Denot g.row.A.Denot). (st.settings).volumes) c.self.view_is in omega (arith, c.requires.volume, c.self.invariant.many, same) in
+    let store : Open g.row.D.Denot g.row.D-Piece.Denot g.row.A.Denot = record {
+      settings = c.self.inside.settings;
+      directory = c.self.inside.directory;
+      volumes = c.self.inside.volumes.items;
+      arms = c.self.inside.seats.items;
+    } in
+    let within : c.args.volume < length c.self.inside.volumes.items =
+    let same = ap (λ (st : Open g.row.D.Denot g.row.D-Piece.Denot g.row.A.Denot). (st.settings).volumes) c.self.view_is in omega (arith, c.requires.volume, c.self.invariant.many, same) in
     let volume : Volume g.row.D.Denot g.row.D-Piece.Denot = slice_index_or c.as_mut_slice.result.now c.args.volume c.index-as_mut_slice-volume.result in
     let at : At store.volumes c.args.volume volume = subst (λ (vs : List (Volume g.row.D.Denot g.row.D-Piece.Denot)). At vs c.args.volume volume) c.as_mut_slice.ensures.value
     (at_read c.as_mut_slice.result.now c.args.volume c.index-as_mut_slice-volume.result (let long = ap length c.as_mut_slice.ensures.value in omega (arith, within, long))) in
-    let items = with_items_is c.self.inside.volumes (slice_set c.as_mut_slice.result.now c.args.volume c.delete.new.self) (length-set c.as_mut_slice.result.now c.args.volume c.delete.new.self ∙ c.as_mut_slice.ensures.len)
+    let items =
+    with_items_is c.self.inside.volumes (slice_set c.as_mut_slice.result.now c.args.volume c.delete.new.self)
+    (length-set c.as_mut_slice.result.now c.args.volume c.delete.new.self ∙ c.as_mut_slice.ensures.len)
     ∙ ap (λ (vs : List (Volume g.row.D.Denot g.row.D-Piece.Denot)). slice_set vs c.args.volume c.delete.new.self) c.as_mut_slice.ensures.value in
     let called : Called g.D.Disk.fault_count g.D.Disk.fuse_count store c.args.volume volume c.delete.new.self = record { at = at; same = c.delete.ensures.same; counts = c.delete.ensures.counts } in
     rw items
-    (IfErr-weaker c.delete.result _ _ (λ fault. delete_cause g.D.Disk.fault_count g.D.Disk.fuse_count c.args.self.now store c.args.volume volume c.delete.new.self fault c.self.view_is c.self.invariant called) c.delete.ensures.causes)
+    (IfErr-weaker c.delete.result _ _ (λ fault. delete_cause g.D.Disk.fault_count g.D.Disk.fuse_count c.args.self.now store c.args.volume volume c.delete.new.self fault
+    c.self.view_is c.self.invariant called) c.delete.ensures.causes)
 
 pub returns-clause-counts : goal.returns-clause-counts
 returns-clause-counts g c =
-    let store : Open g.row.D.Denot g.row.D-Piece.Denot g.row.A.Denot = record { settings = c.self.inside.settings; directory = c.self.inside.directory; volumes = c.self.inside.volumes.items; arms = c.self.inside.seats.items } in
-    let within : c.args.volume < length c.self.inside.volumes.items = let same = ap (λ (st : Open g.row.D.Denot g.row.D-Piece.Denot g.row.A.Denot). (st.settings).volumes) c.self.view_is in omega (arith, c.requires.volume, c.self.invariant.many, same) in
+    let store : Open g.row.D.Denot g.row.D-Piece.Denot g.row.A.Denot = record {
+      settings = c.self.inside.settings;
+      directory = c.self.inside.directory;
+      volumes = c.self.inside.volumes.items;
+      arms = c.self.inside.seats.items;
+    } in
+    let within : c.args.volume < length c.self.inside.volumes.items =
+    let same = ap (λ (st : Open g.row.D.Denot g.row.D-Piece.Denot g.row.A.Denot). (st.settings).volumes) c.self.view_is in omega (arith, c.requires.volume, c.self.invariant.many, same) in
     let volume : Volume g.row.D.Denot g.row.D-Piece.Denot = slice_index_or c.as_mut_slice.result.now c.args.volume c.index-as_mut_slice-volume.result in
     let at : At store.volumes c.args.volume volume = subst (λ (vs : List (Volume g.row.D.Denot g.row.D-Piece.Denot)). At vs c.args.volume volume) c.as_mut_slice.ensures.value
     (at_read c.as_mut_slice.result.now c.args.volume c.index-as_mut_slice-volume.result (let long = ap length c.as_mut_slice.ensures.value in omega (arith, within, long))) in
-    let items = with_items_is c.self.inside.volumes (slice_set c.as_mut_slice.result.now c.args.volume c.delete.new.self) (length-set c.as_mut_slice.result.now c.args.volume c.delete.new.self ∙ c.as_mut_slice.ensures.len)
+    let items =
+    with_items_is c.self.inside.volumes (slice_set c.as_mut_slice.result.now c.args.volume c.delete.new.self)
+    (length-set c.as_mut_slice.result.now c.args.volume c.delete.new.self ∙ c.as_mut_slice.ensures.len)
     ∙ ap (λ (vs : List (Volume g.row.D.Denot g.row.D-Piece.Denot)). slice_set vs c.args.volume c.delete.new.self) c.as_mut_slice.ensures.value in
     let called : Called g.D.Disk.fault_count g.D.Disk.fuse_count store c.args.volume volume c.delete.new.self = record { at = at; same = c.delete.ensures.same; counts = c.delete.ensures.counts } in
     rw items (called_later g.D.Disk.fault_count g.D.Disk.fuse_count c.args.self.now store c.args.volume volume c.delete.new.self c.self.view_is called)
 
 pub returns-clause-up : goal.returns-clause-up
 returns-clause-up g c =
-    let store : Open g.row.D.Denot g.row.D-Piece.Denot g.row.A.Denot = record { settings = c.self.inside.settings; directory = c.self.inside.directory; volumes = c.self.inside.volumes.items; arms = c.self.inside.seats.items } in
-    let items = with_items_is c.self.inside.volumes (slice_set c.as_mut_slice.result.now c.args.volume c.delete.new.self) (length-set c.as_mut_slice.result.now c.args.volume c.delete.new.self ∙ c.as_mut_slice.ensures.len)
+    let store : Open g.row.D.Denot g.row.D-Piece.Denot g.row.A.Denot = record {
+      settings = c.self.inside.settings;
+      directory = c.self.inside.directory;
+      volumes = c.self.inside.volumes.items;
+      arms = c.self.inside.seats.items;
+    } in
+    let items =
+    with_items_is c.self.inside.volumes (slice_set c.as_mut_slice.result.now c.args.volume c.delete.new.self)
+    (length-set c.as_mut_slice.result.now c.args.volume c.delete.new.self ∙ c.as_mut_slice.ensures.len)
     ∙ ap (λ (vs : List (Volume g.row.D.Denot g.row.D-Piece.Denot)). slice_set vs c.args.volume c.delete.new.self) c.as_mut_slice.ensures.value in
     rw items (called_up c.args.self.now store c.args.volume c.delete.new.self c.self.view_is c.requires.up c.delete.ensures.«open»)
 
 pub delete-requires : goal.delete-requires
 delete-requires g c =
-    let store : Open g.row.D.Denot g.row.D-Piece.Denot g.row.A.Denot = record { settings = c.self.inside.settings; directory = c.self.inside.directory; volumes = c.self.inside.volumes.items; arms = c.self.inside.seats.items } in
-    let within : c.args.volume < length c.self.inside.volumes.items = let same = ap (λ (st : Open g.row.D.Denot g.row.D-Piece.Denot g.row.A.Denot). (st.settings).volumes) c.self.view_is in omega (arith, c.requires.volume, c.self.invariant.many, same) in
+    let store : Open g.row.D.Denot g.row.D-Piece.Denot g.row.A.Denot = record {
+      settings = c.self.inside.settings;
+      directory = c.self.inside.directory;
+      volumes = c.self.inside.volumes.items;
+      arms = c.self.inside.seats.items;
+    } in
+    let within : c.args.volume < length c.self.inside.volumes.items =
+    let same = ap (λ (st : Open g.row.D.Denot g.row.D-Piece.Denot g.row.A.Denot). (st.settings).volumes) c.self.view_is in omega (arith, c.requires.volume, c.self.invariant.many, same) in
     let volume : Volume g.row.D.Denot g.row.D-Piece.Denot = slice_index_or c.as_mut_slice.result.now c.args.volume c.index-as_mut_slice-volume.result in
     let at : At store.volumes c.args.volume volume = subst (λ (vs : List (Volume g.row.D.Denot g.row.D-Piece.Denot)). At vs c.args.volume volume) c.as_mut_slice.ensures.value
     (at_read c.as_mut_slice.result.now c.args.volume c.index-as_mut_slice-volume.result (let long = ap length c.as_mut_slice.ensures.value in omega (arith, within, long))) in
@@ -113,24 +161,40 @@ delete-requires g c =
 
 pub returns-clause-fuses : goal.returns-clause-fuses
 returns-clause-fuses g c =
-    let store : Open g.row.D.Denot g.row.D-Piece.Denot g.row.A.Denot = record { settings = c.self.inside.settings; directory = c.self.inside.directory; volumes = c.self.inside.volumes.items; arms = c.self.inside.seats.items } in
-    let within : c.args.volume < length c.self.inside.volumes.items = let same = ap (λ (st : Open g.row.D.Denot g.row.D-Piece.Denot g.row.A.Denot). (st.settings).volumes) c.self.view_is in omega (arith, c.requires.volume, c.self.invariant.many, same) in
+    let store : Open g.row.D.Denot g.row.D-Piece.Denot g.row.A.Denot = record {
+      settings = c.self.inside.settings;
+      directory = c.self.inside.directory;
+      volumes = c.self.inside.volumes.items;
+      arms = c.self.inside.seats.items;
+    } in
+    let within : c.args.volume < length c.self.inside.volumes.items =
+    let same = ap (λ (st : Open g.row.D.Denot g.row.D-Piece.Denot g.row.A.Denot). (st.settings).volumes) c.self.view_is in omega (arith, c.requires.volume, c.self.invariant.many, same) in
     let volume : Volume g.row.D.Denot g.row.D-Piece.Denot = slice_index_or c.as_mut_slice.result.now c.args.volume c.index-as_mut_slice-volume.result in
     let at : At store.volumes c.args.volume volume = subst (λ (vs : List (Volume g.row.D.Denot g.row.D-Piece.Denot)). At vs c.args.volume volume) c.as_mut_slice.ensures.value
     (at_read c.as_mut_slice.result.now c.args.volume c.index-as_mut_slice-volume.result (let long = ap length c.as_mut_slice.ensures.value in omega (arith, within, long))) in
-    let items = with_items_is c.self.inside.volumes (slice_set c.as_mut_slice.result.now c.args.volume c.delete.new.self) (length-set c.as_mut_slice.result.now c.args.volume c.delete.new.self ∙ c.as_mut_slice.ensures.len)
+    let items =
+    with_items_is c.self.inside.volumes (slice_set c.as_mut_slice.result.now c.args.volume c.delete.new.self)
+    (length-set c.as_mut_slice.result.now c.args.volume c.delete.new.self ∙ c.as_mut_slice.ensures.len)
     ∙ ap (λ (vs : List (Volume g.row.D.Denot g.row.D-Piece.Denot)). slice_set vs c.args.volume c.delete.new.self) c.as_mut_slice.ensures.value in
     let called : Called g.D.Disk.fault_count g.D.Disk.fuse_count store c.args.volume volume c.delete.new.self = record { at = at; same = c.delete.ensures.same; counts = c.delete.ensures.counts } in
     rw items (called_fuses g.D.Disk.fault_count g.D.Disk.fuse_count c.args.self.now store c.args.volume volume c.delete.new.self c.self.view_is called)
 
 pub returns-clause-beside : goal.returns-clause-beside
 returns-clause-beside g c =
-    let store : Open g.row.D.Denot g.row.D-Piece.Denot g.row.A.Denot = record { settings = c.self.inside.settings; directory = c.self.inside.directory; volumes = c.self.inside.volumes.items; arms = c.self.inside.seats.items } in
-    let within : c.args.volume < length c.self.inside.volumes.items = let same = ap (λ (st : Open g.row.D.Denot g.row.D-Piece.Denot g.row.A.Denot). (st.settings).volumes) c.self.view_is in omega (arith, c.requires.volume, c.self.invariant.many, same) in
+    let store : Open g.row.D.Denot g.row.D-Piece.Denot g.row.A.Denot = record {
+      settings = c.self.inside.settings;
+      directory = c.self.inside.directory;
+      volumes = c.self.inside.volumes.items;
+      arms = c.self.inside.seats.items;
+    } in
+    let within : c.args.volume < length c.self.inside.volumes.items =
+    let same = ap (λ (st : Open g.row.D.Denot g.row.D-Piece.Denot g.row.A.Denot). (st.settings).volumes) c.self.view_is in omega (arith, c.requires.volume, c.self.invariant.many, same) in
     let volume : Volume g.row.D.Denot g.row.D-Piece.Denot = slice_index_or c.as_mut_slice.result.now c.args.volume c.index-as_mut_slice-volume.result in
     let at : At store.volumes c.args.volume volume = subst (λ (vs : List (Volume g.row.D.Denot g.row.D-Piece.Denot)). At vs c.args.volume volume) c.as_mut_slice.ensures.value
     (at_read c.as_mut_slice.result.now c.args.volume c.index-as_mut_slice-volume.result (let long = ap length c.as_mut_slice.ensures.value in omega (arith, within, long))) in
-    let items = with_items_is c.self.inside.volumes (slice_set c.as_mut_slice.result.now c.args.volume c.delete.new.self) (length-set c.as_mut_slice.result.now c.args.volume c.delete.new.self ∙ c.as_mut_slice.ensures.len)
+    let items =
+    with_items_is c.self.inside.volumes (slice_set c.as_mut_slice.result.now c.args.volume c.delete.new.self)
+    (length-set c.as_mut_slice.result.now c.args.volume c.delete.new.self ∙ c.as_mut_slice.ensures.len)
     ∙ ap (λ (vs : List (Volume g.row.D.Denot g.row.D-Piece.Denot)). slice_set vs c.args.volume c.delete.new.self) c.as_mut_slice.ensures.value in
     subst (λ (vs : List (Volume g.row.D.Denot g.row.D-Piece.Denot)). LeavesIn (IsBeside (c.args.self.now).settings c.args.volume) (disks_of c.args.self.now)
     (disks_of (let next : Open g.row.D.Denot g.row.D-Piece.Denot g.row.A.Denot = record store { volumes = vs } in next))) (sym items)
@@ -138,44 +202,72 @@ returns-clause-beside g c =
 
 pub returns-clause-kept : goal.returns-clause-kept
 returns-clause-kept g c = λ tells.
-    let store : Open g.row.D.Denot g.row.D-Piece.Denot g.row.A.Denot = record { settings = c.self.inside.settings; directory = c.self.inside.directory; volumes = c.self.inside.volumes.items; arms = c.self.inside.seats.items } in
-    let within : c.args.volume < length c.self.inside.volumes.items = let same = ap (λ (st : Open g.row.D.Denot g.row.D-Piece.Denot g.row.A.Denot). (st.settings).volumes) c.self.view_is in omega (arith, c.requires.volume, c.self.invariant.many, same) in
+    let store : Open g.row.D.Denot g.row.D-Piece.Denot g.row.A.Denot = record {
+      settings = c.self.inside.settings;
+      directory = c.self.inside.directory;
+      volumes = c.self.inside.volumes.items;
+      arms = c.self.inside.seats.items;
+    } in
+    let within : c.args.volume < length c.self.inside.volumes.items =
+    let same = ap (λ (st : Open g.row.D.Denot g.row.D-Piece.Denot g.row.A.Denot). (st.settings).volumes) c.self.view_is in omega (arith, c.requires.volume, c.self.invariant.many, same) in
     let volume : Volume g.row.D.Denot g.row.D-Piece.Denot = slice_index_or c.as_mut_slice.result.now c.args.volume c.index-as_mut_slice-volume.result in
     let at : At store.volumes c.args.volume volume = subst (λ (vs : List (Volume g.row.D.Denot g.row.D-Piece.Denot)). At vs c.args.volume volume) c.as_mut_slice.ensures.value
     (at_read c.as_mut_slice.result.now c.args.volume c.index-as_mut_slice-volume.result (let long = ap length c.as_mut_slice.ensures.value in omega (arith, within, long))) in
-    let items = with_items_is c.self.inside.volumes (slice_set c.as_mut_slice.result.now c.args.volume c.delete.new.self) (length-set c.as_mut_slice.result.now c.args.volume c.delete.new.self ∙ c.as_mut_slice.ensures.len)
+    let items =
+    with_items_is c.self.inside.volumes (slice_set c.as_mut_slice.result.now c.args.volume c.delete.new.self)
+    (length-set c.as_mut_slice.result.now c.args.volume c.delete.new.self ∙ c.as_mut_slice.ensures.len)
     ∙ ap (λ (vs : List (Volume g.row.D.Denot g.row.D-Piece.Denot)). slice_set vs c.args.volume c.delete.new.self) c.as_mut_slice.ensures.value in
     let called : Called g.D.Disk.fault_count g.D.Disk.fuse_count store c.args.volume volume c.delete.new.self = record { at = at; same = c.delete.ensures.same; counts = c.delete.ensures.counts } in
     let settings = (c.args.self.now).settings in
     let keeps = λ (files : KeepsFiles g.D.Disk.Tells g.D.Disk.files volume.replicas c.delete.new.self.replicas).
     called_keeps g.D.Disk.files g.D.Disk.Tells settings c.args.self.now store c.args.volume volume c.delete.new.self tells c.self.view_is at (c.delete.ensures.counts).count files in
     subst (λ (vs : List (Volume g.row.D.Denot g.row.D-Piece.Denot)). let next : Open g.row.D.Denot g.row.D-Piece.Denot g.row.A.Denot = record store { volumes = vs } in
-    IfErr c.delete.result (DeleteKeeps settings c.args.volume (store_seen c.args.self.now).volumes (store_seen next).volumes (contents_in g.D.Disk.files c.args.self.now) (contents_in g.D.Disk.files next))) (sym items)
-    (refused_keeps settings c.args.volume (store_seen c.args.self.now).volumes (store_seen (with_one store c.args.volume c.delete.new.self)).volumes (contents_in g.D.Disk.files c.args.self.now) (contents_in g.D.Disk.files (with_one store c.args.volume c.delete.new.self)) c.args.tag (volume_seen volume) (volume_seen c.delete.new.self) c.args.pair _ c.delete.result
+    IfErr c.delete.result (DeleteKeeps settings c.args.volume (store_seen c.args.self.now).volumes (store_seen next).volumes (contents_in g.D.Disk.files c.args.self.now)
+    (contents_in g.D.Disk.files next))) (sym items)
+    (refused_keeps settings c.args.volume (store_seen c.args.self.now).volumes (store_seen (with_one store c.args.volume c.delete.new.self)).volumes
+    (contents_in g.D.Disk.files c.args.self.now) (contents_in g.D.Disk.files (with_one store c.args.volume c.delete.new.self)) c.args.tag (volume_seen volume)
+    (volume_seen c.delete.new.self) c.args.pair _ c.delete.result
     c.delete.ensures.refused_seen c.delete.ensures.files keeps
     (λ m change freezes. comes_to_pend c.args.self.now store c.args.volume volume c.delete.new.self m change c.self.view_is at freezes)
-    (λ m f is. called_behind g.D.Disk.Tells g.D.Disk.files g.D.Disk.fault_count g.D.Disk.fuse_count tells c.args.self.now store c.args.volume volume c.delete.new.self c.self.view_is c.self.invariant called m (c.delete.ensures.above m f is)))
+    (λ m f is. called_behind g.D.Disk.Tells g.D.Disk.files g.D.Disk.fault_count g.D.Disk.fuse_count tells c.args.self.now store c.args.volume volume c.delete.new.self
+    c.self.view_is c.self.invariant called m (c.delete.ensures.above m f is)))
 
 pub returns-clause-seen : goal.returns-clause-seen
 returns-clause-seen g c =
-    let store : Open g.row.D.Denot g.row.D-Piece.Denot g.row.A.Denot = record { settings = c.self.inside.settings; directory = c.self.inside.directory; volumes = c.self.inside.volumes.items; arms = c.self.inside.seats.items } in
-    let within : c.args.volume < length c.self.inside.volumes.items = let same = ap (λ (st : Open g.row.D.Denot g.row.D-Piece.Denot g.row.A.Denot). (st.settings).volumes) c.self.view_is in omega (arith, c.requires.volume, c.self.invariant.many, same) in
+    let store : Open g.row.D.Denot g.row.D-Piece.Denot g.row.A.Denot = record {
+      settings = c.self.inside.settings;
+      directory = c.self.inside.directory;
+      volumes = c.self.inside.volumes.items;
+      arms = c.self.inside.seats.items;
+    } in
+    let within : c.args.volume < length c.self.inside.volumes.items =
+    let same = ap (λ (st : Open g.row.D.Denot g.row.D-Piece.Denot g.row.A.Denot). (st.settings).volumes) c.self.view_is in omega (arith, c.requires.volume, c.self.invariant.many, same) in
     let volume : Volume g.row.D.Denot g.row.D-Piece.Denot = slice_index_or c.as_mut_slice.result.now c.args.volume c.index-as_mut_slice-volume.result in
     let at : At store.volumes c.args.volume volume = subst (λ (vs : List (Volume g.row.D.Denot g.row.D-Piece.Denot)). At vs c.args.volume volume) c.as_mut_slice.ensures.value
     (at_read c.as_mut_slice.result.now c.args.volume c.index-as_mut_slice-volume.result (let long = ap length c.as_mut_slice.ensures.value in omega (arith, within, long))) in
-    let items = with_items_is c.self.inside.volumes (slice_set c.as_mut_slice.result.now c.args.volume c.delete.new.self) (length-set c.as_mut_slice.result.now c.args.volume c.delete.new.self ∙ c.as_mut_slice.ensures.len)
+    let items =
+    with_items_is c.self.inside.volumes (slice_set c.as_mut_slice.result.now c.args.volume c.delete.new.self)
+    (length-set c.as_mut_slice.result.now c.args.volume c.delete.new.self ∙ c.as_mut_slice.ensures.len)
     ∙ ap (λ (vs : List (Volume g.row.D.Denot g.row.D-Piece.Denot)). slice_set vs c.args.volume c.delete.new.self) c.as_mut_slice.ensures.value in
     rw items
     (IfOk-weaker c.delete.result _ _ (λ position moves. volume_moves c.args.self.now store c.self.view_is c.args.volume volume c.delete.new.self (HideSeen position) at moves) c.delete.ensures.after)
 
 pub returns-clause-refused_seen : goal.returns-clause-refused_seen
 returns-clause-refused_seen g c =
-    let store : Open g.row.D.Denot g.row.D-Piece.Denot g.row.A.Denot = record { settings = c.self.inside.settings; directory = c.self.inside.directory; volumes = c.self.inside.volumes.items; arms = c.self.inside.seats.items } in
-    let within : c.args.volume < length c.self.inside.volumes.items = let same = ap (λ (st : Open g.row.D.Denot g.row.D-Piece.Denot g.row.A.Denot). (st.settings).volumes) c.self.view_is in omega (arith, c.requires.volume, c.self.invariant.many, same) in
+    let store : Open g.row.D.Denot g.row.D-Piece.Denot g.row.A.Denot = record {
+      settings = c.self.inside.settings;
+      directory = c.self.inside.directory;
+      volumes = c.self.inside.volumes.items;
+      arms = c.self.inside.seats.items;
+    } in
+    let within : c.args.volume < length c.self.inside.volumes.items =
+    let same = ap (λ (st : Open g.row.D.Denot g.row.D-Piece.Denot g.row.A.Denot). (st.settings).volumes) c.self.view_is in omega (arith, c.requires.volume, c.self.invariant.many, same) in
     let volume : Volume g.row.D.Denot g.row.D-Piece.Denot = slice_index_or c.as_mut_slice.result.now c.args.volume c.index-as_mut_slice-volume.result in
     let at : At store.volumes c.args.volume volume = subst (λ (vs : List (Volume g.row.D.Denot g.row.D-Piece.Denot)). At vs c.args.volume volume) c.as_mut_slice.ensures.value
     (at_read c.as_mut_slice.result.now c.args.volume c.index-as_mut_slice-volume.result (let long = ap length c.as_mut_slice.ensures.value in omega (arith, within, long))) in
-    let items = with_items_is c.self.inside.volumes (slice_set c.as_mut_slice.result.now c.args.volume c.delete.new.self) (length-set c.as_mut_slice.result.now c.args.volume c.delete.new.self ∙ c.as_mut_slice.ensures.len)
+    let items =
+    with_items_is c.self.inside.volumes (slice_set c.as_mut_slice.result.now c.args.volume c.delete.new.self)
+    (length-set c.as_mut_slice.result.now c.args.volume c.delete.new.self ∙ c.as_mut_slice.ensures.len)
     ∙ ap (λ (vs : List (Volume g.row.D.Denot g.row.D-Piece.Denot)). slice_set vs c.args.volume c.delete.new.self) c.as_mut_slice.ensures.value in
     rw items
     (IfErr-weaker c.delete.result _ _ (λ fault moves. volume_moves c.args.self.now store c.self.view_is c.args.volume volume c.delete.new.self
@@ -183,31 +275,49 @@ returns-clause-refused_seen g c =
 
 pub returns-clause-sights : goal.returns-clause-sights
 returns-clause-sights g c =
-    let store : Open g.row.D.Denot g.row.D-Piece.Denot g.row.A.Denot = record { settings = c.self.inside.settings; directory = c.self.inside.directory; volumes = c.self.inside.volumes.items; arms = c.self.inside.seats.items } in
-    let within : c.args.volume < length c.self.inside.volumes.items = let same = ap (λ (st : Open g.row.D.Denot g.row.D-Piece.Denot g.row.A.Denot). (st.settings).volumes) c.self.view_is in omega (arith, c.requires.volume, c.self.invariant.many, same) in
+    let store : Open g.row.D.Denot g.row.D-Piece.Denot g.row.A.Denot = record {
+      settings = c.self.inside.settings;
+      directory = c.self.inside.directory;
+      volumes = c.self.inside.volumes.items;
+      arms = c.self.inside.seats.items;
+    } in
+    let within : c.args.volume < length c.self.inside.volumes.items =
+    let same = ap (λ (st : Open g.row.D.Denot g.row.D-Piece.Denot g.row.A.Denot). (st.settings).volumes) c.self.view_is in omega (arith, c.requires.volume, c.self.invariant.many, same) in
     let volume : Volume g.row.D.Denot g.row.D-Piece.Denot = slice_index_or c.as_mut_slice.result.now c.args.volume c.index-as_mut_slice-volume.result in
     let at : At store.volumes c.args.volume volume = subst (λ (vs : List (Volume g.row.D.Denot g.row.D-Piece.Denot)). At vs c.args.volume volume) c.as_mut_slice.ensures.value
     (at_read c.as_mut_slice.result.now c.args.volume c.index-as_mut_slice-volume.result (let long = ap length c.as_mut_slice.ensures.value in omega (arith, within, long))) in
-    let items = with_items_is c.self.inside.volumes (slice_set c.as_mut_slice.result.now c.args.volume c.delete.new.self) (length-set c.as_mut_slice.result.now c.args.volume c.delete.new.self ∙ c.as_mut_slice.ensures.len)
+    let items =
+    with_items_is c.self.inside.volumes (slice_set c.as_mut_slice.result.now c.args.volume c.delete.new.self)
+    (length-set c.as_mut_slice.result.now c.args.volume c.delete.new.self ∙ c.as_mut_slice.ensures.len)
     ∙ ap (λ (vs : List (Volume g.row.D.Denot g.row.D-Piece.Denot)). slice_set vs c.args.volume c.delete.new.self) c.as_mut_slice.ensures.value in
     let was = volume_of store c.args.volume volume c.self.invariant at in
     let same = was.settings_are ∙ ap (λ (st : Open g.row.D.Denot g.row.D-Piece.Denot g.row.A.Denot). st.settings) c.self.view_is in
     rw items
-    (on_ok_weaker c.delete.result (λ deletes. volume_photos c.args.self.now store c.self.view_is c.args.volume volume c.delete.new.self at (DeletesSights c.args.pair (c.args.self.now).settings.replicas)
+    (on_ok_weaker c.delete.result (λ deletes. volume_photos c.args.self.now store c.self.view_is c.args.volume volume c.delete.new.self at
+    (DeletesSights c.args.pair (c.args.self.now).settings.replicas)
     (subst (λ (s : Settings). DeletesSights c.args.pair s.replicas (sights_of volume.rows) (sights_of (c.delete.new.self).rows)) same deletes)) c.delete.ensures.sights)
 
 pub returns-clause-refused_sights : goal.returns-clause-refused_sights
 returns-clause-refused_sights g c =
-    let store : Open g.row.D.Denot g.row.D-Piece.Denot g.row.A.Denot = record { settings = c.self.inside.settings; directory = c.self.inside.directory; volumes = c.self.inside.volumes.items; arms = c.self.inside.seats.items } in
-    let within : c.args.volume < length c.self.inside.volumes.items = let same = ap (λ (st : Open g.row.D.Denot g.row.D-Piece.Denot g.row.A.Denot). (st.settings).volumes) c.self.view_is in omega (arith, c.requires.volume, c.self.invariant.many, same) in
+    let store : Open g.row.D.Denot g.row.D-Piece.Denot g.row.A.Denot = record {
+      settings = c.self.inside.settings;
+      directory = c.self.inside.directory;
+      volumes = c.self.inside.volumes.items;
+      arms = c.self.inside.seats.items;
+    } in
+    let within : c.args.volume < length c.self.inside.volumes.items =
+    let same = ap (λ (st : Open g.row.D.Denot g.row.D-Piece.Denot g.row.A.Denot). (st.settings).volumes) c.self.view_is in omega (arith, c.requires.volume, c.self.invariant.many, same) in
     let volume : Volume g.row.D.Denot g.row.D-Piece.Denot = slice_index_or c.as_mut_slice.result.now c.args.volume c.index-as_mut_slice-volume.result in
     let at : At store.volumes c.args.volume volume = subst (λ (vs : List (Volume g.row.D.Denot g.row.D-Piece.Denot)). At vs c.args.volume volume) c.as_mut_slice.ensures.value
     (at_read c.as_mut_slice.result.now c.args.volume c.index-as_mut_slice-volume.result (let long = ap length c.as_mut_slice.ensures.value in omega (arith, within, long))) in
-    let items = with_items_is c.self.inside.volumes (slice_set c.as_mut_slice.result.now c.args.volume c.delete.new.self) (length-set c.as_mut_slice.result.now c.args.volume c.delete.new.self ∙ c.as_mut_slice.ensures.len)
+    let items =
+    with_items_is c.self.inside.volumes (slice_set c.as_mut_slice.result.now c.args.volume c.delete.new.self)
+    (length-set c.as_mut_slice.result.now c.args.volume c.delete.new.self ∙ c.as_mut_slice.ensures.len)
     ∙ ap (λ (vs : List (Volume g.row.D.Denot g.row.D-Piece.Denot)). slice_set vs c.args.volume c.delete.new.self) c.as_mut_slice.ensures.value in
     let was = volume_of store c.args.volume volume c.self.invariant at in
     let same = was.settings_are ∙ ap (λ (st : Open g.row.D.Denot g.row.D-Piece.Denot g.row.A.Denot). st.settings) c.self.view_is in
-    let Refused : Settings → ℕ → LogicalFault → Type 0 = λ s n fault. DeleteRefusedSights s n c.args.pair (c.delete.new.self).frozen (sights_of volume.rows) (sights_of (c.delete.new.self).rows) fault in
+    let Refused : Settings → ℕ → LogicalFault → Type 0 =
+    λ s n fault. DeleteRefusedSights s n c.args.pair (c.delete.new.self).frozen (sights_of volume.rows) (sights_of (c.delete.new.self).rows) fault in
     rw items
     (IfErr-weaker c.delete.result _ _ (λ fault sights. (
       volume_seen c.delete.new.self,
@@ -219,20 +329,35 @@ returns-clause-refused_sights g c =
 
 pub returns-clause-ended : goal.returns-clause-ended
 returns-clause-ended g c =
-    let store : Open g.row.D.Denot g.row.D-Piece.Denot g.row.A.Denot = record { settings = c.self.inside.settings; directory = c.self.inside.directory; volumes = c.self.inside.volumes.items; arms = c.self.inside.seats.items } in
-    let within : c.args.volume < length c.self.inside.volumes.items = let same = ap (λ (st : Open g.row.D.Denot g.row.D-Piece.Denot g.row.A.Denot). (st.settings).volumes) c.self.view_is in omega (arith, c.requires.volume, c.self.invariant.many, same) in
+    let store : Open g.row.D.Denot g.row.D-Piece.Denot g.row.A.Denot = record {
+      settings = c.self.inside.settings;
+      directory = c.self.inside.directory;
+      volumes = c.self.inside.volumes.items;
+      arms = c.self.inside.seats.items;
+    } in
+    let within : c.args.volume < length c.self.inside.volumes.items =
+    let same = ap (λ (st : Open g.row.D.Denot g.row.D-Piece.Denot g.row.A.Denot). (st.settings).volumes) c.self.view_is in omega (arith, c.requires.volume, c.self.invariant.many, same) in
     let volume : Volume g.row.D.Denot g.row.D-Piece.Denot = slice_index_or c.as_mut_slice.result.now c.args.volume c.index-as_mut_slice-volume.result in
     let at : At store.volumes c.args.volume volume = subst (λ (vs : List (Volume g.row.D.Denot g.row.D-Piece.Denot)). At vs c.args.volume volume) c.as_mut_slice.ensures.value
     (at_read c.as_mut_slice.result.now c.args.volume c.index-as_mut_slice-volume.result (let long = ap length c.as_mut_slice.ensures.value in omega (arith, within, long))) in
-    let items = with_items_is c.self.inside.volumes (slice_set c.as_mut_slice.result.now c.args.volume c.delete.new.self) (length-set c.as_mut_slice.result.now c.args.volume c.delete.new.self ∙ c.as_mut_slice.ensures.len)
+    let items =
+    with_items_is c.self.inside.volumes (slice_set c.as_mut_slice.result.now c.args.volume c.delete.new.self)
+    (length-set c.as_mut_slice.result.now c.args.volume c.delete.new.self ∙ c.as_mut_slice.ensures.len)
     ∙ ap (λ (vs : List (Volume g.row.D.Denot g.row.D-Piece.Denot)). slice_set vs c.args.volume c.delete.new.self) c.as_mut_slice.ensures.value in
     let called : Called g.D.Disk.fault_count g.D.Disk.fuse_count store c.args.volume volume c.delete.new.self = record { at = at; same = c.delete.ensures.same; counts = c.delete.ensures.counts } in
-    rw items (on_ok_weaker c.delete.result (runs_end g.D.Disk.fault_count g.D.Disk.fuse_count c.args.self.now store c.args.volume volume c.delete.new.self c.self.view_is c.self.invariant called) c.delete.ensures.ended)
+    rw items (on_ok_weaker c.delete.result (runs_end g.D.Disk.fault_count g.D.Disk.fuse_count c.args.self.now store c.args.volume volume c.delete.new.self c.self.view_is
+    c.self.invariant called) c.delete.ensures.ended)
 
 pub returns-clause-damaged : goal.returns-clause-damaged
 returns-clause-damaged g c = λ tells m place is.
-    let store : Open g.row.D.Denot g.row.D-Piece.Denot g.row.A.Denot = record { settings = c.self.inside.settings; directory = c.self.inside.directory; volumes = c.self.inside.volumes.items; arms = c.self.inside.seats.items } in
-    let within : c.args.volume < length c.self.inside.volumes.items = let same = ap (λ (st : Open g.row.D.Denot g.row.D-Piece.Denot g.row.A.Denot). (st.settings).volumes) c.self.view_is in omega (arith, c.requires.volume, c.self.invariant.many, same) in
+    let store : Open g.row.D.Denot g.row.D-Piece.Denot g.row.A.Denot = record {
+      settings = c.self.inside.settings;
+      directory = c.self.inside.directory;
+      volumes = c.self.inside.volumes.items;
+      arms = c.self.inside.seats.items;
+    } in
+    let within : c.args.volume < length c.self.inside.volumes.items =
+    let same = ap (λ (st : Open g.row.D.Denot g.row.D-Piece.Denot g.row.A.Denot). (st.settings).volumes) c.self.view_is in omega (arith, c.requires.volume, c.self.invariant.many, same) in
     let volume : Volume g.row.D.Denot g.row.D-Piece.Denot = slice_index_or c.as_mut_slice.result.now c.args.volume c.index-as_mut_slice-volume.result in
     let at : At store.volumes c.args.volume volume = subst (λ (vs : List (Volume g.row.D.Denot g.row.D-Piece.Denot)). At vs c.args.volume volume) c.as_mut_slice.ensures.value
     (at_read c.as_mut_slice.result.now c.args.volume c.index-as_mut_slice-volume.result (let long = ap length c.as_mut_slice.ensures.value in omega (arith, within, long))) in
@@ -240,29 +365,47 @@ returns-clause-damaged g c = λ tells m place is.
 
 pub returns-clause-told : goal.returns-clause-told
 returns-clause-told g c = λ tells.
-    let store : Open g.row.D.Denot g.row.D-Piece.Denot g.row.A.Denot = record { settings = c.self.inside.settings; directory = c.self.inside.directory; volumes = c.self.inside.volumes.items; arms = c.self.inside.seats.items } in
-    let within : c.args.volume < length c.self.inside.volumes.items = let same = ap (λ (st : Open g.row.D.Denot g.row.D-Piece.Denot g.row.A.Denot). (st.settings).volumes) c.self.view_is in omega (arith, c.requires.volume, c.self.invariant.many, same) in
+    let store : Open g.row.D.Denot g.row.D-Piece.Denot g.row.A.Denot = record {
+      settings = c.self.inside.settings;
+      directory = c.self.inside.directory;
+      volumes = c.self.inside.volumes.items;
+      arms = c.self.inside.seats.items;
+    } in
+    let within : c.args.volume < length c.self.inside.volumes.items =
+    let same = ap (λ (st : Open g.row.D.Denot g.row.D-Piece.Denot g.row.A.Denot). (st.settings).volumes) c.self.view_is in omega (arith, c.requires.volume, c.self.invariant.many, same) in
     let volume : Volume g.row.D.Denot g.row.D-Piece.Denot = slice_index_or c.as_mut_slice.result.now c.args.volume c.index-as_mut_slice-volume.result in
     let at : At store.volumes c.args.volume volume = subst (λ (vs : List (Volume g.row.D.Denot g.row.D-Piece.Denot)). At vs c.args.volume volume) c.as_mut_slice.ensures.value
     (at_read c.as_mut_slice.result.now c.args.volume c.index-as_mut_slice-volume.result (let long = ap length c.as_mut_slice.ensures.value in omega (arith, within, long))) in
-    let items = with_items_is c.self.inside.volumes (slice_set c.as_mut_slice.result.now c.args.volume c.delete.new.self) (length-set c.as_mut_slice.result.now c.args.volume c.delete.new.self ∙ c.as_mut_slice.ensures.len)
+    let items =
+    with_items_is c.self.inside.volumes (slice_set c.as_mut_slice.result.now c.args.volume c.delete.new.self)
+    (length-set c.as_mut_slice.result.now c.args.volume c.delete.new.self ∙ c.as_mut_slice.ensures.len)
     ∙ ap (λ (vs : List (Volume g.row.D.Denot g.row.D-Piece.Denot)). slice_set vs c.args.volume c.delete.new.self) c.as_mut_slice.ensures.value in
     let was = volume_of store c.args.volume volume c.self.invariant at in
     let same = was.settings_are ∙ ap (λ (st : Open g.row.D.Denot g.row.D-Piece.Denot g.row.A.Denot). st.settings) c.self.view_is in
     rw items
     (on_ok_weaker c.delete.result
-    (deletes_as g.D.Disk.files c.args.self.now store c.self.view_is c.self.invariant c.args.volume volume at c.args.pair (sights_of (c.delete.new.self).rows) ((store_seen (with_one store c.args.volume c.delete.new.self)).places c.args.volume)
+    (deletes_as g.D.Disk.files c.args.self.now store c.self.view_is c.self.invariant c.args.volume volume at c.args.pair (sights_of (c.delete.new.self).rows)
+    ((store_seen (with_one store c.args.volume c.delete.new.self)).places c.args.volume)
     (photos_now c.args.self.now store c.self.view_is c.args.volume volume c.delete.new.self at))
-    (subst (λ (s : Settings). OnOk c.delete.result (DeletesTold g.D.Disk.files volume.replicas c.args.pair s.replicas (sights_of volume.rows) (sights_of (c.delete.new.self).rows))) same (c.delete.ensures.told tells)))
+    (subst (λ (s : Settings). OnOk c.delete.result (DeletesTold g.D.Disk.files volume.replicas c.args.pair s.replicas (sights_of volume.rows) (sights_of (c.delete.new.self).rows)))
+    same (c.delete.ensures.told tells)))
 
 pub returns-clause-refused_told : goal.returns-clause-refused_told
 returns-clause-refused_told g c = λ tells.
-    let store : Open g.row.D.Denot g.row.D-Piece.Denot g.row.A.Denot = record { settings = c.self.inside.settings; directory = c.self.inside.directory; volumes = c.self.inside.volumes.items; arms = c.self.inside.seats.items } in
-    let within : c.args.volume < length c.self.inside.volumes.items = let same = ap (λ (st : Open g.row.D.Denot g.row.D-Piece.Denot g.row.A.Denot). (st.settings).volumes) c.self.view_is in omega (arith, c.requires.volume, c.self.invariant.many, same) in
+    let store : Open g.row.D.Denot g.row.D-Piece.Denot g.row.A.Denot = record {
+      settings = c.self.inside.settings;
+      directory = c.self.inside.directory;
+      volumes = c.self.inside.volumes.items;
+      arms = c.self.inside.seats.items;
+    } in
+    let within : c.args.volume < length c.self.inside.volumes.items =
+    let same = ap (λ (st : Open g.row.D.Denot g.row.D-Piece.Denot g.row.A.Denot). (st.settings).volumes) c.self.view_is in omega (arith, c.requires.volume, c.self.invariant.many, same) in
     let volume : Volume g.row.D.Denot g.row.D-Piece.Denot = slice_index_or c.as_mut_slice.result.now c.args.volume c.index-as_mut_slice-volume.result in
     let at : At store.volumes c.args.volume volume = subst (λ (vs : List (Volume g.row.D.Denot g.row.D-Piece.Denot)). At vs c.args.volume volume) c.as_mut_slice.ensures.value
     (at_read c.as_mut_slice.result.now c.args.volume c.index-as_mut_slice-volume.result (let long = ap length c.as_mut_slice.ensures.value in omega (arith, within, long))) in
-    let items = with_items_is c.self.inside.volumes (slice_set c.as_mut_slice.result.now c.args.volume c.delete.new.self) (length-set c.as_mut_slice.result.now c.args.volume c.delete.new.self ∙ c.as_mut_slice.ensures.len)
+    let items =
+    with_items_is c.self.inside.volumes (slice_set c.as_mut_slice.result.now c.args.volume c.delete.new.self)
+    (length-set c.as_mut_slice.result.now c.args.volume c.delete.new.self ∙ c.as_mut_slice.ensures.len)
     ∙ ap (λ (vs : List (Volume g.row.D.Denot g.row.D-Piece.Denot)). slice_set vs c.args.volume c.delete.new.self) c.as_mut_slice.ensures.value in
     rw items
     (on_err_weaker c.delete.result

@@ -22,8 +22,10 @@ use Rattle.hay_cluster.proofs.cluster.Cluster.fetch.Given as goal
 abbrev pub invariant-loop : goal.invariant-loop
 invariant-loop g l = record {
   says : g.D.Disk.Tells → (k : Known) → Stands g.D.Disk.files g.D.Piece.Piece.Tells g.D.Disk.fault_count g.D.Disk.fuse_count g.A.Arm.fault_count l.fn.self k →
-      ReadSays l.cookie (outcomes_of l.fn.self.settings (volume_at k l.volume) l.pair) l.photo.items l.read × Comes g.D.Disk.files g.D.Piece.Piece.Tells g.D.Disk.fault_count g.D.Disk.fuse_count g.A.Arm.fault_count k k l.self;
-  passes : ReadPasses (NeverIn g.D.Disk.Tells g.D.Disk.files g.D.Piece.Piece.Tells g.D.Disk.fault_count g.D.Disk.fuse_count g.A.Arm.fault_count g.A.Arm.is_sure l.fn.self l.lane) l.fn.self.settings l.lane l.volume l.start
+      ReadSays l.cookie (outcomes_of l.fn.self.settings (volume_at k l.volume) l.pair) l.photo.items l.read
+      × Comes g.D.Disk.files g.D.Piece.Piece.Tells g.D.Disk.fault_count g.D.Disk.fuse_count g.A.Arm.fault_count k k l.self;
+  passes : ReadPasses (NeverIn g.D.Disk.Tells g.D.Disk.files g.D.Piece.Piece.Tells g.D.Disk.fault_count g.D.Disk.fuse_count g.A.Arm.fault_count g.A.Arm.is_sure l.fn.self l.lane)
+      l.fn.self.settings l.lane l.volume l.start
       (counts_of g.D.Disk.fault_count g.A.Arm.fault_count l.fn.self) (counts_of g.D.Disk.fault_count g.A.Arm.fault_count l.self)
       (IsOfPlace g.D.Disk.Tells l.fn.self.settings (contents_in g.D.Disk.files l.self) (store_seen l.self) l.volume l.pair) [] l.read;
   stops : StopsUnseen l.self l.volume l.pair l.read;

@@ -31,10 +31,13 @@ loop-turn-preserved g c = record {
       more ∙ ap (λ rs. map Some rs) (sym (c.in_ok-push-in-Some.ensures).ok);
   refuses =
       let same = ap (λ (st : Open g.row.D.Denot g.row.D-Piece.Denot g.row.A.Denot). st.settings) c.self.view_is in
-      subst (λ (rs : List Refused). AllZip (Refuses (c.args.self.now).settings) (map (try_at (c.args.self.now).settings c.args.pair) (range_with_len 0 (c.loop-turn.turn + 1))) rs) (sym (c.in_ok-push-in-Some.ensures).ok)
+      subst (λ (rs : List Refused). AllZip (Refuses (c.args.self.now).settings) (map (try_at (c.args.self.now).settings c.args.pair) (range_with_len 0 (c.loop-turn.turn + 1))) rs)
+      (sym (c.in_ok-push-in-Some.ensures).ok)
       (one_more_refuses (Refuses (c.args.self.now).settings) (c.args.self.now).settings c.args.pair c.loop-turn.turn c.tries-volume.result c.loop-turn.refused c.in-Some.refusal
       (c.tries-volume.ensures.is c.args.pair refl ∙ ap (λ (s : Settings). try_at s c.args.pair c.loop-turn.turn) same) (c.in-Some.ensures).refuses c.loop-turn.invariant.refuses);
-  fits = subst (λ (rs : List Refused). AllByRecursion FitsRefused rs) (sym (c.in_ok-push-in-Some.ensures).ok) (all_snoc FitsRefused c.loop-turn.refused c.in-Some.refusal c.loop-turn.invariant.fits (c.in-Some.ensures).fits);
+  fits =
+      subst (λ (rs : List Refused). AllByRecursion FitsRefused rs) (sym (c.in_ok-push-in-Some.ensures).ok)
+      (all_snoc FitsRefused c.loop-turn.refused c.in-Some.refusal c.loop-turn.invariant.fits (c.in-Some.ensures).fits);
   seen =
       let same = ap (λ (st : Open g.row.D.Denot g.row.D-Piece.Denot g.row.A.Denot). st.settings) c.self.view_is in
       let R = RefusesPhoto (c.args.self.now).settings (store_seen c.args.self.now) c.args.size in
@@ -46,7 +49,8 @@ loop-turn-preserved g c = record {
 pub returns-clause-refused : goal.returns-clause-refused
 returns-clause-refused g c = λ refused is.
     let same = ap (λ (st : Open g.row.D.Denot g.row.D-Piece.Denot g.row.A.Denot). st.settings) c.self.view_is in
-    let all : c.loop-turn.turn ≡ (c.args.self.now).settings.volumes = let volumes = ap (λ (s : Settings). s.volumes) same in omega (arith, volumes, c.loop-turn-test.false, c.loop-turn.auto.turn-end) in
+    let all : c.loop-turn.turn ≡ (c.args.self.now).settings.volumes =
+    let volumes = ap (λ (s : Settings). s.volumes) same in omega (arith, volumes, c.loop-turn-test.false, c.loop-turn.auto.turn-end) in
     let these : c.loop-turn.refused ≡ refused = cc in
     subst (λ (rs : List Refused). AllZip (Refuses (c.args.self.now).settings) (all_tries (c.args.self.now).settings c.args.pair) rs) these
     (subst (λ n. AllZip (Refuses (c.args.self.now).settings) (map (try_at (c.args.self.now).settings c.args.pair) (range_with_len 0 n)) c.loop-turn.refused) all c.loop-turn.invariant.refuses)
@@ -68,7 +72,8 @@ returns-in-None-clause-seen g c = λ volume is.
 pub returns-clause-refused_seen : goal.returns-clause-refused_seen
 returns-clause-refused_seen g c = λ refused is.
     let same = ap (λ (st : Open g.row.D.Denot g.row.D-Piece.Denot g.row.A.Denot). st.settings) c.self.view_is in
-    let all : c.loop-turn.turn ≡ (c.args.self.now).settings.volumes = let volumes = ap (λ (s : Settings). s.volumes) same in omega (arith, volumes, c.loop-turn-test.false, c.loop-turn.auto.turn-end) in
+    let all : c.loop-turn.turn ≡ (c.args.self.now).settings.volumes =
+    let volumes = ap (λ (s : Settings). s.volumes) same in omega (arith, volumes, c.loop-turn-test.false, c.loop-turn.auto.turn-end) in
     let these : c.loop-turn.refused ≡ refused = cc in
     let R = RefusesPhoto (c.args.self.now).settings (store_seen c.args.self.now) c.args.size in
     subst (λ (rs : List Refused). AllZip R (all_tries (c.args.self.now).settings c.args.pair) rs) these

@@ -18,8 +18,10 @@ returns-clause-legal g c = λ tells k tag stands.
     ap (λ (s : Settings). replica_on s c.args.volume c.args.machine) (sym same) ∙ sym c.replica_on.ensures.is ∙ c.in-Some.is in
     let fused = c.fuse_in.ensures.fused tells k stands in
     let came = fused.2 in
-    answered g.D.Disk.files g.D.Piece.Piece.Tells g.D.Disk.fault_count g.D.Disk.fuse_count g.A.Arm.fault_count c.fuse_in.new.self (c.args.self.now).settings k came.known tag _ (reply.Fused c.args.volume c.args.machine c.args.calls) c.fuse_in.ensures.settings
-    (subst (λ (o : Option ℕ). OnReplica k o (λ j. LegalFuse (c.args.self.now).settings k c.args.volume c.args.machine j c.args.calls) (reply.Fused c.args.volume c.args.machine c.args.calls) came.known) (sym there)
+    answered g.D.Disk.files g.D.Piece.Piece.Tells g.D.Disk.fault_count g.D.Disk.fuse_count g.A.Arm.fault_count c.fuse_in.new.self (c.args.self.now).settings k came.known tag _
+    (reply.Fused c.args.volume c.args.machine c.args.calls) c.fuse_in.ensures.settings
+    (subst (λ (o : Option ℕ). OnReplica k o (λ j. LegalFuse (c.args.self.now).settings k c.args.volume c.args.machine j c.args.calls)
+    (reply.Fused c.args.volume c.args.machine c.args.calls) came.known) (sym there)
     ((refl, refl), refl, (fused.0, fused.1, came.leaves))) came.stands
 
 pub returns-clause-fuses : goal.returns-clause-fuses

@@ -33,14 +33,21 @@ fused_reads {D} files k old new here others j r r' n was now =
 
 pub offset_bounds-as_mut_slice-volume : goal.offset_bounds-as_mut_slice-volume
 offset_bounds-as_mut_slice-volume g c =
-    let within : c.args.volume < length c.self.inside.volumes.items = let same = ap (λ (st : Open g.row.D.Denot g.row.D-Piece.Denot g.row.A.Denot). (st.settings).volumes) c.self.view_is in omega (arith, c.requires.volume, c.self.invariant.many, same) in
+    let within : c.args.volume < length c.self.inside.volumes.items =
+    let same = ap (λ (st : Open g.row.D.Denot g.row.D-Piece.Denot g.row.A.Denot). (st.settings).volumes) c.self.view_is in omega (arith, c.requires.volume, c.self.invariant.many, same) in
     let long = ap length c.as_mut_slice.ensures.value in
     scaled_Fits c.args.volume (length c.as_mut_slice.result.now) _ (omega (arith, within, long)) c.as_mut_slice.type_inv.1
 
 pub fuse-requires : goal.fuse-requires
 fuse-requires g c =
-    let store : Open g.row.D.Denot g.row.D-Piece.Denot g.row.A.Denot = record { settings = c.self.inside.settings; directory = c.self.inside.directory; volumes = c.self.inside.volumes.items; arms = c.self.inside.seats.items } in
-    let within : c.args.volume < length c.self.inside.volumes.items = let same = ap (λ (st : Open g.row.D.Denot g.row.D-Piece.Denot g.row.A.Denot). (st.settings).volumes) c.self.view_is in omega (arith, c.requires.volume, c.self.invariant.many, same) in
+    let store : Open g.row.D.Denot g.row.D-Piece.Denot g.row.A.Denot = record {
+      settings = c.self.inside.settings;
+      directory = c.self.inside.directory;
+      volumes = c.self.inside.volumes.items;
+      arms = c.self.inside.seats.items;
+    } in
+    let within : c.args.volume < length c.self.inside.volumes.items =
+    let same = ap (λ (st : Open g.row.D.Denot g.row.D-Piece.Denot g.row.A.Denot). (st.settings).volumes) c.self.view_is in omega (arith, c.requires.volume, c.self.invariant.many, same) in
     let volume : Volume g.row.D.Denot g.row.D-Piece.Denot = slice_index_or c.as_mut_slice.result.now c.args.volume c.index-as_mut_slice-volume.result in
     let at : At store.volumes c.args.volume volume = subst (λ (vs : List (Volume g.row.D.Denot g.row.D-Piece.Denot)). At vs c.args.volume volume) c.as_mut_slice.ensures.value
     (at_read c.as_mut_slice.result.now c.args.volume c.index-as_mut_slice-volume.result (let long = ap length c.as_mut_slice.ensures.value in omega (arith, within, long))) in
@@ -53,37 +60,62 @@ fuse-requires g c =
 
 pub invariant_of-self : goal.invariant_of-self
 invariant_of-self g c =
-    let store : Open g.row.D.Denot g.row.D-Piece.Denot g.row.A.Denot = record { settings = c.self.inside.settings; directory = c.self.inside.directory; volumes = c.self.inside.volumes.items; arms = c.self.inside.seats.items } in
-    let within : c.args.volume < length c.self.inside.volumes.items = let same = ap (λ (st : Open g.row.D.Denot g.row.D-Piece.Denot g.row.A.Denot). (st.settings).volumes) c.self.view_is in omega (arith, c.requires.volume, c.self.invariant.many, same) in
+    let store : Open g.row.D.Denot g.row.D-Piece.Denot g.row.A.Denot = record {
+      settings = c.self.inside.settings;
+      directory = c.self.inside.directory;
+      volumes = c.self.inside.volumes.items;
+      arms = c.self.inside.seats.items;
+    } in
+    let within : c.args.volume < length c.self.inside.volumes.items =
+    let same = ap (λ (st : Open g.row.D.Denot g.row.D-Piece.Denot g.row.A.Denot). (st.settings).volumes) c.self.view_is in omega (arith, c.requires.volume, c.self.invariant.many, same) in
     let volume : Volume g.row.D.Denot g.row.D-Piece.Denot = slice_index_or c.as_mut_slice.result.now c.args.volume c.index-as_mut_slice-volume.result in
     let at : At store.volumes c.args.volume volume = subst (λ (vs : List (Volume g.row.D.Denot g.row.D-Piece.Denot)). At vs c.args.volume volume) c.as_mut_slice.ensures.value
     (at_read c.as_mut_slice.result.now c.args.volume c.index-as_mut_slice-volume.result (let long = ap length c.as_mut_slice.ensures.value in omega (arith, within, long))) in
-    let items = with_items_is c.self.inside.volumes (slice_set c.as_mut_slice.result.now c.args.volume c.fuse.new.self) (length-set c.as_mut_slice.result.now c.args.volume c.fuse.new.self ∙ c.as_mut_slice.ensures.len)
+    let items =
+    with_items_is c.self.inside.volumes (slice_set c.as_mut_slice.result.now c.args.volume c.fuse.new.self)
+    (length-set c.as_mut_slice.result.now c.args.volume c.fuse.new.self ∙ c.as_mut_slice.ensures.len)
     ∙ ap (λ (vs : List (Volume g.row.D.Denot g.row.D-Piece.Denot)). slice_set vs c.args.volume c.fuse.new.self) c.as_mut_slice.ensures.value in
     rw items (shape_kept store c.args.volume volume c.fuse.new.self c.self.invariant at c.fuse.ensures.same c.fuse.ensures.count)
 
 pub returns-clause-fused : goal.returns-clause-fused
 returns-clause-fused g c = λ tells k stands.
-    let store : Open g.row.D.Denot g.row.D-Piece.Denot g.row.A.Denot = record { settings = c.self.inside.settings; directory = c.self.inside.directory; volumes = c.self.inside.volumes.items; arms = c.self.inside.seats.items } in
-    let within : c.args.volume < length c.self.inside.volumes.items = let same = ap (λ (st : Open g.row.D.Denot g.row.D-Piece.Denot g.row.A.Denot). (st.settings).volumes) c.self.view_is in omega (arith, c.requires.volume, c.self.invariant.many, same) in
+    let store : Open g.row.D.Denot g.row.D-Piece.Denot g.row.A.Denot = record {
+      settings = c.self.inside.settings;
+      directory = c.self.inside.directory;
+      volumes = c.self.inside.volumes.items;
+      arms = c.self.inside.seats.items;
+    } in
+    let within : c.args.volume < length c.self.inside.volumes.items =
+    let same = ap (λ (st : Open g.row.D.Denot g.row.D-Piece.Denot g.row.A.Denot). (st.settings).volumes) c.self.view_is in omega (arith, c.requires.volume, c.self.invariant.many, same) in
     let volume : Volume g.row.D.Denot g.row.D-Piece.Denot = slice_index_or c.as_mut_slice.result.now c.args.volume c.index-as_mut_slice-volume.result in
     let at : At store.volumes c.args.volume volume = subst (λ (vs : List (Volume g.row.D.Denot g.row.D-Piece.Denot)). At vs c.args.volume volume) c.as_mut_slice.ensures.value
     (at_read c.as_mut_slice.result.now c.args.volume c.index-as_mut_slice-volume.result (let long = ap length c.as_mut_slice.ensures.value in omega (arith, within, long))) in
-    let items = with_items_is c.self.inside.volumes (slice_set c.as_mut_slice.result.now c.args.volume c.fuse.new.self) (length-set c.as_mut_slice.result.now c.args.volume c.fuse.new.self ∙ c.as_mut_slice.ensures.len)
+    let items =
+    with_items_is c.self.inside.volumes (slice_set c.as_mut_slice.result.now c.args.volume c.fuse.new.self)
+    (length-set c.as_mut_slice.result.now c.args.volume c.fuse.new.self ∙ c.as_mut_slice.ensures.len)
     ∙ ap (λ (vs : List (Volume g.row.D.Denot g.row.D-Piece.Denot)). slice_set vs c.args.volume c.fuse.new.self) c.as_mut_slice.ensures.value in
     rw items
-    (volume_fused g.D.Disk.files g.D.Piece.Piece.Tells g.D.Disk.fault_count g.D.Disk.fuse_count g.A.Arm.fault_count c.args.self.now store k c.args.volume c.args.replica volume c.fuse.new.self c.self.view_is at
+    (volume_fused g.D.Disk.files g.D.Piece.Piece.Tells g.D.Disk.fault_count g.D.Disk.fuse_count g.A.Arm.fault_count c.args.self.now store k c.args.volume c.args.replica volume
+    c.fuse.new.self c.self.view_is at
     (let same = ap (λ (st : Open g.row.D.Denot g.row.D-Piece.Denot g.row.A.Denot). (st.settings).replicas) c.self.view_is in omega (arith, c.requires.replica, same)) stands
     (record { same = c.fuse.ensures.same; count = c.fuse.ensures.count; fused = c.fuse.ensures.fused; others = c.fuse.ensures.others }) (λ known s. c.fuse.ensures.stands tells known s))
 
 pub returns-clause-counts : goal.returns-clause-counts
 returns-clause-counts g c =
-    let store : Open g.row.D.Denot g.row.D-Piece.Denot g.row.A.Denot = record { settings = c.self.inside.settings; directory = c.self.inside.directory; volumes = c.self.inside.volumes.items; arms = c.self.inside.seats.items } in
-    let within : c.args.volume < length c.self.inside.volumes.items = let same = ap (λ (st : Open g.row.D.Denot g.row.D-Piece.Denot g.row.A.Denot). (st.settings).volumes) c.self.view_is in omega (arith, c.requires.volume, c.self.invariant.many, same) in
+    let store : Open g.row.D.Denot g.row.D-Piece.Denot g.row.A.Denot = record {
+      settings = c.self.inside.settings;
+      directory = c.self.inside.directory;
+      volumes = c.self.inside.volumes.items;
+      arms = c.self.inside.seats.items;
+    } in
+    let within : c.args.volume < length c.self.inside.volumes.items =
+    let same = ap (λ (st : Open g.row.D.Denot g.row.D-Piece.Denot g.row.A.Denot). (st.settings).volumes) c.self.view_is in omega (arith, c.requires.volume, c.self.invariant.many, same) in
     let volume : Volume g.row.D.Denot g.row.D-Piece.Denot = slice_index_or c.as_mut_slice.result.now c.args.volume c.index-as_mut_slice-volume.result in
     let at : At store.volumes c.args.volume volume = subst (λ (vs : List (Volume g.row.D.Denot g.row.D-Piece.Denot)). At vs c.args.volume volume) c.as_mut_slice.ensures.value
     (at_read c.as_mut_slice.result.now c.args.volume c.index-as_mut_slice-volume.result (let long = ap length c.as_mut_slice.ensures.value in omega (arith, within, long))) in
-    let items = with_items_is c.self.inside.volumes (slice_set c.as_mut_slice.result.now c.args.volume c.fuse.new.self) (length-set c.as_mut_slice.result.now c.args.volume c.fuse.new.self ∙ c.as_mut_slice.ensures.len)
+    let items =
+    with_items_is c.self.inside.volumes (slice_set c.as_mut_slice.result.now c.args.volume c.fuse.new.self)
+    (length-set c.as_mut_slice.result.now c.args.volume c.fuse.new.self ∙ c.as_mut_slice.ensures.len)
     ∙ ap (λ (vs : List (Volume g.row.D.Denot g.row.D-Piece.Denot)). slice_set vs c.args.volume c.fuse.new.self) c.as_mut_slice.ensures.value in
     rw items
     (fused_counts g.D.Disk.fault_count g.D.Disk.fuse_count c.args.self.now store c.args.volume c.args.replica volume c.fuse.new.self c.self.view_is at
@@ -91,62 +123,106 @@ returns-clause-counts g c =
 
 pub returns-clause-up : goal.returns-clause-up
 returns-clause-up g c =
-    let store : Open g.row.D.Denot g.row.D-Piece.Denot g.row.A.Denot = record { settings = c.self.inside.settings; directory = c.self.inside.directory; volumes = c.self.inside.volumes.items; arms = c.self.inside.seats.items } in
-    let within : c.args.volume < length c.self.inside.volumes.items = let same = ap (λ (st : Open g.row.D.Denot g.row.D-Piece.Denot g.row.A.Denot). (st.settings).volumes) c.self.view_is in omega (arith, c.requires.volume, c.self.invariant.many, same) in
+    let store : Open g.row.D.Denot g.row.D-Piece.Denot g.row.A.Denot = record {
+      settings = c.self.inside.settings;
+      directory = c.self.inside.directory;
+      volumes = c.self.inside.volumes.items;
+      arms = c.self.inside.seats.items;
+    } in
+    let within : c.args.volume < length c.self.inside.volumes.items =
+    let same = ap (λ (st : Open g.row.D.Denot g.row.D-Piece.Denot g.row.A.Denot). (st.settings).volumes) c.self.view_is in omega (arith, c.requires.volume, c.self.invariant.many, same) in
     let volume : Volume g.row.D.Denot g.row.D-Piece.Denot = slice_index_or c.as_mut_slice.result.now c.args.volume c.index-as_mut_slice-volume.result in
     let at : At store.volumes c.args.volume volume = subst (λ (vs : List (Volume g.row.D.Denot g.row.D-Piece.Denot)). At vs c.args.volume volume) c.as_mut_slice.ensures.value
     (at_read c.as_mut_slice.result.now c.args.volume c.index-as_mut_slice-volume.result (let long = ap length c.as_mut_slice.ensures.value in omega (arith, within, long))) in
-    let items = with_items_is c.self.inside.volumes (slice_set c.as_mut_slice.result.now c.args.volume c.fuse.new.self) (length-set c.as_mut_slice.result.now c.args.volume c.fuse.new.self ∙ c.as_mut_slice.ensures.len)
+    let items =
+    with_items_is c.self.inside.volumes (slice_set c.as_mut_slice.result.now c.args.volume c.fuse.new.self)
+    (length-set c.as_mut_slice.result.now c.args.volume c.fuse.new.self ∙ c.as_mut_slice.ensures.len)
     ∙ ap (λ (vs : List (Volume g.row.D.Denot g.row.D-Piece.Denot)). slice_set vs c.args.volume c.fuse.new.self) c.as_mut_slice.ensures.value in
     rw items
-    (called_up c.args.self.now store c.args.volume c.fuse.new.self c.self.view_is c.requires.up (c.fuse.ensures.«open» (called_open c.args.self.now store c.args.volume volume c.self.view_is at c.requires.up)))
+    (called_up c.args.self.now store c.args.volume c.fuse.new.self c.self.view_is c.requires.up
+    (c.fuse.ensures.«open» (called_open c.args.self.now store c.args.volume volume c.self.view_is at c.requires.up)))
 
 pub returns-clause-fuses : goal.returns-clause-fuses
 returns-clause-fuses g c =
-    let store : Open g.row.D.Denot g.row.D-Piece.Denot g.row.A.Denot = record { settings = c.self.inside.settings; directory = c.self.inside.directory; volumes = c.self.inside.volumes.items; arms = c.self.inside.seats.items } in
-    let within : c.args.volume < length c.self.inside.volumes.items = let same = ap (λ (st : Open g.row.D.Denot g.row.D-Piece.Denot g.row.A.Denot). (st.settings).volumes) c.self.view_is in omega (arith, c.requires.volume, c.self.invariant.many, same) in
+    let store : Open g.row.D.Denot g.row.D-Piece.Denot g.row.A.Denot = record {
+      settings = c.self.inside.settings;
+      directory = c.self.inside.directory;
+      volumes = c.self.inside.volumes.items;
+      arms = c.self.inside.seats.items;
+    } in
+    let within : c.args.volume < length c.self.inside.volumes.items =
+    let same = ap (λ (st : Open g.row.D.Denot g.row.D-Piece.Denot g.row.A.Denot). (st.settings).volumes) c.self.view_is in omega (arith, c.requires.volume, c.self.invariant.many, same) in
     let volume : Volume g.row.D.Denot g.row.D-Piece.Denot = slice_index_or c.as_mut_slice.result.now c.args.volume c.index-as_mut_slice-volume.result in
     let at : At store.volumes c.args.volume volume = subst (λ (vs : List (Volume g.row.D.Denot g.row.D-Piece.Denot)). At vs c.args.volume volume) c.as_mut_slice.ensures.value
     (at_read c.as_mut_slice.result.now c.args.volume c.index-as_mut_slice-volume.result (let long = ap length c.as_mut_slice.ensures.value in omega (arith, within, long))) in
-    let items = with_items_is c.self.inside.volumes (slice_set c.as_mut_slice.result.now c.args.volume c.fuse.new.self) (length-set c.as_mut_slice.result.now c.args.volume c.fuse.new.self ∙ c.as_mut_slice.ensures.len)
+    let items =
+    with_items_is c.self.inside.volumes (slice_set c.as_mut_slice.result.now c.args.volume c.fuse.new.self)
+    (length-set c.as_mut_slice.result.now c.args.volume c.fuse.new.self ∙ c.as_mut_slice.ensures.len)
     ∙ ap (λ (vs : List (Volume g.row.D.Denot g.row.D-Piece.Denot)). slice_set vs c.args.volume c.fuse.new.self) c.as_mut_slice.ensures.value in
-    let replica : c.args.replica < (store.settings).replicas = let same = ap (λ (st : Open g.row.D.Denot g.row.D-Piece.Denot g.row.A.Denot). (st.settings).replicas) c.self.view_is in omega (arith, c.requires.replica, same) in
+    let replica : c.args.replica < (store.settings).replicas =
+    let same = ap (λ (st : Open g.row.D.Denot g.row.D-Piece.Denot g.row.A.Denot). (st.settings).replicas) c.self.view_is in omega (arith, c.requires.replica, same) in
     rw items
     (fused_fuses g.D.Disk.fault_count g.D.Disk.fuse_count c.args.self.now store c.args.volume c.args.replica volume c.fuse.new.self c.self.view_is c.self.invariant at replica
     (record { same = c.fuse.ensures.same; count = c.fuse.ensures.count; fused = c.fuse.ensures.fused; others = c.fuse.ensures.others }))
 
 pub returns-clause-contents : goal.returns-clause-contents
 returns-clause-contents g c = λ tells.
-    let store : Open g.row.D.Denot g.row.D-Piece.Denot g.row.A.Denot = record { settings = c.self.inside.settings; directory = c.self.inside.directory; volumes = c.self.inside.volumes.items; arms = c.self.inside.seats.items } in
-    let within : c.args.volume < length c.self.inside.volumes.items = let same = ap (λ (st : Open g.row.D.Denot g.row.D-Piece.Denot g.row.A.Denot). (st.settings).volumes) c.self.view_is in omega (arith, c.requires.volume, c.self.invariant.many, same) in
+    let store : Open g.row.D.Denot g.row.D-Piece.Denot g.row.A.Denot = record {
+      settings = c.self.inside.settings;
+      directory = c.self.inside.directory;
+      volumes = c.self.inside.volumes.items;
+      arms = c.self.inside.seats.items;
+    } in
+    let within : c.args.volume < length c.self.inside.volumes.items =
+    let same = ap (λ (st : Open g.row.D.Denot g.row.D-Piece.Denot g.row.A.Denot). (st.settings).volumes) c.self.view_is in omega (arith, c.requires.volume, c.self.invariant.many, same) in
     let volume : Volume g.row.D.Denot g.row.D-Piece.Denot = slice_index_or c.as_mut_slice.result.now c.args.volume c.index-as_mut_slice-volume.result in
     let at : At store.volumes c.args.volume volume = subst (λ (vs : List (Volume g.row.D.Denot g.row.D-Piece.Denot)). At vs c.args.volume volume) c.as_mut_slice.ensures.value
     (at_read c.as_mut_slice.result.now c.args.volume c.index-as_mut_slice-volume.result (let long = ap length c.as_mut_slice.ensures.value in omega (arith, within, long))) in
-    let items = with_items_is c.self.inside.volumes (slice_set c.as_mut_slice.result.now c.args.volume c.fuse.new.self) (length-set c.as_mut_slice.result.now c.args.volume c.fuse.new.self ∙ c.as_mut_slice.ensures.len)
+    let items =
+    with_items_is c.self.inside.volumes (slice_set c.as_mut_slice.result.now c.args.volume c.fuse.new.self)
+    (length-set c.as_mut_slice.result.now c.args.volume c.fuse.new.self ∙ c.as_mut_slice.ensures.len)
     ∙ ap (λ (vs : List (Volume g.row.D.Denot g.row.D-Piece.Denot)). slice_set vs c.args.volume c.fuse.new.self) c.as_mut_slice.ensures.value in
-    subst (λ (vs : List (Volume g.row.D.Denot g.row.D-Piece.Denot)). KeepsIn (c.args.self.now).settings AnySlot (contents_in g.D.Disk.files c.args.self.now) (contents_in g.D.Disk.files (let next : Open g.row.D.Denot g.row.D-Piece.Denot g.row.A.Denot = record store { volumes = vs } in next))) (sym items)
+    subst (λ (vs : List (Volume g.row.D.Denot g.row.D-Piece.Denot)). KeepsIn (c.args.self.now).settings AnySlot (contents_in g.D.Disk.files c.args.self.now)
+    (contents_in g.D.Disk.files (let next : Open g.row.D.Denot g.row.D-Piece.Denot g.row.A.Denot = record store { volumes = vs } in next))) (sym items)
     (called_reads g.D.Disk.files (c.args.self.now).settings c.args.self.now store c.args.volume volume c.fuse.new.self c.self.view_is at c.fuse.ensures.count
     (fused_reads g.D.Disk.files c.args.replica volume.replicas c.fuse.new.self.replicas (c.fuse.ensures.files tells) c.fuse.ensures.others))
 
 pub returns-clause-seen : goal.returns-clause-seen
 returns-clause-seen g c =
-    let store : Open g.row.D.Denot g.row.D-Piece.Denot g.row.A.Denot = record { settings = c.self.inside.settings; directory = c.self.inside.directory; volumes = c.self.inside.volumes.items; arms = c.self.inside.seats.items } in
-    let within : c.args.volume < length c.self.inside.volumes.items = let same = ap (λ (st : Open g.row.D.Denot g.row.D-Piece.Denot g.row.A.Denot). (st.settings).volumes) c.self.view_is in omega (arith, c.requires.volume, c.self.invariant.many, same) in
+    let store : Open g.row.D.Denot g.row.D-Piece.Denot g.row.A.Denot = record {
+      settings = c.self.inside.settings;
+      directory = c.self.inside.directory;
+      volumes = c.self.inside.volumes.items;
+      arms = c.self.inside.seats.items;
+    } in
+    let within : c.args.volume < length c.self.inside.volumes.items =
+    let same = ap (λ (st : Open g.row.D.Denot g.row.D-Piece.Denot g.row.A.Denot). (st.settings).volumes) c.self.view_is in omega (arith, c.requires.volume, c.self.invariant.many, same) in
     let volume : Volume g.row.D.Denot g.row.D-Piece.Denot = slice_index_or c.as_mut_slice.result.now c.args.volume c.index-as_mut_slice-volume.result in
     let at : At store.volumes c.args.volume volume = subst (λ (vs : List (Volume g.row.D.Denot g.row.D-Piece.Denot)). At vs c.args.volume volume) c.as_mut_slice.ensures.value
     (at_read c.as_mut_slice.result.now c.args.volume c.index-as_mut_slice-volume.result (let long = ap length c.as_mut_slice.ensures.value in omega (arith, within, long))) in
-    let items = with_items_is c.self.inside.volumes (slice_set c.as_mut_slice.result.now c.args.volume c.fuse.new.self) (length-set c.as_mut_slice.result.now c.args.volume c.fuse.new.self ∙ c.as_mut_slice.ensures.len)
+    let items =
+    with_items_is c.self.inside.volumes (slice_set c.as_mut_slice.result.now c.args.volume c.fuse.new.self)
+    (length-set c.as_mut_slice.result.now c.args.volume c.fuse.new.self ∙ c.as_mut_slice.ensures.len)
     ∙ ap (λ (vs : List (Volume g.row.D.Denot g.row.D-Piece.Denot)). slice_set vs c.args.volume c.fuse.new.self) c.as_mut_slice.ensures.value in
     rw items (moves_none c.args.volume _ _ (volume_moves c.args.self.now store c.self.view_is c.args.volume volume c.fuse.new.self (λ before after. after ≡ before) at c.fuse.ensures.unchanged))
 
 pub returns-clause-sights : goal.returns-clause-sights
 returns-clause-sights g c =
-    let store : Open g.row.D.Denot g.row.D-Piece.Denot g.row.A.Denot = record { settings = c.self.inside.settings; directory = c.self.inside.directory; volumes = c.self.inside.volumes.items; arms = c.self.inside.seats.items } in
-    let within : c.args.volume < length c.self.inside.volumes.items = let same = ap (λ (st : Open g.row.D.Denot g.row.D-Piece.Denot g.row.A.Denot). (st.settings).volumes) c.self.view_is in omega (arith, c.requires.volume, c.self.invariant.many, same) in
+    let store : Open g.row.D.Denot g.row.D-Piece.Denot g.row.A.Denot = record {
+      settings = c.self.inside.settings;
+      directory = c.self.inside.directory;
+      volumes = c.self.inside.volumes.items;
+      arms = c.self.inside.seats.items;
+    } in
+    let within : c.args.volume < length c.self.inside.volumes.items =
+    let same = ap (λ (st : Open g.row.D.Denot g.row.D-Piece.Denot g.row.A.Denot). (st.settings).volumes) c.self.view_is in omega (arith, c.requires.volume, c.self.invariant.many, same) in
     let volume : Volume g.row.D.Denot g.row.D-Piece.Denot = slice_index_or c.as_mut_slice.result.now c.args.volume c.index-as_mut_slice-volume.result in
     let at : At store.volumes c.args.volume volume = subst (λ (vs : List (Volume g.row.D.Denot g.row.D-Piece.Denot)). At vs c.args.volume volume) c.as_mut_slice.ensures.value
     (at_read c.as_mut_slice.result.now c.args.volume c.index-as_mut_slice-volume.result (let long = ap length c.as_mut_slice.ensures.value in omega (arith, within, long))) in
-    let items = with_items_is c.self.inside.volumes (slice_set c.as_mut_slice.result.now c.args.volume c.fuse.new.self) (length-set c.as_mut_slice.result.now c.args.volume c.fuse.new.self ∙ c.as_mut_slice.ensures.len)
+    let items =
+    with_items_is c.self.inside.volumes (slice_set c.as_mut_slice.result.now c.args.volume c.fuse.new.self)
+    (length-set c.as_mut_slice.result.now c.args.volume c.fuse.new.self ∙ c.as_mut_slice.ensures.len)
     ∙ ap (λ (vs : List (Volume g.row.D.Denot g.row.D-Piece.Denot)). slice_set vs c.args.volume c.fuse.new.self) c.as_mut_slice.ensures.value in
     rw items
-    (volume_kept_photos c.args.self.now store c.self.view_is c.args.volume volume c.fuse.new.self at (λ pair j. ap (λ (w : Volume g.row.D.Denot g.row.D-Piece.Denot). sights_of w.rows pair j) c.fuse.ensures.still))
+    (volume_kept_photos c.args.self.now store c.self.view_is c.args.volume volume c.fuse.new.self at
+    (λ pair j. ap (λ (w : Volume g.row.D.Denot g.row.D-Piece.Denot). sights_of w.rows pair j) c.fuse.ensures.still))

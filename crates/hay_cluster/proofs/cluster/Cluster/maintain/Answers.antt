@@ -39,8 +39,10 @@ returns-in-Ok-clause-legal g c = λ tells k tag stands.
     ap (λ (s : Settings). replica_on s c.args.volume c.args.machine) (sym same) ∙ sym c.replica_on.ensures.is ∙ c.in-Some.is in
     let within : c.args.volume < (c.args.self.now).settings.volumes = subst (λ (s : Settings). c.args.volume < s.volumes) same (c.in-Some.ensures).within.1 in
     let moved = c.maintain_in.ensures.moves tells k stands in
-    subst (λ (r : Reply). Answered g.D.Disk.files g.D.Piece.Piece.Tells g.D.Disk.fault_count g.D.Disk.fuse_count g.A.Arm.fault_count k tag (command_of c.args.work c.args.volume c.args.machine) r c.maintain_in.new.self) (sym c.done.ensures.is)
-    (maintained g.D.Disk.files g.D.Piece.Piece.Tells g.D.Disk.fault_count g.D.Disk.fuse_count g.A.Arm.fault_count c.args.self.now c.maintain_in.new.self k c.args.volume c.args.machine c.in-Some.replica moved.before moved.after
+    subst (λ (r : Reply). Answered g.D.Disk.files g.D.Piece.Piece.Tells g.D.Disk.fault_count g.D.Disk.fuse_count g.A.Arm.fault_count k tag
+    (command_of c.args.work c.args.volume c.args.machine) r c.maintain_in.new.self) (sym c.done.ensures.is)
+    (maintained g.D.Disk.files g.D.Piece.Piece.Tells g.D.Disk.fault_count g.D.Disk.fuse_count g.A.Arm.fault_count c.args.self.now c.maintain_in.new.self k c.args.volume
+    c.args.machine c.in-Some.replica moved.before moved.after
     (record { same = c.maintain_in.ensures.settings; within = within; there = there; stands = stands; was = moved.was; stood = moved.stood; comes = moved.comes })
     tag c.args.work c.in-Ok.number (IfOk-at_ok _ c.in-Ok.is moved.does.0))
 
@@ -51,7 +53,8 @@ returns-in-Err-clause-legal g c = λ tells k tag stands.
     ap (λ (s : Settings). replica_on s c.args.volume c.args.machine) (sym same) ∙ sym c.replica_on.ensures.is ∙ c.in-Some.is in
     let within : c.args.volume < (c.args.self.now).settings.volumes = subst (λ (s : Settings). c.args.volume < s.volumes) same (c.in-Some.ensures).within.1 in
     let moved = c.maintain_in.ensures.moves tells k stands in
-    not_maintained g.D.Disk.files g.D.Piece.Piece.Tells g.D.Disk.fault_count g.D.Disk.fuse_count g.A.Arm.fault_count c.args.self.now c.maintain_in.new.self k c.args.volume c.args.machine c.in-Some.replica moved.before moved.after
+    not_maintained g.D.Disk.files g.D.Piece.Piece.Tells g.D.Disk.fault_count g.D.Disk.fuse_count g.A.Arm.fault_count c.args.self.now c.maintain_in.new.self k c.args.volume
+    c.args.machine c.in-Some.replica moved.before moved.after
     (record { same = c.maintain_in.ensures.settings; within = within; there = there; stands = stands; was = moved.was; stood = moved.stood; comes = moved.comes })
     tag c.args.work c.in-Err.fault c.refused.result (IfErr-at_err _ c.in-Err.is c.maintain_in.ensures.causes) (IfErr-at_err _ c.in-Err.is moved.does.1) c.refused.ensures.is
 
@@ -69,7 +72,8 @@ returns-in-Ok-clause-suits g c = λ line.
     let same = ap (λ (st : Open g.row.D.Denot g.row.D-Piece.Denot g.row.A.Denot). st.settings) c.self.view_is in
     let there : replica_on (c.args.self.now).settings c.args.volume c.args.machine ≡ Some c.in-Some.replica =
     ap (λ (s : Settings). replica_on s c.args.volume c.args.machine) (sym same) ∙ sym c.replica_on.ensures.is ∙ c.in-Some.is in
-    work_suits (c.args.self.now).settings c.args.volume c.args.machine line c.in-Some.replica c.args.work c.done.result there (done_suits (c.args.self.now).settings c.args.volume c.args.machine c.args.work c.in-Ok.number c.done.result c.done.ensures.is)
+    work_suits (c.args.self.now).settings c.args.volume c.args.machine line c.in-Some.replica c.args.work c.done.result there
+    (done_suits (c.args.self.now).settings c.args.volume c.args.machine c.args.work c.in-Ok.number c.done.result c.done.ensures.is)
 
 pub returns-in-Err-clause-suits : goal.returns-in-Err-clause-suits
 returns-in-Err-clause-suits g c = λ line.
@@ -92,8 +96,10 @@ returns-in-Ok-clause-contents g c = λ tells.
     let there : replica_on (c.args.self.now).settings c.args.volume c.args.machine ≡ Some c.in-Some.replica =
     ap (λ (s : Settings). replica_on s c.args.volume c.args.machine) (sym same) ∙ sym c.replica_on.ensures.is ∙ c.in-Some.is in
     let apart = leaves_contents g.D.Disk.files (c.args.self.now).settings (IsApartOn (c.args.self.now).settings c.args.volume c.args.machine) c.args.self.now c.maintain_in.new.self
-    (leaves-fewer (IsApart (c.args.self.now).settings c.args.volume c.in-Some.replica) (IsApartOn (c.args.self.now).settings c.args.volume c.args.machine) (disks_of c.args.self.now) (disks_of c.maintain_in.new.self) (λ slot far. far c.in-Some.replica there) c.maintain_in.ensures.others) in
-    done_leaves (c.args.self.now).settings c.args.volume c.args.machine (contents_in g.D.Disk.files c.args.self.now) (contents_in g.D.Disk.files c.maintain_in.new.self) c.args.work c.in-Ok.number c.done.result c.done.ensures.is apart
+    (leaves-fewer (IsApart (c.args.self.now).settings c.args.volume c.in-Some.replica) (IsApartOn (c.args.self.now).settings c.args.volume c.args.machine)
+    (disks_of c.args.self.now) (disks_of c.maintain_in.new.self) (λ slot far. far c.in-Some.replica there) c.maintain_in.ensures.others) in
+    done_leaves (c.args.self.now).settings c.args.volume c.args.machine (contents_in g.D.Disk.files c.args.self.now) (contents_in g.D.Disk.files c.maintain_in.new.self) c.args.work
+    c.in-Ok.number c.done.result c.done.ensures.is apart
 
 pub returns-in-Err-clause-contents : goal.returns-in-Err-clause-contents
 returns-in-Err-clause-contents g c = λ tells.
@@ -101,8 +107,10 @@ returns-in-Err-clause-contents g c = λ tells.
     let there : replica_on (c.args.self.now).settings c.args.volume c.args.machine ≡ Some c.in-Some.replica =
     ap (λ (s : Settings). replica_on s c.args.volume c.args.machine) (sym same) ∙ sym c.replica_on.ensures.is ∙ c.in-Some.is in
     let apart = leaves_contents g.D.Disk.files (c.args.self.now).settings (IsApartOn (c.args.self.now).settings c.args.volume c.args.machine) c.args.self.now c.maintain_in.new.self
-    (leaves-fewer (IsApart (c.args.self.now).settings c.args.volume c.in-Some.replica) (IsApartOn (c.args.self.now).settings c.args.volume c.args.machine) (disks_of c.args.self.now) (disks_of c.maintain_in.new.self) (λ slot far. far c.in-Some.replica there) c.maintain_in.ensures.others) in
-    refused_leaves (c.args.self.now).settings c.args.volume c.args.machine (contents_in g.D.Disk.files c.args.self.now) (contents_in g.D.Disk.files c.maintain_in.new.self) c.in-Err.fault c.refused.result c.refused.ensures.is apart (IfErr-at_err _ c.in-Err.is (c.maintain_in.ensures.kept tells))
+    (leaves-fewer (IsApart (c.args.self.now).settings c.args.volume c.in-Some.replica) (IsApartOn (c.args.self.now).settings c.args.volume c.args.machine)
+    (disks_of c.args.self.now) (disks_of c.maintain_in.new.self) (λ slot far. far c.in-Some.replica there) c.maintain_in.ensures.others) in
+    refused_leaves (c.args.self.now).settings c.args.volume c.args.machine (contents_in g.D.Disk.files c.args.self.now) (contents_in g.D.Disk.files c.maintain_in.new.self)
+    c.in-Err.fault c.refused.result c.refused.ensures.is apart (IfErr-at_err _ c.in-Err.is (c.maintain_in.ensures.kept tells))
 
 pub returns-in_default-clause-seen : goal.returns-in_default-clause-seen
 returns-in_default-clause-seen g c =
@@ -132,11 +140,13 @@ returns-in-Ok-clause-sights g c =
     let same = ap (λ (st : Open g.row.D.Denot g.row.D-Piece.Denot g.row.A.Denot). st.settings) c.self.view_is in
     let there : replica_on (c.args.self.now).settings c.args.volume c.args.machine ≡ Some c.in-Some.replica =
     ap (λ (s : Settings). replica_on s c.args.volume c.args.machine) (sym same) ∙ sym c.replica_on.ensures.is ∙ c.in-Some.is in
-    worked_sights (c.args.self.now).settings c.args.volume c.args.machine (store_seen c.args.self.now) (store_seen c.maintain_in.new.self) c.args.work c.in-Some.replica c.in-Ok.number c.done.result c.done.ensures.is there c.in-Ok.ensures.sights
+    worked_sights (c.args.self.now).settings c.args.volume c.args.machine (store_seen c.args.self.now) (store_seen c.maintain_in.new.self) c.args.work c.in-Some.replica
+    c.in-Ok.number c.done.result c.done.ensures.is there c.in-Ok.ensures.sights
 
 pub returns-in-Err-clause-sights : goal.returns-in-Err-clause-sights
 returns-in-Err-clause-sights g c =
-    unworked_sights (c.args.self.now).settings c.args.volume c.args.machine (store_seen c.args.self.now) (store_seen c.maintain_in.new.self) c.in-Err.fault c.refused.result c.refused.ensures.is c.in-Err.ensures.refused_sights
+    unworked_sights (c.args.self.now).settings c.args.volume c.args.machine (store_seen c.args.self.now) (store_seen c.maintain_in.new.self) c.in-Err.fault c.refused.result
+    c.refused.ensures.is c.in-Err.ensures.refused_sights
 
 pub returns-in_default-clause-damaged : goal.returns-in_default-clause-damaged
 returns-in_default-clause-damaged g c = λ tells by place is. absurd cc
@@ -151,7 +161,8 @@ returns-in-Err-clause-damaged g c = λ tells by place is j on.
     let there : replica_on (c.args.self.now).settings c.args.volume c.args.machine ≡ Some c.in-Some.replica =
     ap (λ (s : Settings). replica_on s c.args.volume c.args.machine) (sym same) ∙ sym c.replica_on.ensures.is ∙ c.in-Some.is in
     let fault : c.in-Err.fault ≡ refusal.Damaged by place = work_damage c.args.volume c.refused.result c.args.volume by place is c.args.machine c.in-Err.fault c.refused.ensures.is in
-    subst (λ i. FileAt (c.args.self.now).settings (contents_in g.D.Disk.files c.args.self.now) (store_seen c.args.self.now) c.args.volume i (LacksWork ((store_seen c.args.self.now).places c.args.volume) i c.args.work place)) (same_Some c.in-Some.replica j (sym there ∙ on))
+    subst (λ i. FileAt (c.args.self.now).settings (contents_in g.D.Disk.files c.args.self.now) (store_seen c.args.self.now) c.args.volume i
+    (LacksWork ((store_seen c.args.self.now).places c.args.volume) i c.args.work place)) (same_Some c.in-Some.replica j (sym there ∙ on))
     (c.maintain_in.ensures.damaged tells by place (c.in-Err.is ∙ ap Err fault))
 
 pub returns-in_default-clause-told : goal.returns-in_default-clause-told
@@ -178,9 +189,13 @@ returns-in-Ok-clause-told g c = λ tells.
     record {
       done = λ number is j on.
           let one : number ≡ c.in-Ok.number = done_number c.args.volume c.args.machine c.args.work number c.in-Ok.number (sym is ∙ c.done.ensures.is) in
-          let led = IfOk-at_ok (λ n. FileAt settings contents old c.args.volume c.in-Some.replica (λ r file. VolumeAt c.args.volume (SeesAt c.in-Some.replica (λ r'. LeadsWork sights c.in-Some.replica c.args.work n r r' file)) new)) c.in-Ok.is (c.maintain_in.ensures.lead tells) in
-          subst (λ i. FileAt settings contents old c.args.volume i (λ r file. VolumeAt c.args.volume (SeesAt i (λ r'. LeadsWork sights i c.args.work number r r' file)) new)) (same_Some c.in-Some.replica j (sym there ∙ on))
-          (subst (λ n. FileAt settings contents old c.args.volume c.in-Some.replica (λ r file. VolumeAt c.args.volume (SeesAt c.in-Some.replica (λ r'. LeadsWork sights c.in-Some.replica c.args.work n r r' file)) new)) (sym one) led);
+          let led =
+          IfOk-at_ok (λ n. FileAt settings contents old c.args.volume c.in-Some.replica (λ r file.
+          VolumeAt c.args.volume (SeesAt c.in-Some.replica (λ r'. LeadsWork sights c.in-Some.replica c.args.work n r r' file)) new)) c.in-Ok.is (c.maintain_in.ensures.lead tells) in
+          subst (λ i. FileAt settings contents old c.args.volume i (λ r file. VolumeAt c.args.volume (SeesAt i (λ r'. LeadsWork sights i c.args.work number r r' file)) new))
+          (same_Some c.in-Some.replica j (sym there ∙ on))
+          (subst (λ n. FileAt settings contents old c.args.volume c.in-Some.replica (λ r file.
+          VolumeAt c.args.volume (SeesAt c.in-Some.replica (λ r'. LeadsWork sights c.in-Some.replica c.args.work n r r' file)) new)) (sym one) led);
       part = λ is. absurd (memory_undone c.args.volume c.args.machine c.in-Ok.number c.args.work (sym is ∙ c.done.ensures.is));
       froze = λ freezes j on.
           subst (λ i. FileAt settings contents old c.args.volume i (LeadsSwap sights i c.args.work)) (same_Some c.in-Some.replica j (sym there ∙ on)) (c.maintain_in.ensures.froze tells freezes);
@@ -199,8 +214,11 @@ returns-in-Err-clause-told g c = λ tells.
     record {
       done = λ number is. absurd (refused_done c.args.volume c.args.machine number c.args.work c.refused.result c.in-Err.fault c.refused.ensures.is is);
       part = λ is j on.
-          let led = IfErr-at_err (λ fault. MayWantMemory fault → FileAt settings contents old c.args.volume c.in-Some.replica (λ r file. VolumeAt c.args.volume (SeesAt c.in-Some.replica (λ r'. LeadsPart sights c.in-Some.replica c.args.work r r' file)) new)) c.in-Err.is (c.maintain_in.ensures.part tells) in
-          subst (λ i. FileAt settings contents old c.args.volume i (λ r file. VolumeAt c.args.volume (SeesAt i (λ r'. LeadsPart sights i c.args.work r r' file)) new)) (same_Some c.in-Some.replica j (sym there ∙ on))
+          let led =
+          IfErr-at_err (λ fault. MayWantMemory fault → FileAt settings contents old c.args.volume c.in-Some.replica
+          (λ r file. VolumeAt c.args.volume (SeesAt c.in-Some.replica (λ r'. LeadsPart sights c.in-Some.replica c.args.work r r' file)) new)) c.in-Err.is (c.maintain_in.ensures.part tells) in
+          subst (λ i. FileAt settings contents old c.args.volume i (λ r file. VolumeAt c.args.volume (SeesAt i (λ r'. LeadsPart sights i c.args.work r r' file)) new))
+          (same_Some c.in-Some.replica j (sym there ∙ on))
           (led (refused_memory c.args.volume c.args.machine c.refused.result c.in-Err.fault c.refused.ensures.is is));
       froze = λ freezes j on.
           subst (λ i. FileAt settings contents old c.args.volume i (LeadsSwap sights i c.args.work)) (same_Some c.in-Some.replica j (sym there ∙ on)) (c.maintain_in.ensures.froze tells freezes);

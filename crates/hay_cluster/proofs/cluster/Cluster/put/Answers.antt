@@ -44,10 +44,12 @@ pub put_tried-requires-clause-takes : goal.put_tried-requires-clause-takes
 put_tried-requires-clause-takes g c = λ volume is. c.find_taker.ensures.takes volume (c.in-Ok.is ∙ ap Ok is)
 
 pub returns-in-Err-clause-contents : goal.returns-in-Err-clause-contents
-returns-in-Err-clause-contents g c = λ tells. nothing_put (c.args.self.now).settings c.args.pair _ (store_seen c.args.self.now).volumes (store_seen c.args.self.now).volumes (contents_in g.D.Disk.files c.args.self.now)
+returns-in-Err-clause-contents g c =
+    λ tells. nothing_put (c.args.self.now).settings c.args.pair _ (store_seen c.args.self.now).volumes (store_seen c.args.self.now).volumes (contents_in g.D.Disk.files c.args.self.now)
 
 pub returns-in-Some-refusal-clause-contents : goal.returns-in-Some-refusal-clause-contents
-returns-in-Some-refusal-clause-contents g c = λ tells. nothing_put (c.args.self.now).settings c.args.pair _ (store_seen c.args.self.now).volumes (store_seen c.args.self.now).volumes (contents_in g.D.Disk.files c.args.self.now)
+returns-in-Some-refusal-clause-contents g c =
+    λ tells. nothing_put (c.args.self.now).settings c.args.pair _ (store_seen c.args.self.now).volumes (store_seen c.args.self.now).volumes (contents_in g.D.Disk.files c.args.self.now)
 
 pub returns-in-None-clause-contents : goal.returns-in-None-clause-contents
 returns-in-None-clause-contents g c = λ tells. record {
@@ -86,4 +88,5 @@ returns-in-Err-clause-sights g c =
 
 pub returns-in-Some-refusal-clause-sights : goal.returns-in-Some-refusal-clause-sights
 returns-in-Some-refusal-clause-sights g c =
-    turned_sights (c.args.self.now).settings c.args.pair (store_seen c.args.self.now) (store_seen c.args.self.now) (keeps_photos (store_seen c.args.self.now)) (c.in-Some-refusal.refused ∷ []) c.refuse_one.result c.refuse_one.ensures.is
+    turned_sights (c.args.self.now).settings c.args.pair (store_seen c.args.self.now) (store_seen c.args.self.now) (keeps_photos (store_seen c.args.self.now))
+    (c.in-Some-refusal.refused ∷ []) c.refuse_one.result c.refuse_one.ensures.is

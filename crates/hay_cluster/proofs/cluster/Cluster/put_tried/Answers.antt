@@ -35,10 +35,12 @@ returns-in-Nobody-clause-counts g c = none_falls (map g.D.Disk.fault_count (disk
 pub returns-in-Nobody-clause-suits : goal.returns-in-Nobody-clause-suits
 returns-in-Nobody-clause-suits g c =
     let settings = (c.args.self.now).settings in
-    refusal_suits settings c.args.pair c.in-Nobody.refused c.refuse.result (all_refuse settings c.args.pair c.in-Nobody.refused (c.requires.refused c.in-Nobody.refused c.in-Nobody.is)) c.refuse.ensures.is
+    refusal_suits settings c.args.pair c.in-Nobody.refused c.refuse.result (all_refuse settings c.args.pair c.in-Nobody.refused
+    (c.requires.refused c.in-Nobody.refused c.in-Nobody.is)) c.refuse.ensures.is
 
 pub returns-in-Nobody-clause-contents : goal.returns-in-Nobody-clause-contents
-returns-in-Nobody-clause-contents g c = λ tells. nothing_put (c.args.self.now).settings c.args.pair _ (store_seen c.args.self.now).volumes (store_seen c.args.self.now).volumes (contents_in g.D.Disk.files c.args.self.now)
+returns-in-Nobody-clause-contents g c =
+    λ tells. nothing_put (c.args.self.now).settings c.args.pair _ (store_seen c.args.self.now).volumes (store_seen c.args.self.now).volumes (contents_in g.D.Disk.files c.args.self.now)
 
 pub put_new-requires-clause-seen : goal.put_new-requires-clause-seen
 put_new-requires-clause-seen g c = c.requires.seen c.in-Taker.volume c.in-Taker.is
@@ -49,7 +51,8 @@ returns-in-Nobody-clause-seen g c =
     let seen = store_seen c.args.self.now in
     let size = length c.args.bytes.now in
     turned_seen settings c.args.tag c.args.pair size c.in-Nobody.refused c.refuse.result seen c.refuse.ensures.is
-    (subst (λ (o : Option ℕ). AllZip (RefusesPhoto settings seen size) (tries_by settings c.args.pair o) c.in-Nobody.refused) (sym c.requires.homeless) (c.requires.refused_seen c.in-Nobody.refused c.in-Nobody.is))
+    (subst (λ (o : Option ℕ). AllZip (RefusesPhoto settings seen size) (tries_by settings c.args.pair o) c.in-Nobody.refused) (sym c.requires.homeless)
+    (c.requires.refused_seen c.in-Nobody.refused c.in-Nobody.is))
 
 pub returns-in-Nobody-clause-sights : goal.returns-in-Nobody-clause-sights
 returns-in-Nobody-clause-sights g c =

@@ -16,7 +16,8 @@ pub returns-clause-legal : goal.returns-clause-legal
 returns-clause-legal g c = λ tells k stands.
     let home : home_of k c.args.pair ≡ Some c.in-Some.volume = sym (c.home.ensures.known tells k stands) ∙ c.in-Some.is in
     let shown = c.show.ensures.shown tells k stands home in
-    answered g.D.Disk.files g.D.Piece.Piece.Tells g.D.Disk.fault_count g.D.Disk.fuse_count g.A.Arm.fault_count c.show.new.self (c.args.self.now).settings k shown.known c.args.tag _ c.show.result c.show.ensures.settings
+    answered g.D.Disk.files g.D.Piece.Piece.Tells g.D.Disk.fault_count g.D.Disk.fuse_count g.A.Arm.fault_count c.show.new.self (c.args.self.now).settings k shown.known c.args.tag _
+    c.show.result c.show.ensures.settings
     (subst (λ start. LegalShow (c.args.self.now).settings k c.args.tag start c.args.pair c.args.cookie c.show.result shown.known) c.start_of-start.ensures.is shown.legal) shown.stands
 
 pub returns-in_default-clause-sure_arms : goal.returns-in_default-clause-sure_arms
@@ -48,6 +49,8 @@ returns-in_default-clause-sights g c =
 
 pub returns-clause-passes : goal.returns-clause-passes
 returns-clause-passes g c =
-    subst (λ start. TriesBefore g.D.Disk.Tells (c.args.self.now).settings (IsSureArm g.A.Arm.is_sure (c.args.self.now).arms c.args.tag.lane) (contents_in g.D.Disk.files c.show.new.self) c.args.tag.lane start c.args.pair
-    (counts_of g.D.Disk.fault_count g.A.Arm.fault_count c.args.self.now) (counts_of g.D.Disk.fault_count g.A.Arm.fault_count c.show.new.self) (store_seen c.show.new.self) (told_by c.show.result)) c.start_of-start.ensures.is
+    subst (λ start. TriesBefore g.D.Disk.Tells (c.args.self.now).settings (IsSureArm g.A.Arm.is_sure (c.args.self.now).arms c.args.tag.lane)
+    (contents_in g.D.Disk.files c.show.new.self) c.args.tag.lane start c.args.pair
+    (counts_of g.D.Disk.fault_count g.A.Arm.fault_count c.args.self.now) (counts_of g.D.Disk.fault_count g.A.Arm.fault_count c.show.new.self) (store_seen c.show.new.self)
+    (told_by c.show.result)) c.start_of-start.ensures.is
     c.show.ensures.passes

@@ -27,8 +27,11 @@ returns-in-Some-clause-says g c = λ tells k stands.
 
 pub returns-in-Some-clause-passes : goal.returns-in-Some-clause-passes
 returns-in-Some-clause-passes g c =
-    shown_passes (NeverIn g.D.Disk.Tells g.D.Disk.files g.D.Piece.Piece.Tells g.D.Disk.fault_count g.D.Disk.fuse_count g.A.Arm.fault_count g.A.Arm.is_sure c.args.self.now c.args.lane) (c.args.self.now).settings c.args.lane c.args.volume c.args.start
-    (counts_of g.D.Disk.fault_count g.A.Arm.fault_count c.args.self.now) (counts_of g.D.Disk.fault_count g.A.Arm.fault_count c.args.self.now) (IsOfPlace g.D.Disk.Tells (c.args.self.now).settings (contents_in g.D.Disk.files c.args.self.now) (store_seen c.args.self.now) c.args.volume c.args.pair) c.args.passed c.read_seen.result c.requires.first
+    shown_passes (NeverIn g.D.Disk.Tells g.D.Disk.files g.D.Piece.Piece.Tells g.D.Disk.fault_count g.D.Disk.fuse_count g.A.Arm.fault_count g.A.Arm.is_sure c.args.self.now
+    c.args.lane) (c.args.self.now).settings c.args.lane c.args.volume c.args.start
+    (counts_of g.D.Disk.fault_count g.A.Arm.fault_count c.args.self.now) (counts_of g.D.Disk.fault_count g.A.Arm.fault_count c.args.self.now)
+    (IsOfPlace g.D.Disk.Tells (c.args.self.now).settings (contents_in g.D.Disk.files c.args.self.now) (store_seen c.args.self.now) c.args.volume c.args.pair) c.args.passed
+    c.read_seen.result c.requires.first
     (c.requires.needle c.in-Some.needle c.in-Some.is).0 c.requires.may_stand c.read_seen.ensures.next
 
 pub returns-in-Some-clause-stops : goal.returns-in-Some-clause-stops

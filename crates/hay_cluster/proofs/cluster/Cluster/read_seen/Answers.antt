@@ -25,14 +25,21 @@ use Rattle.hay_cluster.proofs.cluster.Cluster.read_seen.Goals as goal
 
 pub offset_bounds-as_slice-volume : goal.offset_bounds-as_slice-volume
 offset_bounds-as_slice-volume g c =
-    let within : c.args.volume < length c.self.inside.volumes.items = let same = ap (λ (st : Open g.row.D.Denot g.row.D-Piece.Denot g.row.A.Denot). (st.settings).volumes) c.self.view_is in omega (arith, c.requires.volume, c.self.invariant.many, same) in
+    let within : c.args.volume < length c.self.inside.volumes.items =
+    let same = ap (λ (st : Open g.row.D.Denot g.row.D-Piece.Denot g.row.A.Denot). (st.settings).volumes) c.self.view_is in omega (arith, c.requires.volume, c.self.invariant.many, same) in
     let long = ap length c.as_slice.ensures.value in
     omega (arith, within, long)
 
 pub show_seen-requires : goal.show_seen-requires
 show_seen-requires g c =
-    let store : Open g.row.D.Denot g.row.D-Piece.Denot g.row.A.Denot = record { settings = c.self.inside.settings; directory = c.self.inside.directory; volumes = c.self.inside.volumes.items; arms = c.self.inside.seats.items } in
-    let within : c.args.volume < length c.self.inside.volumes.items = let same = ap (λ (st : Open g.row.D.Denot g.row.D-Piece.Denot g.row.A.Denot). (st.settings).volumes) c.self.view_is in omega (arith, c.requires.volume, c.self.invariant.many, same) in
+    let store : Open g.row.D.Denot g.row.D-Piece.Denot g.row.A.Denot = record {
+      settings = c.self.inside.settings;
+      directory = c.self.inside.directory;
+      volumes = c.self.inside.volumes.items;
+      arms = c.self.inside.seats.items;
+    } in
+    let within : c.args.volume < length c.self.inside.volumes.items =
+    let same = ap (λ (st : Open g.row.D.Denot g.row.D-Piece.Denot g.row.A.Denot). (st.settings).volumes) c.self.view_is in omega (arith, c.requires.volume, c.self.invariant.many, same) in
     let volume = c.index-as_slice-volume.result in
     let at : At store.volumes c.args.volume volume = subst (λ (w : Volume g.row.D.Denot g.row.D-Piece.Denot). At store.volumes c.args.volume w) (sym c.index-as_slice-volume.is)
     (subst (λ (vs : List (Volume g.row.D.Denot g.row.D-Piece.Denot)). At vs c.args.volume (slice_index_or c.as_slice.result.now c.args.volume volume)) c.as_slice.ensures.value
@@ -43,7 +50,8 @@ show_seen-requires g c =
     let there : At (c.args.self.now).volumes c.args.volume volume = subst (λ (st : Open g.row.D.Denot g.row.D-Piece.Denot g.row.A.Denot). At st.volumes c.args.volume volume) c.self.view_is at in
     let by : IsSeenBy g.D.Disk.Tells g.D.Piece.Piece.Tells c.args.needle.now (place_in c.look-row.result.row ((c.args.start + length c.args.passed) % length c.look-row.result.row)) =
     subst (λ (n : ℕ). IsSeenBy g.D.Disk.Tells g.D.Piece.Piece.Tells c.args.needle.now (place_in c.look-row.result.row ((c.args.start + length c.args.passed) % n))) (sym row)
-    (subst (λ (l : List (Place g.row.D-Piece.Denot)). IsSeenBy g.D.Disk.Tells g.D.Piece.Piece.Tells c.args.needle.now (place_in l ((c.args.start + length c.args.passed) % ((c.args.self.now).settings).replicas))) (sym c.look-row.ensures.row)
+    (subst (λ (l : List (Place g.row.D-Piece.Denot)). IsSeenBy g.D.Disk.Tells g.D.Piece.Piece.Tells c.args.needle.now
+    (place_in l ((c.args.start + length c.args.passed) % ((c.args.self.now).settings).replicas))) (sym c.look-row.ensures.row)
     (c.requires.needle volume there)) in
     let start : c.args.start < length c.look-row.result.row = omega (arith, c.requires.start, row) in
     let first : ComeFirst c.args.start (length c.look-row.result.row) c.args.passed = subst (λ n. ComeFirst c.args.start n c.args.passed) (sym row) c.requires.first in
@@ -52,8 +60,14 @@ show_seen-requires g c =
 
 pub returns-clause-says : goal.returns-clause-says
 returns-clause-says g c = λ tells k stands.
-    let store : Open g.row.D.Denot g.row.D-Piece.Denot g.row.A.Denot = record { settings = c.self.inside.settings; directory = c.self.inside.directory; volumes = c.self.inside.volumes.items; arms = c.self.inside.seats.items } in
-    let within : c.args.volume < length c.self.inside.volumes.items = let same = ap (λ (st : Open g.row.D.Denot g.row.D-Piece.Denot g.row.A.Denot). (st.settings).volumes) c.self.view_is in omega (arith, c.requires.volume, c.self.invariant.many, same) in
+    let store : Open g.row.D.Denot g.row.D-Piece.Denot g.row.A.Denot = record {
+      settings = c.self.inside.settings;
+      directory = c.self.inside.directory;
+      volumes = c.self.inside.volumes.items;
+      arms = c.self.inside.seats.items;
+    } in
+    let within : c.args.volume < length c.self.inside.volumes.items =
+    let same = ap (λ (st : Open g.row.D.Denot g.row.D-Piece.Denot g.row.A.Denot). (st.settings).volumes) c.self.view_is in omega (arith, c.requires.volume, c.self.invariant.many, same) in
     let volume = c.index-as_slice-volume.result in
     let at : At store.volumes c.args.volume volume = subst (λ (w : Volume g.row.D.Denot g.row.D-Piece.Denot). At store.volumes c.args.volume w) (sym c.index-as_slice-volume.is)
     (subst (λ (vs : List (Volume g.row.D.Denot g.row.D-Piece.Denot)). At vs c.args.volume (slice_index_or c.as_slice.result.now c.args.volume volume)) c.as_slice.ensures.value
@@ -64,10 +78,15 @@ returns-clause-says g c = λ tells k stands.
     let there : At (c.args.self.now).volumes c.args.volume volume = subst (λ (st : Open g.row.D.Denot g.row.D-Piece.Denot g.row.A.Denot). At st.volumes c.args.volume volume) c.self.view_is at in
     let by : IsSeenBy g.D.Disk.Tells g.D.Piece.Piece.Tells c.args.needle.now (place_in c.look-row.result.row ((c.args.start + length c.args.passed) % length c.look-row.result.row)) =
     subst (λ (n : ℕ). IsSeenBy g.D.Disk.Tells g.D.Piece.Piece.Tells c.args.needle.now (place_in c.look-row.result.row ((c.args.start + length c.args.passed) % n))) (sym row)
-    (subst (λ (l : List (Place g.row.D-Piece.Denot)). IsSeenBy g.D.Disk.Tells g.D.Piece.Piece.Tells c.args.needle.now (place_in l ((c.args.start + length c.args.passed) % ((c.args.self.now).settings).replicas))) (sym c.look-row.ensures.row)
+    (subst (λ (l : List (Place g.row.D-Piece.Denot)). IsSeenBy g.D.Disk.Tells g.D.Piece.Piece.Tells c.args.needle.now
+    (place_in l ((c.args.start + length c.args.passed) % ((c.args.self.now).settings).replicas))) (sym c.look-row.ensures.row)
     (c.requires.needle volume there)) in
-    let here = subst (λ (st : Open g.row.D.Denot g.row.D-Piece.Denot g.row.A.Denot). Stands g.D.Disk.files g.D.Piece.Piece.Tells g.D.Disk.fault_count g.D.Disk.fuse_count g.A.Arm.fault_count st k) (sym c.self.view_is) stands in
-    let known = c.look-row.ensures.known tells (volume_at k c.args.volume) (volume_stood g.D.Disk.files g.D.Piece.Piece.Tells g.D.Disk.fault_count g.D.Disk.fuse_count g.A.Arm.fault_count store k c.args.volume volume here at) in
+    let here =
+    subst (λ (st : Open g.row.D.Denot g.row.D-Piece.Denot g.row.A.Denot). Stands g.D.Disk.files g.D.Piece.Piece.Tells g.D.Disk.fault_count g.D.Disk.fuse_count
+    g.A.Arm.fault_count st k) (sym c.self.view_is) stands in
+    let known =
+    c.look-row.ensures.known tells (volume_at k c.args.volume) (volume_stood g.D.Disk.files g.D.Piece.Piece.Tells g.D.Disk.fault_count g.D.Disk.fuse_count g.A.Arm.fault_count
+    store k c.args.volume volume here at) in
     let all = was.all ∙ ap (λ (s : Settings). s.replicas) same in
     let means = row_may_mean g.D.Disk.files g.D.Piece.Piece.Tells volume.replicas c.look-row.result.row (c.args.self.now).settings (volume_at k c.args.volume) c.args.pair row all known.1 in
     let none : ArmUse = record { sure = true; before = 0; after = 0 } in
@@ -77,8 +96,14 @@ returns-clause-says g c = λ tells k stands.
 
 pub returns-clause-next : goal.returns-clause-next
 returns-clause-next g c =
-    let store : Open g.row.D.Denot g.row.D-Piece.Denot g.row.A.Denot = record { settings = c.self.inside.settings; directory = c.self.inside.directory; volumes = c.self.inside.volumes.items; arms = c.self.inside.seats.items } in
-    let within : c.args.volume < length c.self.inside.volumes.items = let same = ap (λ (st : Open g.row.D.Denot g.row.D-Piece.Denot g.row.A.Denot). (st.settings).volumes) c.self.view_is in omega (arith, c.requires.volume, c.self.invariant.many, same) in
+    let store : Open g.row.D.Denot g.row.D-Piece.Denot g.row.A.Denot = record {
+      settings = c.self.inside.settings;
+      directory = c.self.inside.directory;
+      volumes = c.self.inside.volumes.items;
+      arms = c.self.inside.seats.items;
+    } in
+    let within : c.args.volume < length c.self.inside.volumes.items =
+    let same = ap (λ (st : Open g.row.D.Denot g.row.D-Piece.Denot g.row.A.Denot). (st.settings).volumes) c.self.view_is in omega (arith, c.requires.volume, c.self.invariant.many, same) in
     let volume = c.index-as_slice-volume.result in
     let at : At store.volumes c.args.volume volume = subst (λ (w : Volume g.row.D.Denot g.row.D-Piece.Denot). At store.volumes c.args.volume w) (sym c.index-as_slice-volume.is)
     (subst (λ (vs : List (Volume g.row.D.Denot g.row.D-Piece.Denot)). At vs c.args.volume (slice_index_or c.as_slice.result.now c.args.volume volume)) c.as_slice.ensures.value
@@ -90,12 +115,19 @@ returns-clause-next g c =
 
 pub returns-clause-sees : goal.returns-clause-sees
 returns-clause-sees g c =
-    let store : Open g.row.D.Denot g.row.D-Piece.Denot g.row.A.Denot = record { settings = c.self.inside.settings; directory = c.self.inside.directory; volumes = c.self.inside.volumes.items; arms = c.self.inside.seats.items } in
-    let within : c.args.volume < length c.self.inside.volumes.items = let same = ap (λ (st : Open g.row.D.Denot g.row.D-Piece.Denot g.row.A.Denot). (st.settings).volumes) c.self.view_is in omega (arith, c.requires.volume, c.self.invariant.many, same) in
+    let store : Open g.row.D.Denot g.row.D-Piece.Denot g.row.A.Denot = record {
+      settings = c.self.inside.settings;
+      directory = c.self.inside.directory;
+      volumes = c.self.inside.volumes.items;
+      arms = c.self.inside.seats.items;
+    } in
+    let within : c.args.volume < length c.self.inside.volumes.items =
+    let same = ap (λ (st : Open g.row.D.Denot g.row.D-Piece.Denot g.row.A.Denot). (st.settings).volumes) c.self.view_is in omega (arith, c.requires.volume, c.self.invariant.many, same) in
     let volume = c.index-as_slice-volume.result in
     let at : At store.volumes c.args.volume volume = subst (λ (w : Volume g.row.D.Denot g.row.D-Piece.Denot). At store.volumes c.args.volume w) (sym c.index-as_slice-volume.is)
     (subst (λ (vs : List (Volume g.row.D.Denot g.row.D-Piece.Denot)). At vs c.args.volume (slice_index_or c.as_slice.result.now c.args.volume volume)) c.as_slice.ensures.value
     (at_read c.as_slice.result.now c.args.volume volume (let long = ap length c.as_slice.ensures.value in omega (arith, within, long)))) in
     sees_in c.look-row.result.row (row_at volume.rows c.args.pair) ((store_seen c.args.self.now).places c.args.volume c.args.pair) c.show_seen.result c.look-row.ensures.row
     (λ j. ap (λ (seen : Sights). seen c.args.pair j) (photos_at c.args.self.now store c.self.view_is c.args.volume volume at))
-    (shown_sees c.look-row.result.row c.args.cookie c.args.passed c.show_seen.new.out.items c.args.needle.now ((c.args.start + length c.args.passed) % length c.look-row.result.row) c.show_seen.result c.show_seen.ensures.shows)
+    (shown_sees c.look-row.result.row c.args.cookie c.args.passed c.show_seen.new.out.items c.args.needle.now ((c.args.start + length c.args.passed) % length c.look-row.result.row)
+    c.show_seen.result c.show_seen.ensures.shows)

@@ -25,14 +25,21 @@ use Rattle.hay_cluster.proofs.cluster.Cluster.refusal.Goals as goal
 
 pub offset_bounds-as_slice-volume : goal.offset_bounds-as_slice-volume
 offset_bounds-as_slice-volume g c =
-    let within : c.args.volume < length c.self.inside.volumes.items = let same = ap (λ (st : Open g.row.D.Denot g.row.D-Piece.Denot g.row.A.Denot). (st.settings).volumes) c.self.view_is in omega (arith, c.requires.volume, c.self.invariant.many, same) in
+    let within : c.args.volume < length c.self.inside.volumes.items =
+    let same = ap (λ (st : Open g.row.D.Denot g.row.D-Piece.Denot g.row.A.Denot). (st.settings).volumes) c.self.view_is in omega (arith, c.requires.volume, c.self.invariant.many, same) in
     let long = ap length c.as_slice.ensures.value in
     omega (arith, within, long)
 
 pub room-requires : goal.room-requires
 room-requires g c =
-    let store : Open g.row.D.Denot g.row.D-Piece.Denot g.row.A.Denot = record { settings = c.self.inside.settings; directory = c.self.inside.directory; volumes = c.self.inside.volumes.items; arms = c.self.inside.seats.items } in
-    let within : c.args.volume < length c.self.inside.volumes.items = let same = ap (λ (st : Open g.row.D.Denot g.row.D-Piece.Denot g.row.A.Denot). (st.settings).volumes) c.self.view_is in omega (arith, c.requires.volume, c.self.invariant.many, same) in
+    let store : Open g.row.D.Denot g.row.D-Piece.Denot g.row.A.Denot = record {
+      settings = c.self.inside.settings;
+      directory = c.self.inside.directory;
+      volumes = c.self.inside.volumes.items;
+      arms = c.self.inside.seats.items;
+    } in
+    let within : c.args.volume < length c.self.inside.volumes.items =
+    let same = ap (λ (st : Open g.row.D.Denot g.row.D-Piece.Denot g.row.A.Denot). (st.settings).volumes) c.self.view_is in omega (arith, c.requires.volume, c.self.invariant.many, same) in
     let volume = c.index-as_slice-volume.result in
     let at : At store.volumes c.args.volume volume = subst (λ (w : Volume g.row.D.Denot g.row.D-Piece.Denot). At store.volumes c.args.volume w) (sym c.index-as_slice-volume.is)
     (subst (λ (vs : List (Volume g.row.D.Denot g.row.D-Piece.Denot)). At vs c.args.volume (slice_index_or c.as_slice.result.now c.args.volume volume)) c.as_slice.ensures.value
@@ -42,9 +49,17 @@ room-requires g c =
 pub returns-in-Ok : goal.returns-in-Ok
 returns-in-Ok g c = record {
   known = λ tells k stands.
-      let store : Open g.row.D.Denot g.row.D-Piece.Denot g.row.A.Denot = record { settings = c.self.inside.settings; directory = c.self.inside.directory; volumes = c.self.inside.volumes.items; arms = c.self.inside.seats.items } in
-      let here = subst (λ (st : Open g.row.D.Denot g.row.D-Piece.Denot g.row.A.Denot). Stands g.D.Disk.files g.D.Piece.Piece.Tells g.D.Disk.fault_count g.D.Disk.fuse_count g.A.Arm.fault_count st k) (sym c.self.view_is) stands in
-      let within : c.args.volume < length c.self.inside.volumes.items = let same = ap (λ (st : Open g.row.D.Denot g.row.D-Piece.Denot g.row.A.Denot). (st.settings).volumes) c.self.view_is in omega (arith, c.requires.volume, c.self.invariant.many, same) in
+      let store : Open g.row.D.Denot g.row.D-Piece.Denot g.row.A.Denot = record {
+        settings = c.self.inside.settings;
+        directory = c.self.inside.directory;
+        volumes = c.self.inside.volumes.items;
+        arms = c.self.inside.seats.items;
+      } in
+      let here =
+      subst (λ (st : Open g.row.D.Denot g.row.D-Piece.Denot g.row.A.Denot). Stands g.D.Disk.files g.D.Piece.Piece.Tells g.D.Disk.fault_count g.D.Disk.fuse_count
+      g.A.Arm.fault_count st k) (sym c.self.view_is) stands in
+      let within : c.args.volume < length c.self.inside.volumes.items =
+      let same = ap (λ (st : Open g.row.D.Denot g.row.D-Piece.Denot g.row.A.Denot). (st.settings).volumes) c.self.view_is in omega (arith, c.requires.volume, c.self.invariant.many, same) in
       let volume = c.index-as_slice-volume.result in
       let at : At store.volumes c.args.volume volume = subst (λ (w : Volume g.row.D.Denot g.row.D-Piece.Denot). At store.volumes c.args.volume w) (sym c.index-as_slice-volume.is)
       (subst (λ (vs : List (Volume g.row.D.Denot g.row.D-Piece.Denot)). At vs c.args.volume (slice_index_or c.as_slice.result.now c.args.volume volume)) c.as_slice.ensures.value
@@ -55,12 +70,19 @@ returns-in-Ok g c = record {
       ap (λ n. room_answer store.settings known.frozen (room_refusal_of store.settings n known c.args.size)) (sym was.number)
       ∙ ap (λ (s : Settings). room_answer s known.frozen (room_refusal_of s (volume).number known c.args.size)) (sym was.settings_are)
       ∙ sym (c.room.ensures.known tells known (volume_stood g.D.Disk.files g.D.Piece.Piece.Tells g.D.Disk.fault_count g.D.Disk.fuse_count g.A.Arm.fault_count store k c.args.volume volume here at)) in
-      let thawed : closed store.settings k c.args.volume ≡ None = ap (λ (st : Open g.row.D.Denot g.row.D-Piece.Denot g.row.A.Denot). closed st.settings k c.args.volume) c.self.view_is ∙ sym (c.closed_by.ensures.known tells k stands) ∙ c.in_default.is in
+      let thawed : closed store.settings k c.args.volume ≡ None =
+      ap (λ (st : Open g.row.D.Denot g.row.D-Piece.Denot g.row.A.Denot). closed st.settings k c.args.volume) c.self.view_is ∙ sym (c.closed_by.ensures.known tells k stands) ∙ c.in_default.is in
       subst (λ (st : Open g.row.D.Denot g.row.D-Piece.Denot g.row.A.Denot). None ≡ refusal_of st.settings k c.args.size c.args.volume) c.self.view_is
       (taken_for store.settings k c.args.volume c.args.size thawed (said ∙ c.in-Ok.is));
   takes = λ other there.
-      let store : Open g.row.D.Denot g.row.D-Piece.Denot g.row.A.Denot = record { settings = c.self.inside.settings; directory = c.self.inside.directory; volumes = c.self.inside.volumes.items; arms = c.self.inside.seats.items } in
-      let within : c.args.volume < length c.self.inside.volumes.items = let same = ap (λ (st : Open g.row.D.Denot g.row.D-Piece.Denot g.row.A.Denot). (st.settings).volumes) c.self.view_is in omega (arith, c.requires.volume, c.self.invariant.many, same) in
+      let store : Open g.row.D.Denot g.row.D-Piece.Denot g.row.A.Denot = record {
+        settings = c.self.inside.settings;
+        directory = c.self.inside.directory;
+        volumes = c.self.inside.volumes.items;
+        arms = c.self.inside.seats.items;
+      } in
+      let within : c.args.volume < length c.self.inside.volumes.items =
+      let same = ap (λ (st : Open g.row.D.Denot g.row.D-Piece.Denot g.row.A.Denot). (st.settings).volumes) c.self.view_is in omega (arith, c.requires.volume, c.self.invariant.many, same) in
       let volume = c.index-as_slice-volume.result in
       let at : At store.volumes c.args.volume volume = subst (λ (w : Volume g.row.D.Denot g.row.D-Piece.Denot). At store.volumes c.args.volume w) (sym c.index-as_slice-volume.is)
       (subst (λ (vs : List (Volume g.row.D.Denot g.row.D-Piece.Denot)). At vs c.args.volume (slice_index_or c.as_slice.result.now c.args.volume volume)) c.as_slice.ensures.value
@@ -72,8 +94,14 @@ returns-in-Ok g c = record {
   refuses = tt;
   fits = tt;
   takes_seen =
-      let store : Open g.row.D.Denot g.row.D-Piece.Denot g.row.A.Denot = record { settings = c.self.inside.settings; directory = c.self.inside.directory; volumes = c.self.inside.volumes.items; arms = c.self.inside.seats.items } in
-      let within : c.args.volume < length c.self.inside.volumes.items = let same = ap (λ (st : Open g.row.D.Denot g.row.D-Piece.Denot g.row.A.Denot). (st.settings).volumes) c.self.view_is in omega (arith, c.requires.volume, c.self.invariant.many, same) in
+      let store : Open g.row.D.Denot g.row.D-Piece.Denot g.row.A.Denot = record {
+        settings = c.self.inside.settings;
+        directory = c.self.inside.directory;
+        volumes = c.self.inside.volumes.items;
+        arms = c.self.inside.seats.items;
+      } in
+      let within : c.args.volume < length c.self.inside.volumes.items =
+      let same = ap (λ (st : Open g.row.D.Denot g.row.D-Piece.Denot g.row.A.Denot). (st.settings).volumes) c.self.view_is in omega (arith, c.requires.volume, c.self.invariant.many, same) in
       let volume = c.index-as_slice-volume.result in
       let at : At store.volumes c.args.volume volume = subst (λ (w : Volume g.row.D.Denot g.row.D-Piece.Denot). At store.volumes c.args.volume w) (sym c.index-as_slice-volume.is)
       (subst (λ (vs : List (Volume g.row.D.Denot g.row.D-Piece.Denot)). At vs c.args.volume (slice_index_or c.as_slice.result.now c.args.volume volume)) c.as_slice.ensures.value
@@ -94,9 +122,17 @@ returns-in-Ok g c = record {
 pub returns-in-Err : goal.returns-in-Err
 returns-in-Err g c = record {
   known = λ tells k stands.
-      let store : Open g.row.D.Denot g.row.D-Piece.Denot g.row.A.Denot = record { settings = c.self.inside.settings; directory = c.self.inside.directory; volumes = c.self.inside.volumes.items; arms = c.self.inside.seats.items } in
-      let here = subst (λ (st : Open g.row.D.Denot g.row.D-Piece.Denot g.row.A.Denot). Stands g.D.Disk.files g.D.Piece.Piece.Tells g.D.Disk.fault_count g.D.Disk.fuse_count g.A.Arm.fault_count st k) (sym c.self.view_is) stands in
-      let within : c.args.volume < length c.self.inside.volumes.items = let same = ap (λ (st : Open g.row.D.Denot g.row.D-Piece.Denot g.row.A.Denot). (st.settings).volumes) c.self.view_is in omega (arith, c.requires.volume, c.self.invariant.many, same) in
+      let store : Open g.row.D.Denot g.row.D-Piece.Denot g.row.A.Denot = record {
+        settings = c.self.inside.settings;
+        directory = c.self.inside.directory;
+        volumes = c.self.inside.volumes.items;
+        arms = c.self.inside.seats.items;
+      } in
+      let here =
+      subst (λ (st : Open g.row.D.Denot g.row.D-Piece.Denot g.row.A.Denot). Stands g.D.Disk.files g.D.Piece.Piece.Tells g.D.Disk.fault_count g.D.Disk.fuse_count
+      g.A.Arm.fault_count st k) (sym c.self.view_is) stands in
+      let within : c.args.volume < length c.self.inside.volumes.items =
+      let same = ap (λ (st : Open g.row.D.Denot g.row.D-Piece.Denot g.row.A.Denot). (st.settings).volumes) c.self.view_is in omega (arith, c.requires.volume, c.self.invariant.many, same) in
       let volume = c.index-as_slice-volume.result in
       let at : At store.volumes c.args.volume volume = subst (λ (w : Volume g.row.D.Denot g.row.D-Piece.Denot). At store.volumes c.args.volume w) (sym c.index-as_slice-volume.is)
       (subst (λ (vs : List (Volume g.row.D.Denot g.row.D-Piece.Denot)). At vs c.args.volume (slice_index_or c.as_slice.result.now c.args.volume volume)) c.as_slice.ensures.value
@@ -107,14 +143,22 @@ returns-in-Err g c = record {
       ap (λ n. room_answer store.settings known.frozen (room_refusal_of store.settings n known c.args.size)) (sym was.number)
       ∙ ap (λ (s : Settings). room_answer s known.frozen (room_refusal_of s (volume).number known c.args.size)) (sym was.settings_are)
       ∙ sym (c.room.ensures.known tells known (volume_stood g.D.Disk.files g.D.Piece.Piece.Tells g.D.Disk.fault_count g.D.Disk.fuse_count g.A.Arm.fault_count store k c.args.volume volume here at)) in
-      let thawed : closed store.settings k c.args.volume ≡ None = ap (λ (st : Open g.row.D.Denot g.row.D-Piece.Denot g.row.A.Denot). closed st.settings k c.args.volume) c.self.view_is ∙ sym (c.closed_by.ensures.known tells k stands) ∙ c.in_default.is in
-      sym c.lack_of.ensures.is ∙ subst (λ (st : Open g.row.D.Denot g.row.D-Piece.Denot g.row.A.Denot). lack_of c.args.volume c.in-Err.fault ≡ refusal_of st.settings k c.args.size c.args.volume) c.self.view_is
+      let thawed : closed store.settings k c.args.volume ≡ None =
+      ap (λ (st : Open g.row.D.Denot g.row.D-Piece.Denot g.row.A.Denot). closed st.settings k c.args.volume) c.self.view_is ∙ sym (c.closed_by.ensures.known tells k stands) ∙ c.in_default.is in
+      sym c.lack_of.ensures.is ∙ subst (λ (st : Open g.row.D.Denot g.row.D-Piece.Denot g.row.A.Denot). lack_of c.args.volume c.in-Err.fault
+      ≡ refusal_of st.settings k c.args.size c.args.volume) c.self.view_is
       (refused_for store.settings k c.args.volume c.args.size c.in-Err.fault thawed (said ∙ c.in-Err.is));
   takes = tt;
   refuses =
-      let store : Open g.row.D.Denot g.row.D-Piece.Denot g.row.A.Denot = record { settings = c.self.inside.settings; directory = c.self.inside.directory; volumes = c.self.inside.volumes.items; arms = c.self.inside.seats.items } in
+      let store : Open g.row.D.Denot g.row.D-Piece.Denot g.row.A.Denot = record {
+        settings = c.self.inside.settings;
+        directory = c.self.inside.directory;
+        volumes = c.self.inside.volumes.items;
+        arms = c.self.inside.seats.items;
+      } in
       let volume = c.index-as_slice-volume.result in
-      let within : c.args.volume < length c.self.inside.volumes.items = let same = ap (λ (st : Open g.row.D.Denot g.row.D-Piece.Denot g.row.A.Denot). (st.settings).volumes) c.self.view_is in omega (arith, c.requires.volume, c.self.invariant.many, same) in
+      let within : c.args.volume < length c.self.inside.volumes.items =
+      let same = ap (λ (st : Open g.row.D.Denot g.row.D-Piece.Denot g.row.A.Denot). (st.settings).volumes) c.self.view_is in omega (arith, c.requires.volume, c.self.invariant.many, same) in
       let at : At store.volumes c.args.volume volume = subst (λ (w : Volume g.row.D.Denot g.row.D-Piece.Denot). At store.volumes c.args.volume w) (sym c.index-as_slice-volume.is)
       (subst (λ (vs : List (Volume g.row.D.Denot g.row.D-Piece.Denot)). At vs c.args.volume (slice_index_or c.as_slice.result.now c.args.volume volume)) c.as_slice.ensures.value
       (at_read c.as_slice.result.now c.args.volume volume (let long = ap length c.as_slice.ensures.value in omega (arith, within, long)))) in
@@ -127,8 +171,14 @@ returns-in-Err g c = record {
   fits = c.lack_of.ensures.fits;
   takes_seen = tt;
   refuses_seen =
-      let store : Open g.row.D.Denot g.row.D-Piece.Denot g.row.A.Denot = record { settings = c.self.inside.settings; directory = c.self.inside.directory; volumes = c.self.inside.volumes.items; arms = c.self.inside.seats.items } in
-      let within : c.args.volume < length c.self.inside.volumes.items = let same = ap (λ (st : Open g.row.D.Denot g.row.D-Piece.Denot g.row.A.Denot). (st.settings).volumes) c.self.view_is in omega (arith, c.requires.volume, c.self.invariant.many, same) in
+      let store : Open g.row.D.Denot g.row.D-Piece.Denot g.row.A.Denot = record {
+        settings = c.self.inside.settings;
+        directory = c.self.inside.directory;
+        volumes = c.self.inside.volumes.items;
+        arms = c.self.inside.seats.items;
+      } in
+      let within : c.args.volume < length c.self.inside.volumes.items =
+      let same = ap (λ (st : Open g.row.D.Denot g.row.D-Piece.Denot g.row.A.Denot). (st.settings).volumes) c.self.view_is in omega (arith, c.requires.volume, c.self.invariant.many, same) in
       let volume = c.index-as_slice-volume.result in
       let at : At store.volumes c.args.volume volume = subst (λ (w : Volume g.row.D.Denot g.row.D-Piece.Denot). At store.volumes c.args.volume w) (sym c.index-as_slice-volume.is)
       (subst (λ (vs : List (Volume g.row.D.Denot g.row.D-Piece.Denot)). At vs c.args.volume (slice_index_or c.as_slice.result.now c.args.volume volume)) c.as_slice.ensures.value

@@ -29,7 +29,9 @@ returns-in_ok-cause-in-Err-clause-passes g c = λ lane start order next.
     let before = counts_of g.D.Disk.fault_count g.A.Arm.fault_count c.args.self.now in
     let after = counts_of g.D.Disk.fault_count g.A.Arm.fault_count c.see_in.new.self in
     let over : PassedReplica = record { replica = c.args.replica; cause = c.in_ok-cause-in-Err.cause } in
-    let has = sight_passed W (slot_of (c.args.self.now).settings c.args.volume c.args.replica) _ _ before.disks after.disks c.in-Err.fault c.in_ok-cause-in-Err.cause c.in-Err.ensures.causes c.in_ok-cause-in-Err.ensures
+    let has =
+    sight_passed W (slot_of (c.args.self.now).settings c.args.volume c.args.replica) _ _ before.disks after.disks c.in-Err.fault c.in_ok-cause-in-Err.cause
+    c.in-Err.ensures.causes c.in_ok-cause-in-Err.ensures
     (λ m at whole e. c.see_in.ensures.undamaged whole m at (c.in-Err.is ∙ ap (λ (f : LogicalFault). Err f) e)) in
     rw c.push.ensures (passes_one W (c.args.self.now).settings lane c.args.volume start before after c.args.causes over order next has)
 
@@ -38,14 +40,16 @@ returns-in-Ok-clause-needle g c = λ unseen. (refl, c.in-Ok.ensures.needle unsee
 
 pub returns-in-Ok-clause-looks : goal.returns-in-Ok-clause-looks
 returns-in-Ok-clause-looks g c =
-    photos_as c.args.volume (store_seen c.args.self.now) (store_seen c.see_in.new.self) (SeesPair c.args.pair c.args.replica) (LooksAtPair c.args.pair) (λ before after sees. sees.looks) c.in-Ok.ensures.sights
+    photos_as c.args.volume (store_seen c.args.self.now) (store_seen c.see_in.new.self) (SeesPair c.args.pair c.args.replica) (LooksAtPair c.args.pair)
+    (λ before after sees. sees.looks) c.in-Ok.ensures.sights
 
 pub returns-in-Ok-clause-may_stand : goal.returns-in-Ok-clause-may_stand
 returns-in-Ok-clause-may_stand g c =
     let old = store_seen c.args.self.now in
     let new = store_seen c.see_in.new.self in
     let sees = (c.in-Ok.ensures.sights).changes in
-    may_have_still g.D.Disk.Tells (c.args.self.now).settings (contents_in g.D.Disk.files c.args.self.now) (contents_in g.D.Disk.files c.see_in.new.self) old new c.args.volume c.args.pair c.requires.volume
+    may_have_still g.D.Disk.Tells (c.args.self.now).settings (contents_in g.D.Disk.files c.args.self.now) (contents_in g.D.Disk.files c.see_in.new.self) old new c.args.volume
+    c.args.pair c.requires.volume
     (c.see_in.ensures.unchanged).volumes c.see_in.ensures.contents c.args.causes
     (all_weaken (λ over. (over.replica < ((c.args.self.now).settings).replicas) × (over.replica ≡ c.args.replica → ⊥))
     (λ over. (over.replica < ((c.args.self.now).settings).replicas) × (new.places c.args.volume c.args.pair over.replica ≡ old.places c.args.volume c.args.pair over.replica))
@@ -71,8 +75,10 @@ returns-in_ok-cause-in-Err-clause-may_stand g c =
     let lacks : (cause : Cause) → IsSightCause c.in-Err.fault cause → g.D.Disk.Tells → LacksFor settings contents old c.args.volume c.args.pair c.args.replica cause =
     λ cause is tells. fault_lacks settings contents old c.args.volume c.args.pair c.args.replica c.in-Err.fault cause is
     (λ m place e. c.see_in.ensures.lacks tells m place (c.in-Err.is ∙ ap (λ (f : LogicalFault). Err f) e)) in
-    let here : IsOfPlace g.D.Disk.Tells settings contents old c.args.volume c.args.pair c.args.replica c.in_ok-cause-in-Err.cause =
-    (awaits_for c.in-Err.fault c.in_ok-cause-in-Err.cause (old.places c.args.volume c.args.pair c.args.replica) c.in_ok-cause-in-Err.ensures kept.1, lacks c.in_ok-cause-in-Err.cause c.in_ok-cause-in-Err.ensures) in
+    let here : IsOfPlace g.D.Disk.Tells settings contents old c.args.volume c.args.pair c.args.replica c.in_ok-cause-in-Err.cause = (
+      awaits_for c.in-Err.fault c.in_ok-cause-in-Err.cause (old.places c.args.volume c.args.pair c.args.replica) c.in_ok-cause-in-Err.ensures kept.1,
+      lacks c.in_ok-cause-in-Err.cause c.in_ok-cause-in-Err.ensures,
+    ) in
     rw c.push.ensures
     (may_have_more (IsOfPlace g.D.Disk.Tells settings contents' new c.args.volume c.args.pair) c.args.causes over
     (of_place_still g.D.Disk.Tells settings contents contents' old new c.args.volume c.args.pair c.requires.volume (c.see_in.ensures.unchanged).volumes c.see_in.ensures.contents

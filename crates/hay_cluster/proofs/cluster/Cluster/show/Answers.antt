@@ -44,9 +44,19 @@ returns-in-Photo-clause-shown g c = λ tells k stands home.
     let same : c.self.inside.settings ≡ (c.args.self.now).settings = ap (λ (st : Open g.row.D.Denot g.row.D-Piece.Denot g.row.A.Denot). st.settings) c.self.view_is ∙ c.fetch-front.ensures.settings in
     let read = c.fetch-front.ensures.says tells k stands in
     let says = subst (λ (f : Found). FoundSays c.args.cookie (outcomes_of (c.args.self.now).settings (volume_at k c.args.volume) c.args.pair) c.fetch-front.new.photo.items f) c.in-Photo.is read.1 in
-    let passes = subst (λ (f : Found). FoundPasses (NeverIn g.D.Disk.Tells g.D.Disk.files g.D.Piece.Piece.Tells g.D.Disk.fault_count g.D.Disk.fuse_count g.A.Arm.fault_count g.A.Arm.is_sure c.args.self.now c.args.tag.lane) (c.args.self.now).settings c.args.tag.lane c.args.volume c.args.start (counts_of g.D.Disk.fault_count g.A.Arm.fault_count c.args.self.now) (counts_of g.D.Disk.fault_count g.A.Arm.fault_count c.fetch-front.new.self) (IsOfPlace g.D.Disk.Tells (c.args.self.now).settings (contents_in g.D.Disk.files c.fetch-front.new.self) (store_seen c.fetch-front.new.self) c.args.volume c.args.pair) f) c.in-Photo.is c.fetch-front.ensures.passes in
-    let here = subst (λ (bytes : List ℕ). slice_get (outcomes_of (c.args.self.now).settings (volume_at k c.args.volume) c.args.pair) c.in-Photo.replica ≡ Some (outcome.Photo (record { cookie = c.args.cookie; bytes = bytes }))) (sym c.bytes_of.ensures.is) says in
-    let legal = read_shown g.D.Disk.Tells g.D.Disk.files g.D.Piece.Piece.Tells g.D.Disk.fault_count g.D.Disk.fuse_count g.A.Arm.fault_count g.A.Arm.is_sure c.args.self.now c.fetch-front.new.self (c.args.self.now).settings k c.args.tag c.args.start c.args.pair c.args.volume c.in-Photo.replica c.machine_of.result c.fetch-front.result.0 c.rows-rows.result (outcome.Photo (record { cookie = c.args.cookie; bytes = c.bytes_of.result })) (IsOfPlace g.D.Disk.Tells (c.args.self.now).settings (contents_in g.D.Disk.files c.fetch-front.new.self) (store_seen c.fetch-front.new.self) c.args.volume c.args.pair) passes.0
+    let passes =
+    subst (λ (f : Found). FoundPasses (NeverIn g.D.Disk.Tells g.D.Disk.files g.D.Piece.Piece.Tells g.D.Disk.fault_count g.D.Disk.fuse_count g.A.Arm.fault_count g.A.Arm.is_sure
+    c.args.self.now c.args.tag.lane) (c.args.self.now).settings c.args.tag.lane c.args.volume c.args.start (counts_of g.D.Disk.fault_count g.A.Arm.fault_count c.args.self.now)
+    (counts_of g.D.Disk.fault_count g.A.Arm.fault_count c.fetch-front.new.self) (IsOfPlace g.D.Disk.Tells (c.args.self.now).settings
+    (contents_in g.D.Disk.files c.fetch-front.new.self) (store_seen c.fetch-front.new.self) c.args.volume c.args.pair) f) c.in-Photo.is c.fetch-front.ensures.passes in
+    let here =
+    subst (λ (bytes : List ℕ). slice_get (outcomes_of (c.args.self.now).settings (volume_at k c.args.volume) c.args.pair) c.in-Photo.replica
+    ≡ Some (outcome.Photo (record { cookie = c.args.cookie; bytes = bytes }))) (sym c.bytes_of.ensures.is) says in
+    let legal =
+    read_shown g.D.Disk.Tells g.D.Disk.files g.D.Piece.Piece.Tells g.D.Disk.fault_count g.D.Disk.fuse_count g.A.Arm.fault_count g.A.Arm.is_sure c.args.self.now
+    c.fetch-front.new.self (c.args.self.now).settings k c.args.tag c.args.start c.args.pair c.args.volume c.in-Photo.replica c.machine_of.result c.fetch-front.result.0
+    c.rows-rows.result (outcome.Photo (record { cookie = c.args.cookie; bytes = c.bytes_of.result }))
+    (IsOfPlace g.D.Disk.Tells (c.args.self.now).settings (contents_in g.D.Disk.files c.fetch-front.new.self) (store_seen c.fetch-front.new.self) c.args.volume c.args.pair) passes.0
     (subst (λ (s : Settings). IsBuilt s) same c.self.invariant.built) c.requires.volume home read.0 (c.rows-rows.ensures.known tells k stands)
     (c.machine_of.ensures.is ∙ ap (λ (s : Settings). machine_of s c.args.volume c.in-Photo.replica) same) (tells, k, stands) stands read.2 here passes.1 in
     record { known = (read.2).known; legal = legal; stands = (read.2).stands }
@@ -56,8 +66,16 @@ returns-in-Gone-clause-shown g c = λ tells k stands home.
     let same : c.self.inside.settings ≡ (c.args.self.now).settings = ap (λ (st : Open g.row.D.Denot g.row.D-Piece.Denot g.row.A.Denot). st.settings) c.self.view_is ∙ c.fetch-front.ensures.settings in
     let read = c.fetch-front.ensures.says tells k stands in
     let says = subst (λ (f : Found). FoundSays c.args.cookie (outcomes_of (c.args.self.now).settings (volume_at k c.args.volume) c.args.pair) c.fetch-front.new.photo.items f) c.in-Gone.is read.1 in
-    let passes = subst (λ (f : Found). FoundPasses (NeverIn g.D.Disk.Tells g.D.Disk.files g.D.Piece.Piece.Tells g.D.Disk.fault_count g.D.Disk.fuse_count g.A.Arm.fault_count g.A.Arm.is_sure c.args.self.now c.args.tag.lane) (c.args.self.now).settings c.args.tag.lane c.args.volume c.args.start (counts_of g.D.Disk.fault_count g.A.Arm.fault_count c.args.self.now) (counts_of g.D.Disk.fault_count g.A.Arm.fault_count c.fetch-front.new.self) (IsOfPlace g.D.Disk.Tells (c.args.self.now).settings (contents_in g.D.Disk.files c.fetch-front.new.self) (store_seen c.fetch-front.new.self) c.args.volume c.args.pair) f) c.in-Gone.is c.fetch-front.ensures.passes in
-    let legal = read_shown g.D.Disk.Tells g.D.Disk.files g.D.Piece.Piece.Tells g.D.Disk.fault_count g.D.Disk.fuse_count g.A.Arm.fault_count g.A.Arm.is_sure c.args.self.now c.fetch-front.new.self (c.args.self.now).settings k c.args.tag c.args.start c.args.pair c.args.volume c.in-Gone.replica c.machine_of-in-Gone.result c.fetch-front.result.0 c.rows-rows.result outcome.Nothing (IsOfPlace g.D.Disk.Tells (c.args.self.now).settings (contents_in g.D.Disk.files c.fetch-front.new.self) (store_seen c.fetch-front.new.self) c.args.volume c.args.pair) passes.0
+    let passes =
+    subst (λ (f : Found). FoundPasses (NeverIn g.D.Disk.Tells g.D.Disk.files g.D.Piece.Piece.Tells g.D.Disk.fault_count g.D.Disk.fuse_count g.A.Arm.fault_count g.A.Arm.is_sure
+    c.args.self.now c.args.tag.lane) (c.args.self.now).settings c.args.tag.lane c.args.volume c.args.start (counts_of g.D.Disk.fault_count g.A.Arm.fault_count c.args.self.now)
+    (counts_of g.D.Disk.fault_count g.A.Arm.fault_count c.fetch-front.new.self) (IsOfPlace g.D.Disk.Tells (c.args.self.now).settings
+    (contents_in g.D.Disk.files c.fetch-front.new.self) (store_seen c.fetch-front.new.self) c.args.volume c.args.pair) f) c.in-Gone.is c.fetch-front.ensures.passes in
+    let legal =
+    read_shown g.D.Disk.Tells g.D.Disk.files g.D.Piece.Piece.Tells g.D.Disk.fault_count g.D.Disk.fuse_count g.A.Arm.fault_count g.A.Arm.is_sure c.args.self.now
+    c.fetch-front.new.self (c.args.self.now).settings k c.args.tag c.args.start c.args.pair c.args.volume c.in-Gone.replica c.machine_of-in-Gone.result c.fetch-front.result.0
+    c.rows-rows.result outcome.Nothing (IsOfPlace g.D.Disk.Tells (c.args.self.now).settings (contents_in g.D.Disk.files c.fetch-front.new.self)
+    (store_seen c.fetch-front.new.self) c.args.volume c.args.pair) passes.0
     (subst (λ (s : Settings). IsBuilt s) same c.self.invariant.built) c.requires.volume home read.0 (c.rows-rows.ensures.known tells k stands)
     (c.machine_of-in-Gone.ensures.is ∙ ap (λ (s : Settings). machine_of s c.args.volume c.in-Gone.replica) same) (tells, k, stands) stands read.2 says passes.1 in
     record { known = (read.2).known; legal = legal; stands = (read.2).stands }
@@ -66,9 +84,18 @@ pub returns-in-WrongCookie-clause-shown : goal.returns-in-WrongCookie-clause-sho
 returns-in-WrongCookie-clause-shown g c = λ tells k stands home.
     let same : c.self.inside.settings ≡ (c.args.self.now).settings = ap (λ (st : Open g.row.D.Denot g.row.D-Piece.Denot g.row.A.Denot). st.settings) c.self.view_is ∙ c.fetch-front.ensures.settings in
     let read = c.fetch-front.ensures.says tells k stands in
-    let says = subst (λ (f : Found). FoundSays c.args.cookie (outcomes_of (c.args.self.now).settings (volume_at k c.args.volume) c.args.pair) c.fetch-front.new.photo.items f) c.in-WrongCookie.is read.1 in
-    let passes = subst (λ (f : Found). FoundPasses (NeverIn g.D.Disk.Tells g.D.Disk.files g.D.Piece.Piece.Tells g.D.Disk.fault_count g.D.Disk.fuse_count g.A.Arm.fault_count g.A.Arm.is_sure c.args.self.now c.args.tag.lane) (c.args.self.now).settings c.args.tag.lane c.args.volume c.args.start (counts_of g.D.Disk.fault_count g.A.Arm.fault_count c.args.self.now) (counts_of g.D.Disk.fault_count g.A.Arm.fault_count c.fetch-front.new.self) (IsOfPlace g.D.Disk.Tells (c.args.self.now).settings (contents_in g.D.Disk.files c.fetch-front.new.self) (store_seen c.fetch-front.new.self) c.args.volume c.args.pair) f) c.in-WrongCookie.is c.fetch-front.ensures.passes in
-    let legal = read_shown g.D.Disk.Tells g.D.Disk.files g.D.Piece.Piece.Tells g.D.Disk.fault_count g.D.Disk.fuse_count g.A.Arm.fault_count g.A.Arm.is_sure c.args.self.now c.fetch-front.new.self (c.args.self.now).settings k c.args.tag c.args.start c.args.pair c.args.volume c.in-WrongCookie.replica c.machine_of-in-WrongCookie.result c.fetch-front.result.0 c.rows-rows.result (outcome.Photo says.0) (IsOfPlace g.D.Disk.Tells (c.args.self.now).settings (contents_in g.D.Disk.files c.fetch-front.new.self) (store_seen c.fetch-front.new.self) c.args.volume c.args.pair) passes.0
+    let says =
+    subst (λ (f : Found). FoundSays c.args.cookie (outcomes_of (c.args.self.now).settings (volume_at k c.args.volume) c.args.pair) c.fetch-front.new.photo.items f) c.in-WrongCookie.is read.1 in
+    let passes =
+    subst (λ (f : Found). FoundPasses (NeverIn g.D.Disk.Tells g.D.Disk.files g.D.Piece.Piece.Tells g.D.Disk.fault_count g.D.Disk.fuse_count g.A.Arm.fault_count g.A.Arm.is_sure
+    c.args.self.now c.args.tag.lane) (c.args.self.now).settings c.args.tag.lane c.args.volume c.args.start (counts_of g.D.Disk.fault_count g.A.Arm.fault_count c.args.self.now)
+    (counts_of g.D.Disk.fault_count g.A.Arm.fault_count c.fetch-front.new.self) (IsOfPlace g.D.Disk.Tells (c.args.self.now).settings
+    (contents_in g.D.Disk.files c.fetch-front.new.self) (store_seen c.fetch-front.new.self) c.args.volume c.args.pair) f) c.in-WrongCookie.is c.fetch-front.ensures.passes in
+    let legal =
+    read_shown g.D.Disk.Tells g.D.Disk.files g.D.Piece.Piece.Tells g.D.Disk.fault_count g.D.Disk.fuse_count g.A.Arm.fault_count g.A.Arm.is_sure c.args.self.now
+    c.fetch-front.new.self (c.args.self.now).settings k c.args.tag c.args.start c.args.pair c.args.volume c.in-WrongCookie.replica c.machine_of-in-WrongCookie.result
+    c.fetch-front.result.0 c.rows-rows.result (outcome.Photo says.0) (IsOfPlace g.D.Disk.Tells (c.args.self.now).settings (contents_in g.D.Disk.files c.fetch-front.new.self)
+    (store_seen c.fetch-front.new.self) c.args.volume c.args.pair) passes.0
     (subst (λ (s : Settings). IsBuilt s) same c.self.invariant.built) c.requires.volume home read.0 (c.rows-rows.ensures.known tells k stands)
     (c.machine_of-in-WrongCookie.ensures.is ∙ ap (λ (s : Settings). machine_of s c.args.volume c.in-WrongCookie.replica) same) (tells, k, stands) stands read.2 says.2 passes.1 in
     record { known = (read.2).known; legal = (says.0.cookie, says.0.bytes, says.1, legal); stands = (read.2).stands }
@@ -77,13 +104,20 @@ pub returns-in-Ok-passed_of-clause-shown : goal.returns-in-Ok-passed_of-clause-s
 returns-in-Ok-passed_of-clause-shown g c = λ tells k stands home.
     let same : c.self.inside.settings ≡ (c.args.self.now).settings = ap (λ (st : Open g.row.D.Denot g.row.D-Piece.Denot g.row.A.Denot). st.settings) c.self.view_is ∙ c.fetch-front.ensures.settings in
     let read = c.fetch-front.ensures.says tells k stands in
-    let passes = subst (λ (f : Found). FoundPasses (NeverIn g.D.Disk.Tells g.D.Disk.files g.D.Piece.Piece.Tells g.D.Disk.fault_count g.D.Disk.fuse_count g.A.Arm.fault_count g.A.Arm.is_sure c.args.self.now c.args.tag.lane) (c.args.self.now).settings c.args.tag.lane c.args.volume c.args.start (counts_of g.D.Disk.fault_count g.A.Arm.fault_count c.args.self.now) (counts_of g.D.Disk.fault_count g.A.Arm.fault_count c.fetch-front.new.self) (IsOfPlace g.D.Disk.Tells (c.args.self.now).settings (contents_in g.D.Disk.files c.fetch-front.new.self) (store_seen c.fetch-front.new.self) c.args.volume c.args.pair) f) c.in-Unreadable.is c.fetch-front.ensures.passes in
+    let passes =
+    subst (λ (f : Found). FoundPasses (NeverIn g.D.Disk.Tells g.D.Disk.files g.D.Piece.Piece.Tells g.D.Disk.fault_count g.D.Disk.fuse_count g.A.Arm.fault_count g.A.Arm.is_sure
+    c.args.self.now c.args.tag.lane) (c.args.self.now).settings c.args.tag.lane c.args.volume c.args.start (counts_of g.D.Disk.fault_count g.A.Arm.fault_count c.args.self.now)
+    (counts_of g.D.Disk.fault_count g.A.Arm.fault_count c.fetch-front.new.self) (IsOfPlace g.D.Disk.Tells (c.args.self.now).settings
+    (contents_in g.D.Disk.files c.fetch-front.new.self) (store_seen c.fetch-front.new.self) c.args.volume c.args.pair) f) c.in-Unreadable.is c.fetch-front.ensures.passes in
     let is : c.in-Ok-passed_of.causes ≡ map (passed_at (c.args.self.now).settings c.args.volume) c.in-Unreadable.causes =
     c.in-Ok-passed_of.ensures.is ∙ ap (λ (over : List PassedReplica). map (passed_at c.self.inside.settings c.args.volume) over) c.as_slice.ensures.is
     ∙ ap (λ (s : Settings). map (passed_at s c.args.volume) c.in-Unreadable.causes) same in
     record {
       known = (read.2).known;
-      legal = read_unreadable g.D.Disk.Tells g.D.Disk.files g.D.Piece.Piece.Tells g.D.Disk.fault_count g.D.Disk.fuse_count g.A.Arm.fault_count g.A.Arm.is_sure c.args.self.now c.fetch-front.new.self (c.args.self.now).settings k c.args.tag c.args.start c.args.pair c.args.volume c.fetch-front.result.0 c.rows-rows.result c.in-Unreadable.causes c.in-Ok-passed_of.causes
+      legal =
+          read_unreadable g.D.Disk.Tells g.D.Disk.files g.D.Piece.Piece.Tells g.D.Disk.fault_count g.D.Disk.fuse_count g.A.Arm.fault_count g.A.Arm.is_sure c.args.self.now
+          c.fetch-front.new.self (c.args.self.now).settings k c.args.tag c.args.start c.args.pair c.args.volume c.fetch-front.result.0 c.rows-rows.result c.in-Unreadable.causes
+          c.in-Ok-passed_of.causes
           home read.0 (c.rows-rows.ensures.known tells k stands) is (tells, k, stands) stands read.2 passes.passes passes.all;
       stands = (read.2).stands;
     }
@@ -119,8 +153,16 @@ returns-in_default-clause-here g c = inr refl
 pub returns-in-Photo-clause-here : goal.returns-in-Photo-clause-here
 returns-in-Photo-clause-here g c =
     let same : c.self.inside.settings ≡ (c.args.self.now).settings = ap (λ (st : Open g.row.D.Denot g.row.D-Piece.Denot g.row.A.Denot). st.settings) c.self.view_is ∙ c.fetch-front.ensures.settings in
-    let passes = subst (λ (f : Found). FoundPasses (NeverIn g.D.Disk.Tells g.D.Disk.files g.D.Piece.Piece.Tells g.D.Disk.fault_count g.D.Disk.fuse_count g.A.Arm.fault_count g.A.Arm.is_sure c.args.self.now c.args.tag.lane) (c.args.self.now).settings c.args.tag.lane c.args.volume c.args.start (counts_of g.D.Disk.fault_count g.A.Arm.fault_count c.args.self.now) (counts_of g.D.Disk.fault_count g.A.Arm.fault_count c.fetch-front.new.self) (IsOfPlace g.D.Disk.Tells (c.args.self.now).settings (contents_in g.D.Disk.files c.fetch-front.new.self) (store_seen c.fetch-front.new.self) c.args.volume c.args.pair) f) c.in-Photo.is c.fetch-front.ensures.passes in
-    let below = to_below (NeverIn g.D.Disk.Tells g.D.Disk.files g.D.Piece.Piece.Tells g.D.Disk.fault_count g.D.Disk.fuse_count g.A.Arm.fault_count g.A.Arm.is_sure c.args.self.now c.args.tag.lane) (c.args.self.now).settings c.args.tag.lane c.args.volume c.args.start (counts_of g.D.Disk.fault_count g.A.Arm.fault_count c.args.self.now) (counts_of g.D.Disk.fault_count g.A.Arm.fault_count c.fetch-front.new.self) (IsOfPlace g.D.Disk.Tells (c.args.self.now).settings (contents_in g.D.Disk.files c.fetch-front.new.self) (store_seen c.fetch-front.new.self) c.args.volume c.args.pair) [] passes.0 c.in-Photo.replica passes.1 in
+    let passes =
+    subst (λ (f : Found). FoundPasses (NeverIn g.D.Disk.Tells g.D.Disk.files g.D.Piece.Piece.Tells g.D.Disk.fault_count g.D.Disk.fuse_count g.A.Arm.fault_count g.A.Arm.is_sure
+    c.args.self.now c.args.tag.lane) (c.args.self.now).settings c.args.tag.lane c.args.volume c.args.start (counts_of g.D.Disk.fault_count g.A.Arm.fault_count c.args.self.now)
+    (counts_of g.D.Disk.fault_count g.A.Arm.fault_count c.fetch-front.new.self) (IsOfPlace g.D.Disk.Tells (c.args.self.now).settings
+    (contents_in g.D.Disk.files c.fetch-front.new.self) (store_seen c.fetch-front.new.self) c.args.volume c.args.pair) f) c.in-Photo.is c.fetch-front.ensures.passes in
+    let below =
+    to_below (NeverIn g.D.Disk.Tells g.D.Disk.files g.D.Piece.Piece.Tells g.D.Disk.fault_count g.D.Disk.fuse_count g.A.Arm.fault_count g.A.Arm.is_sure c.args.self.now
+    c.args.tag.lane) (c.args.self.now).settings c.args.tag.lane c.args.volume c.args.start (counts_of g.D.Disk.fault_count g.A.Arm.fault_count c.args.self.now)
+    (counts_of g.D.Disk.fault_count g.A.Arm.fault_count c.fetch-front.new.self) (IsOfPlace g.D.Disk.Tells (c.args.self.now).settings
+    (contents_in g.D.Disk.files c.fetch-front.new.self) (store_seen c.fetch-front.new.self) c.args.volume c.args.pair) [] passes.0 c.in-Photo.replica passes.1 in
     let on = on_machine (c.args.self.now).settings c.args.volume c.in-Photo.replica c.machine_of.result (subst (λ (s : Settings). IsBuilt s) same c.self.invariant.built) c.requires.volume below
     (c.machine_of.ensures.is ∙ ap (λ (s : Settings). machine_of s c.args.volume c.in-Photo.replica) same) in
     inl (inl (
@@ -136,8 +178,16 @@ returns-in-Photo-clause-here g c =
 pub returns-in-Gone-clause-here : goal.returns-in-Gone-clause-here
 returns-in-Gone-clause-here g c =
     let same : c.self.inside.settings ≡ (c.args.self.now).settings = ap (λ (st : Open g.row.D.Denot g.row.D-Piece.Denot g.row.A.Denot). st.settings) c.self.view_is ∙ c.fetch-front.ensures.settings in
-    let passes = subst (λ (f : Found). FoundPasses (NeverIn g.D.Disk.Tells g.D.Disk.files g.D.Piece.Piece.Tells g.D.Disk.fault_count g.D.Disk.fuse_count g.A.Arm.fault_count g.A.Arm.is_sure c.args.self.now c.args.tag.lane) (c.args.self.now).settings c.args.tag.lane c.args.volume c.args.start (counts_of g.D.Disk.fault_count g.A.Arm.fault_count c.args.self.now) (counts_of g.D.Disk.fault_count g.A.Arm.fault_count c.fetch-front.new.self) (IsOfPlace g.D.Disk.Tells (c.args.self.now).settings (contents_in g.D.Disk.files c.fetch-front.new.self) (store_seen c.fetch-front.new.self) c.args.volume c.args.pair) f) c.in-Gone.is c.fetch-front.ensures.passes in
-    let below = to_below (NeverIn g.D.Disk.Tells g.D.Disk.files g.D.Piece.Piece.Tells g.D.Disk.fault_count g.D.Disk.fuse_count g.A.Arm.fault_count g.A.Arm.is_sure c.args.self.now c.args.tag.lane) (c.args.self.now).settings c.args.tag.lane c.args.volume c.args.start (counts_of g.D.Disk.fault_count g.A.Arm.fault_count c.args.self.now) (counts_of g.D.Disk.fault_count g.A.Arm.fault_count c.fetch-front.new.self) (IsOfPlace g.D.Disk.Tells (c.args.self.now).settings (contents_in g.D.Disk.files c.fetch-front.new.self) (store_seen c.fetch-front.new.self) c.args.volume c.args.pair) [] passes.0 c.in-Gone.replica passes.1 in
+    let passes =
+    subst (λ (f : Found). FoundPasses (NeverIn g.D.Disk.Tells g.D.Disk.files g.D.Piece.Piece.Tells g.D.Disk.fault_count g.D.Disk.fuse_count g.A.Arm.fault_count g.A.Arm.is_sure
+    c.args.self.now c.args.tag.lane) (c.args.self.now).settings c.args.tag.lane c.args.volume c.args.start (counts_of g.D.Disk.fault_count g.A.Arm.fault_count c.args.self.now)
+    (counts_of g.D.Disk.fault_count g.A.Arm.fault_count c.fetch-front.new.self) (IsOfPlace g.D.Disk.Tells (c.args.self.now).settings
+    (contents_in g.D.Disk.files c.fetch-front.new.self) (store_seen c.fetch-front.new.self) c.args.volume c.args.pair) f) c.in-Gone.is c.fetch-front.ensures.passes in
+    let below =
+    to_below (NeverIn g.D.Disk.Tells g.D.Disk.files g.D.Piece.Piece.Tells g.D.Disk.fault_count g.D.Disk.fuse_count g.A.Arm.fault_count g.A.Arm.is_sure c.args.self.now
+    c.args.tag.lane) (c.args.self.now).settings c.args.tag.lane c.args.volume c.args.start (counts_of g.D.Disk.fault_count g.A.Arm.fault_count c.args.self.now)
+    (counts_of g.D.Disk.fault_count g.A.Arm.fault_count c.fetch-front.new.self) (IsOfPlace g.D.Disk.Tells (c.args.self.now).settings
+    (contents_in g.D.Disk.files c.fetch-front.new.self) (store_seen c.fetch-front.new.self) c.args.volume c.args.pair) [] passes.0 c.in-Gone.replica passes.1 in
     let on = on_machine (c.args.self.now).settings c.args.volume c.in-Gone.replica c.machine_of-in-Gone.result (subst (λ (s : Settings). IsBuilt s) same c.self.invariant.built) c.requires.volume below
     (c.machine_of-in-Gone.ensures.is ∙ ap (λ (s : Settings). machine_of s c.args.volume c.in-Gone.replica) same) in
     inl (inr (inl (c.machine_of-in-Gone.result, c.fetch-front.result.0, c.rows-rows.result, on, refl)))
@@ -145,9 +195,19 @@ returns-in-Gone-clause-here g c =
 pub returns-in-WrongCookie-clause-here : goal.returns-in-WrongCookie-clause-here
 returns-in-WrongCookie-clause-here g c =
     let same : c.self.inside.settings ≡ (c.args.self.now).settings = ap (λ (st : Open g.row.D.Denot g.row.D-Piece.Denot g.row.A.Denot). st.settings) c.self.view_is ∙ c.fetch-front.ensures.settings in
-    let passes = subst (λ (f : Found). FoundPasses (NeverIn g.D.Disk.Tells g.D.Disk.files g.D.Piece.Piece.Tells g.D.Disk.fault_count g.D.Disk.fuse_count g.A.Arm.fault_count g.A.Arm.is_sure c.args.self.now c.args.tag.lane) (c.args.self.now).settings c.args.tag.lane c.args.volume c.args.start (counts_of g.D.Disk.fault_count g.A.Arm.fault_count c.args.self.now) (counts_of g.D.Disk.fault_count g.A.Arm.fault_count c.fetch-front.new.self) (IsOfPlace g.D.Disk.Tells (c.args.self.now).settings (contents_in g.D.Disk.files c.fetch-front.new.self) (store_seen c.fetch-front.new.self) c.args.volume c.args.pair) f) c.in-WrongCookie.is c.fetch-front.ensures.passes in
-    let below = to_below (NeverIn g.D.Disk.Tells g.D.Disk.files g.D.Piece.Piece.Tells g.D.Disk.fault_count g.D.Disk.fuse_count g.A.Arm.fault_count g.A.Arm.is_sure c.args.self.now c.args.tag.lane) (c.args.self.now).settings c.args.tag.lane c.args.volume c.args.start (counts_of g.D.Disk.fault_count g.A.Arm.fault_count c.args.self.now) (counts_of g.D.Disk.fault_count g.A.Arm.fault_count c.fetch-front.new.self) (IsOfPlace g.D.Disk.Tells (c.args.self.now).settings (contents_in g.D.Disk.files c.fetch-front.new.self) (store_seen c.fetch-front.new.self) c.args.volume c.args.pair) [] passes.0 c.in-WrongCookie.replica passes.1 in
-    let on = on_machine (c.args.self.now).settings c.args.volume c.in-WrongCookie.replica c.machine_of-in-WrongCookie.result (subst (λ (s : Settings). IsBuilt s) same c.self.invariant.built) c.requires.volume below
+    let passes =
+    subst (λ (f : Found). FoundPasses (NeverIn g.D.Disk.Tells g.D.Disk.files g.D.Piece.Piece.Tells g.D.Disk.fault_count g.D.Disk.fuse_count g.A.Arm.fault_count g.A.Arm.is_sure
+    c.args.self.now c.args.tag.lane) (c.args.self.now).settings c.args.tag.lane c.args.volume c.args.start (counts_of g.D.Disk.fault_count g.A.Arm.fault_count c.args.self.now)
+    (counts_of g.D.Disk.fault_count g.A.Arm.fault_count c.fetch-front.new.self) (IsOfPlace g.D.Disk.Tells (c.args.self.now).settings
+    (contents_in g.D.Disk.files c.fetch-front.new.self) (store_seen c.fetch-front.new.self) c.args.volume c.args.pair) f) c.in-WrongCookie.is c.fetch-front.ensures.passes in
+    let below =
+    to_below (NeverIn g.D.Disk.Tells g.D.Disk.files g.D.Piece.Piece.Tells g.D.Disk.fault_count g.D.Disk.fuse_count g.A.Arm.fault_count g.A.Arm.is_sure c.args.self.now
+    c.args.tag.lane) (c.args.self.now).settings c.args.tag.lane c.args.volume c.args.start (counts_of g.D.Disk.fault_count g.A.Arm.fault_count c.args.self.now)
+    (counts_of g.D.Disk.fault_count g.A.Arm.fault_count c.fetch-front.new.self) (IsOfPlace g.D.Disk.Tells (c.args.self.now).settings
+    (contents_in g.D.Disk.files c.fetch-front.new.self) (store_seen c.fetch-front.new.self) c.args.volume c.args.pair) [] passes.0 c.in-WrongCookie.replica passes.1 in
+    let on =
+    on_machine (c.args.self.now).settings c.args.volume c.in-WrongCookie.replica c.machine_of-in-WrongCookie.result
+    (subst (λ (s : Settings). IsBuilt s) same c.self.invariant.built) c.requires.volume below
     (c.machine_of-in-WrongCookie.ensures.is ∙ ap (λ (s : Settings). machine_of s c.args.volume c.in-WrongCookie.replica) same) in
     inl (inr (inr (inl (c.machine_of-in-WrongCookie.result, c.fetch-front.result.0, c.rows-rows.result, on, refl))))
 
@@ -183,33 +243,60 @@ returns-in_default-clause-sights g c =
 pub returns-in-Photo-clause-sights : goal.returns-in-Photo-clause-sights
 returns-in-Photo-clause-sights g c =
     let same : c.self.inside.settings ≡ (c.args.self.now).settings = ap (λ (st : Open g.row.D.Denot g.row.D-Piece.Denot g.row.A.Denot). st.settings) c.self.view_is ∙ c.fetch-front.ensures.settings in
-    let passes = subst (λ (f : Found). FoundPasses (NeverIn g.D.Disk.Tells g.D.Disk.files g.D.Piece.Piece.Tells g.D.Disk.fault_count g.D.Disk.fuse_count g.A.Arm.fault_count g.A.Arm.is_sure c.args.self.now c.args.tag.lane) (c.args.self.now).settings c.args.tag.lane c.args.volume c.args.start (counts_of g.D.Disk.fault_count g.A.Arm.fault_count c.args.self.now) (counts_of g.D.Disk.fault_count g.A.Arm.fault_count c.fetch-front.new.self) (IsOfPlace g.D.Disk.Tells (c.args.self.now).settings (contents_in g.D.Disk.files c.fetch-front.new.self) (store_seen c.fetch-front.new.self) c.args.volume c.args.pair) f) c.in-Photo.is c.fetch-front.ensures.passes in
-    let below = to_below (NeverIn g.D.Disk.Tells g.D.Disk.files g.D.Piece.Piece.Tells g.D.Disk.fault_count g.D.Disk.fuse_count g.A.Arm.fault_count g.A.Arm.is_sure c.args.self.now c.args.tag.lane) (c.args.self.now).settings c.args.tag.lane c.args.volume c.args.start (counts_of g.D.Disk.fault_count g.A.Arm.fault_count c.args.self.now) (counts_of g.D.Disk.fault_count g.A.Arm.fault_count c.fetch-front.new.self) (IsOfPlace g.D.Disk.Tells (c.args.self.now).settings (contents_in g.D.Disk.files c.fetch-front.new.self) (store_seen c.fetch-front.new.self) c.args.volume c.args.pair) [] passes.0 c.in-Photo.replica passes.1 in
+    let passes =
+    subst (λ (f : Found). FoundPasses (NeverIn g.D.Disk.Tells g.D.Disk.files g.D.Piece.Piece.Tells g.D.Disk.fault_count g.D.Disk.fuse_count g.A.Arm.fault_count g.A.Arm.is_sure
+    c.args.self.now c.args.tag.lane) (c.args.self.now).settings c.args.tag.lane c.args.volume c.args.start (counts_of g.D.Disk.fault_count g.A.Arm.fault_count c.args.self.now)
+    (counts_of g.D.Disk.fault_count g.A.Arm.fault_count c.fetch-front.new.self) (IsOfPlace g.D.Disk.Tells (c.args.self.now).settings
+    (contents_in g.D.Disk.files c.fetch-front.new.self) (store_seen c.fetch-front.new.self) c.args.volume c.args.pair) f) c.in-Photo.is c.fetch-front.ensures.passes in
+    let below =
+    to_below (NeverIn g.D.Disk.Tells g.D.Disk.files g.D.Piece.Piece.Tells g.D.Disk.fault_count g.D.Disk.fuse_count g.A.Arm.fault_count g.A.Arm.is_sure c.args.self.now
+    c.args.tag.lane) (c.args.self.now).settings c.args.tag.lane c.args.volume c.args.start (counts_of g.D.Disk.fault_count g.A.Arm.fault_count c.args.self.now)
+    (counts_of g.D.Disk.fault_count g.A.Arm.fault_count c.fetch-front.new.self) (IsOfPlace g.D.Disk.Tells (c.args.self.now).settings
+    (contents_in g.D.Disk.files c.fetch-front.new.self) (store_seen c.fetch-front.new.self) c.args.volume c.args.pair) [] passes.0 c.in-Photo.replica passes.1 in
     let seen = subst (λ (f : Found). FoundSees ((store_seen c.fetch-front.new.self).places c.args.volume c.args.pair) f) c.in-Photo.is c.fetch-front.ensures.sees in (
       c.fetch-front.ensures.looks,
-      sees_on (c.args.self.now).settings c.args.volume c.args.pair (store_seen c.fetch-front.new.self) (subst (λ (s : Settings). IsBuilt s) same c.self.invariant.built) c.requires.volume IsLiveSight c.in-Photo.replica c.machine_of.result below
+      sees_on (c.args.self.now).settings c.args.volume c.args.pair (store_seen c.fetch-front.new.self) (subst (λ (s : Settings). IsBuilt s) same c.self.invariant.built)
+          c.requires.volume IsLiveSight c.in-Photo.replica c.machine_of.result below
           (c.machine_of.ensures.is ∙ ap (λ (s : Settings). machine_of s c.args.volume c.in-Photo.replica) same) seen,
     )
 
 pub returns-in-Gone-clause-sights : goal.returns-in-Gone-clause-sights
 returns-in-Gone-clause-sights g c =
     let same : c.self.inside.settings ≡ (c.args.self.now).settings = ap (λ (st : Open g.row.D.Denot g.row.D-Piece.Denot g.row.A.Denot). st.settings) c.self.view_is ∙ c.fetch-front.ensures.settings in
-    let passes = subst (λ (f : Found). FoundPasses (NeverIn g.D.Disk.Tells g.D.Disk.files g.D.Piece.Piece.Tells g.D.Disk.fault_count g.D.Disk.fuse_count g.A.Arm.fault_count g.A.Arm.is_sure c.args.self.now c.args.tag.lane) (c.args.self.now).settings c.args.tag.lane c.args.volume c.args.start (counts_of g.D.Disk.fault_count g.A.Arm.fault_count c.args.self.now) (counts_of g.D.Disk.fault_count g.A.Arm.fault_count c.fetch-front.new.self) (IsOfPlace g.D.Disk.Tells (c.args.self.now).settings (contents_in g.D.Disk.files c.fetch-front.new.self) (store_seen c.fetch-front.new.self) c.args.volume c.args.pair) f) c.in-Gone.is c.fetch-front.ensures.passes in
-    let below = to_below (NeverIn g.D.Disk.Tells g.D.Disk.files g.D.Piece.Piece.Tells g.D.Disk.fault_count g.D.Disk.fuse_count g.A.Arm.fault_count g.A.Arm.is_sure c.args.self.now c.args.tag.lane) (c.args.self.now).settings c.args.tag.lane c.args.volume c.args.start (counts_of g.D.Disk.fault_count g.A.Arm.fault_count c.args.self.now) (counts_of g.D.Disk.fault_count g.A.Arm.fault_count c.fetch-front.new.self) (IsOfPlace g.D.Disk.Tells (c.args.self.now).settings (contents_in g.D.Disk.files c.fetch-front.new.self) (store_seen c.fetch-front.new.self) c.args.volume c.args.pair) [] passes.0 c.in-Gone.replica passes.1 in
+    let passes =
+    subst (λ (f : Found). FoundPasses (NeverIn g.D.Disk.Tells g.D.Disk.files g.D.Piece.Piece.Tells g.D.Disk.fault_count g.D.Disk.fuse_count g.A.Arm.fault_count g.A.Arm.is_sure
+    c.args.self.now c.args.tag.lane) (c.args.self.now).settings c.args.tag.lane c.args.volume c.args.start (counts_of g.D.Disk.fault_count g.A.Arm.fault_count c.args.self.now)
+    (counts_of g.D.Disk.fault_count g.A.Arm.fault_count c.fetch-front.new.self) (IsOfPlace g.D.Disk.Tells (c.args.self.now).settings
+    (contents_in g.D.Disk.files c.fetch-front.new.self) (store_seen c.fetch-front.new.self) c.args.volume c.args.pair) f) c.in-Gone.is c.fetch-front.ensures.passes in
+    let below =
+    to_below (NeverIn g.D.Disk.Tells g.D.Disk.files g.D.Piece.Piece.Tells g.D.Disk.fault_count g.D.Disk.fuse_count g.A.Arm.fault_count g.A.Arm.is_sure c.args.self.now
+    c.args.tag.lane) (c.args.self.now).settings c.args.tag.lane c.args.volume c.args.start (counts_of g.D.Disk.fault_count g.A.Arm.fault_count c.args.self.now)
+    (counts_of g.D.Disk.fault_count g.A.Arm.fault_count c.fetch-front.new.self) (IsOfPlace g.D.Disk.Tells (c.args.self.now).settings
+    (contents_in g.D.Disk.files c.fetch-front.new.self) (store_seen c.fetch-front.new.self) c.args.volume c.args.pair) [] passes.0 c.in-Gone.replica passes.1 in
     let seen = subst (λ (f : Found). FoundSees ((store_seen c.fetch-front.new.self).places c.args.volume c.args.pair) f) c.in-Gone.is c.fetch-front.ensures.sees in (
       c.fetch-front.ensures.looks,
-      sees_on (c.args.self.now).settings c.args.volume c.args.pair (store_seen c.fetch-front.new.self) (subst (λ (s : Settings). IsBuilt s) same c.self.invariant.built) c.requires.volume IsAbsent c.in-Gone.replica c.machine_of-in-Gone.result below
+      sees_on (c.args.self.now).settings c.args.volume c.args.pair (store_seen c.fetch-front.new.self) (subst (λ (s : Settings). IsBuilt s) same c.self.invariant.built)
+          c.requires.volume IsAbsent c.in-Gone.replica c.machine_of-in-Gone.result below
           (c.machine_of-in-Gone.ensures.is ∙ ap (λ (s : Settings). machine_of s c.args.volume c.in-Gone.replica) same) seen,
     )
 
 pub returns-in-WrongCookie-clause-sights : goal.returns-in-WrongCookie-clause-sights
 returns-in-WrongCookie-clause-sights g c =
     let same : c.self.inside.settings ≡ (c.args.self.now).settings = ap (λ (st : Open g.row.D.Denot g.row.D-Piece.Denot g.row.A.Denot). st.settings) c.self.view_is ∙ c.fetch-front.ensures.settings in
-    let passes = subst (λ (f : Found). FoundPasses (NeverIn g.D.Disk.Tells g.D.Disk.files g.D.Piece.Piece.Tells g.D.Disk.fault_count g.D.Disk.fuse_count g.A.Arm.fault_count g.A.Arm.is_sure c.args.self.now c.args.tag.lane) (c.args.self.now).settings c.args.tag.lane c.args.volume c.args.start (counts_of g.D.Disk.fault_count g.A.Arm.fault_count c.args.self.now) (counts_of g.D.Disk.fault_count g.A.Arm.fault_count c.fetch-front.new.self) (IsOfPlace g.D.Disk.Tells (c.args.self.now).settings (contents_in g.D.Disk.files c.fetch-front.new.self) (store_seen c.fetch-front.new.self) c.args.volume c.args.pair) f) c.in-WrongCookie.is c.fetch-front.ensures.passes in
-    let below = to_below (NeverIn g.D.Disk.Tells g.D.Disk.files g.D.Piece.Piece.Tells g.D.Disk.fault_count g.D.Disk.fuse_count g.A.Arm.fault_count g.A.Arm.is_sure c.args.self.now c.args.tag.lane) (c.args.self.now).settings c.args.tag.lane c.args.volume c.args.start (counts_of g.D.Disk.fault_count g.A.Arm.fault_count c.args.self.now) (counts_of g.D.Disk.fault_count g.A.Arm.fault_count c.fetch-front.new.self) (IsOfPlace g.D.Disk.Tells (c.args.self.now).settings (contents_in g.D.Disk.files c.fetch-front.new.self) (store_seen c.fetch-front.new.self) c.args.volume c.args.pair) [] passes.0 c.in-WrongCookie.replica passes.1 in
+    let passes =
+    subst (λ (f : Found). FoundPasses (NeverIn g.D.Disk.Tells g.D.Disk.files g.D.Piece.Piece.Tells g.D.Disk.fault_count g.D.Disk.fuse_count g.A.Arm.fault_count g.A.Arm.is_sure
+    c.args.self.now c.args.tag.lane) (c.args.self.now).settings c.args.tag.lane c.args.volume c.args.start (counts_of g.D.Disk.fault_count g.A.Arm.fault_count c.args.self.now)
+    (counts_of g.D.Disk.fault_count g.A.Arm.fault_count c.fetch-front.new.self) (IsOfPlace g.D.Disk.Tells (c.args.self.now).settings
+    (contents_in g.D.Disk.files c.fetch-front.new.self) (store_seen c.fetch-front.new.self) c.args.volume c.args.pair) f) c.in-WrongCookie.is c.fetch-front.ensures.passes in
+    let below =
+    to_below (NeverIn g.D.Disk.Tells g.D.Disk.files g.D.Piece.Piece.Tells g.D.Disk.fault_count g.D.Disk.fuse_count g.A.Arm.fault_count g.A.Arm.is_sure c.args.self.now
+    c.args.tag.lane) (c.args.self.now).settings c.args.tag.lane c.args.volume c.args.start (counts_of g.D.Disk.fault_count g.A.Arm.fault_count c.args.self.now)
+    (counts_of g.D.Disk.fault_count g.A.Arm.fault_count c.fetch-front.new.self) (IsOfPlace g.D.Disk.Tells (c.args.self.now).settings
+    (contents_in g.D.Disk.files c.fetch-front.new.self) (store_seen c.fetch-front.new.self) c.args.volume c.args.pair) [] passes.0 c.in-WrongCookie.replica passes.1 in
     let seen = subst (λ (f : Found). FoundSees ((store_seen c.fetch-front.new.self).places c.args.volume c.args.pair) f) c.in-WrongCookie.is c.fetch-front.ensures.sees in (
       c.fetch-front.ensures.looks,
-      sees_on (c.args.self.now).settings c.args.volume c.args.pair (store_seen c.fetch-front.new.self) (subst (λ (s : Settings). IsBuilt s) same c.self.invariant.built) c.requires.volume IsLiveSight c.in-WrongCookie.replica c.machine_of-in-WrongCookie.result below
+      sees_on (c.args.self.now).settings c.args.volume c.args.pair (store_seen c.fetch-front.new.self) (subst (λ (s : Settings). IsBuilt s) same c.self.invariant.built)
+          c.requires.volume IsLiveSight c.in-WrongCookie.replica c.machine_of-in-WrongCookie.result below
           (c.machine_of-in-WrongCookie.ensures.is ∙ ap (λ (s : Settings). machine_of s c.args.volume c.in-WrongCookie.replica) same) seen,
     )
 
@@ -227,42 +314,77 @@ returns-clause-sights g c =
 pub returns-in-Photo-clause-passes : goal.returns-in-Photo-clause-passes
 returns-in-Photo-clause-passes g c =
     let same : c.self.inside.settings ≡ (c.args.self.now).settings = ap (λ (st : Open g.row.D.Denot g.row.D-Piece.Denot g.row.A.Denot). st.settings) c.self.view_is ∙ c.fetch-front.ensures.settings in
-    let passes = subst (λ (f : Found). FoundPasses (NeverIn g.D.Disk.Tells g.D.Disk.files g.D.Piece.Piece.Tells g.D.Disk.fault_count g.D.Disk.fuse_count g.A.Arm.fault_count g.A.Arm.is_sure c.args.self.now c.args.tag.lane) (c.args.self.now).settings c.args.tag.lane c.args.volume c.args.start (counts_of g.D.Disk.fault_count g.A.Arm.fault_count c.args.self.now) (counts_of g.D.Disk.fault_count g.A.Arm.fault_count c.fetch-front.new.self) (IsOfPlace g.D.Disk.Tells (c.args.self.now).settings (contents_in g.D.Disk.files c.fetch-front.new.self) (store_seen c.fetch-front.new.self) c.args.volume c.args.pair) f) c.in-Photo.is c.fetch-front.ensures.passes in
-    passed_to g.D.Disk.Tells (NeverIn g.D.Disk.Tells g.D.Disk.files g.D.Piece.Piece.Tells g.D.Disk.fault_count g.D.Disk.fuse_count g.A.Arm.fault_count g.A.Arm.is_sure c.args.self.now c.args.tag.lane) (IsSureArm g.A.Arm.is_sure (c.args.self.now).arms c.args.tag.lane) (λ f sure. sure) (c.args.self.now).settings c.args.tag.lane c.args.volume c.args.start (counts_of g.D.Disk.fault_count g.A.Arm.fault_count c.args.self.now) (counts_of g.D.Disk.fault_count g.A.Arm.fault_count c.fetch-front.new.self) (subst (λ (s : Settings). IsBuilt s) same c.self.invariant.built) c.requires.volume
-    (contents_in g.D.Disk.files c.fetch-front.new.self) c.args.pair (store_seen c.fetch-front.new.self) passes.0 c.in-Photo.replica c.machine_of.result (c.machine_of.ensures.is ∙ ap (λ (s : Settings). machine_of s c.args.volume c.in-Photo.replica) same) passes.1
+    let passes =
+    subst (λ (f : Found). FoundPasses (NeverIn g.D.Disk.Tells g.D.Disk.files g.D.Piece.Piece.Tells g.D.Disk.fault_count g.D.Disk.fuse_count g.A.Arm.fault_count g.A.Arm.is_sure
+    c.args.self.now c.args.tag.lane) (c.args.self.now).settings c.args.tag.lane c.args.volume c.args.start (counts_of g.D.Disk.fault_count g.A.Arm.fault_count c.args.self.now)
+    (counts_of g.D.Disk.fault_count g.A.Arm.fault_count c.fetch-front.new.self) (IsOfPlace g.D.Disk.Tells (c.args.self.now).settings
+    (contents_in g.D.Disk.files c.fetch-front.new.self) (store_seen c.fetch-front.new.self) c.args.volume c.args.pair) f) c.in-Photo.is c.fetch-front.ensures.passes in
+    passed_to g.D.Disk.Tells (NeverIn g.D.Disk.Tells g.D.Disk.files g.D.Piece.Piece.Tells g.D.Disk.fault_count g.D.Disk.fuse_count g.A.Arm.fault_count g.A.Arm.is_sure
+    c.args.self.now c.args.tag.lane) (IsSureArm g.A.Arm.is_sure (c.args.self.now).arms c.args.tag.lane) (λ f sure. sure) (c.args.self.now).settings c.args.tag.lane
+    c.args.volume c.args.start (counts_of g.D.Disk.fault_count g.A.Arm.fault_count c.args.self.now) (counts_of g.D.Disk.fault_count g.A.Arm.fault_count c.fetch-front.new.self)
+    (subst (λ (s : Settings). IsBuilt s) same c.self.invariant.built) c.requires.volume
+    (contents_in g.D.Disk.files c.fetch-front.new.self) c.args.pair (store_seen c.fetch-front.new.self) passes.0 c.in-Photo.replica c.machine_of.result
+    (c.machine_of.ensures.is ∙ ap (λ (s : Settings). machine_of s c.args.volume c.in-Photo.replica) same) passes.1
 
 pub returns-in-Gone-clause-passes : goal.returns-in-Gone-clause-passes
 returns-in-Gone-clause-passes g c =
     let same : c.self.inside.settings ≡ (c.args.self.now).settings = ap (λ (st : Open g.row.D.Denot g.row.D-Piece.Denot g.row.A.Denot). st.settings) c.self.view_is ∙ c.fetch-front.ensures.settings in
-    let passes = subst (λ (f : Found). FoundPasses (NeverIn g.D.Disk.Tells g.D.Disk.files g.D.Piece.Piece.Tells g.D.Disk.fault_count g.D.Disk.fuse_count g.A.Arm.fault_count g.A.Arm.is_sure c.args.self.now c.args.tag.lane) (c.args.self.now).settings c.args.tag.lane c.args.volume c.args.start (counts_of g.D.Disk.fault_count g.A.Arm.fault_count c.args.self.now) (counts_of g.D.Disk.fault_count g.A.Arm.fault_count c.fetch-front.new.self) (IsOfPlace g.D.Disk.Tells (c.args.self.now).settings (contents_in g.D.Disk.files c.fetch-front.new.self) (store_seen c.fetch-front.new.self) c.args.volume c.args.pair) f) c.in-Gone.is c.fetch-front.ensures.passes in
-    passed_to g.D.Disk.Tells (NeverIn g.D.Disk.Tells g.D.Disk.files g.D.Piece.Piece.Tells g.D.Disk.fault_count g.D.Disk.fuse_count g.A.Arm.fault_count g.A.Arm.is_sure c.args.self.now c.args.tag.lane) (IsSureArm g.A.Arm.is_sure (c.args.self.now).arms c.args.tag.lane) (λ f sure. sure) (c.args.self.now).settings c.args.tag.lane c.args.volume c.args.start (counts_of g.D.Disk.fault_count g.A.Arm.fault_count c.args.self.now) (counts_of g.D.Disk.fault_count g.A.Arm.fault_count c.fetch-front.new.self) (subst (λ (s : Settings). IsBuilt s) same c.self.invariant.built) c.requires.volume
-    (contents_in g.D.Disk.files c.fetch-front.new.self) c.args.pair (store_seen c.fetch-front.new.self) passes.0 c.in-Gone.replica c.machine_of-in-Gone.result (c.machine_of-in-Gone.ensures.is ∙ ap (λ (s : Settings). machine_of s c.args.volume c.in-Gone.replica) same) passes.1
+    let passes =
+    subst (λ (f : Found). FoundPasses (NeverIn g.D.Disk.Tells g.D.Disk.files g.D.Piece.Piece.Tells g.D.Disk.fault_count g.D.Disk.fuse_count g.A.Arm.fault_count g.A.Arm.is_sure
+    c.args.self.now c.args.tag.lane) (c.args.self.now).settings c.args.tag.lane c.args.volume c.args.start (counts_of g.D.Disk.fault_count g.A.Arm.fault_count c.args.self.now)
+    (counts_of g.D.Disk.fault_count g.A.Arm.fault_count c.fetch-front.new.self) (IsOfPlace g.D.Disk.Tells (c.args.self.now).settings
+    (contents_in g.D.Disk.files c.fetch-front.new.self) (store_seen c.fetch-front.new.self) c.args.volume c.args.pair) f) c.in-Gone.is c.fetch-front.ensures.passes in
+    passed_to g.D.Disk.Tells (NeverIn g.D.Disk.Tells g.D.Disk.files g.D.Piece.Piece.Tells g.D.Disk.fault_count g.D.Disk.fuse_count g.A.Arm.fault_count g.A.Arm.is_sure
+    c.args.self.now c.args.tag.lane) (IsSureArm g.A.Arm.is_sure (c.args.self.now).arms c.args.tag.lane) (λ f sure. sure) (c.args.self.now).settings c.args.tag.lane
+    c.args.volume c.args.start (counts_of g.D.Disk.fault_count g.A.Arm.fault_count c.args.self.now) (counts_of g.D.Disk.fault_count g.A.Arm.fault_count c.fetch-front.new.self)
+    (subst (λ (s : Settings). IsBuilt s) same c.self.invariant.built) c.requires.volume
+    (contents_in g.D.Disk.files c.fetch-front.new.self) c.args.pair (store_seen c.fetch-front.new.self) passes.0 c.in-Gone.replica c.machine_of-in-Gone.result
+    (c.machine_of-in-Gone.ensures.is ∙ ap (λ (s : Settings). machine_of s c.args.volume c.in-Gone.replica) same) passes.1
 
 pub returns-in-WrongCookie-clause-passes : goal.returns-in-WrongCookie-clause-passes
 returns-in-WrongCookie-clause-passes g c =
     let same : c.self.inside.settings ≡ (c.args.self.now).settings = ap (λ (st : Open g.row.D.Denot g.row.D-Piece.Denot g.row.A.Denot). st.settings) c.self.view_is ∙ c.fetch-front.ensures.settings in
-    let passes = subst (λ (f : Found). FoundPasses (NeverIn g.D.Disk.Tells g.D.Disk.files g.D.Piece.Piece.Tells g.D.Disk.fault_count g.D.Disk.fuse_count g.A.Arm.fault_count g.A.Arm.is_sure c.args.self.now c.args.tag.lane) (c.args.self.now).settings c.args.tag.lane c.args.volume c.args.start (counts_of g.D.Disk.fault_count g.A.Arm.fault_count c.args.self.now) (counts_of g.D.Disk.fault_count g.A.Arm.fault_count c.fetch-front.new.self) (IsOfPlace g.D.Disk.Tells (c.args.self.now).settings (contents_in g.D.Disk.files c.fetch-front.new.self) (store_seen c.fetch-front.new.self) c.args.volume c.args.pair) f) c.in-WrongCookie.is c.fetch-front.ensures.passes in
-    passed_to g.D.Disk.Tells (NeverIn g.D.Disk.Tells g.D.Disk.files g.D.Piece.Piece.Tells g.D.Disk.fault_count g.D.Disk.fuse_count g.A.Arm.fault_count g.A.Arm.is_sure c.args.self.now c.args.tag.lane) (IsSureArm g.A.Arm.is_sure (c.args.self.now).arms c.args.tag.lane) (λ f sure. sure) (c.args.self.now).settings c.args.tag.lane c.args.volume c.args.start (counts_of g.D.Disk.fault_count g.A.Arm.fault_count c.args.self.now) (counts_of g.D.Disk.fault_count g.A.Arm.fault_count c.fetch-front.new.self) (subst (λ (s : Settings). IsBuilt s) same c.self.invariant.built) c.requires.volume
-    (contents_in g.D.Disk.files c.fetch-front.new.self) c.args.pair (store_seen c.fetch-front.new.self) passes.0 c.in-WrongCookie.replica c.machine_of-in-WrongCookie.result (c.machine_of-in-WrongCookie.ensures.is ∙ ap (λ (s : Settings). machine_of s c.args.volume c.in-WrongCookie.replica) same) passes.1
+    let passes =
+    subst (λ (f : Found). FoundPasses (NeverIn g.D.Disk.Tells g.D.Disk.files g.D.Piece.Piece.Tells g.D.Disk.fault_count g.D.Disk.fuse_count g.A.Arm.fault_count g.A.Arm.is_sure
+    c.args.self.now c.args.tag.lane) (c.args.self.now).settings c.args.tag.lane c.args.volume c.args.start (counts_of g.D.Disk.fault_count g.A.Arm.fault_count c.args.self.now)
+    (counts_of g.D.Disk.fault_count g.A.Arm.fault_count c.fetch-front.new.self) (IsOfPlace g.D.Disk.Tells (c.args.self.now).settings
+    (contents_in g.D.Disk.files c.fetch-front.new.self) (store_seen c.fetch-front.new.self) c.args.volume c.args.pair) f) c.in-WrongCookie.is c.fetch-front.ensures.passes in
+    passed_to g.D.Disk.Tells (NeverIn g.D.Disk.Tells g.D.Disk.files g.D.Piece.Piece.Tells g.D.Disk.fault_count g.D.Disk.fuse_count g.A.Arm.fault_count g.A.Arm.is_sure
+    c.args.self.now c.args.tag.lane) (IsSureArm g.A.Arm.is_sure (c.args.self.now).arms c.args.tag.lane) (λ f sure. sure) (c.args.self.now).settings c.args.tag.lane
+    c.args.volume c.args.start (counts_of g.D.Disk.fault_count g.A.Arm.fault_count c.args.self.now) (counts_of g.D.Disk.fault_count g.A.Arm.fault_count c.fetch-front.new.self)
+    (subst (λ (s : Settings). IsBuilt s) same c.self.invariant.built) c.requires.volume
+    (contents_in g.D.Disk.files c.fetch-front.new.self) c.args.pair (store_seen c.fetch-front.new.self) passes.0 c.in-WrongCookie.replica c.machine_of-in-WrongCookie.result
+    (c.machine_of-in-WrongCookie.ensures.is ∙ ap (λ (s : Settings). machine_of s c.args.volume c.in-WrongCookie.replica) same) passes.1
 
 pub returns-in-Ok-passed_of-clause-passes : goal.returns-in-Ok-passed_of-clause-passes
 returns-in-Ok-passed_of-clause-passes g c =
     let same : c.self.inside.settings ≡ (c.args.self.now).settings = ap (λ (st : Open g.row.D.Denot g.row.D-Piece.Denot g.row.A.Denot). st.settings) c.self.view_is ∙ c.fetch-front.ensures.settings in
-    let passes = subst (λ (f : Found). FoundPasses (NeverIn g.D.Disk.Tells g.D.Disk.files g.D.Piece.Piece.Tells g.D.Disk.fault_count g.D.Disk.fuse_count g.A.Arm.fault_count g.A.Arm.is_sure c.args.self.now c.args.tag.lane) (c.args.self.now).settings c.args.tag.lane c.args.volume c.args.start (counts_of g.D.Disk.fault_count g.A.Arm.fault_count c.args.self.now) (counts_of g.D.Disk.fault_count g.A.Arm.fault_count c.fetch-front.new.self) (IsOfPlace g.D.Disk.Tells (c.args.self.now).settings (contents_in g.D.Disk.files c.fetch-front.new.self) (store_seen c.fetch-front.new.self) c.args.volume c.args.pair) f) c.in-Unreadable.is c.fetch-front.ensures.passes in
+    let passes =
+    subst (λ (f : Found). FoundPasses (NeverIn g.D.Disk.Tells g.D.Disk.files g.D.Piece.Piece.Tells g.D.Disk.fault_count g.D.Disk.fuse_count g.A.Arm.fault_count g.A.Arm.is_sure
+    c.args.self.now c.args.tag.lane) (c.args.self.now).settings c.args.tag.lane c.args.volume c.args.start (counts_of g.D.Disk.fault_count g.A.Arm.fault_count c.args.self.now)
+    (counts_of g.D.Disk.fault_count g.A.Arm.fault_count c.fetch-front.new.self) (IsOfPlace g.D.Disk.Tells (c.args.self.now).settings
+    (contents_in g.D.Disk.files c.fetch-front.new.self) (store_seen c.fetch-front.new.self) c.args.volume c.args.pair) f) c.in-Unreadable.is c.fetch-front.ensures.passes in
     let is : c.in-Ok-passed_of.causes ≡ map (passed_at (c.args.self.now).settings c.args.volume) c.in-Unreadable.causes =
     c.in-Ok-passed_of.ensures.is ∙ ap (λ (over : List PassedReplica). map (passed_at c.self.inside.settings c.args.volume) over) c.as_slice.ensures.is
     ∙ ap (λ (s : Settings). map (passed_at s c.args.volume) c.in-Unreadable.causes) same in
-    passed_all g.D.Disk.Tells (NeverIn g.D.Disk.Tells g.D.Disk.files g.D.Piece.Piece.Tells g.D.Disk.fault_count g.D.Disk.fuse_count g.A.Arm.fault_count g.A.Arm.is_sure c.args.self.now c.args.tag.lane) (IsSureArm g.A.Arm.is_sure (c.args.self.now).arms c.args.tag.lane) (λ f sure. sure) (c.args.self.now).settings c.args.tag.lane c.args.volume c.args.start (counts_of g.D.Disk.fault_count g.A.Arm.fault_count c.args.self.now) (counts_of g.D.Disk.fault_count g.A.Arm.fault_count c.fetch-front.new.self) (subst (λ (s : Settings). IsBuilt s) same c.self.invariant.built) c.requires.volume
+    passed_all g.D.Disk.Tells (NeverIn g.D.Disk.Tells g.D.Disk.files g.D.Piece.Piece.Tells g.D.Disk.fault_count g.D.Disk.fuse_count g.A.Arm.fault_count g.A.Arm.is_sure
+    c.args.self.now c.args.tag.lane) (IsSureArm g.A.Arm.is_sure (c.args.self.now).arms c.args.tag.lane) (λ f sure. sure) (c.args.self.now).settings c.args.tag.lane
+    c.args.volume c.args.start (counts_of g.D.Disk.fault_count g.A.Arm.fault_count c.args.self.now) (counts_of g.D.Disk.fault_count g.A.Arm.fault_count c.fetch-front.new.self)
+    (subst (λ (s : Settings). IsBuilt s) same c.self.invariant.built) c.requires.volume
     (contents_in g.D.Disk.files c.fetch-front.new.self) c.args.pair (store_seen c.fetch-front.new.self) c.in-Unreadable.causes c.in-Ok-passed_of.causes is passes
 
 pub returns-in_default-clause-told : goal.returns-in_default-clause-told
 returns-in_default-clause-told g c = λ tells. inl (keeps_photos (store_seen c.args.self.now))
 
 pub returns-in-Unreadable-clause-told : goal.returns-in-Unreadable-clause-told
-returns-in-Unreadable-clause-told g c = λ tells. inr (home_told (c.args.self.now).settings (contents_in g.D.Disk.files c.args.self.now) (store_seen c.args.self.now) (store_seen c.fetch-front.new.self) c.args.pair c.args.volume c.requires.home (c.fetch-front.ensures.told tells))
+returns-in-Unreadable-clause-told g c =
+    λ tells. inr (home_told (c.args.self.now).settings (contents_in g.D.Disk.files c.args.self.now) (store_seen c.args.self.now) (store_seen c.fetch-front.new.self) c.args.pair
+    c.args.volume c.requires.home (c.fetch-front.ensures.told tells))
 
 pub returns-clause-told : goal.returns-clause-told
-returns-clause-told g c = λ tells. inr (home_told (c.args.self.now).settings (contents_in g.D.Disk.files c.args.self.now) (store_seen c.args.self.now) (store_seen c.fetch-front.new.self) c.args.pair c.args.volume c.requires.home (c.fetch-front.ensures.told tells))
+returns-clause-told g c =
+    λ tells. inr (home_told (c.args.self.now).settings (contents_in g.D.Disk.files c.args.self.now) (store_seen c.args.self.now) (store_seen c.fetch-front.new.self) c.args.pair
+    c.args.volume c.requires.home (c.fetch-front.ensures.told tells))
 
 pub returns-in-Photo-clause-told : goal.returns-in-Photo-clause-told
 returns-in-Photo-clause-told g c = c.fetch-front.ensures.told

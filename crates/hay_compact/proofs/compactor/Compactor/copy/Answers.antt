@@ -12,8 +12,17 @@ use Rattle.hay_compact.proofs.compactor.Compactor.copy.Goals.{then-cell-via-then
 
 pub returns-then-cell-clause-examined : goal.returns-then-cell-clause-examined
 returns-then-cell-clause-examined g c = λ tells sup current fresh examined cell copying is copy latest.
-    let new : Stage = record { generation = c.self.inside.generation; capacity = c.self.inside.capacity; volume = c.self.inside.volume; index = c.self.inside.index; standing = c.self.inside.standing; next = c.self.inside.next + c.total_of.result; bytes = c.self.inside.bytes.items } in
-    copy_skips sup (g.D.Disk.files c.args.disk.now) c.args.old.now c.args.self.now new current fresh examined c.args.self.now.volume.end c.total_of.result cell c.args.cell c.args.latest copying is copy latest
+    let new : Stage = record {
+      generation = c.self.inside.generation;
+      capacity = c.self.inside.capacity;
+      volume = c.self.inside.volume;
+      index = c.self.inside.index;
+      standing = c.self.inside.standing;
+      next = c.self.inside.next + c.total_of.result;
+      bytes = c.self.inside.bytes.items;
+    } in
+    copy_skips sup (g.D.Disk.files c.args.disk.now) c.args.old.now c.args.self.now new current fresh examined c.args.self.now.volume.end c.total_of.result cell c.args.cell
+    c.args.latest copying is copy latest
     (elim c.then-cell.branch [
       | then-cell-via-then-cell w ↦ inl w.if-cell.true
       | then-cell-via-else-cell+then-ne w ↦ inr (not_next c.args.latest c.self.inside.next c.args.self.now.next w.if-ne.ensures (ap (λ (s : Stage). s.next) c.self.view_is))
@@ -33,7 +42,8 @@ returns-in_err-read-clause-whole g c = λ tells sup current fresh examined k cel
 
 pub returns-in_err-read-clause-stands : goal.returns-in_err-read-clause-stands
 returns-in_err-read-clause-stands g c = λ tells memory sup current fresh examined copying.
-    copying_read sup (g.D.Disk.files c.args.disk.now) (g.D.Disk.files c.read.new.disk) c.args.old.now c.args.self.now c.read.new.self current fresh examined copying (c.read.ensures.same tells) c.read.ensures.stands
+    copying_read sup (g.D.Disk.files c.args.disk.now) (g.D.Disk.files c.read.new.disk) c.args.old.now c.args.self.now c.read.new.self current fresh examined copying
+    (c.read.ensures.same tells) c.read.ensures.stands
 
 pub returns-in_err-read-clause-made : goal.returns-in_err-read-clause-made
 returns-in_err-read-clause-made g c = λ tells memory.
@@ -44,7 +54,8 @@ returns-in_err-append-clause-stands g c = λ tells memory sup current fresh exam
     let old = g.D.Disk.files c.args.disk.now in
     let read = copying_read sup old (g.D.Disk.files c.read.new.disk) c.args.old.now c.args.self.now c.read.new.self current fresh examined copying (c.read.ensures.same tells) c.read.ensures.stands in
     let fault = err_from_is_err_and c.from_residual-in_err-append.result c.from_residual-in_err-append.ensures.1 in
-    c.in_err-append.ensures.stands tells (ap (λ x. Err x) (same_error c.from_residual-in_err-append.result fault.0 c.in_err-append.field-0.0 CellFault.NoMemory fault.1 fault.2 memory)) sup c.args.old.now current fresh examined read
+    c.in_err-append.ensures.stands tells (ap (λ x. Err x) (same_error c.from_residual-in_err-append.result fault.0 c.in_err-append.field-0.0 CellFault.NoMemory fault.1 fault.2
+    memory)) sup c.args.old.now current fresh examined read
 
 pub returns-clause-examined : goal.returns-clause-examined
 returns-clause-examined g c = λ tells sup current fresh examined cell copying is head latest.

@@ -31,9 +31,12 @@ returns-then-room-total_of-clause-whole g c = λ tells sup current fresh examine
     let total = c.total_of.ensures in
     let head = c.in-Some.head in
     let place : head.at ≡ c.self.inside.next = subst (λ (o : Option CellHead). IfSome o (λ h. h.at ≡ c.self.inside.next)) c.in-Some.is c.in_ok-head.ensures.place in
-    let stands = subst (λ (o : Option CellHead). IfSome o (λ h. HeadBytes (take 36 (drop c.self.inside.next (g.D.Disk.files c.args.disk.now c.file.result).now)) (head_of_cell h))) c.in-Some.is (c.in_ok-head.ensures.stands tells) in
+    let stands =
+    subst (λ (o : Option CellHead). IfSome o (λ h. HeadBytes (take 36 (drop c.self.inside.next (g.D.Disk.files c.args.disk.now c.file.result).now)) (head_of_cell h)))
+    c.in-Some.is (c.in_ok-head.ensures.stands tells) in
     has_room c.self.inside.next c.args.old.now.end examined c.saturating_sub-room.result c.saturating_add.result file current head next
-    (read_head c.self.inside.next file next.cell head next.stands place (subst (λ n. HeadBytes (take 36 (drop c.self.inside.next (g.D.Disk.files c.args.disk.now n).now)) (head_of_cell head)) c.file.ensures stands))
+    (read_head c.self.inside.next file next.cell head next.stands place (subst (λ n. HeadBytes (take 36 (drop c.self.inside.next (g.D.Disk.files c.args.disk.now n).now))
+    (head_of_cell head)) c.file.ensures stands))
     fits (omega (arith, c.saturating_add.ensures, c.end.ensures)) c.saturating_sub-room.ensures (omega arith)
 
 pub returns-clause-peeked : goal.returns-clause-peeked
@@ -42,7 +45,8 @@ returns-clause-peeked g c =
     let total = c.total_of.ensures in
     subst (λ k. HasPeeked c.args.old.now.end k c.in-Some.head) (ap (λ (s : Stage). s.next) c.self.view_is)
     (peeked_of c.self.inside.next c.args.old.now.end c.saturating_sub-room.result c.saturating_add.result c.in-Some.head
-    (subst (λ (o : Option CellHead). IfSome o (λ h. h.size ≤ 16777216)) c.in-Some.is c.in_ok-head.ensures.size) (omega (arith, c.saturating_add.ensures, c.end.ensures)) c.saturating_sub-room.ensures (omega arith))
+    (subst (λ (o : Option CellHead). IfSome o (λ h. h.size ≤ 16777216)) c.in-Some.is c.in_ok-head.ensures.size) (omega (arith, c.saturating_add.ensures, c.end.ensures))
+    c.saturating_sub-room.ensures (omega arith))
 
 pub returns-clause-cell : goal.returns-clause-cell
 returns-clause-cell g c = λ tells sup current fresh examined copying.
@@ -51,12 +55,16 @@ returns-clause-cell g c = λ tells sup current fresh examined copying.
     (λ all. true≢false (sym ((c.ready.ensures.all sup (g.D.Disk.files c.args.disk.now) current fresh examined copying).1 all) ∙ c.if-ready.false)) in
     let head = c.in-Some.head in
     let place : head.at ≡ c.self.inside.next = subst (λ (o : Option CellHead). IfSome o (λ h. h.at ≡ c.self.inside.next)) c.in-Some.is c.in_ok-head.ensures.place in
-    let stands = subst (λ (o : Option CellHead). IfSome o (λ h. HeadBytes (take 36 (drop c.self.inside.next (g.D.Disk.files c.args.disk.now c.file.result).now)) (head_of_cell h))) c.in-Some.is (c.in_ok-head.ensures.stands tells) in (
+    let stands =
+    subst (λ (o : Option CellHead). IfSome o (λ h. HeadBytes (take 36 (drop c.self.inside.next (g.D.Disk.files c.args.disk.now c.file.result).now)) (head_of_cell h)))
+    c.in-Some.is (c.in_ok-head.ensures.stands tells) in (
       next.cell,
       next.is,
       record {
         place = next.stands.is.place ∙ ap (λ (s : Stage). s.next) c.self.view_is;
-        head_is = read_head c.self.inside.next file next.cell head next.stands place (subst (λ n. HeadBytes (take 36 (drop c.self.inside.next (g.D.Disk.files c.args.disk.now n).now)) (head_of_cell head)) c.file.ensures stands);
+        head_is =
+            read_head c.self.inside.next file next.cell head next.stands place (subst (λ n. HeadBytes (take 36 (drop c.self.inside.next (g.D.Disk.files c.args.disk.now n).now))
+            (head_of_cell head)) c.file.ensures stands);
       },
     )
 
@@ -92,7 +100,9 @@ returns-then-room-total_of-clause-lacks g c = λ tells room k is.
     let file = (g.D.Disk.files c.args.disk.now c.args.old.now.file).now in
     let at : c.self.inside.next ≡ k = cc in
     let head = c.in-Some.head in
-    let stands = subst (λ (o : Option CellHead). IfSome o (λ h. HeadBytes (take 36 (drop c.self.inside.next (g.D.Disk.files c.args.disk.now c.file.result).now)) (head_of_cell h))) c.in-Some.is (c.in_ok-head.ensures.stands tells) in
+    let stands =
+    subst (λ (o : Option CellHead). IfSome o (λ h. HeadBytes (take 36 (drop c.self.inside.next (g.D.Disk.files c.args.disk.now c.file.result).now)) (head_of_cell h)))
+    c.in-Some.is (c.in_ok-head.ensures.stands tells) in
     let there : HeadStands c.self.inside.next head (g.D.Disk.files c.args.disk.now c.args.old.now.file).now = record {
       place = subst (λ (o : Option CellHead). IfSome o (λ h. h.at ≡ c.self.inside.next)) c.in-Some.is c.in_ok-head.ensures.place;
       is = subst (λ n. HeadBytes (take 36 (drop c.self.inside.next (g.D.Disk.files c.args.disk.now n).now)) (head_of_cell head)) c.file.ensures stands;
@@ -106,7 +116,9 @@ returns-then-room-total_of-clause-lacks g c = λ tells room k is.
 pub returns-clause-head : goal.returns-clause-head
 returns-clause-head g c = λ tells.
     let head = c.in-Some.head in
-    let stands = subst (λ (o : Option CellHead). IfSome o (λ h. HeadBytes (take 36 (drop c.self.inside.next (g.D.Disk.files c.args.disk.now c.file.result).now)) (head_of_cell h))) c.in-Some.is (c.in_ok-head.ensures.stands tells) in
+    let stands =
+    subst (λ (o : Option CellHead). IfSome o (λ h. HeadBytes (take 36 (drop c.self.inside.next (g.D.Disk.files c.args.disk.now c.file.result).now)) (head_of_cell h)))
+    c.in-Some.is (c.in_ok-head.ensures.stands tells) in
     let there : HeadStands c.self.inside.next head (g.D.Disk.files c.args.disk.now c.args.old.now.file).now = record {
       place = subst (λ (o : Option CellHead). IfSome o (λ h. h.at ≡ c.self.inside.next)) c.in-Some.is c.in_ok-head.ensures.place;
       is = subst (λ n. HeadBytes (take 36 (drop c.self.inside.next (g.D.Disk.files c.args.disk.now n).now)) (head_of_cell head)) c.file.ensures stands;

@@ -18,7 +18,8 @@ same_head g c = search rules
 pub returns-clause-read : goal.returns-clause-read
 returns-clause-read g c =
     let cell = c.in_ok-read.ensures.cell in
-    read_of c.args.old.now.end c.self.inside.next c.cell_within.new.out.items c.args.head cell.0 (subst (λ (s : Stage). HasPeeked c.args.old.now.end s.next c.args.head) (sym c.self.view_is) c.requires) cell.1 (sym (same_head g c) ∙ cell.2)
+    read_of c.args.old.now.end c.self.inside.next c.cell_within.new.out.items c.args.head cell.0
+    (subst (λ (s : Stage). HasPeeked c.args.old.now.end s.next c.args.head) (sym c.self.view_is) c.requires) cell.1 (sym (same_head g c) ∙ cell.2)
 
 pub returns-clause-copy : goal.returns-clause-copy
 returns-clause-copy g c = λ tells there stands.

@@ -52,8 +52,11 @@ invariant_of-self-2 g c =
       kept = λ up. record { few = omega (arith, c.in_ok-loaded.ensures.few); homeless = tt };
       undrained = λ closed. not_closed (take was.settings.machines was.drained) (replicate was.settings.machines false) closed;
       stands = λ tells up.
-          let found = c.in_ok-loaded.ensures.found tells in
-          (directory_with (map home_row c.in_ok-loaded.loaded.rows.items), stands_opened files was.settings (files was.disk 0) _ _ (map home_row c.in_ok-loaded.loaded.rows.items) found refl refl refl);
+          let found = c.in_ok-loaded.ensures.found tells in (
+            directory_with (map home_row c.in_ok-loaded.loaded.rows.items),
+            stands_opened files was.settings (files was.disk 0) _ _ (map home_row c.in_ok-loaded.loaded.rows.items)
+                found refl refl refl,
+          );
     }
 
 pub returns-clause-opened : goal.returns-clause-opened

@@ -75,9 +75,12 @@ unfolding Stands
 returns-in-Err-NoMemory-clause-no_memory g c = λ tells known drained stands is.
     let files = g.D.Disk.files in
     let was = c.self.inside in
-    let serves : was.mode ≡ Open = serving was.mode (ap (λ (d : State _). is_closed d.mode) c.self.view_is ∙ c.requires.up) (ap (λ (d : State _). is_frozen d.mode) c.self.view_is ∙ sym c.is_frozen.ensures.frozen ∙ c.if-is_frozen.false) in
+    let serves : was.mode ≡ Open =
+    serving was.mode (ap (λ (d : State _). is_closed d.mode) c.self.view_is ∙ c.requires.up)
+    (ap (λ (d : State _). is_frozen d.mode) c.self.view_is ∙ sym c.is_frozen.ensures.frozen ∙ c.if-is_frozen.false) in
     let s = subst (λ (d : State _). Stands files d known drained) (sym c.self.view_is) stands in
-    stands_kept files _ _ known drained s (sym serves) refl refl c.reserve.ensures.kept (c.in-Err-NoMemory.ensures.no_memory tells (ap Err c.in-Err-NoMemory.field-0-is)) c.in-Err-NoMemory.ensures.stayed refl
+    stands_kept files _ _ known drained s (sym serves) refl refl c.reserve.ensures.kept (c.in-Err-NoMemory.ensures.no_memory tells (ap Err c.in-Err-NoMemory.field-0-is))
+    c.in-Err-NoMemory.ensures.stayed refl
 
 pub returns-then-is_frozen-clause-stood : goal.returns-then-is_frozen-clause-stood
 returns-then-is_frozen-clause-stood g c = stood_now g.D.Disk.Tells g.D.Disk.files _ _ c.self.invariant c.self.view_is c.requires.up

@@ -22,7 +22,13 @@ pub invariant_of-self-in-Err : goal.invariant_of-self-in-Err
 invariant_of-self-in-Err g c = let i = c.self.invariant in
     let taken : c.in-Some.pair ≡ i.there.0 = cc (c.in-Some.is, c.take.ensures.value, i.there.1) in
     record {
-      there = (c.in-Err.pair, c.put_back-in-Err.ensures, ap (λ s. witness s.seen.book s.seen.log) c.in-Err.ensures.refused ∙ (ap (λ p. witness p.shown.seen.book p.shown.seen.log) taken ∙ i.there.2), λ e. absurd (cc e));
+      there = (
+        c.in-Err.pair,
+        c.put_back-in-Err.ensures,
+        ap (λ s. witness s.seen.book s.seen.log) c.in-Err.ensures.refused
+            ∙ (ap (λ p. witness p.shown.seen.book p.shown.seen.log) taken ∙ i.there.2),
+        λ e. absurd (cc e),
+      );
       whole = λ e. absurd (cc e);
       log_is = ap length c.reserve.ensures.items ∙ i.log_is;
     }
@@ -42,7 +48,8 @@ invariant_of-self-2 g c = let k = g.T.View in let i = c.self.invariant in let d 
       there = (c.in-Ok.pair, c.put_back.ensures, ap (λ s. witness s.book s.log) c.in-Ok.ensures.shown.0 ∙ (c.seen.ensures.same ∙ sym c.again.ensures.same), λ _. c.in-Ok.ensures.shown.1);
       whole = λ _. sym (c.again.ensures.same ∙ c.known-all.ensures.same);
       log_is = ap length c.enter.ensures ∙ (ap (λ b. length (logged b c.reserve.new.self.items c.args.tag)) c.counts-is_counted.ensures
-          ∙ (length_more k.is_counted c.reserve.new.self.items c.self.inside.shown.deeds c.args.tag d (ap length c.reserve.ensures.items ∙ i.log_is) ∙ ap (λ w. length (filter k.is_counted w.deeds)) (sym all_is)));
+          ∙ (length_more k.is_counted c.reserve.new.self.items c.self.inside.shown.deeds c.args.tag d (ap length c.reserve.ensures.items ∙ i.log_is)
+          ∙ ap (λ w. length (filter k.is_counted w.deeds)) (sym all_is)));
     }
 
 pub returns-clause-done : goal.returns-clause-done
@@ -54,5 +61,6 @@ returns-clause-done g c = let k = g.T.View in let i = c.self.invariant in let d 
     let log = ap (λ w. entries c.enter.new.log.items (filter k.is_counted w.deeds)) all_is
     ∙ (ap (λ ts. entries ts (filter k.is_counted (with_deed c.self.inside.shown d).deeds)) tags
     ∙ (entries_more k.is_counted c.reserve.new.self.items c.self.inside.shown.deeds c.args.tag d (ap length c.reserve.ensures.items ∙ i.log_is)
-    ∙ (ap (λ ts. logged (k.is_counted d) (entries ts (filter k.is_counted c.self.inside.shown.deeds)) (record { tag = c.args.tag; deed = d })) c.reserve.ensures.items ∙ ap (λ f. logged (k.is_counted d) f.log (record { tag = c.args.tag; deed = d })) c.self.view_is))) in
+    ∙ (ap (λ ts. logged (k.is_counted d) (entries ts (filter k.is_counted c.self.inside.shown.deeds)) (record { tag = c.args.tag; deed = d })) c.reserve.ensures.items
+    ∙ ap (λ f. logged (k.is_counted d) f.log (record { tag = c.args.tag; deed = d })) c.self.view_is))) in
     (λ j. record { shown = shown j; log = log j; closed = false }, sym c.again.ensures.same)

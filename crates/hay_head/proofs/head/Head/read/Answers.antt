@@ -18,7 +18,9 @@ pub rows-init : goal.rows-init
 rows-init g c = record {
   most = omega arith;
   same = λ tells. c.read_front.ensures.same tells;
-  lead = λ tells. lead_first (super_bytes c.args.sup.now) (g.D.Disk.files c.args.disk.now 0).now (length-super c.args.sup.now) (none_is c.in_ok-at.field-0 _ c.in_default.is (c.in_ok-at.ensures.stands tells));
+  lead =
+      λ tells. lead_first (super_bytes c.args.sup.now) (g.D.Disk.files c.args.disk.now 0).now (length-super c.args.sup.now)
+      (none_is c.in_ok-at.field-0 _ c.in_default.is (c.in_ok-at.ensures.stands tells));
   file = c.new-reader.ensures.file;
   reaches = c.new-reader.ensures.reaches;
   block = λ tells. c.new-reader.ensures.block (g.D.Disk.files c.args.disk.now 0).now;
@@ -64,7 +66,8 @@ returns-in-Broken-clause-only g c = λ tells generation is.
 pub returns-in-Mark-clause-head : goal.returns-in-Mark-clause-head
 returns-in-Mark-clause-head g c = λ tells.
     let mark = ap (λ x. Ok x) c.in-Mark.is in
-    head_found (super_bytes c.args.sup.now) (g.D.Disk.files c.args.disk.now 0).now c.rows.rows (c.rows.rows - 1) (omega (arith, c.in_ok-read_row.ensures.some mark)) c.rows.invariant.most (c.rows.invariant.lead tells)
+    head_found (super_bytes c.args.sup.now) (g.D.Disk.files c.args.disk.now 0).now c.rows.rows (c.rows.rows - 1) (omega (arith, c.in_ok-read_row.ensures.some mark))
+    c.rows.invariant.most (c.rows.invariant.lead tells)
     (subst (λ files. IsClosed head_magic (row_place c.rows.rows) (files 0).now) (c.rows.invariant.same tells) (c.in_ok-read_row.ensures.mark tells mark))
 
 pub returns-in-Mark-clause-exact : goal.returns-in-Mark-clause-exact

@@ -14,7 +14,9 @@ returns-in-None-clause-tells g c start of =
     drained_closed c.args.self.now.settings start c.args.self.now.drained.items c.args.volume c.args.tag c.requires.drained c.in-None.is (c.frozen_at.ensures.tells start of)
 
 pub returns-in-Some-clause-on : goal.returns-in-Some-clause-on
-returns-in-Some-clause-on g c = on_machine c.args.self.now.settings c.args.volume c.requires.seated.fewer c.requires.volume c.in-Some.frozen (subst (λ o. IfSome o (IsMachineOf c.args.self.now.settings c.args.volume)) c.in-Some.is c.frozen_at.ensures.names)
+returns-in-Some-clause-on g c =
+    on_machine c.args.self.now.settings c.args.volume c.requires.seated.fewer c.requires.volume c.in-Some.frozen
+    (subst (λ o. IfSome o (IsMachineOf c.args.self.now.settings c.args.volume)) c.in-Some.is c.frozen_at.ensures.names)
 
 pub returns-in-None-clause-on : goal.returns-in-None-clause-on
 returns-in-None-clause-on g c = drained_on c.args.self.now.settings c.args.volume c.requires.seated.fewer c.requires.volume c.args.self.now.drained.items c.args.machine c.requires.drained

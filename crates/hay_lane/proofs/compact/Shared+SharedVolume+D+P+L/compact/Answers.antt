@@ -14,4 +14,5 @@ returns-in_default-clause-answered g c start of =
     (idle_unchanged (idle_same c.args.tag (sight sight_of g.L.DirectoryCalls.sight g.A.Arm.fault_count c.args.lane.now))) (sym c.in_default.ensures.is)
 
 pub returns-in_default-clause-suits : goal.returns-in_default-clause-suits
-returns-in_default-clause-suits g c = nowhere (replica_on c.args.self.now.settings c.args.volume c.args.machine) (λ replica. SuitsCompact c.args.self.now.settings c.args.volume c.args.machine) c.in_default.ensures.is
+returns-in_default-clause-suits g c =
+    nowhere (replica_on c.args.self.now.settings c.args.volume c.args.machine) (λ replica. SuitsCompact c.args.self.now.settings c.args.volume c.args.machine) c.in_default.ensures.is

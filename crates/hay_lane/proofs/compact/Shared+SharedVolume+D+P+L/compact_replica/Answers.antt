@@ -24,9 +24,11 @@ loop-preserved g c = record {
   arm = c.compact_at-ended.ensures.arm ∙ (c.begin_at-answer.ensures.arm ∙ c.loop.invariant.arm);
   first = λ start of.
       absurd (never_lost c.args.self.now.settings start c.args.self.now.drained.items c.args.tag c.args.volume c.args.machine c.args.replica c.requires.there c.requires.volume c.requires.on
-      (subst (λ answer. AtVolume c.args.volume (BeginTells (record { settings = c.args.self.now.settings; start = start; number = c.args.volume }) c.args.tag c.args.replica answer) (sight sight_of g.L.DirectoryCalls.sight g.A.Arm.fault_count c.loop.lane) (sight sight_of g.L.DirectoryCalls.sight g.A.Arm.fault_count c.begin_at-answer.new.lane))
+      (subst (λ answer. AtVolume c.args.volume (BeginTells (record { settings = c.args.self.now.settings; start = start; number = c.args.volume }) c.args.tag c.args.replica answer)
+      (sight sight_of g.L.DirectoryCalls.sight g.A.Arm.fault_count c.loop.lane) (sight sight_of g.L.DirectoryCalls.sight g.A.Arm.fault_count c.begin_at-answer.new.lane))
       c.in-Begun.is (c.begin_at-answer.ensures.tells start (c.loop.invariant.same start of)))
-      (subst (λ ended. AtVolume c.args.volume (CompactionTells (record { settings = c.args.self.now.settings; start = start; number = c.args.volume }) c.args.tag c.args.replica ended) (sight sight_of g.L.DirectoryCalls.sight g.A.Arm.fault_count c.begin_at-answer.new.lane) (sight sight_of g.L.DirectoryCalls.sight g.A.Arm.fault_count c.compact_at-ended.new.lane))
+      (subst (λ ended. AtVolume c.args.volume (CompactionTells (record { settings = c.args.self.now.settings; start = start; number = c.args.volume }) c.args.tag c.args.replica
+      ended) (sight sight_of g.L.DirectoryCalls.sight g.A.Arm.fault_count c.begin_at-answer.new.lane) (sight sight_of g.L.DirectoryCalls.sight g.A.Arm.fault_count c.compact_at-ended.new.lane))
       c.in-Idle.is (c.compact_at-ended.ensures.tells start (c.begin_at-answer.ensures.same start (c.loop.invariant.same start of)))));
 }
 
@@ -47,7 +49,8 @@ returns-in_default-clause-answered g c start of =
 
 pub returns-in_default-clause-suits : goal.returns-in_default-clause-suits
 returns-in_default-clause-suits g c =
-    unbegun_suits c.args.self.now.settings c.args.volume c.requires.seated.fewer c.requires.volume c.args.machine c.args.replica (sym c.requires.there) c.args.tag.line c.begin_at-answer.result c.begin_reply.result
+    unbegun_suits c.args.self.now.settings c.args.volume c.requires.seated.fewer c.requires.volume c.args.machine c.args.replica (sym c.requires.there) c.args.tag.line
+    c.begin_at-answer.result c.begin_reply.result
     c.in_default.not-Begun c.begin_at-answer.ensures.names c.begin_reply.ensures.is
 
 -- IT CAME TO ITS END
@@ -63,11 +66,13 @@ returns-in_default-ended-clause-answered g c start of =
     subst (λ l. IsAnswered c.args.self.now.settings start c.args.self.now.drained.items c.args.tag (asks.Compact c.args.volume c.args.machine) c.compaction_reply.result
     (sight sight_of g.L.DirectoryCalls.sight g.A.Arm.fault_count l) (sight sight_of g.L.DirectoryCalls.sight g.A.Arm.fault_count c.compact_at-ended.new.lane)) (c.loop.invariant.first start of)
     (end_answered c.args.self.now.settings start c.args.self.now.drained.items c.args.tag c.args.volume c.args.machine c.args.replica c.requires.there c.requires.volume c.requires.on
-    (subst (λ answer. AtVolume c.args.volume (BeginTells (record { settings = c.args.self.now.settings; start = start; number = c.args.volume }) c.args.tag c.args.replica answer) (sight sight_of g.L.DirectoryCalls.sight g.A.Arm.fault_count c.loop.lane) (sight sight_of g.L.DirectoryCalls.sight g.A.Arm.fault_count c.begin_at-answer.new.lane))
+    (subst (λ answer. AtVolume c.args.volume (BeginTells (record { settings = c.args.self.now.settings; start = start; number = c.args.volume }) c.args.tag c.args.replica answer)
+    (sight sight_of g.L.DirectoryCalls.sight g.A.Arm.fault_count c.loop.lane) (sight sight_of g.L.DirectoryCalls.sight g.A.Arm.fault_count c.begin_at-answer.new.lane))
     c.in-Begun.is (c.begin_at-answer.ensures.tells start (c.loop.invariant.same start of)))
     c.compact_at-ended.result c.compaction_reply.result (c.compact_at-ended.ensures.tells start (c.begin_at-answer.ensures.same start (c.loop.invariant.same start of))) c.compaction_reply.ensures.is)
 
 pub returns-in_default-ended-clause-suits : goal.returns-in_default-ended-clause-suits
 returns-in_default-ended-clause-suits g c =
-    ended_suits c.args.self.now.settings c.args.volume c.requires.seated.fewer c.requires.volume c.args.machine c.args.replica (sym c.requires.there) c.args.tag.line c.compact_at-ended.result c.compaction_reply.result
+    ended_suits c.args.self.now.settings c.args.volume c.requires.seated.fewer c.requires.volume c.args.machine c.args.replica (sym c.requires.there) c.args.tag.line
+    c.compact_at-ended.result c.compaction_reply.result
     c.in_default-ended.not-Idle c.compact_at-ended.ensures.names c.compaction_reply.ensures.is

@@ -8,7 +8,9 @@ use Rattle.hay_lane.proofs.compact.Shared+SharedVolume+D+P+L.compact_replica.Giv
 abbrev pub invariant-loop : goal.invariant-loop
 invariant-loop g l = record {
   seated : IsSeated IsSeatOf g.L.DirectoryCalls.fits l.self l.tag.lane l.lane;
-  same : (start : Start) → IsOf (WasAt g.D.Disk.Tells g.D.Disk.files g.P.Piece.Tells g.D.Disk.fault_count g.D.Disk.fuse_count) g.L.DirectoryCalls.is_at l.self.settings start l.fn.lane → IsOf (WasAt g.D.Disk.Tells g.D.Disk.files g.P.Piece.Tells g.D.Disk.fault_count g.D.Disk.fuse_count) g.L.DirectoryCalls.is_at l.self.settings start l.lane;
+  same : (start : Start) → IsOf (WasAt g.D.Disk.Tells g.D.Disk.files g.P.Piece.Tells g.D.Disk.fault_count g.D.Disk.fuse_count) g.L.DirectoryCalls.is_at l.self.settings start
+      l.fn.lane → IsOf (WasAt g.D.Disk.Tells g.D.Disk.files g.P.Piece.Tells g.D.Disk.fault_count g.D.Disk.fuse_count) g.L.DirectoryCalls.is_at l.self.settings start l.lane;
   arm : l.lane.arm ≡ l.fn.lane.arm;
-  first : (start : Start) → IsOf (WasAt g.D.Disk.Tells g.D.Disk.files g.P.Piece.Tells g.D.Disk.fault_count g.D.Disk.fuse_count) g.L.DirectoryCalls.is_at l.self.settings start l.fn.lane → l.lane ≡ l.fn.lane;
+  first : (start : Start) → IsOf (WasAt g.D.Disk.Tells g.D.Disk.files g.P.Piece.Tells g.D.Disk.fault_count g.D.Disk.fuse_count) g.L.DirectoryCalls.is_at l.self.settings start
+      l.fn.lane → l.lane ≡ l.fn.lane;
 }

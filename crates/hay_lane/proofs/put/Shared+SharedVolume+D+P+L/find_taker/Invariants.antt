@@ -15,9 +15,12 @@ invariant-loop-turn g l = record {
   fits : AllByRecursion FitsRefused l.refused;
   refuse : AllZip (Refuses l.fn.self.settings) (first_tries l.fn.self.settings l.pair l.turn) l.refused;
   seated : IsSeated IsSeatOf g.L.DirectoryCalls.fits l.fn.self l.fn.tag.lane l.lane;
-  same : (start : Start) → IsOf (WasAt g.D.Disk.Tells g.D.Disk.files g.P.Piece.Tells g.D.Disk.fault_count g.D.Disk.fuse_count) g.L.DirectoryCalls.is_at l.fn.self.settings start l.fn.lane → IsOf (WasAt g.D.Disk.Tells g.D.Disk.files g.P.Piece.Tells g.D.Disk.fault_count g.D.Disk.fuse_count) g.L.DirectoryCalls.is_at l.fn.self.settings start l.lane;
+  same : (start : Start) → IsOf (WasAt g.D.Disk.Tells g.D.Disk.files g.P.Piece.Tells g.D.Disk.fault_count g.D.Disk.fuse_count) g.L.DirectoryCalls.is_at l.fn.self.settings start
+      l.fn.lane → IsOf (WasAt g.D.Disk.Tells g.D.Disk.files g.P.Piece.Tells g.D.Disk.fault_count g.D.Disk.fuse_count) g.L.DirectoryCalls.is_at l.fn.self.settings start l.lane;
   arm : l.lane.arm ≡ l.fn.lane.arm;
-  tried : (start : Start) (d : ℕ) (a : Sight) → IsOf (WasAt g.D.Disk.Tells g.D.Disk.files g.P.Piece.Tells g.D.Disk.fault_count g.D.Disk.fuse_count) g.L.DirectoryCalls.is_at l.fn.self.settings start l.fn.lane
+  tried : (start : Start) (d : ℕ) (a : Sight) → IsOf (WasAt g.D.Disk.Tells g.D.Disk.files g.P.Piece.Tells g.D.Disk.fault_count g.D.Disk.fuse_count) g.L.DirectoryCalls.is_at
+      l.fn.self.settings start l.fn.lane
       → Sees l.fn.self.settings start l.fn.self.drained.items l.fn.tag l.pair d None a (sight sight_of g.L.DirectoryCalls.sight g.A.Arm.fault_count l.fn.lane)
-      → Tried l.fn.self.settings start l.fn.self.drained.items l.fn.tag l.pair l.size (first_tries l.fn.self.settings l.pair l.turn) l.refused a (sight sight_of g.L.DirectoryCalls.sight g.A.Arm.fault_count l.lane);
+      → Tried l.fn.self.settings start l.fn.self.drained.items l.fn.tag l.pair l.size (first_tries l.fn.self.settings l.pair l.turn) l.refused a
+      (sight sight_of g.L.DirectoryCalls.sight g.A.Arm.fault_count l.lane);
 }

@@ -12,13 +12,15 @@ pub returns-in-Ok-clause-answered : goal.returns-in-Ok-clause-answered
 returns-in-Ok-clause-answered g c start a of has =
     c.put_home.ensures.answered start a (c.settle_home.ensures.same start of)
     (settled_by c.args.self.now.settings start c.args.self.now.drained.items c.args.tag c.args.pair c.args.bytes.now a has c.in-Ok.home c.in-Ok.rows
-    (subst (λ r. AtDirectory (SettleTells start c.args.tag (record { pair = c.args.pair; volume = c.args.volume }) r) (sight sight_of g.L.DirectoryCalls.sight g.A.Arm.fault_count c.args.lane.now) (sight sight_of g.L.DirectoryCalls.sight g.A.Arm.fault_count c.settle_home.new.lane))
+    (subst (λ r. AtDirectory (SettleTells start c.args.tag (record { pair = c.args.pair; volume = c.args.volume }) r)
+    (sight sight_of g.L.DirectoryCalls.sight g.A.Arm.fault_count c.args.lane.now) (sight sight_of g.L.DirectoryCalls.sight g.A.Arm.fault_count c.settle_home.new.lane))
     c.in-Ok.is (c.settle_home.ensures.tells start of)))
 
 pub returns-in-Err-clause-answered : goal.returns-in-Err-clause-answered
 returns-in-Err-clause-answered g c start a of has =
     row_refused c.args.self.now.settings start c.args.self.now.drained.items c.args.tag c.args.pair c.args.bytes.now a has c.in-Err.fault
-    (subst (λ r. AtDirectory (SettleTells start c.args.tag (record { pair = c.args.pair; volume = c.args.volume }) r) (sight sight_of g.L.DirectoryCalls.sight g.A.Arm.fault_count c.args.lane.now) (sight sight_of g.L.DirectoryCalls.sight g.A.Arm.fault_count c.settle_home.new.lane))
+    (subst (λ r. AtDirectory (SettleTells start c.args.tag (record { pair = c.args.pair; volume = c.args.volume }) r)
+    (sight sight_of g.L.DirectoryCalls.sight g.A.Arm.fault_count c.args.lane.now) (sight sight_of g.L.DirectoryCalls.sight g.A.Arm.fault_count c.settle_home.new.lane))
     c.in-Err.is (c.settle_home.ensures.tells start of)) c.settle_refusal.ensures.is
 
 pub returns-in-Err-clause-suits : goal.returns-in-Err-clause-suits

@@ -21,7 +21,8 @@ returns-clause-answered g c start of =
     let a = sight sight_of g.L.DirectoryCalls.sight g.A.Arm.fault_count c.args.lane.now in
     let b = sight sight_of g.L.DirectoryCalls.sight g.A.Arm.fault_count c.show.new.lane in
     let rows = c.home_in_view-rows.result.0 in
-    read_shown c.args.self.now.settings start c.args.self.now.drained.items c.args.tag c.args.pair c.args.cookie rows c.in-Some.volume (subst (λ o. IfSome o (λ home. home < c.args.self.now.settings.volumes)) c.in-Some.is c.home_in_view-rows.ensures.below) c.requires.seated.fewer a b c.show.result
+    read_shown c.args.self.now.settings start c.args.self.now.drained.items c.args.tag c.args.pair c.args.cookie rows c.in-Some.volume
+    (subst (λ o. IfSome o (λ home. home < c.args.self.now.settings.volumes)) c.in-Some.is c.home_in_view-rows.ensures.below) c.requires.seated.fewer a b c.show.result
     (subst (λ n. ShowTells c.args.self.now.settings start c.args.self.now.drained.items c.args.tag c.args.pair c.args.cookie rows c.in-Some.volume n c.show.result a b) c.start_of-first.ensures.is
     (c.show.ensures.tells start a (c.home_in_view-rows.ensures.same start of)
     (saw c.args.self.now.settings start c.args.self.now.drained.items c.args.tag c.in-Some.is (c.home_in_view-rows.ensures.tells start of))))
@@ -36,4 +37,6 @@ pub returns-in_default-clause-suits : goal.returns-in_default-clause-suits
 returns-in_default-clause-suits g c = inl (c.home_in_view-rows.result.0, refl)
 
 pub returns-clause-suits : goal.returns-clause-suits
-returns-clause-suits g c = read_suits c.args.self.now.settings c.in-Some.volume c.requires.seated.fewer (subst (λ o. IfSome o (λ home. home < c.args.self.now.settings.volumes)) c.in-Some.is c.home_in_view-rows.ensures.below) c.show.result c.show.ensures.suits
+returns-clause-suits g c =
+    read_suits c.args.self.now.settings c.in-Some.volume c.requires.seated.fewer (subst (λ o. IfSome o (λ home. home < c.args.self.now.settings.volumes)) c.in-Some.is
+    c.home_in_view-rows.ensures.below) c.show.result c.show.ensures.suits

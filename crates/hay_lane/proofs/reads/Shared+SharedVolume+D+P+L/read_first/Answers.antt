@@ -28,4 +28,5 @@ returns-clause-arm g c = later_on (later_same c.look_at-looked.ensures.arm) (rec
 
 pub returns-clause-shown : goal.returns-clause-shown
 returns-clause-shown g c =
-    shown_by_row g.P.Piece.Tells _ c.args.self.now.settings.replicas c.args.first c.look_at-looked.result.row c.args.cookie [] c.show-read.new.out.items c.show-read.result c.look_at-looked.ensures.long c.requires.seated.replicas c.show-read.ensures.reads
+    shown_by_row g.P.Piece.Tells _ c.args.self.now.settings.replicas c.args.first c.look_at-looked.result.row c.args.cookie [] c.show-read.new.out.items c.show-read.result
+    c.look_at-looked.ensures.long c.requires.seated.replicas c.show-read.ensures.reads

@@ -29,7 +29,9 @@ returns-in-Ok-clause-tells g c start d a of has =
     sight_of g.L.DirectoryCalls.sight g.A.Arm.fault_count c.read_seen-read.ensures.later c.read_seen-read.ensures.most in
     let what = shown_by settings start drained c.args.tag c.args.pair d c.args.volume c.args.first (sight sight_of g.L.DirectoryCalls.sight g.A.Arm.fault_count c.see_at.new.lane) in
     let places = (there.is).1 in
-    let again = looked_again settings start drained c.args.tag c.args.pair d c.args.volume c.args.first has.tells (call_as _ (ChangedNothing settings start c.args.volume c.args.tag) there (there.is).0) places in
+    let again =
+    looked_again settings start drained c.args.tag c.args.pair d c.args.volume c.args.first has.tells
+    (call_as _ (ChangedNothing settings start c.args.volume c.args.tag) there (there.is).0) places in
     record {
       what = what;
       means = places.means;
@@ -46,7 +48,9 @@ returns-in_ok-cause-in-Err-clause-tells g c start d a of has =
     let m = sight sight_of g.L.DirectoryCalls.sight g.A.Arm.fault_count c.see_at.new.lane in
     let arm = fetched IsSeatOf g.L.DirectoryCalls.fits c.args.self.now c.args.tag.lane c.see_at.new.lane c.see_at.ensures.seated c.show_more-read.new.self
     sight_of g.L.DirectoryCalls.sight g.A.Arm.fault_count c.show_more-read.ensures.later c.show_more-read.ensures.most in
-    let passed = sight_passed settings start drained c.args.tag c.args.pair d c.args.volume c.args.first has.tells g.row.P.Denot g.P.Piece.Tells c.see_at.new.out.items c.args.replica c.in-Err.fault c.in_ok-cause-in-Err.cause c.in_ok-cause-in-Err.ensures.is c.requires.next (c.in-Err.ensures.tells start of) in
+    let passed =
+    sight_passed settings start drained c.args.tag c.args.pair d c.args.volume c.args.first has.tells g.row.P.Denot g.P.Piece.Tells c.see_at.new.out.items c.args.replica
+    c.in-Err.fault c.in_ok-cause-in-Err.cause c.in_ok-cause-in-Err.ensures.is c.requires.next (c.in-Err.ensures.tells start of) in
     record {
       what = has.what;
       means = has.means;
@@ -70,4 +74,5 @@ returns-in-Ok-clause-shown g c = subst (λ n. ShownWithin n c.read_seen-read.res
 
 pub returns-in_ok-cause-in-Err-clause-shown : goal.returns-in_ok-cause-in-Err-clause-shown
 returns-in_ok-cause-in-Err-clause-shown g c =
-    shown_by_row g.P.Piece.Tells _ c.args.self.now.settings.replicas c.args.first c.args.looked.row c.args.cookie c.push.new.self c.show_more-read.new.out.items c.show_more-read.result c.requires.long c.requires.seated.replicas c.show_more-read.ensures.reads
+    shown_by_row g.P.Piece.Tells _ c.args.self.now.settings.replicas c.args.first c.args.looked.row c.args.cookie c.push.new.self c.show_more-read.new.out.items
+    c.show_more-read.result c.requires.long c.requires.seated.replicas c.show_more-read.ensures.reads

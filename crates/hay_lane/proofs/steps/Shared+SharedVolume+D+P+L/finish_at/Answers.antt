@@ -19,13 +19,15 @@ pub returns-clause-seated : goal.returns-clause-seated
 returns-clause-seated g c =
     still_seated IsSeatOf g.L.DirectoryCalls.fits c.args.self.now c.args.tag.lane c.args.lane.now c.requires.seated
     c.args.volume c.requires.volume c.as_slice.ensures.value c.as_mut_slice.ensures.value c.index-as_slice-volume.result c.index-as_mut_slice-volume.result
-    c.index-as_slice-volume.result c.index-as_slice-volume.is c.finish.new.seat (WasAt g.D.Disk.Tells g.D.Disk.files g.P.Piece.Tells g.D.Disk.fault_count g.D.Disk.fuse_count) (c.finish.ensures.stays c.args.volume)
+    c.index-as_slice-volume.result c.index-as_slice-volume.is c.finish.new.seat (WasAt g.D.Disk.Tells g.D.Disk.files g.P.Piece.Tells g.D.Disk.fault_count g.D.Disk.fuse_count)
+    (c.finish.ensures.stays c.args.volume)
 
 pub returns-clause-same : goal.returns-clause-same
 returns-clause-same g c =
     still_of IsSeatOf g.L.DirectoryCalls.fits c.args.self.now c.args.tag.lane c.args.lane.now c.requires.seated
     c.args.volume c.requires.volume c.as_slice.ensures.value c.as_mut_slice.ensures.value c.index-as_slice-volume.result c.index-as_mut_slice-volume.result
-    c.index-as_slice-volume.result c.index-as_slice-volume.is c.finish.new.seat (WasAt g.D.Disk.Tells g.D.Disk.files g.P.Piece.Tells g.D.Disk.fault_count g.D.Disk.fuse_count) (c.finish.ensures.stays c.args.volume) g.L.DirectoryCalls.is_at c.args.self.now.settings
+    c.index-as_slice-volume.result c.index-as_slice-volume.is c.finish.new.seat (WasAt g.D.Disk.Tells g.D.Disk.files g.P.Piece.Tells g.D.Disk.fault_count g.D.Disk.fuse_count)
+    (c.finish.ensures.stays c.args.volume) g.L.DirectoryCalls.is_at c.args.self.now.settings
 
 pub returns-clause-tells : goal.returns-clause-tells
 returns-clause-tells g c start of =

@@ -22,4 +22,5 @@ returns-clause-below g c = c.settle.ensures.below c.args.self.now.settings c.arg
 pub returns-clause-tells : goal.returns-clause-tells
 returns-clause-tells g c start of =
     stepped_rows IsSeatOf g.L.DirectoryCalls.fits c.args.self.now c.args.tag.lane c.args.lane.now c.requires.seated
-    c.settle.new.seat sight_of g.L.DirectoryCalls.sight g.A.Arm.fault_count (SettleTells start c.args.tag (record { pair = c.args.pair; volume = c.args.volume }) c.settle.result) (c.settle.ensures.tells start of.rows)
+    c.settle.new.seat sight_of g.L.DirectoryCalls.sight g.A.Arm.fault_count (SettleTells start c.args.tag (record { pair = c.args.pair; volume = c.args.volume }) c.settle.result)
+    (c.settle.ensures.tells start of.rows)

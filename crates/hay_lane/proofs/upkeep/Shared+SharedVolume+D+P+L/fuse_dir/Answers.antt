@@ -7,7 +7,8 @@ use Rattle.hay_lane.proofs.upkeep.Shared+SharedVolume+D+P+L.fuse_dir.Goals as go
 pub returns-clause-answered : goal.returns-clause-answered
 returns-clause-answered g c start of =
     fuses_dir c.args.self.now.settings start c.args.self.now.drained.items c.args.tag
-    (sight sight_of g.L.DirectoryCalls.sight g.A.Arm.fault_count c.args.lane.now) (sight sight_of g.L.DirectoryCalls.sight g.A.Arm.fault_count c.fuse_directory.new.lane) (c.fuse_directory.ensures.tells start of)
+    (sight sight_of g.L.DirectoryCalls.sight g.A.Arm.fault_count c.args.lane.now) (sight sight_of g.L.DirectoryCalls.sight g.A.Arm.fault_count c.fuse_directory.new.lane)
+    (c.fuse_directory.ensures.tells start of)
 
 pub returns-clause-suits : goal.returns-clause-suits
 returns-clause-suits g c = refl

@@ -23,7 +23,11 @@ returns-clause-answered g c start of =
     c.args.cells c.step_at-answer.result c.step_reply.result (c.step_at-answer.ensures.tells start of) c.step_reply.ensures.is
 
 pub returns-in_default-clause-suits : goal.returns-in_default-clause-suits
-returns-in_default-clause-suits g c = nowhere (replica_on c.args.self.now.settings c.args.volume c.args.machine) (λ replica. SuitsRun c.args.self.now.settings (reply.Stepped c.args.volume c.args.machine) c.args.volume c.args.machine) c.in_default.ensures.is
+returns-in_default-clause-suits g c =
+    nowhere (replica_on c.args.self.now.settings c.args.volume c.args.machine) (λ replica.
+    SuitsRun c.args.self.now.settings (reply.Stepped c.args.volume c.args.machine) c.args.volume c.args.machine) c.in_default.ensures.is
 
 pub returns-clause-suits : goal.returns-clause-suits
-returns-clause-suits g c = step_suits c.args.self.now.settings c.args.volume c.requires.seated.fewer c.in-Some.ensures.within.1 c.args.machine c.in-Some.replica c.in-Some.ensures.is c.args.tag.line c.args.cells c.step_at-answer.result c.step_reply.result c.step_at-answer.ensures.names c.step_reply.ensures.is
+returns-clause-suits g c =
+    step_suits c.args.self.now.settings c.args.volume c.requires.seated.fewer c.in-Some.ensures.within.1 c.args.machine c.in-Some.replica c.in-Some.ensures.is c.args.tag.line
+    c.args.cells c.step_at-answer.result c.step_reply.result c.step_at-answer.ensures.names c.step_reply.ensures.is

@@ -14,7 +14,8 @@ returns-then-machine-self-clause-answered g c start of =
 pub returns-clause-answered : goal.returns-clause-answered
 returns-clause-answered g c start of =
     undrains c.args.self.now.settings start c.args.self.now.drained.items c.args.tag
-    (sight sight_of g.L.DirectoryCalls.sight g.A.Arm.fault_count c.args.lane.now) (sight sight_of g.L.DirectoryCalls.sight g.A.Arm.fault_count c.undrain_machine.new.lane) c.if-machine-self.false (c.undrain_machine.ensures.tells start of)
+    (sight sight_of g.L.DirectoryCalls.sight g.A.Arm.fault_count c.args.lane.now) (sight sight_of g.L.DirectoryCalls.sight g.A.Arm.fault_count c.undrain_machine.new.lane)
+    c.if-machine-self.false (c.undrain_machine.ensures.tells start of)
 
 pub returns-then-machine-self-clause-suits : goal.returns-then-machine-self-clause-suits
 returns-then-machine-self-clause-suits g c = inr (c.if-machine-self.true, refl)

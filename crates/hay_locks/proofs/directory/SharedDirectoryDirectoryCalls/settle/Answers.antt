@@ -15,7 +15,9 @@ pub returns-clause-stays : goal.returns-clause-stays
 returns-clause-stays g c = rows_stay (c.requires.fits.1) g.D.Disk.fault_count g.D.Disk.fuse_count c.settle.ensures.seated
 
 pub returns-clause-tells : goal.returns-clause-tells
-returns-clause-tells g c start at = settle_tells start c.args.tag (record { pair = c.args.pair; volume = c.args.volume }) c.settle.result (sight c.args.seat.now) (sight c.settle.new.seat) (rows_told (c.requires.fits.1) c.settle.ensures.settles at)
+returns-clause-tells g c start at =
+    settle_tells start c.args.tag (record { pair = c.args.pair; volume = c.args.volume }) c.settle.result (sight c.args.seat.now) (sight c.settle.new.seat)
+    (rows_told (c.requires.fits.1) c.settle.ensures.settles at)
 
 pub returns-clause-below : goal.returns-clause-below
 returns-clause-below g c settings lane fits = subst (λ (s : Settings). IfOk c.settle.result (λ answer. answer.0 < s.volumes)) fits.settings_are c.settle.ensures.below

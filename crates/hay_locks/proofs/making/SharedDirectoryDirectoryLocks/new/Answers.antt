@@ -14,12 +14,14 @@ first_seat g c =
 pub returns-in-Ok-clause-made : goal.returns-in-Ok-clause-made
 returns-in-Ok-clause-made g c =
     let made = c.in-Ok.ensures.made in
-    is_made_of_rows (record { lock = c.in-Ok.field-0.lock; first = c.of-first.result }) c.args.directory made.0 made.1 c.in-Ok.field-0.seats.items made.5 (first_seat g c) c.args.settings c.in-Ok.field-0.room c.args.lanes made.3 made.4 c.requires.some c.requires.of
+    is_made_of_rows (record { lock = c.in-Ok.field-0.lock; first = c.of-first.result }) c.args.directory made.0 made.1 c.in-Ok.field-0.seats.items made.5 (first_seat g c)
+    c.args.settings c.in-Ok.field-0.room c.args.lanes made.3 made.4 c.requires.some c.requires.of
 
 pub returns-in-Ok-clause-seated : goal.returns-in-Ok-clause-seated
 returns-in-Ok-clause-seated g c =
     let made = c.in-Ok.ensures.made in
-    are_seated_rows (record { lock = c.in-Ok.field-0.lock; first = c.of-first.result }) c.args.directory made.0 made.1 c.in-Ok.field-0.seats.items made.5 (first_seat g c) c.args.settings c.args.lanes made.2 made.3
+    are_seated_rows (record { lock = c.in-Ok.field-0.lock; first = c.of-first.result }) c.args.directory made.0 made.1 c.in-Ok.field-0.seats.items made.5 (first_seat g c)
+    c.args.settings c.args.lanes made.2 made.3
 
 pub returns-in-Ok-clause-told : goal.returns-in-Ok-clause-told
 returns-in-Ok-clause-told g c =
@@ -29,8 +31,10 @@ returns-in-Ok-clause-told g c =
 
 pub returns-in-Ok-clause-regular : goal.returns-in-Ok-clause-regular
 returns-in-Ok-clause-regular g c known drained stands =
-    is_regular_directory g.D.Disk.files (λ disk n. g.met.D.Disk.may_leave_now disk n stands.tells) c.args.directory c.args.settings known drained (c.requires.of).settings_are stands.stands c.is_frozen-frozen.ensures.within
+    is_regular_directory g.D.Disk.files (λ disk n. g.met.D.Disk.may_leave_now disk n stands.tells) c.args.directory c.args.settings known drained (c.requires.of).settings_are
+    stands.stands c.is_frozen-frozen.ensures.within
 
 pub returns-in-Err-clause-regular : goal.returns-in-Err-clause-regular
 returns-in-Err-clause-regular g c known drained stands =
-    is_regular_directory g.D.Disk.files (λ disk n. g.met.D.Disk.may_leave_now disk n stands.tells) c.args.directory c.args.settings known drained (c.requires.of).settings_are stands.stands c.is_frozen-frozen.ensures.within
+    is_regular_directory g.D.Disk.files (λ disk n. g.met.D.Disk.may_leave_now disk n stands.tells) c.args.directory c.args.settings known drained (c.requires.of).settings_are
+    stands.stands c.is_frozen-frozen.ensures.within

@@ -48,7 +48,8 @@ machine_of-machine-requires-clause-within g c =
 pub begin_at-requires-clause-within : goal.begin_at-requires-clause-within
 begin_at-requires-clause-within g c =
     let within : c.args.replica < c.self.inside.settings.replicas = subst (λ v. c.args.replica < v.settings.replicas) (sym c.self.view_is) c.requires.within in
-    let all : length c.self.inside.replicas.items ≡ c.self.inside.settings.replicas = ap (λ v. length v.replicas) c.self.view_is ∙ c.requires.«open».all ∙ ap (λ v. v.settings.replicas) (sym c.self.view_is) in
+    let all : length c.self.inside.replicas.items ≡ c.self.inside.settings.replicas =
+    ap (λ v. length v.replicas) c.self.view_is ∙ c.requires.«open».all ∙ ap (λ v. v.settings.replicas) (sym c.self.view_is) in
     let long = ap length c.as_mut_slice.ensures.value in
     omega (arith, within, all, long)
 
@@ -69,13 +70,18 @@ invariant_of-self g c =
     let up : (j : ℕ) (r : Copy g.row.D.Denot) → At c.self.inside.replicas.items j r → IsUp r =
     λ j r e. open_up r (c.requires.«open».each j r (subst (λ v. At v.replicas j r) c.self.view_is e)) ((c.self.invariant.0).thawed thawed j r e) in
     let step : BeginsAt g.D.Disk.Tells g.D.Disk.files g.D.Disk.fault_count one.before one.after c.begin_at.result =
-    c.begin_at.ensures.begins one.before one.after (subst (λ xs. At xs c.args.replica one.before) (sym now) one.was) (one_after c.args.replica c.self.inside.replicas.items c.begin_at.new.replicas one) in
-    let each : (j : ℕ) (r r' : Copy g.row.D.Denot) → At c.self.inside.replicas.items j r → At c.begin_at.new.replicas j r' → (IsUp r → IsUp r') × (r'.sup ≡ r.sup) × StaysInReach g.D.Disk.Tells g.D.Disk.files r r' =
-    one_each (λ (x y : Copy g.row.D.Denot). (IsUp x → IsUp y) × (y.sup ≡ x.sup) × StaysInReach g.D.Disk.Tells g.D.Disk.files x y) c.args.replica c.self.inside.replicas.items c.begin_at.new.replicas one
+    c.begin_at.ensures.begins one.before one.after (subst (λ xs. At xs c.args.replica one.before) (sym now) one.was)
+    (one_after c.args.replica c.self.inside.replicas.items c.begin_at.new.replicas one) in
+    let each : (j : ℕ) (r r' : Copy g.row.D.Denot) → At c.self.inside.replicas.items j r → At c.begin_at.new.replicas j r'
+    → (IsUp r → IsUp r') × (r'.sup ≡ r.sup) × StaysInReach g.D.Disk.Tells g.D.Disk.files r r' =
+    one_each (λ (x y : Copy g.row.D.Denot). (IsUp x → IsUp y) × (y.sup ≡ x.sup) × StaysInReach g.D.Disk.Tells g.D.Disk.files x y) c.args.replica c.self.inside.replicas.items
+    c.begin_at.new.replicas one
     (λ u. step.on.up, step.on.sup, step.on.reach) (λ x. (λ u. u, refl, λ tells. reach_still g.D.Disk.files x)) in (
       subst (λ rs. IsShaped (volume_with c.self.inside.settings c.self.inside.number rs c.self.inside.rows c.self.inside.front c.self.inside.frozen c.self.inside.unsure)) (sym kept)
-          (shaped_on c.self.inside.settings c.self.inside.number c.self.inside.replicas.items c.begin_at.new.replicas c.self.inside.rows c.self.inside.rows c.self.inside.front c.self.inside.front c.self.inside.frozen c.self.inside.frozen c.self.inside.unsure c.self.inside.unsure
-          c.self.invariant.0 (c.self.invariant.0).frozen_by (c.self.invariant.0).settled count (λ j r r' e f. (each j r r' e f).1) refl (λ none j r r' e f. up_thawed r' ((each j r r' e f).0 (up j r e)))),
+          (shaped_on c.self.inside.settings c.self.inside.number c.self.inside.replicas.items c.begin_at.new.replicas c.self.inside.rows c.self.inside.rows c.self.inside.front
+          c.self.inside.front c.self.inside.frozen c.self.inside.frozen c.self.inside.unsure c.self.inside.unsure
+          c.self.invariant.0 (c.self.invariant.0).frozen_by (c.self.invariant.0).settled count (λ j r r' e f. (each j r r' e f).1) refl
+          (λ none j r r' e f. up_thawed r' ((each j r r' e f).0 (up j r e)))),
       c.self.invariant.1,
       subst (λ rs. CanReach g.D.Disk.Tells g.D.Disk.files g.D.Piece.Piece.Tells rs c.self.inside.rows) (sym kept)
           (same_rows g.D.Disk.Tells g.D.Disk.files c.self.inside.replicas.items c.begin_at.new.replicas c.self.inside.rows c.self.inside.rows c.self.invariant.2 count
@@ -93,12 +99,19 @@ returns-clause-begun g c = λ tells k stands.
       | in-Ok w ↦
           let step : BeginsAt g.D.Disk.Tells g.D.Disk.files g.D.Disk.fault_count one.before one.after (Ok w.in-Ok.generation) =
           subst (λ x. BeginsAt g.D.Disk.Tells g.D.Disk.files g.D.Disk.fault_count one.before one.after x) w.in-Ok.is
-          (c.begin_at.ensures.begins one.before one.after (subst (λ xs. At xs c.args.replica one.before) (sym now) one.was) (one_after c.args.replica c.self.inside.replicas.items c.begin_at.new.replicas one)) in
-          subst (λ r. IfOk r (λ n. IsBegun g.D.Disk.files g.D.Piece.Piece.Tells k c.args.replica n (volume_with c.self.inside.settings c.self.inside.number (with_items c.self.inside.replicas c.begin_at.new.replicas).items c.self.inside.rows c.self.inside.front c.self.inside.frozen c.self.inside.unsure))) (sym w.result-is)
-          (subst (λ rs. IsBegun g.D.Disk.files g.D.Piece.Piece.Tells k c.args.replica w.in-Ok.generation (volume_with c.self.inside.settings c.self.inside.number rs c.self.inside.rows c.self.inside.front c.self.inside.frozen c.self.inside.unsure)) (sym kept)
-          (subst (λ o. IsBegun g.D.Disk.files g.D.Piece.Piece.Tells k c.args.replica w.in-Ok.generation (volume_with c.self.inside.settings c.self.inside.number c.begin_at.new.replicas c.self.inside.rows c.self.inside.front o c.self.inside.unsure)) (sym thawed)
-          (begun c.self.inside.settings c.self.inside.number g.D.Disk.Tells g.D.Disk.files g.D.Piece.Piece.Tells g.D.Disk.fault_count c.self.inside.replicas.items c.begin_at.new.replicas c.self.inside.rows c.self.inside.front c.self.inside.unsure k c.args.replica one
-          (subst (λ o. StandsFor g.D.Disk.files g.D.Piece.Piece.Tells (volume_with c.self.inside.settings c.self.inside.number c.self.inside.replicas.items c.self.inside.rows c.self.inside.front o c.self.inside.unsure) k) thawed (subst (λ v. StandsFor g.D.Disk.files g.D.Piece.Piece.Tells v k) (sym c.self.view_is) stands)) tells w.in-Ok.generation step)))
+          (c.begin_at.ensures.begins one.before one.after (subst (λ xs. At xs c.args.replica one.before) (sym now) one.was)
+          (one_after c.args.replica c.self.inside.replicas.items c.begin_at.new.replicas one)) in
+          subst (λ r. IfOk r (λ n. IsBegun g.D.Disk.files g.D.Piece.Piece.Tells k c.args.replica n
+          (volume_with c.self.inside.settings c.self.inside.number (with_items c.self.inside.replicas c.begin_at.new.replicas).items c.self.inside.rows c.self.inside.front
+          c.self.inside.frozen c.self.inside.unsure))) (sym w.result-is)
+          (subst (λ rs. IsBegun g.D.Disk.files g.D.Piece.Piece.Tells k c.args.replica w.in-Ok.generation
+          (volume_with c.self.inside.settings c.self.inside.number rs c.self.inside.rows c.self.inside.front c.self.inside.frozen c.self.inside.unsure)) (sym kept)
+          (subst (λ o. IsBegun g.D.Disk.files g.D.Piece.Piece.Tells k c.args.replica w.in-Ok.generation
+          (volume_with c.self.inside.settings c.self.inside.number c.begin_at.new.replicas c.self.inside.rows c.self.inside.front o c.self.inside.unsure)) (sym thawed)
+          (begun c.self.inside.settings c.self.inside.number g.D.Disk.Tells g.D.Disk.files g.D.Piece.Piece.Tells g.D.Disk.fault_count c.self.inside.replicas.items
+          c.begin_at.new.replicas c.self.inside.rows c.self.inside.front c.self.inside.unsure k c.args.replica one
+          (subst (λ o. StandsFor g.D.Disk.files g.D.Piece.Piece.Tells (volume_with c.self.inside.settings c.self.inside.number c.self.inside.replicas.items c.self.inside.rows
+          c.self.inside.front o c.self.inside.unsure) k) thawed (subst (λ v. StandsFor g.D.Disk.files g.D.Piece.Piece.Tells v k) (sym c.self.view_is) stands)) tells w.in-Ok.generation step)))
       | in-Err w ↦ rw w.result-is tt
     ]
 
@@ -114,14 +127,29 @@ returns-clause-refused g c = λ tells k stands.
       | in-Err w ↦
           let step : BeginsAt g.D.Disk.Tells g.D.Disk.files g.D.Disk.fault_count one.before one.after (Err w.in-Err.fault) =
           subst (λ x. BeginsAt g.D.Disk.Tells g.D.Disk.files g.D.Disk.fault_count one.before one.after x) w.in-Err.is
-          (c.begin_at.ensures.begins one.before one.after (subst (λ xs. At xs c.args.replica one.before) (sym now) one.was) (one_after c.args.replica c.self.inside.replicas.items c.begin_at.new.replicas one)) in
-          subst (λ r. IfErr r (BeginRefused g.D.Disk.files g.D.Piece.Piece.Tells k c.args.replica c.args.self.now (volume_with c.self.inside.settings c.self.inside.number (with_items c.self.inside.replicas c.begin_at.new.replicas).items c.self.inside.rows c.self.inside.front c.self.inside.frozen c.self.inside.unsure))) (sym w.result-is)
-          (subst (λ v. BeginRefused g.D.Disk.files g.D.Piece.Piece.Tells k c.args.replica v (volume_with c.self.inside.settings c.self.inside.number (with_items c.self.inside.replicas c.begin_at.new.replicas).items c.self.inside.rows c.self.inside.front c.self.inside.frozen c.self.inside.unsure) w.answer_at.result) c.self.view_is
-          (subst (λ rs. BeginRefused g.D.Disk.files g.D.Piece.Piece.Tells k c.args.replica (volume_with c.self.inside.settings c.self.inside.number c.self.inside.replicas.items c.self.inside.rows c.self.inside.front c.self.inside.frozen c.self.inside.unsure) (volume_with c.self.inside.settings c.self.inside.number rs c.self.inside.rows c.self.inside.front c.self.inside.frozen c.self.inside.unsure) w.answer_at.result) (sym kept)
-          (subst (λ f. BeginRefused g.D.Disk.files g.D.Piece.Piece.Tells k c.args.replica (volume_with c.self.inside.settings c.self.inside.number c.self.inside.replicas.items c.self.inside.rows c.self.inside.front c.self.inside.frozen c.self.inside.unsure) (volume_with c.self.inside.settings c.self.inside.number c.begin_at.new.replicas c.self.inside.rows c.self.inside.front c.self.inside.frozen c.self.inside.unsure) f) (sym w.answer_at.ensures)
-          (subst (λ o. BeginRefused g.D.Disk.files g.D.Piece.Piece.Tells k c.args.replica (volume_with c.self.inside.settings c.self.inside.number c.self.inside.replicas.items c.self.inside.rows c.self.inside.front o c.self.inside.unsure) (volume_with c.self.inside.settings c.self.inside.number c.begin_at.new.replicas c.self.inside.rows c.self.inside.front o c.self.inside.unsure) (answer_at c.machine_of-machine.result w.in-Err.fault)) (sym thawed)
-          (begin_refused c.self.inside.settings c.self.inside.number g.D.Disk.Tells g.D.Disk.files g.D.Piece.Piece.Tells g.D.Disk.fault_count c.self.inside.replicas.items c.begin_at.new.replicas c.self.inside.rows c.self.inside.front c.self.inside.unsure k c.args.replica one
-          (subst (λ o. StandsFor g.D.Disk.files g.D.Piece.Piece.Tells (volume_with c.self.inside.settings c.self.inside.number c.self.inside.replicas.items c.self.inside.rows c.self.inside.front o c.self.inside.unsure) k) thawed (subst (λ v. StandsFor g.D.Disk.files g.D.Piece.Piece.Tells v k) (sym c.self.view_is) stands)) tells c.machine_of-machine.result w.in-Err.fault c.machine_of-machine.ensures step)))))
+          (c.begin_at.ensures.begins one.before one.after (subst (λ xs. At xs c.args.replica one.before) (sym now) one.was)
+          (one_after c.args.replica c.self.inside.replicas.items c.begin_at.new.replicas one)) in
+          subst (λ r. IfErr r (BeginRefused g.D.Disk.files g.D.Piece.Piece.Tells k c.args.replica c.args.self.now
+          (volume_with c.self.inside.settings c.self.inside.number (with_items c.self.inside.replicas c.begin_at.new.replicas).items c.self.inside.rows c.self.inside.front
+          c.self.inside.frozen c.self.inside.unsure))) (sym w.result-is)
+          (subst (λ v. BeginRefused g.D.Disk.files g.D.Piece.Piece.Tells k c.args.replica v
+          (volume_with c.self.inside.settings c.self.inside.number (with_items c.self.inside.replicas c.begin_at.new.replicas).items c.self.inside.rows c.self.inside.front
+          c.self.inside.frozen c.self.inside.unsure) w.answer_at.result) c.self.view_is
+          (subst (λ rs. BeginRefused g.D.Disk.files g.D.Piece.Piece.Tells k c.args.replica (volume_with c.self.inside.settings c.self.inside.number c.self.inside.replicas.items
+          c.self.inside.rows c.self.inside.front c.self.inside.frozen c.self.inside.unsure)
+          (volume_with c.self.inside.settings c.self.inside.number rs c.self.inside.rows c.self.inside.front c.self.inside.frozen c.self.inside.unsure) w.answer_at.result) (sym kept)
+          (subst (λ f. BeginRefused g.D.Disk.files g.D.Piece.Piece.Tells k c.args.replica (volume_with c.self.inside.settings c.self.inside.number c.self.inside.replicas.items
+          c.self.inside.rows c.self.inside.front c.self.inside.frozen c.self.inside.unsure)
+          (volume_with c.self.inside.settings c.self.inside.number c.begin_at.new.replicas c.self.inside.rows c.self.inside.front c.self.inside.frozen c.self.inside.unsure) f)
+          (sym w.answer_at.ensures)
+          (subst (λ o. BeginRefused g.D.Disk.files g.D.Piece.Piece.Tells k c.args.replica (volume_with c.self.inside.settings c.self.inside.number c.self.inside.replicas.items
+          c.self.inside.rows c.self.inside.front o c.self.inside.unsure) (volume_with c.self.inside.settings c.self.inside.number c.begin_at.new.replicas c.self.inside.rows
+          c.self.inside.front o c.self.inside.unsure) (answer_at c.machine_of-machine.result w.in-Err.fault)) (sym thawed)
+          (begin_refused c.self.inside.settings c.self.inside.number g.D.Disk.Tells g.D.Disk.files g.D.Piece.Piece.Tells g.D.Disk.fault_count c.self.inside.replicas.items
+          c.begin_at.new.replicas c.self.inside.rows c.self.inside.front c.self.inside.unsure k c.args.replica one
+          (subst (λ o. StandsFor g.D.Disk.files g.D.Piece.Piece.Tells (volume_with c.self.inside.settings c.self.inside.number c.self.inside.replicas.items c.self.inside.rows
+          c.self.inside.front o c.self.inside.unsure) k) thawed (subst (λ v. StandsFor g.D.Disk.files g.D.Piece.Piece.Tells v k) (sym c.self.view_is) stands)) tells
+          c.machine_of-machine.result w.in-Err.fault c.machine_of-machine.ensures step)))))
     ]
 
 pub returns-clause-causes : goal.returns-clause-causes
@@ -130,18 +158,24 @@ returns-clause-causes g c =
     let kept = with_items_is c.self.inside.replicas c.begin_at.new.replicas (c.begin_at.auto.replicas ∙ c.as_mut_slice.ensures.len) in
     let one : CallsOne c.args.replica c.self.inside.replicas.items c.begin_at.new.replicas = subst (λ xs. CallsOne c.args.replica xs c.begin_at.new.replicas) now c.begin_at.ensures.one in
     let count = one_count c.args.replica c.self.inside.replicas.items c.begin_at.new.replicas one in
-    let all : length c.self.inside.replicas.items ≡ c.self.inside.settings.replicas = ap (λ v. length v.replicas) c.self.view_is ∙ c.requires.«open».all ∙ ap (λ v. v.settings.replicas) (sym c.self.view_is) in
+    let all : length c.self.inside.replicas.items ≡ c.self.inside.settings.replicas =
+    ap (λ v. length v.replicas) c.self.view_is ∙ c.requires.«open».all ∙ ap (λ v. v.settings.replicas) (sym c.self.view_is) in
     elim c.match-begin_at.branch [
       | in-Ok w ↦ rw w.result-is tt
       | in-Err w ↦
           let step : BeginsAt g.D.Disk.Tells g.D.Disk.files g.D.Disk.fault_count one.before one.after (Err w.in-Err.fault) =
           subst (λ x. BeginsAt g.D.Disk.Tells g.D.Disk.files g.D.Disk.fault_count one.before one.after x) w.in-Err.is
-          (c.begin_at.ensures.begins one.before one.after (subst (λ xs. At xs c.args.replica one.before) (sym now) one.was) (one_after c.args.replica c.self.inside.replicas.items c.begin_at.new.replicas one)) in
-          subst (λ r. IfErr r (answers.IsBeginFault g.D.Disk.fault_count c.args.self.now.settings c.args.self.now.number c.args.replica c.args.self.now.replicas (with_items c.self.inside.replicas c.begin_at.new.replicas).items)) (sym w.result-is)
-          (subst (λ v. answers.IsBeginFault g.D.Disk.fault_count v.settings v.number c.args.replica v.replicas (with_items c.self.inside.replicas c.begin_at.new.replicas).items w.answer_at.result) c.self.view_is
+          (c.begin_at.ensures.begins one.before one.after (subst (λ xs. At xs c.args.replica one.before) (sym now) one.was)
+          (one_after c.args.replica c.self.inside.replicas.items c.begin_at.new.replicas one)) in
+          subst (λ r. IfErr r (answers.IsBeginFault g.D.Disk.fault_count c.args.self.now.settings c.args.self.now.number c.args.replica c.args.self.now.replicas
+          (with_items c.self.inside.replicas c.begin_at.new.replicas).items)) (sym w.result-is)
+          (subst (λ v. answers.IsBeginFault g.D.Disk.fault_count v.settings v.number c.args.replica v.replicas (with_items c.self.inside.replicas c.begin_at.new.replicas).items
+          w.answer_at.result) c.self.view_is
           (subst (λ rs. answers.IsBeginFault g.D.Disk.fault_count c.self.inside.settings c.self.inside.number c.args.replica c.self.inside.replicas.items rs w.answer_at.result) (sym kept)
-          (subst (λ f. answers.IsBeginFault g.D.Disk.fault_count c.self.inside.settings c.self.inside.number c.args.replica c.self.inside.replicas.items c.begin_at.new.replicas f) (sym w.answer_at.ensures)
-          (begin_fault c.self.inside.settings c.self.inside.number g.D.Disk.Tells g.D.Disk.files g.D.Disk.fault_count c.self.inside.replicas.items c.begin_at.new.replicas c.args.replica c.machine_of-machine.result w.in-Err.fault one all c.machine_of-machine.ensures step))))
+          (subst (λ f. answers.IsBeginFault g.D.Disk.fault_count c.self.inside.settings c.self.inside.number c.args.replica c.self.inside.replicas.items c.begin_at.new.replicas f)
+          (sym w.answer_at.ensures)
+          (begin_fault c.self.inside.settings c.self.inside.number g.D.Disk.Tells g.D.Disk.files g.D.Disk.fault_count c.self.inside.replicas.items c.begin_at.new.replicas
+          c.args.replica c.machine_of-machine.result w.in-Err.fault one all c.machine_of-machine.ensures step))))
     ]
 
 pub returns-clause-open : goal.returns-clause-open
@@ -154,9 +188,12 @@ returns-clause-open g c =
     let up : (j : ℕ) (r : Copy g.row.D.Denot) → At c.self.inside.replicas.items j r → IsUp r =
     λ j r e. open_up r (c.requires.«open».each j r (subst (λ v. At v.replicas j r) c.self.view_is e)) ((c.self.invariant.0).thawed thawed j r e) in
     let step : BeginsAt g.D.Disk.Tells g.D.Disk.files g.D.Disk.fault_count one.before one.after c.begin_at.result =
-    c.begin_at.ensures.begins one.before one.after (subst (λ xs. At xs c.args.replica one.before) (sym now) one.was) (one_after c.args.replica c.self.inside.replicas.items c.begin_at.new.replicas one) in
-    let each : (j : ℕ) (r r' : Copy g.row.D.Denot) → At c.self.inside.replicas.items j r → At c.begin_at.new.replicas j r' → (IsUp r → IsUp r') × (r'.sup ≡ r.sup) × StaysInReach g.D.Disk.Tells g.D.Disk.files r r' =
-    one_each (λ (x y : Copy g.row.D.Denot). (IsUp x → IsUp y) × (y.sup ≡ x.sup) × StaysInReach g.D.Disk.Tells g.D.Disk.files x y) c.args.replica c.self.inside.replicas.items c.begin_at.new.replicas one
+    c.begin_at.ensures.begins one.before one.after (subst (λ xs. At xs c.args.replica one.before) (sym now) one.was)
+    (one_after c.args.replica c.self.inside.replicas.items c.begin_at.new.replicas one) in
+    let each : (j : ℕ) (r r' : Copy g.row.D.Denot) → At c.self.inside.replicas.items j r → At c.begin_at.new.replicas j r'
+    → (IsUp r → IsUp r') × (r'.sup ≡ r.sup) × StaysInReach g.D.Disk.Tells g.D.Disk.files r r' =
+    one_each (λ (x y : Copy g.row.D.Denot). (IsUp x → IsUp y) × (y.sup ≡ x.sup) × StaysInReach g.D.Disk.Tells g.D.Disk.files x y) c.args.replica c.self.inside.replicas.items
+    c.begin_at.new.replicas one
     (λ u. step.on.up, step.on.sup, step.on.reach) (λ x. (λ u. u, refl, λ tells. reach_still g.D.Disk.files x)) in
     record {
       all = ap length kept ∙ count ∙ ap (λ v. length v.replicas) c.self.view_is ∙ c.requires.«open».all ∙ ap (λ v. v.settings.replicas) (sym c.self.view_is);
@@ -184,7 +221,8 @@ returns-clause-same g c =
     let kept = with_items_is c.self.inside.replicas c.begin_at.new.replicas (c.begin_at.auto.replicas ∙ c.as_mut_slice.ensures.len) in
     let one : CallsOne c.args.replica c.self.inside.replicas.items c.begin_at.new.replicas = subst (λ xs. CallsOne c.args.replica xs c.begin_at.new.replicas) now c.begin_at.ensures.one in
     let step : BeginsAt g.D.Disk.Tells g.D.Disk.files g.D.Disk.fault_count one.before one.after c.begin_at.result =
-    c.begin_at.ensures.begins one.before one.after (subst (λ xs. At xs c.args.replica one.before) (sym now) one.was) (one_after c.args.replica c.self.inside.replicas.items c.begin_at.new.replicas one) in
+    c.begin_at.ensures.begins one.before one.after (subst (λ xs. At xs c.args.replica one.before) (sym now) one.was)
+    (one_after c.args.replica c.self.inside.replicas.items c.begin_at.new.replicas one) in
     same_by _ _ _ _ c.self.view_is refl refl kept
     (one_each (λ (x y : Copy g.row.D.Denot). y.sup ≡ x.sup) c.args.replica c.self.inside.replicas.items c.begin_at.new.replicas one step.on.sup (λ x. refl))
 
@@ -215,12 +253,16 @@ returns-clause-untouched g c =
       | in-Err w ↦
           let step : BeginsAt g.D.Disk.Tells g.D.Disk.files g.D.Disk.fault_count one.before one.after (Err w.in-Err.fault) =
           subst (λ x. BeginsAt g.D.Disk.Tells g.D.Disk.files g.D.Disk.fault_count one.before one.after x) w.in-Err.is
-          (c.begin_at.ensures.begins one.before one.after (subst (λ xs. At xs c.args.replica one.before) (sym now) one.was) (one_after c.args.replica c.self.inside.replicas.items c.begin_at.new.replicas one)) in
-          let new : Volume g.row.D.Denot g.row.D-Piece.Denot = volume_with c.self.inside.settings c.self.inside.number (with_items c.self.inside.replicas c.begin_at.new.replicas).items c.self.inside.rows c.self.inside.front c.self.inside.frozen c.self.inside.unsure in
+          (c.begin_at.ensures.begins one.before one.after (subst (λ xs. At xs c.args.replica one.before) (sym now) one.was)
+          (one_after c.args.replica c.self.inside.replicas.items c.begin_at.new.replicas one)) in
+          let new : Volume g.row.D.Denot g.row.D-Piece.Denot =
+          volume_with c.self.inside.settings c.self.inside.number (with_items c.self.inside.replicas c.begin_at.new.replicas).items c.self.inside.rows c.self.inside.front
+          c.self.inside.frozen c.self.inside.unsure in
           subst (λ r. IfErr r (λ (f : LogicalFault). IsUntouchedBy f → new ≡ c.args.self.now)) (sym w.result-is)
           (subst (λ (f : LogicalFault). IsUntouchedBy f → new ≡ c.args.self.now) (sym w.answer_at.ensures)
           (λ by. ap (λ rs. volume_with c.self.inside.settings c.self.inside.number rs c.self.inside.rows c.self.inside.front c.self.inside.frozen c.self.inside.unsure)
-          (kept ∙ one_untouched c.args.replica c.self.inside.replicas.items c.begin_at.new.replicas one (begin_untouched g.D.Disk.fault_count one.before one.after c.machine_of-machine.result w.in-Err.fault step.cause by)) ∙ c.self.view_is))
+          (kept ∙ one_untouched c.args.replica c.self.inside.replicas.items c.begin_at.new.replicas one
+          (begin_untouched g.D.Disk.fault_count one.before one.after c.machine_of-machine.result w.in-Err.fault step.cause by)) ∙ c.self.view_is))
     ]
 
 pub returns-clause-stuck : goal.returns-clause-stuck
@@ -229,7 +271,8 @@ returns-clause-stuck g c = λ j r r' e f.
     let kept = with_items_is c.self.inside.replicas c.begin_at.new.replicas (c.begin_at.auto.replicas ∙ c.as_mut_slice.ensures.len) in
     let one : CallsOne c.args.replica c.self.inside.replicas.items c.begin_at.new.replicas = subst (λ xs. CallsOne c.args.replica xs c.begin_at.new.replicas) now c.begin_at.ensures.one in
     let step : BeginsAt g.D.Disk.Tells g.D.Disk.files g.D.Disk.fault_count one.before one.after c.begin_at.result =
-    c.begin_at.ensures.begins one.before one.after (subst (λ xs. At xs c.args.replica one.before) (sym now) one.was) (one_after c.args.replica c.self.inside.replicas.items c.begin_at.new.replicas one) in
+    c.begin_at.ensures.begins one.before one.after (subst (λ xs. At xs c.args.replica one.before) (sym now) one.was)
+    (one_after c.args.replica c.self.inside.replicas.items c.begin_at.new.replicas one) in
     one_each (λ (x y : Copy g.row.D.Denot). is_stuck y ≡ is_stuck x) c.args.replica c.self.inside.replicas.items c.begin_at.new.replicas one (step.on.stuck) (λ x. refl)
     j r r' (subst (λ v. At v.replicas j r) (sym c.self.view_is) e) (subst (λ xs. At xs j r') kept f)
 
@@ -248,7 +291,9 @@ returns-clause-tight g c = λ tells k stands.
     elim c.match-begin_at.branch [
       | in-Ok w ↦
           let thawed = not_some c.self.inside.frozen c.in_default.not-Some in
-          let known = takes g.D.Disk.Tells g.D.Disk.files g.D.Piece.Piece.Tells c.self.inside.settings c.self.inside.number c.self.inside.replicas.items c.self.inside.rows c.self.inside.front c.self.inside.frozen c.self.inside.unsure k
+          let known =
+          takes g.D.Disk.Tells g.D.Disk.files g.D.Piece.Piece.Tells c.self.inside.settings c.self.inside.number c.self.inside.replicas.items c.self.inside.rows
+          c.self.inside.front c.self.inside.frozen c.self.inside.unsure k
           (subst (λ v. StandsFor g.D.Disk.files g.D.Piece.Piece.Tells v k) (sym c.self.view_is) stands) thawed in
           let was = known.each c.args.replica one.before one.was in
           let begun : BeginsAt g.D.Disk.Tells g.D.Disk.files g.D.Disk.fault_count one.before one.after (Ok w.in-Ok.generation) =
@@ -271,9 +316,11 @@ returns-clause-thawed g c = λ none m e.
       | in-Err w ↦
           let step : BeginsAt g.D.Disk.Tells g.D.Disk.files g.D.Disk.fault_count one.before one.after (Err w.in-Err.fault) =
           subst (λ x. BeginsAt g.D.Disk.Tells g.D.Disk.files g.D.Disk.fault_count one.before one.after x) w.in-Err.is
-          (c.begin_at.ensures.begins one.before one.after (subst (λ xs. At xs c.args.replica one.before) (sym now) one.was) (one_after c.args.replica c.self.inside.replicas.items c.begin_at.new.replicas one)) in
+          (c.begin_at.ensures.begins one.before one.after (subst (λ xs. At xs c.args.replica one.before) (sym now) one.was)
+          (one_after c.args.replica c.self.inside.replicas.items c.begin_at.new.replicas one)) in
           let said : Err w.answer_at.result ≡ Err (logical.ReadOnly m) = sym w.result-is ∙ e in
-          begin_thawed g.D.Disk.fault_count one.before one.after c.machine_of-machine.result w.in-Err.fault m step.cause (sym w.answer_at.ensures ∙ (let same : w.answer_at.result ≡ logical.ReadOnly m = cc in same))
+          begin_thawed g.D.Disk.fault_count one.before one.after c.machine_of-machine.result w.in-Err.fault m step.cause
+          (sym w.answer_at.ensures ∙ (let same : w.answer_at.result ≡ logical.ReadOnly m = cc in same))
     ]
 
 pub returns-in-Some-clause-refused_seen : goal.returns-in-Some-clause-refused_seen

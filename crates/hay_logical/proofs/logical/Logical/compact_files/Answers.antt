@@ -55,7 +55,8 @@ compact_at-requires g c =
     let thawed = not_some c.self.inside.frozen c.in_default.not-Some in
     let up : (j : ℕ) (r : Copy g.row.D.Denot) → At c.self.inside.replicas.items j r → IsUp r =
     λ j r e. open_up r (c.requires.«open».each j r (subst (λ v. At v.replicas j r) c.self.view_is e)) ((c.self.invariant.0).thawed thawed j r e) in
-    let all : length c.self.inside.replicas.items ≡ c.self.inside.settings.replicas = ap (λ v. length v.replicas) c.self.view_is ∙ c.requires.«open».all ∙ ap (λ v. v.settings.replicas) (sym c.self.view_is) in
+    let all : length c.self.inside.replicas.items ≡ c.self.inside.settings.replicas =
+    ap (λ v. length v.replicas) c.self.view_is ∙ c.requires.«open».all ∙ ap (λ v. v.settings.replicas) (sym c.self.view_is) in
     let within : c.args.replica < c.self.inside.settings.replicas = subst (λ v. c.args.replica < v.settings.replicas) (sym c.self.view_is) c.requires.within in
     let most = (c.self.invariant.0).settings.most in
     let few = (c.self.invariant.0).count in
@@ -67,11 +68,13 @@ compact_at-requires g c =
     }
 
 -- what the call found and left
-called : (g : given.Over) (c : goal.After-compact_at g) → SwapCall g.D.Disk.Tells g.D.Disk.files g.D.Piece.Piece.Tells g.D.Disk.fault_count Fresh c.self.inside.replicas.items c.compact_at.new.replicas c.self.inside.rows c.compact_at.new.rows c.args.replica c.compact_at.result
+called : (g : given.Over) (c : goal.After-compact_at g) → SwapCall g.D.Disk.Tells g.D.Disk.files g.D.Piece.Piece.Tells g.D.Disk.fault_count Fresh c.self.inside.replicas.items
+    c.compact_at.new.replicas c.self.inside.rows c.compact_at.new.rows c.args.replica c.compact_at.result
 called g c =
     let now = c.as_mut_slice.ensures.value in
     let thawed = not_some c.self.inside.frozen c.in_default.not-Some in
-    let one : SwapsOne g.D.Disk.Tells g.D.Disk.files c.args.replica c.self.inside.replicas.items c.compact_at.new.replicas = subst (λ xs. SwapsOne g.D.Disk.Tells g.D.Disk.files c.args.replica xs c.compact_at.new.replicas) now c.compact_at.ensures.one in
+    let one : SwapsOne g.D.Disk.Tells g.D.Disk.files c.args.replica c.self.inside.replicas.items c.compact_at.new.replicas =
+    subst (λ xs. SwapsOne g.D.Disk.Tells g.D.Disk.files c.args.replica xs c.compact_at.new.replicas) now c.compact_at.ensures.one in
     record {
       one = one;
       ups = λ j r e. open_up r (c.requires.«open».each j r (subst (λ v. At v.replicas j r) c.self.view_is e)) ((c.self.invariant.0).thawed thawed j r e);
@@ -90,7 +93,8 @@ pub invariant_of-self : goal.invariant_of-self
 invariant_of-self g c =
     let after = (goal.at.invariant_of-self g c).After-compact_at in
     let call = called_with c.in-Ok.is (called g after) in (
-      called_shaped call c.self.inside.settings c.self.inside.number _ c.self.inside.front c.self.inside.frozen c.self.inside.frozen c.self.inside.unsure (kept g after) (λ none. call.swaps.up.0) (c.self.invariant.0).frozen_by (c.self.invariant.0).settled c.self.invariant.0,
+      called_shaped call c.self.inside.settings c.self.inside.number _ c.self.inside.front c.self.inside.frozen c.self.inside.frozen c.self.inside.unsure (kept g after)
+          (λ none. call.swaps.up.0) (c.self.invariant.0).frozen_by (c.self.invariant.0).settled c.self.invariant.0,
       c.self.invariant.1,
       called_reach call _ (kept g after) c.self.invariant.2,
     )
@@ -99,8 +103,11 @@ pub invariant_of-self-in-Err : goal.invariant_of-self-in-Err
 invariant_of-self-in-Err g c =
     let after = (goal.at.invariant_of-self-in-Err g c).After-compact_at in
     let call = called_with c.in-Err.is (called g after) in (
-      called_shaped call c.self.inside.settings c.self.inside.number _ c.self.inside.front c.self.inside.frozen c.unfinished_by-unfinished.result.frozen c.self.inside.unsure (kept g after) (λ none. called_up c.self.inside.settings c.self.inside.number c.in-Err.unswapped call (ap (λ x. x.frozen) (sym c.unfinished_by-unfinished.ensures) ∙ none))
-          (frozen_unfinished c.self.inside.settings c.self.inside.number c.args.replica c.in-Err.unswapped c.unfinished_by-unfinished.result (subst (λ v. c.args.replica < v.settings.replicas) (sym c.self.view_is) c.requires.within) c.unfinished_by-unfinished.ensures) (λ none. (c.self.invariant.0).settled (not_some c.self.inside.frozen c.in_default.not-Some)) c.self.invariant.0,
+      called_shaped call c.self.inside.settings c.self.inside.number _ c.self.inside.front c.self.inside.frozen c.unfinished_by-unfinished.result.frozen c.self.inside.unsure
+          (kept g after) (λ none. called_up c.self.inside.settings c.self.inside.number c.in-Err.unswapped call (ap (λ x. x.frozen) (sym c.unfinished_by-unfinished.ensures) ∙ none))
+          (frozen_unfinished c.self.inside.settings c.self.inside.number c.args.replica c.in-Err.unswapped c.unfinished_by-unfinished.result
+          (subst (λ v. c.args.replica < v.settings.replicas) (sym c.self.view_is) c.requires.within) c.unfinished_by-unfinished.ensures)
+          (λ none. (c.self.invariant.0).settled (not_some c.self.inside.frozen c.in_default.not-Some)) c.self.invariant.0,
       c.self.invariant.1,
       called_reach call _ (kept g after) c.self.invariant.2,
     )
@@ -111,10 +118,15 @@ returns-in-Ok-clause-compacted g c = λ tells k stands.
     let after = (goal.at.returns-in-Ok-clause-compacted g c).After-compact_at in
     let call = called_with c.in-Ok.is (called g after) in
     let thawed = not_some c.self.inside.frozen c.in_default.not-Some in
-    subst (λ rs. IsCompacted g.D.Disk.files g.D.Piece.Piece.Tells k c.args.replica c.in-Ok.files.generation (volume_with c.self.inside.settings c.self.inside.number rs c.compact_at.new.rows c.self.inside.front c.self.inside.frozen c.self.inside.unsure)) (sym (kept g after))
-    (subst (λ o. IsCompacted g.D.Disk.files g.D.Piece.Piece.Tells k c.args.replica c.in-Ok.files.generation (volume_with c.self.inside.settings c.self.inside.number c.compact_at.new.replicas c.compact_at.new.rows c.self.inside.front o c.self.inside.unsure)) (sym thawed)
-    (compacted c.self.inside.settings c.self.inside.number g.D.Disk.Tells g.D.Disk.files g.D.Piece.Piece.Tells g.D.Disk.fault_count c.self.inside.replicas.items c.compact_at.new.replicas c.self.inside.rows c.compact_at.new.rows c.self.inside.front c.self.inside.unsure k
-    (subst (λ o. StandsFor g.D.Disk.files g.D.Piece.Piece.Tells (volume_with c.self.inside.settings c.self.inside.number c.self.inside.replicas.items c.self.inside.rows c.self.inside.front o c.self.inside.unsure) k) thawed (subst (λ v. StandsFor g.D.Disk.files g.D.Piece.Piece.Tells v k) (sym c.self.view_is) stands)) tells c.args.replica call.one c.in-Ok.files call.swaps call.places))
+    subst (λ rs. IsCompacted g.D.Disk.files g.D.Piece.Piece.Tells k c.args.replica c.in-Ok.files.generation
+    (volume_with c.self.inside.settings c.self.inside.number rs c.compact_at.new.rows c.self.inside.front c.self.inside.frozen c.self.inside.unsure)) (sym (kept g after))
+    (subst (λ o. IsCompacted g.D.Disk.files g.D.Piece.Piece.Tells k c.args.replica c.in-Ok.files.generation
+    (volume_with c.self.inside.settings c.self.inside.number c.compact_at.new.replicas c.compact_at.new.rows c.self.inside.front o c.self.inside.unsure)) (sym thawed)
+    (compacted c.self.inside.settings c.self.inside.number g.D.Disk.Tells g.D.Disk.files g.D.Piece.Piece.Tells g.D.Disk.fault_count c.self.inside.replicas.items
+    c.compact_at.new.replicas c.self.inside.rows c.compact_at.new.rows c.self.inside.front c.self.inside.unsure k
+    (subst (λ o. StandsFor g.D.Disk.files g.D.Piece.Piece.Tells (volume_with c.self.inside.settings c.self.inside.number c.self.inside.replicas.items c.self.inside.rows
+    c.self.inside.front o c.self.inside.unsure) k) thawed (subst (λ v. StandsFor g.D.Disk.files g.D.Piece.Piece.Tells v k) (sym c.self.view_is) stands)) tells c.args.replica
+    call.one c.in-Ok.files call.swaps call.places))
 
 pub returns-in-Ok-clause-removed : goal.returns-in-Ok-clause-removed
 unfolding Stands
@@ -122,8 +134,11 @@ returns-in-Ok-clause-removed g c = λ tells k stands r r' e f.
     let after = (goal.at.returns-in-Ok-clause-removed g c).After-compact_at in
     let call = called_with c.in-Ok.is (called g after) in
     let thawed = not_some c.self.inside.frozen c.in_default.not-Some in
-    removes_old c.self.inside.settings c.self.inside.number g.D.Disk.Tells g.D.Disk.files g.D.Piece.Piece.Tells g.D.Disk.fault_count c.self.inside.replicas.items c.compact_at.new.replicas c.self.inside.rows c.compact_at.new.rows c.self.inside.front c.self.inside.unsure k
-    (subst (λ o. StandsFor g.D.Disk.files g.D.Piece.Piece.Tells (volume_with c.self.inside.settings c.self.inside.number c.self.inside.replicas.items c.self.inside.rows c.self.inside.front o c.self.inside.unsure) k) thawed (subst (λ v. StandsFor g.D.Disk.files g.D.Piece.Piece.Tells v k) (sym c.self.view_is) stands)) tells c.args.replica call.one Fresh c.in-Ok.files call.swaps r r'
+    removes_old c.self.inside.settings c.self.inside.number g.D.Disk.Tells g.D.Disk.files g.D.Piece.Piece.Tells g.D.Disk.fault_count c.self.inside.replicas.items
+    c.compact_at.new.replicas c.self.inside.rows c.compact_at.new.rows c.self.inside.front c.self.inside.unsure k
+    (subst (λ o. StandsFor g.D.Disk.files g.D.Piece.Piece.Tells (volume_with c.self.inside.settings c.self.inside.number c.self.inside.replicas.items c.self.inside.rows
+    c.self.inside.front o c.self.inside.unsure) k) thawed (subst (λ v. StandsFor g.D.Disk.files g.D.Piece.Piece.Tells v k) (sym c.self.view_is) stands)) tells c.args.replica
+    call.one Fresh c.in-Ok.files call.swaps r r'
     (subst (λ v. At v.replicas c.args.replica r) (sym c.self.view_is) e) (subst (λ xs. At xs c.args.replica r') (kept g after) f)
 
 pub returns-in-Ok-clause-open : goal.returns-in-Ok-clause-open
@@ -140,21 +155,40 @@ returns-in-Err-clause-refused g c = λ tells k stands.
     let after = (goal.at.returns-in-Err-clause-refused g c).After-compact_at in
     let call = called_with c.in-Err.is (called g after) in
     let thawed = not_some c.self.inside.frozen c.in_default.not-Some in
-    subst (λ v. CompactRefused g.D.Disk.files g.D.Piece.Piece.Tells k c.args.replica v (volume_with c.self.inside.settings c.self.inside.number ((with_items c.self.inside.replicas c.compact_at.new.replicas).items) c.compact_at.new.rows c.self.inside.front c.unfinished_by-unfinished.result.frozen c.self.inside.unsure) c.unfinished_by-unfinished.result.fault) c.self.view_is
-    (subst (λ rs. CompactRefused g.D.Disk.files g.D.Piece.Piece.Tells k c.args.replica (volume_with c.self.inside.settings c.self.inside.number c.self.inside.replicas.items c.self.inside.rows c.self.inside.front c.self.inside.frozen c.self.inside.unsure) (volume_with c.self.inside.settings c.self.inside.number rs c.compact_at.new.rows c.self.inside.front c.unfinished_by-unfinished.result.frozen c.self.inside.unsure) c.unfinished_by-unfinished.result.fault) (sym (kept g after))
-    (subst (λ u. CompactRefused g.D.Disk.files g.D.Piece.Piece.Tells k c.args.replica (volume_with c.self.inside.settings c.self.inside.number c.self.inside.replicas.items c.self.inside.rows c.self.inside.front c.self.inside.frozen c.self.inside.unsure) (volume_with c.self.inside.settings c.self.inside.number c.compact_at.new.replicas c.compact_at.new.rows c.self.inside.front u.frozen c.self.inside.unsure) u.fault) (sym c.unfinished_by-unfinished.ensures)
-    (subst (λ o. CompactRefused g.D.Disk.files g.D.Piece.Piece.Tells k c.args.replica (volume_with c.self.inside.settings c.self.inside.number c.self.inside.replicas.items c.self.inside.rows c.self.inside.front o c.self.inside.unsure) (volume_with c.self.inside.settings c.self.inside.number c.compact_at.new.replicas c.compact_at.new.rows c.self.inside.front (unfinished_by c.self.inside.settings c.self.inside.number c.args.replica c.in-Err.unswapped).frozen c.self.inside.unsure) (unfinished_by c.self.inside.settings c.self.inside.number c.args.replica c.in-Err.unswapped).fault) (sym thawed)
-    (compact_refused c.self.inside.settings c.self.inside.number g.D.Disk.Tells g.D.Disk.files g.D.Piece.Piece.Tells g.D.Disk.fault_count c.self.inside.replicas.items c.compact_at.new.replicas c.self.inside.rows c.compact_at.new.rows c.self.inside.front c.self.inside.unsure k
-    (subst (λ o. StandsFor g.D.Disk.files g.D.Piece.Piece.Tells (volume_with c.self.inside.settings c.self.inside.number c.self.inside.replicas.items c.self.inside.rows c.self.inside.front o c.self.inside.unsure) k) thawed (subst (λ v. StandsFor g.D.Disk.files g.D.Piece.Piece.Tells v k) (sym c.self.view_is) stands)) tells c.args.replica call.one c.in-Err.unswapped (call.ups c.args.replica call.one.before call.one.was) call.swaps call.stays call.places))))
+    subst (λ v. CompactRefused g.D.Disk.files g.D.Piece.Piece.Tells k c.args.replica v
+    (volume_with c.self.inside.settings c.self.inside.number ((with_items c.self.inside.replicas c.compact_at.new.replicas).items) c.compact_at.new.rows c.self.inside.front
+    c.unfinished_by-unfinished.result.frozen c.self.inside.unsure) c.unfinished_by-unfinished.result.fault) c.self.view_is
+    (subst (λ rs. CompactRefused g.D.Disk.files g.D.Piece.Piece.Tells k c.args.replica
+    (volume_with c.self.inside.settings c.self.inside.number c.self.inside.replicas.items c.self.inside.rows c.self.inside.front c.self.inside.frozen c.self.inside.unsure)
+    (volume_with c.self.inside.settings c.self.inside.number rs c.compact_at.new.rows c.self.inside.front c.unfinished_by-unfinished.result.frozen c.self.inside.unsure)
+    c.unfinished_by-unfinished.result.fault) (sym (kept g after))
+    (subst (λ u. CompactRefused g.D.Disk.files g.D.Piece.Piece.Tells k c.args.replica
+    (volume_with c.self.inside.settings c.self.inside.number c.self.inside.replicas.items c.self.inside.rows c.self.inside.front c.self.inside.frozen c.self.inside.unsure)
+    (volume_with c.self.inside.settings c.self.inside.number c.compact_at.new.replicas c.compact_at.new.rows c.self.inside.front u.frozen c.self.inside.unsure) u.fault)
+    (sym c.unfinished_by-unfinished.ensures)
+    (subst (λ o. CompactRefused g.D.Disk.files g.D.Piece.Piece.Tells k c.args.replica
+    (volume_with c.self.inside.settings c.self.inside.number c.self.inside.replicas.items c.self.inside.rows c.self.inside.front o c.self.inside.unsure)
+    (volume_with c.self.inside.settings c.self.inside.number c.compact_at.new.replicas c.compact_at.new.rows c.self.inside.front
+    (unfinished_by c.self.inside.settings c.self.inside.number c.args.replica c.in-Err.unswapped).frozen c.self.inside.unsure)
+    (unfinished_by c.self.inside.settings c.self.inside.number c.args.replica c.in-Err.unswapped).fault) (sym thawed)
+    (compact_refused c.self.inside.settings c.self.inside.number g.D.Disk.Tells g.D.Disk.files g.D.Piece.Piece.Tells g.D.Disk.fault_count c.self.inside.replicas.items
+    c.compact_at.new.replicas c.self.inside.rows c.compact_at.new.rows c.self.inside.front c.self.inside.unsure k
+    (subst (λ o. StandsFor g.D.Disk.files g.D.Piece.Piece.Tells (volume_with c.self.inside.settings c.self.inside.number c.self.inside.replicas.items c.self.inside.rows
+    c.self.inside.front o c.self.inside.unsure) k) thawed (subst (λ v. StandsFor g.D.Disk.files g.D.Piece.Piece.Tells v k) (sym c.self.view_is) stands)) tells c.args.replica
+    call.one c.in-Err.unswapped (call.ups c.args.replica call.one.before call.one.was) call.swaps call.stays call.places))))
 
 pub returns-in-Err-clause-causes : goal.returns-in-Err-clause-causes
 returns-in-Err-clause-causes g c =
     let after = (goal.at.returns-in-Err-clause-causes g c).After-compact_at in
     let call = called_with c.in-Err.is (called g after) in
-    subst (λ v. answers.IsCompactFault g.D.Disk.fault_count v.settings v.number c.args.replica v.replicas ((with_items c.self.inside.replicas c.compact_at.new.replicas).items) c.unfinished_by-unfinished.result.fault) c.self.view_is
-    (subst (λ rs. answers.IsCompactFault g.D.Disk.fault_count c.self.inside.settings c.self.inside.number c.args.replica c.self.inside.replicas.items rs c.unfinished_by-unfinished.result.fault) (sym (kept g after))
-    (subst (λ u. answers.IsCompactFault g.D.Disk.fault_count c.self.inside.settings c.self.inside.number c.args.replica c.self.inside.replicas.items c.compact_at.new.replicas u.fault) (sym c.unfinished_by-unfinished.ensures)
-    (compact_fault c.self.inside.settings c.self.inside.number g.D.Disk.Tells g.D.Disk.files g.D.Piece.Piece.Tells g.D.Disk.fault_count c.self.inside.replicas.items c.compact_at.new.replicas c.self.inside.rows c.compact_at.new.rows c.args.replica call.one (all g after) c.in-Err.unswapped call.swaps)))
+    subst (λ v. answers.IsCompactFault g.D.Disk.fault_count v.settings v.number c.args.replica v.replicas ((with_items c.self.inside.replicas c.compact_at.new.replicas).items)
+    c.unfinished_by-unfinished.result.fault) c.self.view_is
+    (subst (λ rs. answers.IsCompactFault g.D.Disk.fault_count c.self.inside.settings c.self.inside.number c.args.replica c.self.inside.replicas.items rs
+    c.unfinished_by-unfinished.result.fault) (sym (kept g after))
+    (subst (λ u. answers.IsCompactFault g.D.Disk.fault_count c.self.inside.settings c.self.inside.number c.args.replica c.self.inside.replicas.items c.compact_at.new.replicas
+    u.fault) (sym c.unfinished_by-unfinished.ensures)
+    (compact_fault c.self.inside.settings c.self.inside.number g.D.Disk.Tells g.D.Disk.files g.D.Piece.Piece.Tells g.D.Disk.fault_count c.self.inside.replicas.items
+    c.compact_at.new.replicas c.self.inside.rows c.compact_at.new.rows c.args.replica call.one (all g after) c.in-Err.unswapped call.swaps)))
 
 pub returns-in-Err-clause-open : goal.returns-in-Err-clause-open
 returns-in-Err-clause-open g c = let after = (goal.at.returns-in-Err-clause-open g c).After-compact_at in called_open (called g after) _ (kept g after) (all g after)
@@ -217,14 +251,17 @@ pub returns-in-Err-clause-untouched : goal.returns-in-Err-clause-untouched
 returns-in-Err-clause-untouched g c = λ by.
     let after = (goal.at.returns-in-Err-clause-untouched g c).After-compact_at in
     let call = called_with c.in-Err.is (called g after) in
-    called_untouched c.self.inside.settings c.self.inside.number c.in-Err.unswapped call (subst (λ (u : Unfinished). IsUntouchedBy u.fault) c.unfinished_by-unfinished.ensures by) _ c.self.inside.front c.self.inside.frozen
-    c.unfinished_by-unfinished.result.frozen c.self.inside.unsure (kept g after) (not_some c.self.inside.frozen c.in_default.not-Some) (ap (λ (u : Unfinished). u.frozen) c.unfinished_by-unfinished.ensures) ∙ c.self.view_is
+    called_untouched c.self.inside.settings c.self.inside.number c.in-Err.unswapped call (subst (λ (u : Unfinished). IsUntouchedBy u.fault) c.unfinished_by-unfinished.ensures by) _
+    c.self.inside.front c.self.inside.frozen
+    c.unfinished_by-unfinished.result.frozen c.self.inside.unsure (kept g after) (not_some c.self.inside.frozen c.in_default.not-Some)
+    (ap (λ (u : Unfinished). u.frozen) c.unfinished_by-unfinished.ensures) ∙ c.self.view_is
 
 pub returns-in-Ok-clause-sizes : goal.returns-in-Ok-clause-sizes
 returns-in-Ok-clause-sizes g c = λ tells r f.
     let after = (goal.at.returns-in-Ok-clause-sizes g c).After-compact_at in
     let call = called_with c.in-Ok.is (called g after) in
-    subst (λ (x : Copy g.row.D.Denot). HasSizes g.D.Disk.files x c.in-Ok.files.end c.in-Ok.files.count) (at_same c.compact_at.new.replicas c.args.replica call.one.after r call.one.is (subst (λ xs. At xs c.args.replica r) (kept g after) f)) (call.swaps.sizes tells)
+    subst (λ (x : Copy g.row.D.Denot). HasSizes g.D.Disk.files x c.in-Ok.files.end c.in-Ok.files.count)
+    (at_same c.compact_at.new.replicas c.args.replica call.one.after r call.one.is (subst (λ xs. At xs c.args.replica r) (kept g after) f)) (call.swaps.sizes tells)
 
 pub returns-in-Ok-clause-loose : goal.returns-in-Ok-clause-loose
 returns-in-Ok-clause-loose g c = λ r f.
@@ -318,7 +355,9 @@ returns-in-Ok-clause-sights g c =
     let news : List (Copy g.row.D.Denot) = (with_items c.self.inside.replicas c.compact_at.new.replicas).items in
     let ends : (r : ReplicaSeen) → At (map replica_seen news) c.args.replica r → r.end ≡ c.in-Ok.files.end =
     (λ r e.
-    let x = map_at replica_seen c.compact_at.new.replicas c.args.replica r (subst (λ rs. At (map replica_seen rs) c.args.replica r) (kept g (goal.at.returns-in-Ok-clause-sights g c).After-compact_at) e) in
+    let x =
+    map_at replica_seen c.compact_at.new.replicas c.args.replica r (subst (λ rs. At (map replica_seen rs) c.args.replica r)
+    (kept g (goal.at.returns-in-Ok-clause-sights g c).After-compact_at) e) in
     let there : call.one.after ≡ x.0 = at_same c.compact_at.new.replicas c.args.replica call.one.after x.0 call.one.is x.1 in
     let now = c.as_mut_slice.ensures.value in
     let seen : SwapSeen c.in-Ok.files.generation c.in-Ok.files.end (replica_seen call.one.before) (replica_seen call.one.after) =
@@ -359,4 +398,5 @@ pub returns-in-Err-clause-froze : goal.returns-in-Err-clause-froze
 returns-in-Err-clause-froze g c = λ tells thawed m e r there.
     let by = unfinished_unsure c.self.inside.settings c.self.inside.number c.args.replica c.in-Err.unswapped m (ap (λ (u : Unfinished). u.frozen) (sym c.unfinished_by-unfinished.ensures) ∙ e) in
     subst (λ v. HeadsLeadOn (sights_of v.rows) c.args.replica (begun (replica_seen r)) (volume_bytes g.D.Disk.files r)) c.self.view_is
-    (c.compact_at.ensures.unsure tells by.0 (c.in-Err.is ∙ ap (λ (u : Unswapped). Err u) by.1) r (subst (λ xs. At xs c.args.replica r) (sym c.as_mut_slice.ensures.value) (subst (λ v. At v.replicas c.args.replica r) (sym c.self.view_is) there)))
+    (c.compact_at.ensures.unsure tells by.0 (c.in-Err.is ∙ ap (λ (u : Unswapped). Err u) by.1) r
+    (subst (λ xs. At xs c.args.replica r) (sym c.as_mut_slice.ensures.value) (subst (λ v. At v.replicas c.args.replica r) (sym c.self.view_is) there)))

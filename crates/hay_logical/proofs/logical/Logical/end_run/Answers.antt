@@ -32,9 +32,11 @@ count g c = one_count c.args.replica c.self.inside.replicas.items c.drop_run_at.
 there : (g : given.Over) (c : After-drop_run_at g) → LosesRun g.D.Disk.Tells g.D.Disk.files (one g c).before (one g c).after
 there g c =
     let o = one g c in
-    c.drop_run_at.ensures.loses o.before o.after (subst (λ xs. At xs c.args.replica o.before) (sym c.as_mut_slice.ensures.value) o.was) (one_after c.args.replica c.self.inside.replicas.items c.drop_run_at.new.replicas o)
+    c.drop_run_at.ensures.loses o.before o.after (subst (λ xs. At xs c.args.replica o.before) (sym c.as_mut_slice.ensures.value) o.was)
+    (one_after c.args.replica c.self.inside.replicas.items c.drop_run_at.new.replicas o)
 
-loses : (g : given.Over) (c : After-drop_run_at g) (j : ℕ) (r r' : Copy g.row.D.Denot) → At c.self.inside.replicas.items j r → At c.drop_run_at.new.replicas j r' → LosesRun g.D.Disk.Tells g.D.Disk.files r r'
+loses : (g : given.Over) (c : After-drop_run_at g) (j : ℕ) (r r' : Copy g.row.D.Denot) → At c.self.inside.replicas.items j r → At c.drop_run_at.new.replicas j r'
+    → LosesRun g.D.Disk.Tells g.D.Disk.files r r'
 loses g c = one_each (LosesRun g.D.Disk.Tells g.D.Disk.files) c.args.replica c.self.inside.replicas.items c.drop_run_at.new.replicas (one g c) (there g c) (loses_none g.D.Disk.Tells g.D.Disk.files)
 
 is_open : (g : given.Over) (c : After-drop_run_at g) (j : ℕ) (r : Copy g.row.D.Denot) → At c.self.inside.replicas.items j r → IsOpenCopy r
@@ -43,7 +45,8 @@ is_open g c j r e = c.requires.«open».each j r (subst (λ v. At v.replicas j r
 pub drop_run_at-requires : goal.drop_run_at-requires
 drop_run_at-requires g c =
     let within : c.args.replica < c.self.inside.settings.replicas = subst (λ v. c.args.replica < v.settings.replicas) (sym c.self.view_is) c.requires.within in
-    let all : length c.self.inside.replicas.items ≡ c.self.inside.settings.replicas = ap (λ v. length v.replicas) c.self.view_is ∙ c.requires.«open».all ∙ ap (λ v. v.settings.replicas) (sym c.self.view_is) in
+    let all : length c.self.inside.replicas.items ≡ c.self.inside.settings.replicas =
+    ap (λ v. length v.replicas) c.self.view_is ∙ c.requires.«open».all ∙ ap (λ v. v.settings.replicas) (sym c.self.view_is) in
     let long = ap length c.as_mut_slice.ensures.value in
     omega (arith, within, all, long)
 
@@ -51,7 +54,8 @@ pub invariant_of-self : goal.invariant_of-self
 invariant_of-self g c =
     let a = (goal.at.invariant_of-self g c).After-drop_run_at in (
       subst (λ rs. IsShaped (volume_with c.self.inside.settings c.self.inside.number rs c.self.inside.rows c.self.inside.front c.self.inside.frozen c.self.inside.unsure)) (sym (kept g a))
-          (shaped_on c.self.inside.settings c.self.inside.number c.self.inside.replicas.items c.drop_run_at.new.replicas c.self.inside.rows c.self.inside.rows c.self.inside.front c.self.inside.front c.self.inside.frozen c.self.inside.frozen c.self.inside.unsure c.self.inside.unsure
+          (shaped_on c.self.inside.settings c.self.inside.number c.self.inside.replicas.items c.drop_run_at.new.replicas c.self.inside.rows c.self.inside.rows c.self.inside.front
+          c.self.inside.front c.self.inside.frozen c.self.inside.frozen c.self.inside.unsure c.self.inside.unsure
           c.self.invariant.0 (c.self.invariant.0).frozen_by (c.self.invariant.0).settled (count g a) (λ j r r' e f. (loses g a j r r' e f).sup) refl
           (λ none j r r' e f. (loses g a j r r' e f).frozen ∙ (c.self.invariant.0).thawed none j r e)),
       c.self.invariant.1,
@@ -66,9 +70,12 @@ unfolding Stands
 returns-clause-stands g c = λ tells k stands.
     let a = (goal.at.returns-clause-stands g c).After-drop_run_at in
     let o = one g a in
-    subst (λ rs. StandsFor g.D.Disk.files g.D.Piece.Piece.Tells (volume_with c.self.inside.settings c.self.inside.number rs c.self.inside.rows c.self.inside.front c.self.inside.frozen c.self.inside.unsure) (change_at k c.args.replica without_run)) (sym (kept g a))
-    (run_ended c.self.inside.settings c.self.inside.number g.D.Disk.Tells g.D.Disk.files g.D.Piece.Piece.Tells g.D.Disk.fault_count tells c.self.inside.replicas.items c.drop_run_at.new.replicas c.self.inside.rows c.self.inside.front c.self.inside.frozen c.self.inside.unsure k c.args.replica o
-    (subst (λ v. StandsFor g.D.Disk.files g.D.Piece.Piece.Tells v k) (sym c.self.view_is) stands) (there g a) (c.drop_run_at.ensures.idle o.after (one_after c.args.replica c.self.inside.replicas.items c.drop_run_at.new.replicas o)))
+    subst (λ rs. StandsFor g.D.Disk.files g.D.Piece.Piece.Tells (volume_with c.self.inside.settings c.self.inside.number rs c.self.inside.rows c.self.inside.front
+    c.self.inside.frozen c.self.inside.unsure) (change_at k c.args.replica without_run)) (sym (kept g a))
+    (run_ended c.self.inside.settings c.self.inside.number g.D.Disk.Tells g.D.Disk.files g.D.Piece.Piece.Tells g.D.Disk.fault_count tells c.self.inside.replicas.items
+    c.drop_run_at.new.replicas c.self.inside.rows c.self.inside.front c.self.inside.frozen c.self.inside.unsure k c.args.replica o
+    (subst (λ v. StandsFor g.D.Disk.files g.D.Piece.Piece.Tells v k) (sym c.self.view_is) stands) (there g a)
+    (c.drop_run_at.ensures.idle o.after (one_after c.args.replica c.self.inside.replicas.items c.drop_run_at.new.replicas o)))
 
 pub returns-clause-still : goal.returns-clause-still
 returns-clause-still g c = ap (λ (v : Volume g.row.D.Denot g.row.D-Piece.Denot). record v { replicas = (with_items c.self.inside.replicas c.drop_run_at.new.replicas).items }) c.self.view_is
@@ -81,7 +88,8 @@ returns-clause-ended g c = λ r f.
 pub returns-clause-others : goal.returns-clause-others
 returns-clause-others g c = λ j apart r r' e f.
     let a = (goal.at.returns-clause-others g c).After-drop_run_at in
-    other_same c.args.replica c.self.inside.replicas.items c.drop_run_at.new.replicas (one g a) j apart r r' (subst (λ v. At v.replicas j r) (sym c.self.view_is) e) (subst (λ xs. At xs j r') (kept g a) f)
+    other_same c.args.replica c.self.inside.replicas.items c.drop_run_at.new.replicas (one g a) j apart r r' (subst (λ v. At v.replicas j r) (sym c.self.view_is) e)
+    (subst (λ xs. At xs j r') (kept g a) f)
 
 pub returns-clause-open : goal.returns-clause-open
 returns-clause-open g c =

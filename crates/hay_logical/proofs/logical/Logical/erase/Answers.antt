@@ -42,13 +42,16 @@ returns-in_err-see_each-clause-refused g c = λ tells k stands.
     let thawed : k.frozen ≡ None = stands.frozen ∙ ap (λ v. v.frozen) (sym c.self.view_is) ∙ not_some c.self.inside.frozen c.in_default.not-Some in
     subst (λ r. IfErr r (DeleteRefused g.D.Disk.files g.D.Piece.Piece.Tells k c.args.tag c.args.pair c.see_each.new.self)) (sym fault.1)
     (subst (λ (f : LogicalFault). DeleteRefused g.D.Disk.files g.D.Piece.Piece.Tells k c.args.tag c.args.pair c.see_each.new.self f) (sym fault.2)
-    (look_refused g.D.Disk.files g.D.Piece.Piece.Tells g.D.Disk.fault_count g.D.Disk.fuse_count k c.args.tag c.args.pair c.args.self.now.settings c.args.self.now.number c.args.self.now.replicas c.see_each.new.self.replicas c.see_each.new.self c.in_err-see_each.field-0.0
-    c.in_err-see_each.ensures.causes thawed (c.see_each.ensures.stands tells k stands) (λ m at e. c.see_each.ensures.undamaged tells k stands m at (c.in_err-see_each.was ∙ ap (λ (f : LogicalFault). Err f) e))))
+    (look_refused g.D.Disk.files g.D.Piece.Piece.Tells g.D.Disk.fault_count g.D.Disk.fuse_count k c.args.tag c.args.pair c.args.self.now.settings c.args.self.now.number
+    c.args.self.now.replicas c.see_each.new.self.replicas c.see_each.new.self c.in_err-see_each.field-0.0
+    c.in_err-see_each.ensures.causes thawed (c.see_each.ensures.stands tells k stands)
+    (λ m at e. c.see_each.ensures.undamaged tells k stands m at (c.in_err-see_each.was ∙ ap (λ (f : LogicalFault). Err f) e))))
 
 pub returns-clause-erased : goal.returns-clause-erased
 returns-clause-erased g c = λ tells k stands.
     if_ok_so c.erase_seen.result _ _
-    (λ e is. erased_later g.D.Disk.files g.D.Piece.Piece.Tells g.D.Disk.fault_count g.D.Disk.fuse_count c.args.self.now c.see_each.new.self c.erase_seen.new.self c.see_each.ensures.counts c.see_each.ensures.same c.see_each.ensures.runs k c.args.pair e is)
+    (λ e is. erased_later g.D.Disk.files g.D.Piece.Piece.Tells g.D.Disk.fault_count g.D.Disk.fuse_count c.args.self.now c.see_each.new.self c.erase_seen.new.self
+    c.see_each.ensures.counts c.see_each.ensures.same c.see_each.ensures.runs k c.args.pair e is)
     (c.erase_seen.ensures.erased tells k (c.see_each.ensures.stands tells k stands))
 
 pub returns-clause-of : goal.returns-clause-of
@@ -56,7 +59,8 @@ returns-clause-of g c = if_ok_so c.erase_seen.result _ _ (λ e is. (is.0, is.1 �
 
 pub returns-clause-still : goal.returns-clause-still
 returns-clause-still g c = on_ok_weaker c.erase_seen.result
-    (λ same. (ap (λ v. v.front) same ∙ c.see_each.ensures.still.1, ap (λ v. v.frozen) same ∙ c.see_each.ensures.still.0, ap (λ v. v.unsure) same ∙ c.see_each.ensures.still.2)) c.erase_seen.ensures.still
+    (λ same. (ap (λ v. v.front) same ∙ c.see_each.ensures.still.1, ap (λ v. v.frozen) same ∙ c.see_each.ensures.still.0, ap (λ v. v.unsure) same ∙ c.see_each.ensures.still.2))
+    c.erase_seen.ensures.still
 
 pub returns-clause-refused : goal.returns-clause-refused
 returns-clause-refused g c = λ tells k stands. c.erase_seen.ensures.refused tells k (c.see_each.ensures.stands tells k stands)
@@ -64,11 +68,13 @@ returns-clause-refused g c = λ tells k stands. c.erase_seen.ensures.refused tel
 pub returns-clause-causes : goal.returns-clause-causes
 returns-clause-causes g c =
     if_err_so c.erase_seen.result _ _
-    (λ f is. delete_later g.D.Disk.files g.D.Piece.Piece.Tells g.D.Disk.fault_count g.D.Disk.fuse_count c.args.self.now c.see_each.new.self c.erase_seen.new.self c.see_each.ensures.counts c.see_each.ensures.same f is)
+    (λ f is. delete_later g.D.Disk.files g.D.Piece.Piece.Tells g.D.Disk.fault_count g.D.Disk.fuse_count c.args.self.now c.see_each.new.self c.erase_seen.new.self
+    c.see_each.ensures.counts c.see_each.ensures.same f is)
     c.erase_seen.ensures.causes
 
 pub returns-clause-counts : goal.returns-clause-counts
-returns-clause-counts g c = counts_through g.D.Disk.fault_count g.D.Disk.fuse_count c.args.self.now.replicas c.see_each.new.self.replicas c.erase_seen.new.self.replicas c.see_each.ensures.counts c.erase_seen.ensures.counts
+returns-clause-counts g c =
+    counts_through g.D.Disk.fault_count g.D.Disk.fuse_count c.args.self.now.replicas c.see_each.new.self.replicas c.erase_seen.new.self.replicas c.see_each.ensures.counts c.erase_seen.ensures.counts
 
 pub returns-clause-same : goal.returns-clause-same
 returns-clause-same g c = same_through c.args.self.now c.see_each.new.self c.erase_seen.new.self c.see_each.ensures.counts.count c.see_each.ensures.same c.erase_seen.ensures.same
@@ -79,7 +85,8 @@ returns-in-Some-clause-causes g c =
 
 pub returns-clause-files : goal.returns-clause-files
 returns-clause-files g c = on_err_weaker c.erase_seen.result
-    (λ keeps same. files_more g.D.Disk.Tells g.D.Disk.files c.args.self.now.replicas c.see_each.new.self.replicas c.erase_seen.new.self.replicas c.see_each.ensures.counts.count c.see_each.ensures.files (keeps (same ∙ sym c.see_each.ensures.still.2)))
+    (λ keeps same. files_more g.D.Disk.Tells g.D.Disk.files c.args.self.now.replicas c.see_each.new.self.replicas c.erase_seen.new.self.replicas c.see_each.ensures.counts.count
+    c.see_each.ensures.files (keeps (same ∙ sym c.see_each.ensures.still.2)))
     c.erase_seen.ensures.files
 
 pub returns-in_err-see_each-clause-above : goal.returns-in_err-see_each-clause-above
@@ -89,9 +96,11 @@ returns-in_err-see_each-clause-above g c = λ m count e.
 pub returns-clause-above : goal.returns-clause-above
 returns-clause-above g c = λ m count e.
     let same = c.see_each.ensures.same in
-    above_looked g.D.Disk.Tells g.D.Disk.files c.args.self.now.settings c.args.self.now.number m c.args.self.now.replicas c.see_each.new.self.replicas c.erase_seen.new.self.replicas c.see_each.ensures.counts.count c.see_each.ensures.files
+    above_looked g.D.Disk.Tells g.D.Disk.files c.args.self.now.settings c.args.self.now.number m c.args.self.now.replicas c.see_each.new.self.replicas
+    c.erase_seen.new.self.replicas c.see_each.ensures.counts.count c.see_each.ensures.files
     (subst (λ n. KeepsAbove g.D.Disk.Tells g.D.Disk.files c.args.self.now.settings n m c.see_each.new.self.replicas c.erase_seen.new.self.replicas) same.number
-    (subst (λ (s : Settings). KeepsAbove g.D.Disk.Tells g.D.Disk.files s c.see_each.new.self.number m c.see_each.new.self.replicas c.erase_seen.new.self.replicas) same.settings (c.erase_seen.ensures.above m count e)))
+    (subst (λ (s : Settings). KeepsAbove g.D.Disk.Tells g.D.Disk.files s c.see_each.new.self.number m c.see_each.new.self.replicas c.erase_seen.new.self.replicas) same.settings
+    (c.erase_seen.ensures.above m count e)))
 
 pub returns-in-Some-clause-stuck : goal.returns-in-Some-clause-stuck
 returns-in-Some-clause-stuck g c = stuck_same c.args.self.now.replicas

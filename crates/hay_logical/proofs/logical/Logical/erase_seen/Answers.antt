@@ -42,8 +42,11 @@ unfolding Stands
 returns-then-not-has_live-clause-refused g c = λ tells k stands.
     let given = subst (λ v. StandsFor g.D.Disk.files g.D.Piece.Piece.Tells v k) (sym c.self.view_is) stands in (
       given.frozen ∙ ap (λ v. v.frozen) c.self.view_is ∙ c.requires.thawed,
-      not_held c.self.inside.settings c.self.inside.number g.D.Disk.Tells g.D.Disk.files g.D.Piece.Piece.Tells g.D.Disk.fault_count g.D.Disk.fuse_count c.self.inside.replicas.items c.self.inside.rows c.self.inside.front c.self.inside.frozen c.self.inside.unsure k c.args.pair c.row-row.result given
-          c.row-row.ensures.row (c.row-row.ensures.long ∙ (c.self.invariant.0).width) (λ j h. subst (λ v. IsSeen (place_in (row_at v.rows c.args.pair) j)) (sym c.self.view_is) (c.requires.seen j (subst (λ v. j < v.settings.replicas) c.self.view_is h))) (c.has_live.ensures.none c.if-not-has_live.true),
+      not_held c.self.inside.settings c.self.inside.number g.D.Disk.Tells g.D.Disk.files g.D.Piece.Piece.Tells g.D.Disk.fault_count g.D.Disk.fuse_count c.self.inside.replicas.items
+          c.self.inside.rows c.self.inside.front c.self.inside.frozen c.self.inside.unsure k c.args.pair c.row-row.result given
+          c.row-row.ensures.row (c.row-row.ensures.long ∙ (c.self.invariant.0).width) (λ j h.
+          subst (λ v. IsSeen (place_in (row_at v.rows c.args.pair) j)) (sym c.self.view_is) (c.requires.seen j (subst (λ v. j < v.settings.replicas) c.self.view_is h)))
+          (c.has_live.ensures.none c.if-not-has_live.true),
       given.front,
       stands,
     )
@@ -58,7 +61,8 @@ delete_each-requires g c =
     let thawed = ap (λ v. v.frozen) c.self.view_is ∙ c.requires.thawed in
     let up : (j : ℕ) (r : Copy g.row.D.Denot) → At c.self.inside.replicas.items j r → IsUp r =
     λ j r e. open_up r (c.requires.«open».each j r (subst (λ v. At v.replicas j r) c.self.view_is e)) ((c.self.invariant.0).thawed thawed j r e) in
-    let all : length c.self.inside.replicas.items ≡ c.self.inside.settings.replicas = ap (λ v. length v.replicas) c.self.view_is ∙ c.requires.«open».all ∙ ap (λ v. v.settings.replicas) (sym c.self.view_is) in
+    let all : length c.self.inside.replicas.items ≡ c.self.inside.settings.replicas =
+    ap (λ v. length v.replicas) c.self.view_is ∙ c.requires.«open».all ∙ ap (λ v. v.settings.replicas) (sym c.self.view_is) in
     let most = (c.self.invariant.0).settings.most in
     let few = (c.self.invariant.0).count in
     let long = ap length now in record {
@@ -77,21 +81,29 @@ invariant_of-self g c =
     let thawed = ap (λ v. v.frozen) c.self.view_is ∙ c.requires.thawed in
     let up : (j : ℕ) (r : Copy g.row.D.Denot) → At c.self.inside.replicas.items j r → IsUp r =
     λ j r e. open_up r (c.requires.«open».each j r (subst (λ v. At v.replicas j r) c.self.view_is e)) ((c.self.invariant.0).thawed thawed j r e) in
-    let all : length c.self.inside.replicas.items ≡ c.self.inside.settings.replicas = ap (λ v. length v.replicas) c.self.view_is ∙ c.requires.«open».all ∙ ap (λ v. v.settings.replicas) (sym c.self.view_is) in
-    let each : (j : ℕ) (r r' : Copy g.row.D.Denot) → At c.self.inside.replicas.items j r → At c.delete_each.new.replicas j r' → DeletesAt g.D.Disk.Tells g.D.Disk.files (place_in c.row-row.result j) r r' =
+    let all : length c.self.inside.replicas.items ≡ c.self.inside.settings.replicas =
+    ap (λ v. length v.replicas) c.self.view_is ∙ c.requires.«open».all ∙ ap (λ v. v.settings.replicas) (sym c.self.view_is) in
+    let each : (j : ℕ) (r r' : Copy g.row.D.Denot) → At c.self.inside.replicas.items j r → At c.delete_each.new.replicas j r'
+    → DeletesAt g.D.Disk.Tells g.D.Disk.files (place_in c.row-row.result j) r r' =
     λ j r r' e f. c.in-Ok.ensures.deleted j r r' (subst (λ xs. At xs j r) (sym now) e) f in
     let step : (j : ℕ) (r r' : Copy g.row.D.Denot) → At c.self.inside.replicas.items j r → At c.delete_each.new.replicas j r' → IsUp r' × (r'.sup ≡ r.sup) × (copies.is_stuck r' ≡ copies.is_stuck r) =
     λ j r r' e f. deleted_same g.D.Disk.Tells g.D.Disk.files (place_in c.row-row.result j) r r' (each j r r' e f) (up j r e) in (
       subst (λ rs. IsShaped (volume_with c.self.inside.settings c.self.inside.number rs c.self.inside.rows c.self.inside.front c.self.inside.frozen c.self.inside.unsure)) (sym kept)
-          (shaped_on c.self.inside.settings c.self.inside.number c.self.inside.replicas.items c.delete_each.new.replicas c.self.inside.rows c.self.inside.rows c.self.inside.front c.self.inside.front c.self.inside.frozen c.self.inside.frozen c.self.inside.unsure c.self.inside.unsure
-          c.self.invariant.0 (c.self.invariant.0).frozen_by (c.self.invariant.0).settled (c.delete_each.ensures.counts.count ∙ ap length now) (λ j r r' e f. (step j r r' e f).1) refl (λ none j r r' e f. up_thawed r' (step j r r' e f).0)),
+          (shaped_on c.self.inside.settings c.self.inside.number c.self.inside.replicas.items c.delete_each.new.replicas c.self.inside.rows c.self.inside.rows c.self.inside.front
+          c.self.inside.front c.self.inside.frozen c.self.inside.frozen c.self.inside.unsure c.self.inside.unsure
+          c.self.invariant.0 (c.self.invariant.0).frozen_by (c.self.invariant.0).settled (c.delete_each.ensures.counts.count ∙ ap length now) (λ j r r' e f. (step j r r' e f).1)
+          refl (λ none j r r' e f. up_thawed r' (step j r r' e f).0)),
       c.self.invariant.1,
       subst (λ rs. CanReach g.D.Disk.Tells g.D.Disk.files g.D.Piece.Piece.Tells rs c.self.inside.rows) (sym kept)
-          (failed_row g.D.Disk.Tells g.D.Disk.files c.self.inside.replicas.items c.delete_each.new.replicas c.self.inside.rows c.self.inside.rows c.self.invariant.2 (c.delete_each.ensures.counts.count ∙ ap length now)
+          (failed_row g.D.Disk.Tells g.D.Disk.files c.self.inside.replicas.items c.delete_each.new.replicas c.self.inside.rows c.self.inside.rows c.self.invariant.2
+          (c.delete_each.ensures.counts.count ∙ ap length now)
           (λ j r r' e f. (λ u. up j r e, λ u. up_open r (up j r e))) c.args.pair (λ pair. refl)
-          (λ j r r' e f tells. subst (λ l. KeepsReach g.D.Disk.files (λ at size. physical.IsApartPlace at size (place_in l j)) r r') c.row-row.ensures.row (c.delete_each.ensures.reach j r r' (subst (λ xs. At xs j r) (sym now) e) f tells))
+          (λ j r r' e f tells. subst (λ l. KeepsReach g.D.Disk.files (λ at size. physical.IsApartPlace at size (place_in l j)) r r') c.row-row.ensures.row
+          (c.delete_each.ensures.reach j r r' (subst (λ xs. At xs j r) (sym now) e) f tells))
           (λ j r e at size here. let below = at_below c.self.inside.replicas.items j r e in
-          let within : j < c.self.inside.settings.replicas = omega (arith, below, all) in let never : ⊥ = subst IsSeen here (subst (λ v. IsSeen (place_in (row_at v.rows c.args.pair) j)) (sym c.self.view_is) (c.requires.seen j (subst (λ v. j < v.settings.replicas) c.self.view_is within))) in never)),
+          let within : j < c.self.inside.settings.replicas =
+          omega (arith, below, all) in let never : ⊥ = subst IsSeen here (subst (λ v. IsSeen (place_in (row_at v.rows c.args.pair) j)) (sym c.self.view_is)
+          (c.requires.seen j (subst (λ v. j < v.settings.replicas) c.self.view_is within))) in never)),
     )
 
 pub returns-in-Ok-clause-erased : goal.returns-in-Ok-clause-erased
@@ -102,15 +114,23 @@ returns-in-Ok-clause-erased g c = λ tells k stands.
     let thawed = ap (λ v. v.frozen) c.self.view_is ∙ c.requires.thawed in
     let up : (j : ℕ) (r : Copy g.row.D.Denot) → At c.self.inside.replicas.items j r → IsUp r =
     λ j r e. open_up r (c.requires.«open».each j r (subst (λ v. At v.replicas j r) c.self.view_is e)) ((c.self.invariant.0).thawed thawed j r e) in
-    let each : (j : ℕ) (r r' : Copy g.row.D.Denot) → At c.self.inside.replicas.items j r → At c.delete_each.new.replicas j r' → DeletesAt g.D.Disk.Tells g.D.Disk.files (place_in c.row-row.result j) r r' =
+    let each : (j : ℕ) (r r' : Copy g.row.D.Denot) → At c.self.inside.replicas.items j r → At c.delete_each.new.replicas j r'
+    → DeletesAt g.D.Disk.Tells g.D.Disk.files (place_in c.row-row.result j) r r' =
     λ j r r' e f. c.in-Ok.ensures.deleted j r r' (subst (λ xs. At xs j r) (sym now) e) f in
     let next : c.in-Some.position ≡ c.self.inside.front + 1 = (let h = c.in-Some.ensures in omega (arith, h)) in
     let e : Erased = record { pair = c.args.pair; position = c.in-Some.position } in
-    subst (λ v. IsErased g.D.Disk.files g.D.Disk.fault_count g.D.Piece.Piece.Tells k c.args.pair e v (volume_with c.self.inside.settings c.self.inside.number ((with_items c.self.inside.replicas c.delete_each.new.replicas).items) c.self.inside.rows c.self.inside.front c.self.inside.frozen c.self.inside.unsure)) c.self.view_is
-    (subst (λ rs. IsErased g.D.Disk.files g.D.Disk.fault_count g.D.Piece.Piece.Tells k c.args.pair e (volume_with c.self.inside.settings c.self.inside.number c.self.inside.replicas.items c.self.inside.rows c.self.inside.front c.self.inside.frozen c.self.inside.unsure) (volume_with c.self.inside.settings c.self.inside.number rs c.self.inside.rows c.self.inside.front c.self.inside.frozen c.self.inside.unsure)) (sym kept)
-    (erased c.self.inside.settings c.self.inside.number g.D.Disk.Tells g.D.Disk.files g.D.Piece.Piece.Tells g.D.Disk.fault_count g.D.Disk.fuse_count tells c.self.inside.replicas.items c.delete_each.new.replicas c.self.inside.rows c.self.inside.front c.self.inside.frozen c.self.inside.unsure k c.args.pair c.row-row.result c.in-Some.position
+    subst (λ v. IsErased g.D.Disk.files g.D.Disk.fault_count g.D.Piece.Piece.Tells k c.args.pair e v
+    (volume_with c.self.inside.settings c.self.inside.number ((with_items c.self.inside.replicas c.delete_each.new.replicas).items) c.self.inside.rows c.self.inside.front
+    c.self.inside.frozen c.self.inside.unsure)) c.self.view_is
+    (subst (λ rs. IsErased g.D.Disk.files g.D.Disk.fault_count g.D.Piece.Piece.Tells k c.args.pair e
+    (volume_with c.self.inside.settings c.self.inside.number c.self.inside.replicas.items c.self.inside.rows c.self.inside.front c.self.inside.frozen c.self.inside.unsure)
+    (volume_with c.self.inside.settings c.self.inside.number rs c.self.inside.rows c.self.inside.front c.self.inside.frozen c.self.inside.unsure)) (sym kept)
+    (erased c.self.inside.settings c.self.inside.number g.D.Disk.Tells g.D.Disk.files g.D.Piece.Piece.Tells g.D.Disk.fault_count g.D.Disk.fuse_count tells
+    c.self.inside.replicas.items c.delete_each.new.replicas c.self.inside.rows c.self.inside.front c.self.inside.frozen c.self.inside.unsure k c.args.pair c.row-row.result c.in-Some.position
     (subst (λ v. StandsFor g.D.Disk.files g.D.Piece.Piece.Tells v k) (sym c.self.view_is) stands) thawed (c.delete_each.ensures.counts.count ∙ ap length now) next
-    c.row-row.ensures.row (c.row-row.ensures.long ∙ (c.self.invariant.0).width) (λ j h. subst (λ v. IsSeen (place_in (row_at v.rows c.args.pair) j)) (sym c.self.view_is) (c.requires.seen j (subst (λ v. j < v.settings.replicas) c.self.view_is h))) (c.has_live.ensures.some c.if-not-has_live.false)
+    c.row-row.ensures.row (c.row-row.ensures.long ∙ (c.self.invariant.0).width) (λ j h.
+    subst (λ v. IsSeen (place_in (row_at v.rows c.args.pair) j)) (sym c.self.view_is) (c.requires.seen j (subst (λ v. j < v.settings.replicas) c.self.view_is h)))
+    (c.has_live.ensures.some c.if-not-has_live.false)
     c.self.invariant.2 (λ j r e. up_open r (up j r e)) each
     (λ j r r' e f. c.in-Ok.ensures.follow j r r' (subst (λ xs. At xs j r) (sym now) e) f) (λ j r r' e f. c.delete_each.ensures.reach j r r' (subst (λ xs. At xs j r) (sym now) e) f)))
 
@@ -129,11 +149,15 @@ returns-in-Ok-clause-open g c =
     let thawed = ap (λ v. v.frozen) c.self.view_is ∙ c.requires.thawed in
     let up : (j : ℕ) (r : Copy g.row.D.Denot) → At c.self.inside.replicas.items j r → IsUp r =
     λ j r e. open_up r (c.requires.«open».each j r (subst (λ v. At v.replicas j r) c.self.view_is e)) ((c.self.invariant.0).thawed thawed j r e) in
-    let all : length c.self.inside.replicas.items ≡ c.self.inside.settings.replicas = ap (λ v. length v.replicas) c.self.view_is ∙ c.requires.«open».all ∙ ap (λ v. v.settings.replicas) (sym c.self.view_is) in
-    let each : (j : ℕ) (r r' : Copy g.row.D.Denot) → At c.self.inside.replicas.items j r → At c.delete_each.new.replicas j r' → DeletesAt g.D.Disk.Tells g.D.Disk.files (place_in c.row-row.result j) r r' =
+    let all : length c.self.inside.replicas.items ≡ c.self.inside.settings.replicas =
+    ap (λ v. length v.replicas) c.self.view_is ∙ c.requires.«open».all ∙ ap (λ v. v.settings.replicas) (sym c.self.view_is) in
+    let each : (j : ℕ) (r r' : Copy g.row.D.Denot) → At c.self.inside.replicas.items j r → At c.delete_each.new.replicas j r'
+    → DeletesAt g.D.Disk.Tells g.D.Disk.files (place_in c.row-row.result j) r r' =
     λ j r r' e f. c.in-Ok.ensures.deleted j r r' (subst (λ xs. At xs j r) (sym now) e) f in
     record {
-      all = ap length kept ∙ (c.delete_each.ensures.counts.count ∙ ap length now) ∙ ap (λ v. length v.replicas) c.self.view_is ∙ c.requires.«open».all ∙ ap (λ v. v.settings.replicas) (sym c.self.view_is);
+      all =
+          ap length kept ∙ (c.delete_each.ensures.counts.count ∙ ap length now) ∙ ap (λ v. length v.replicas) c.self.view_is ∙ c.requires.«open».all
+          ∙ ap (λ v. v.settings.replicas) (sym c.self.view_is);
       each = λ j r' f.
           let there = subst (λ xs. At xs j r') kept f in
           let old = at_there c.self.inside.replicas.items j (subst (λ n. j < n) (c.delete_each.ensures.counts.count ∙ ap length now) (at_below c.delete_each.new.replicas j r' there)) in
@@ -169,16 +193,24 @@ invariant_of-self-in-Err g c =
     let long = ap length now in
     let within : c.in-Err.failed.at < c.self.inside.settings.replicas = omega (arith, below, few, long) in
     let remains = delete_remains g.D.Disk.Tells g.D.Disk.files g.D.Disk.fault_count c.self.inside.replicas.items c.delete_each.new.replicas c.row-row.result c.in-Err.failed left up in (
-      subst (λ rs. IsShaped (volume_with c.self.inside.settings c.self.inside.number rs c.self.inside.rows c.self.inside.front (Some c.machine_of-machine.result) (Some (record { tag = c.args.tag; change = change.Delete c.args.pair })))) (sym kept)
-          (shaped_on c.self.inside.settings c.self.inside.number c.self.inside.replicas.items c.delete_each.new.replicas c.self.inside.rows c.self.inside.rows c.self.inside.front c.self.inside.front c.self.inside.frozen (Some c.machine_of-machine.result) c.self.inside.unsure (Some (record { tag = c.args.tag; change = change.Delete c.args.pair }))
-          c.self.invariant.0 (frozen_machine c.self.inside.settings c.self.inside.number c.in-Err.failed.at c.machine_of-machine.result within c.machine_of-machine.ensures) (λ none. some_none none) (c.delete_each.ensures.counts.count ∙ ap length now) (λ j r r' e f. (remains j r r' e f).sup) refl (λ none j r r' e f. some_none none)),
+      subst (λ rs. IsShaped (volume_with c.self.inside.settings c.self.inside.number rs c.self.inside.rows c.self.inside.front (Some c.machine_of-machine.result)
+          (Some (record { tag = c.args.tag; change = change.Delete c.args.pair })))) (sym kept)
+          (shaped_on c.self.inside.settings c.self.inside.number c.self.inside.replicas.items c.delete_each.new.replicas c.self.inside.rows c.self.inside.rows c.self.inside.front
+          c.self.inside.front c.self.inside.frozen (Some c.machine_of-machine.result) c.self.inside.unsure (Some (record { tag = c.args.tag; change = change.Delete c.args.pair }))
+          c.self.invariant.0 (frozen_machine c.self.inside.settings c.self.inside.number c.in-Err.failed.at c.machine_of-machine.result within c.machine_of-machine.ensures)
+          (λ none. some_none none) (c.delete_each.ensures.counts.count ∙ ap length now) (λ j r r' e f. (remains j r r' e f).sup) refl (λ none j r r' e f. some_none none)),
       c.self.invariant.1,
       subst (λ rs. CanReach g.D.Disk.Tells g.D.Disk.files g.D.Piece.Piece.Tells rs c.self.inside.rows) (sym kept)
-          (failed_row g.D.Disk.Tells g.D.Disk.files c.self.inside.replicas.items c.delete_each.new.replicas c.self.inside.rows c.self.inside.rows c.self.invariant.2 (c.delete_each.ensures.counts.count ∙ ap length now)
+          (failed_row g.D.Disk.Tells g.D.Disk.files c.self.inside.replicas.items c.delete_each.new.replicas c.self.inside.rows c.self.inside.rows c.self.invariant.2
+          (c.delete_each.ensures.counts.count ∙ ap length now)
           (λ j r r' e f. (λ u. up j r e, λ u. up_open r (up j r e))) c.args.pair (λ pair. refl)
-          (λ j r r' e f tells. subst (λ l. KeepsReach g.D.Disk.files (λ at size. physical.IsApartPlace at size (place_in l j)) r r') c.row-row.ensures.row (c.delete_each.ensures.reach j r r' (subst (λ xs. At xs j r) (sym now) e) f tells))
-          (λ j r e at size here. let below = at_below c.self.inside.replicas.items j r e in let all : length c.self.inside.replicas.items ≡ c.self.inside.settings.replicas = ap (λ v. length v.replicas) c.self.view_is ∙ c.requires.«open».all ∙ ap (λ v. v.settings.replicas) (sym c.self.view_is) in
-          let within : j < c.self.inside.settings.replicas = omega (arith, below, all) in let never : ⊥ = subst IsSeen here (subst (λ v. IsSeen (place_in (row_at v.rows c.args.pair) j)) (sym c.self.view_is) (c.requires.seen j (subst (λ v. j < v.settings.replicas) c.self.view_is within))) in never)),
+          (λ j r r' e f tells. subst (λ l. KeepsReach g.D.Disk.files (λ at size. physical.IsApartPlace at size (place_in l j)) r r') c.row-row.ensures.row
+          (c.delete_each.ensures.reach j r r' (subst (λ xs. At xs j r) (sym now) e) f tells))
+          (λ j r e at size here. let below = at_below c.self.inside.replicas.items j r e in let all : length c.self.inside.replicas.items
+          ≡ c.self.inside.settings.replicas = ap (λ v. length v.replicas) c.self.view_is ∙ c.requires.«open».all ∙ ap (λ v. v.settings.replicas) (sym c.self.view_is) in
+          let within : j < c.self.inside.settings.replicas =
+          omega (arith, below, all) in let never : ⊥ = subst IsSeen here (subst (λ v. IsSeen (place_in (row_at v.rows c.args.pair) j)) (sym c.self.view_is)
+          (c.requires.seen j (subst (λ v. j < v.settings.replicas) c.self.view_is within))) in never)),
     )
 
 pub returns-clause-refused : goal.returns-clause-refused
@@ -192,23 +224,31 @@ returns-clause-refused g c = λ tells k stands.
     let left : DeleteLeaves g.D.Disk.Tells g.D.Disk.files g.D.Disk.fault_count c.row-row.result c.self.inside.replicas.items c.delete_each.new.replicas c.in-Err.failed =
     subst (λ xs. DeleteLeaves g.D.Disk.Tells g.D.Disk.files g.D.Disk.fault_count c.row-row.result xs c.delete_each.new.replicas c.in-Err.failed) now c.in-Err.ensures.broken in
     subst (λ rs. DeleteRefused g.D.Disk.files g.D.Piece.Piece.Tells k c.args.tag c.args.pair
-    (volume_with c.self.inside.settings c.self.inside.number rs c.self.inside.rows c.self.inside.front (Some c.machine_of-machine.result) (Some (record { tag = c.args.tag; change = change.Delete c.args.pair })))
+    (volume_with c.self.inside.settings c.self.inside.number rs c.self.inside.rows c.self.inside.front (Some c.machine_of-machine.result)
+    (Some (record { tag = c.args.tag; change = change.Delete c.args.pair })))
     (fault.Failed c.machine_of-machine.result c.in-Err.failed.faults)) (sym kept)
-    (delete_refused c.self.inside.settings c.self.inside.number g.D.Disk.Tells g.D.Disk.files g.D.Piece.Piece.Tells g.D.Disk.fault_count g.D.Disk.fuse_count tells c.self.inside.replicas.items c.delete_each.new.replicas c.self.inside.rows c.self.inside.front c.self.inside.frozen c.self.inside.unsure k c.args.tag c.args.pair c.row-row.result c.in-Err.failed
-    c.machine_of-machine.result (subst (λ v. StandsFor g.D.Disk.files g.D.Piece.Piece.Tells v k) (sym c.self.view_is) stands) thawed (c.delete_each.ensures.counts.count ∙ ap length now) c.row-row.ensures.row
-    (c.row-row.ensures.long ∙ (c.self.invariant.0).width) (λ j h. subst (λ v. IsSeen (place_in (row_at v.rows c.args.pair) j)) (sym c.self.view_is) (c.requires.seen j (subst (λ v. j < v.settings.replicas) c.self.view_is h))) (c.has_live.ensures.some c.if-not-has_live.false) c.machine_of-machine.ensures left c.in-Err.ensures.runs
+    (delete_refused c.self.inside.settings c.self.inside.number g.D.Disk.Tells g.D.Disk.files g.D.Piece.Piece.Tells g.D.Disk.fault_count g.D.Disk.fuse_count tells
+    c.self.inside.replicas.items c.delete_each.new.replicas c.self.inside.rows c.self.inside.front c.self.inside.frozen c.self.inside.unsure k c.args.tag c.args.pair
+    c.row-row.result c.in-Err.failed
+    c.machine_of-machine.result (subst (λ v. StandsFor g.D.Disk.files g.D.Piece.Piece.Tells v k) (sym c.self.view_is) stands) thawed
+    (c.delete_each.ensures.counts.count ∙ ap length now) c.row-row.ensures.row
+    (c.row-row.ensures.long ∙ (c.self.invariant.0).width) (λ j h. subst (λ v. IsSeen (place_in (row_at v.rows c.args.pair) j)) (sym c.self.view_is)
+    (c.requires.seen j (subst (λ v. j < v.settings.replicas) c.self.view_is h))) (c.has_live.ensures.some c.if-not-has_live.false) c.machine_of-machine.ensures left c.in-Err.ensures.runs
     c.self.invariant.2 (λ j r e. up_open r (up j r e)) (λ j r r' e f. c.delete_each.ensures.reach j r r' (subst (λ xs. At xs j r) (sym now) e) f))
 
 pub returns-clause-causes : goal.returns-clause-causes
 returns-clause-causes g c =
     let now = c.as_mut_slice.ensures.value in
     let kept = with_items_is c.self.inside.replicas c.delete_each.new.replicas (c.delete_each.auto.replicas ∙ c.as_mut_slice.ensures.len) in
-    let all : length c.self.inside.replicas.items ≡ c.self.inside.settings.replicas = ap (λ v. length v.replicas) c.self.view_is ∙ c.requires.«open».all ∙ ap (λ v. v.settings.replicas) (sym c.self.view_is) in
+    let all : length c.self.inside.replicas.items ≡ c.self.inside.settings.replicas =
+    ap (λ v. length v.replicas) c.self.view_is ∙ c.requires.«open».all ∙ ap (λ v. v.settings.replicas) (sym c.self.view_is) in
     let left : DeleteLeaves g.D.Disk.Tells g.D.Disk.files g.D.Disk.fault_count c.row-row.result c.self.inside.replicas.items c.delete_each.new.replicas c.in-Err.failed =
     subst (λ xs. DeleteLeaves g.D.Disk.Tells g.D.Disk.files g.D.Disk.fault_count c.row-row.result xs c.delete_each.new.replicas c.in-Err.failed) now c.in-Err.ensures.broken in
-    subst (λ v. HasFailed g.D.Disk.fault_count v.settings v.number v.replicas (with_items c.self.inside.replicas c.delete_each.new.replicas).items c.machine_of-machine.result c.in-Err.failed.faults) c.self.view_is
+    subst (λ v. HasFailed g.D.Disk.fault_count v.settings v.number v.replicas (with_items c.self.inside.replicas c.delete_each.new.replicas).items c.machine_of-machine.result
+    c.in-Err.failed.faults) c.self.view_is
     (subst (λ rs. HasFailed g.D.Disk.fault_count c.self.inside.settings c.self.inside.number c.self.inside.replicas.items rs c.machine_of-machine.result c.in-Err.failed.faults) (sym kept)
-    (delete_failed c.self.inside.settings c.self.inside.number g.D.Disk.Tells g.D.Disk.files g.D.Piece.Piece.Tells g.D.Disk.fault_count g.D.Disk.fuse_count c.self.inside.replicas.items c.delete_each.new.replicas c.row-row.result c.in-Err.failed c.machine_of-machine.result all c.machine_of-machine.ensures left))
+    (delete_failed c.self.inside.settings c.self.inside.number g.D.Disk.Tells g.D.Disk.files g.D.Piece.Piece.Tells g.D.Disk.fault_count g.D.Disk.fuse_count
+    c.self.inside.replicas.items c.delete_each.new.replicas c.row-row.result c.in-Err.failed c.machine_of-machine.result all c.machine_of-machine.ensures left))
 
 pub returns-clause-open : goal.returns-clause-open
 returns-clause-open g c =
@@ -221,7 +261,9 @@ returns-clause-open g c =
     subst (λ xs. DeleteLeaves g.D.Disk.Tells g.D.Disk.files g.D.Disk.fault_count c.row-row.result xs c.delete_each.new.replicas c.in-Err.failed) now c.in-Err.ensures.broken in
     let remains = delete_remains g.D.Disk.Tells g.D.Disk.files g.D.Disk.fault_count c.self.inside.replicas.items c.delete_each.new.replicas c.row-row.result c.in-Err.failed left up in
     record {
-      all = ap length kept ∙ (c.delete_each.ensures.counts.count ∙ ap length now) ∙ ap (λ v. length v.replicas) c.self.view_is ∙ c.requires.«open».all ∙ ap (λ v. v.settings.replicas) (sym c.self.view_is);
+      all =
+          ap length kept ∙ (c.delete_each.ensures.counts.count ∙ ap length now) ∙ ap (λ v. length v.replicas) c.self.view_is ∙ c.requires.«open».all
+          ∙ ap (λ v. v.settings.replicas) (sym c.self.view_is);
       each = λ j r' f.
           let there = subst (λ xs. At xs j r') kept f in
           let old = at_there c.self.inside.replicas.items j (subst (λ n. j < n) (c.delete_each.ensures.counts.count ∙ ap length now) (at_below c.delete_each.new.replicas j r' there)) in
@@ -280,7 +322,8 @@ returns-clause-above g c = λ m count e.
     let same : c.machine_of-machine.result ≡ m = cc in
     subst (λ v. KeepsAbove g.D.Disk.Tells g.D.Disk.files v.settings v.number m v.replicas (with_items c.self.inside.replicas c.delete_each.new.replicas).items) c.self.view_is
     (subst (λ rs. KeepsAbove g.D.Disk.Tells g.D.Disk.files c.self.inside.settings c.self.inside.number m c.self.inside.replicas.items rs) (sym kept)
-    (above_lost g.D.Disk.Tells g.D.Disk.files c.self.inside.settings c.self.inside.number c.self.inside.replicas.items c.delete_each.new.replicas c.in-Err.failed.at m (c.self.invariant.0).settings within
+    (above_lost g.D.Disk.Tells g.D.Disk.files c.self.inside.settings c.self.inside.number c.self.inside.replicas.items c.delete_each.new.replicas c.in-Err.failed.at m
+    (c.self.invariant.0).settings within
     (sym same ∙ c.machine_of-machine.ensures) left.above))
 
 pub returns-then-not-has_live-clause-stuck : goal.returns-then-not-has_live-clause-stuck
@@ -390,7 +433,8 @@ returns-clause-refused_sights g c =
     let few = (c.self.invariant.0).count in
     let long = ap length now in
     let within : c.in-Err.failed.at < c.self.inside.settings.replicas = omega (arith, below, few, long) in
-    let live : IsLiveSight (sights_of c.self.inside.rows c.args.pair c.in-Err.failed.at) = subst IsLiveSight (sym (ap sight (ap (λ l. place_in l c.in-Err.failed.at) (sym c.row-row.ensures.row) ∙ failed.live))) tt in inl (
+    let live : IsLiveSight (sights_of c.self.inside.rows c.args.pair c.in-Err.failed.at) =
+    subst IsLiveSight (sym (ap sight (ap (λ l. place_in l c.in-Err.failed.at) (sym c.row-row.ensures.row) ∙ failed.live))) tt in inl (
       refl,
       subst (λ v. FindsPhoto c.args.pair v.settings.replicas (sights_of v.rows) (sights_of c.self.inside.rows)) c.self.view_is (record {
         looks = looks_kept c.args.pair (sights_of c.self.inside.rows) (sights_of c.self.inside.rows) (λ q j. refl);

@@ -41,7 +41,8 @@ machine_of-machine-requires-clause-within g c =
 pub flush_at-requires-clause-within : goal.flush_at-requires-clause-within
 flush_at-requires-clause-within g c =
     let within : c.args.replica < c.self.inside.settings.replicas = subst (λ v. c.args.replica < v.settings.replicas) (sym c.self.view_is) c.requires.within in
-    let all : length c.self.inside.replicas.items ≡ c.self.inside.settings.replicas = ap (λ v. length v.replicas) c.self.view_is ∙ c.requires.«open».all ∙ ap (λ v. v.settings.replicas) (sym c.self.view_is) in
+    let all : length c.self.inside.replicas.items ≡ c.self.inside.settings.replicas =
+    ap (λ v. length v.replicas) c.self.view_is ∙ c.requires.«open».all ∙ ap (λ v. v.settings.replicas) (sym c.self.view_is) in
     let long = ap length c.as_mut_slice.ensures.value in
     omega (arith, within, all, long)
 
@@ -62,13 +63,18 @@ invariant_of-self g c =
     let up : (j : ℕ) (r : Copy g.row.D.Denot) → At c.self.inside.replicas.items j r → IsUp r =
     λ j r e. open_up r (c.requires.«open».each j r (subst (λ v. At v.replicas j r) c.self.view_is e)) ((c.self.invariant.0).thawed thawed j r e) in
     let step : FlushesAt g.D.Disk.Tells g.D.Disk.files g.D.Disk.fault_count one.before one.after c.flush_at.result =
-    c.flush_at.ensures.flushes one.before one.after (subst (λ xs. At xs c.args.replica one.before) (sym now) one.was) (one_after c.args.replica c.self.inside.replicas.items c.flush_at.new.replicas one) in
-    let each : (j : ℕ) (r r' : Copy g.row.D.Denot) → At c.self.inside.replicas.items j r → At c.flush_at.new.replicas j r' → (IsUp r → IsUp r') × (r'.sup ≡ r.sup) × StaysInReach g.D.Disk.Tells g.D.Disk.files r r' =
-    one_each (λ (x y : Copy g.row.D.Denot). (IsUp x → IsUp y) × (y.sup ≡ x.sup) × StaysInReach g.D.Disk.Tells g.D.Disk.files x y) c.args.replica c.self.inside.replicas.items c.flush_at.new.replicas one
+    c.flush_at.ensures.flushes one.before one.after (subst (λ xs. At xs c.args.replica one.before) (sym now) one.was)
+    (one_after c.args.replica c.self.inside.replicas.items c.flush_at.new.replicas one) in
+    let each : (j : ℕ) (r r' : Copy g.row.D.Denot) → At c.self.inside.replicas.items j r → At c.flush_at.new.replicas j r'
+    → (IsUp r → IsUp r') × (r'.sup ≡ r.sup) × StaysInReach g.D.Disk.Tells g.D.Disk.files r r' =
+    one_each (λ (x y : Copy g.row.D.Denot). (IsUp x → IsUp y) × (y.sup ≡ x.sup) × StaysInReach g.D.Disk.Tells g.D.Disk.files x y) c.args.replica c.self.inside.replicas.items
+    c.flush_at.new.replicas one
     (λ u. step.up, step.sup, step.reach) (λ x. (λ u. u, refl, λ tells. reach_still g.D.Disk.files x)) in (
       subst (λ rs. IsShaped (volume_with c.self.inside.settings c.self.inside.number rs c.self.inside.rows c.self.inside.front c.self.inside.frozen c.self.inside.unsure)) (sym kept)
-          (shaped_on c.self.inside.settings c.self.inside.number c.self.inside.replicas.items c.flush_at.new.replicas c.self.inside.rows c.self.inside.rows c.self.inside.front c.self.inside.front c.self.inside.frozen c.self.inside.frozen c.self.inside.unsure c.self.inside.unsure
-          c.self.invariant.0 (c.self.invariant.0).frozen_by (c.self.invariant.0).settled count (λ j r r' e f. (each j r r' e f).1) refl (λ none j r r' e f. up_thawed r' ((each j r r' e f).0 (up j r e)))),
+          (shaped_on c.self.inside.settings c.self.inside.number c.self.inside.replicas.items c.flush_at.new.replicas c.self.inside.rows c.self.inside.rows c.self.inside.front
+          c.self.inside.front c.self.inside.frozen c.self.inside.frozen c.self.inside.unsure c.self.inside.unsure
+          c.self.invariant.0 (c.self.invariant.0).frozen_by (c.self.invariant.0).settled count (λ j r r' e f. (each j r r' e f).1) refl
+          (λ none j r r' e f. up_thawed r' ((each j r r' e f).0 (up j r e)))),
       c.self.invariant.1,
       subst (λ rs. CanReach g.D.Disk.Tells g.D.Disk.files g.D.Piece.Piece.Tells rs c.self.inside.rows) (sym kept)
           (same_rows g.D.Disk.Tells g.D.Disk.files c.self.inside.replicas.items c.flush_at.new.replicas c.self.inside.rows c.self.inside.rows c.self.invariant.2 count
@@ -86,10 +92,15 @@ returns-clause-flushed g c = λ tells k stands.
       | in-Ok w ↦
           let step : FlushesAt g.D.Disk.Tells g.D.Disk.files g.D.Disk.fault_count one.before one.after (Ok w.in-Ok.count) =
           subst (λ x. FlushesAt g.D.Disk.Tells g.D.Disk.files g.D.Disk.fault_count one.before one.after x) w.in-Ok.is
-          (c.flush_at.ensures.flushes one.before one.after (subst (λ xs. At xs c.args.replica one.before) (sym now) one.was) (one_after c.args.replica c.self.inside.replicas.items c.flush_at.new.replicas one)) in
-          subst (λ r. IfOk r (λ n. IsFlushed g.D.Disk.files g.D.Piece.Piece.Tells k c.args.replica n (volume_with c.self.inside.settings c.self.inside.number (with_items c.self.inside.replicas c.flush_at.new.replicas).items c.self.inside.rows c.self.inside.front c.self.inside.frozen c.self.inside.unsure))) (sym w.result-is)
-          (subst (λ rs. IsFlushed g.D.Disk.files g.D.Piece.Piece.Tells k c.args.replica w.in-Ok.count (volume_with c.self.inside.settings c.self.inside.number rs c.self.inside.rows c.self.inside.front c.self.inside.frozen c.self.inside.unsure)) (sym kept)
-          (flushed c.self.inside.settings c.self.inside.number g.D.Disk.Tells g.D.Disk.files g.D.Piece.Piece.Tells g.D.Disk.fault_count tells c.self.inside.replicas.items c.flush_at.new.replicas c.self.inside.rows c.self.inside.front c.self.inside.frozen c.self.inside.unsure k c.args.replica w.in-Ok.count one
+          (c.flush_at.ensures.flushes one.before one.after (subst (λ xs. At xs c.args.replica one.before) (sym now) one.was)
+          (one_after c.args.replica c.self.inside.replicas.items c.flush_at.new.replicas one)) in
+          subst (λ r. IfOk r (λ n. IsFlushed g.D.Disk.files g.D.Piece.Piece.Tells k c.args.replica n
+          (volume_with c.self.inside.settings c.self.inside.number (with_items c.self.inside.replicas c.flush_at.new.replicas).items c.self.inside.rows c.self.inside.front
+          c.self.inside.frozen c.self.inside.unsure))) (sym w.result-is)
+          (subst (λ rs. IsFlushed g.D.Disk.files g.D.Piece.Piece.Tells k c.args.replica w.in-Ok.count
+          (volume_with c.self.inside.settings c.self.inside.number rs c.self.inside.rows c.self.inside.front c.self.inside.frozen c.self.inside.unsure)) (sym kept)
+          (flushed c.self.inside.settings c.self.inside.number g.D.Disk.Tells g.D.Disk.files g.D.Piece.Piece.Tells g.D.Disk.fault_count tells c.self.inside.replicas.items
+          c.flush_at.new.replicas c.self.inside.rows c.self.inside.front c.self.inside.frozen c.self.inside.unsure k c.args.replica w.in-Ok.count one
           (subst (λ v. StandsFor g.D.Disk.files g.D.Piece.Piece.Tells v k) (sym c.self.view_is) stands) (not_some c.self.inside.frozen c.in_default.not-Some) step))
       | in-Err w ↦ rw w.result-is tt
     ]
@@ -106,12 +117,23 @@ returns-clause-refused g c = λ tells k stands.
       | in-Err w ↦
           let step : FlushesAt g.D.Disk.Tells g.D.Disk.files g.D.Disk.fault_count one.before one.after (Err w.in-Err.fault) =
           subst (λ x. FlushesAt g.D.Disk.Tells g.D.Disk.files g.D.Disk.fault_count one.before one.after x) w.in-Err.is
-          (c.flush_at.ensures.flushes one.before one.after (subst (λ xs. At xs c.args.replica one.before) (sym now) one.was) (one_after c.args.replica c.self.inside.replicas.items c.flush_at.new.replicas one)) in
-          subst (λ r. IfErr r (FlushRefused g.D.Disk.files g.D.Piece.Piece.Tells k c.args.replica c.args.self.now (volume_with c.self.inside.settings c.self.inside.number (with_items c.self.inside.replicas c.flush_at.new.replicas).items c.self.inside.rows c.self.inside.front c.self.inside.frozen c.self.inside.unsure))) (sym w.result-is)
-          (subst (λ v. FlushRefused g.D.Disk.files g.D.Piece.Piece.Tells k c.args.replica v (volume_with c.self.inside.settings c.self.inside.number (with_items c.self.inside.replicas c.flush_at.new.replicas).items c.self.inside.rows c.self.inside.front c.self.inside.frozen c.self.inside.unsure) w.answer_at.result) c.self.view_is
-          (subst (λ rs. FlushRefused g.D.Disk.files g.D.Piece.Piece.Tells k c.args.replica (volume_with c.self.inside.settings c.self.inside.number c.self.inside.replicas.items c.self.inside.rows c.self.inside.front c.self.inside.frozen c.self.inside.unsure) (volume_with c.self.inside.settings c.self.inside.number rs c.self.inside.rows c.self.inside.front c.self.inside.frozen c.self.inside.unsure) w.answer_at.result) (sym kept)
-          (subst (λ f. FlushRefused g.D.Disk.files g.D.Piece.Piece.Tells k c.args.replica (volume_with c.self.inside.settings c.self.inside.number c.self.inside.replicas.items c.self.inside.rows c.self.inside.front c.self.inside.frozen c.self.inside.unsure) (volume_with c.self.inside.settings c.self.inside.number c.flush_at.new.replicas c.self.inside.rows c.self.inside.front c.self.inside.frozen c.self.inside.unsure) f) (sym w.answer_at.ensures)
-          (flush_refused c.self.inside.settings c.self.inside.number g.D.Disk.Tells g.D.Disk.files g.D.Piece.Piece.Tells g.D.Disk.fault_count tells c.self.inside.replicas.items c.flush_at.new.replicas c.self.inside.rows c.self.inside.front c.self.inside.frozen c.self.inside.unsure k c.args.replica c.machine_of-machine.result w.in-Err.fault one
+          (c.flush_at.ensures.flushes one.before one.after (subst (λ xs. At xs c.args.replica one.before) (sym now) one.was)
+          (one_after c.args.replica c.self.inside.replicas.items c.flush_at.new.replicas one)) in
+          subst (λ r. IfErr r (FlushRefused g.D.Disk.files g.D.Piece.Piece.Tells k c.args.replica c.args.self.now
+          (volume_with c.self.inside.settings c.self.inside.number (with_items c.self.inside.replicas c.flush_at.new.replicas).items c.self.inside.rows c.self.inside.front
+          c.self.inside.frozen c.self.inside.unsure))) (sym w.result-is)
+          (subst (λ v. FlushRefused g.D.Disk.files g.D.Piece.Piece.Tells k c.args.replica v
+          (volume_with c.self.inside.settings c.self.inside.number (with_items c.self.inside.replicas c.flush_at.new.replicas).items c.self.inside.rows c.self.inside.front
+          c.self.inside.frozen c.self.inside.unsure) w.answer_at.result) c.self.view_is
+          (subst (λ rs. FlushRefused g.D.Disk.files g.D.Piece.Piece.Tells k c.args.replica (volume_with c.self.inside.settings c.self.inside.number c.self.inside.replicas.items
+          c.self.inside.rows c.self.inside.front c.self.inside.frozen c.self.inside.unsure)
+          (volume_with c.self.inside.settings c.self.inside.number rs c.self.inside.rows c.self.inside.front c.self.inside.frozen c.self.inside.unsure) w.answer_at.result) (sym kept)
+          (subst (λ f. FlushRefused g.D.Disk.files g.D.Piece.Piece.Tells k c.args.replica (volume_with c.self.inside.settings c.self.inside.number c.self.inside.replicas.items
+          c.self.inside.rows c.self.inside.front c.self.inside.frozen c.self.inside.unsure)
+          (volume_with c.self.inside.settings c.self.inside.number c.flush_at.new.replicas c.self.inside.rows c.self.inside.front c.self.inside.frozen c.self.inside.unsure) f)
+          (sym w.answer_at.ensures)
+          (flush_refused c.self.inside.settings c.self.inside.number g.D.Disk.Tells g.D.Disk.files g.D.Piece.Piece.Tells g.D.Disk.fault_count tells c.self.inside.replicas.items
+          c.flush_at.new.replicas c.self.inside.rows c.self.inside.front c.self.inside.frozen c.self.inside.unsure k c.args.replica c.machine_of-machine.result w.in-Err.fault one
           (subst (λ v. StandsFor g.D.Disk.files g.D.Piece.Piece.Tells v k) (sym c.self.view_is) stands) (not_some c.self.inside.frozen c.in_default.not-Some) c.machine_of-machine.ensures step))))
     ]
 
@@ -121,18 +143,24 @@ returns-clause-causes g c =
     let kept = with_items_is c.self.inside.replicas c.flush_at.new.replicas (c.flush_at.auto.replicas ∙ c.as_mut_slice.ensures.len) in
     let one : CallsOne c.args.replica c.self.inside.replicas.items c.flush_at.new.replicas = subst (λ xs. CallsOne c.args.replica xs c.flush_at.new.replicas) now c.flush_at.ensures.one in
     let count = one_count c.args.replica c.self.inside.replicas.items c.flush_at.new.replicas one in
-    let all : length c.self.inside.replicas.items ≡ c.self.inside.settings.replicas = ap (λ v. length v.replicas) c.self.view_is ∙ c.requires.«open».all ∙ ap (λ v. v.settings.replicas) (sym c.self.view_is) in
+    let all : length c.self.inside.replicas.items ≡ c.self.inside.settings.replicas =
+    ap (λ v. length v.replicas) c.self.view_is ∙ c.requires.«open».all ∙ ap (λ v. v.settings.replicas) (sym c.self.view_is) in
     elim c.match-flush_at.branch [
       | in-Ok w ↦ rw w.result-is tt
       | in-Err w ↦
           let step : FlushesAt g.D.Disk.Tells g.D.Disk.files g.D.Disk.fault_count one.before one.after (Err w.in-Err.fault) =
           subst (λ x. FlushesAt g.D.Disk.Tells g.D.Disk.files g.D.Disk.fault_count one.before one.after x) w.in-Err.is
-          (c.flush_at.ensures.flushes one.before one.after (subst (λ xs. At xs c.args.replica one.before) (sym now) one.was) (one_after c.args.replica c.self.inside.replicas.items c.flush_at.new.replicas one)) in
-          subst (λ r. IfErr r (answers.IsFlushFault g.D.Disk.fault_count c.args.self.now.settings c.args.self.now.number c.args.replica c.args.self.now.replicas (with_items c.self.inside.replicas c.flush_at.new.replicas).items)) (sym w.result-is)
-          (subst (λ v. answers.IsFlushFault g.D.Disk.fault_count v.settings v.number c.args.replica v.replicas (with_items c.self.inside.replicas c.flush_at.new.replicas).items w.answer_at.result) c.self.view_is
+          (c.flush_at.ensures.flushes one.before one.after (subst (λ xs. At xs c.args.replica one.before) (sym now) one.was)
+          (one_after c.args.replica c.self.inside.replicas.items c.flush_at.new.replicas one)) in
+          subst (λ r. IfErr r (answers.IsFlushFault g.D.Disk.fault_count c.args.self.now.settings c.args.self.now.number c.args.replica c.args.self.now.replicas
+          (with_items c.self.inside.replicas c.flush_at.new.replicas).items)) (sym w.result-is)
+          (subst (λ v. answers.IsFlushFault g.D.Disk.fault_count v.settings v.number c.args.replica v.replicas (with_items c.self.inside.replicas c.flush_at.new.replicas).items
+          w.answer_at.result) c.self.view_is
           (subst (λ rs. answers.IsFlushFault g.D.Disk.fault_count c.self.inside.settings c.self.inside.number c.args.replica c.self.inside.replicas.items rs w.answer_at.result) (sym kept)
-          (subst (λ f. answers.IsFlushFault g.D.Disk.fault_count c.self.inside.settings c.self.inside.number c.args.replica c.self.inside.replicas.items c.flush_at.new.replicas f) (sym w.answer_at.ensures)
-          (flush_cause c.self.inside.settings c.self.inside.number g.D.Disk.Tells g.D.Disk.files g.D.Disk.fault_count c.self.inside.replicas.items c.flush_at.new.replicas c.args.replica c.machine_of-machine.result w.in-Err.fault one all c.machine_of-machine.ensures step))))
+          (subst (λ f. answers.IsFlushFault g.D.Disk.fault_count c.self.inside.settings c.self.inside.number c.args.replica c.self.inside.replicas.items c.flush_at.new.replicas f)
+          (sym w.answer_at.ensures)
+          (flush_cause c.self.inside.settings c.self.inside.number g.D.Disk.Tells g.D.Disk.files g.D.Disk.fault_count c.self.inside.replicas.items c.flush_at.new.replicas
+          c.args.replica c.machine_of-machine.result w.in-Err.fault one all c.machine_of-machine.ensures step))))
     ]
 
 pub returns-clause-open : goal.returns-clause-open
@@ -145,9 +173,12 @@ returns-clause-open g c =
     let up : (j : ℕ) (r : Copy g.row.D.Denot) → At c.self.inside.replicas.items j r → IsUp r =
     λ j r e. open_up r (c.requires.«open».each j r (subst (λ v. At v.replicas j r) c.self.view_is e)) ((c.self.invariant.0).thawed thawed j r e) in
     let step : FlushesAt g.D.Disk.Tells g.D.Disk.files g.D.Disk.fault_count one.before one.after c.flush_at.result =
-    c.flush_at.ensures.flushes one.before one.after (subst (λ xs. At xs c.args.replica one.before) (sym now) one.was) (one_after c.args.replica c.self.inside.replicas.items c.flush_at.new.replicas one) in
-    let each : (j : ℕ) (r r' : Copy g.row.D.Denot) → At c.self.inside.replicas.items j r → At c.flush_at.new.replicas j r' → (IsUp r → IsUp r') × (r'.sup ≡ r.sup) × StaysInReach g.D.Disk.Tells g.D.Disk.files r r' =
-    one_each (λ (x y : Copy g.row.D.Denot). (IsUp x → IsUp y) × (y.sup ≡ x.sup) × StaysInReach g.D.Disk.Tells g.D.Disk.files x y) c.args.replica c.self.inside.replicas.items c.flush_at.new.replicas one
+    c.flush_at.ensures.flushes one.before one.after (subst (λ xs. At xs c.args.replica one.before) (sym now) one.was)
+    (one_after c.args.replica c.self.inside.replicas.items c.flush_at.new.replicas one) in
+    let each : (j : ℕ) (r r' : Copy g.row.D.Denot) → At c.self.inside.replicas.items j r → At c.flush_at.new.replicas j r'
+    → (IsUp r → IsUp r') × (r'.sup ≡ r.sup) × StaysInReach g.D.Disk.Tells g.D.Disk.files r r' =
+    one_each (λ (x y : Copy g.row.D.Denot). (IsUp x → IsUp y) × (y.sup ≡ x.sup) × StaysInReach g.D.Disk.Tells g.D.Disk.files x y) c.args.replica c.self.inside.replicas.items
+    c.flush_at.new.replicas one
     (λ u. step.up, step.sup, step.reach) (λ x. (λ u. u, refl, λ tells. reach_still g.D.Disk.files x)) in
     record {
       all = ap length kept ∙ count ∙ ap (λ v. length v.replicas) c.self.view_is ∙ c.requires.«open».all ∙ ap (λ v. v.settings.replicas) (sym c.self.view_is);
@@ -175,7 +206,8 @@ returns-clause-same g c =
     let kept = with_items_is c.self.inside.replicas c.flush_at.new.replicas (c.flush_at.auto.replicas ∙ c.as_mut_slice.ensures.len) in
     let one : CallsOne c.args.replica c.self.inside.replicas.items c.flush_at.new.replicas = subst (λ xs. CallsOne c.args.replica xs c.flush_at.new.replicas) now c.flush_at.ensures.one in
     let step : FlushesAt g.D.Disk.Tells g.D.Disk.files g.D.Disk.fault_count one.before one.after c.flush_at.result =
-    c.flush_at.ensures.flushes one.before one.after (subst (λ xs. At xs c.args.replica one.before) (sym now) one.was) (one_after c.args.replica c.self.inside.replicas.items c.flush_at.new.replicas one) in
+    c.flush_at.ensures.flushes one.before one.after (subst (λ xs. At xs c.args.replica one.before) (sym now) one.was)
+    (one_after c.args.replica c.self.inside.replicas.items c.flush_at.new.replicas one) in
     same_by _ _ _ _ c.self.view_is refl refl kept
     (one_each (λ (x y : Copy g.row.D.Denot). y.sup ≡ x.sup) c.args.replica c.self.inside.replicas.items c.flush_at.new.replicas one step.sup (λ x. refl))
 
@@ -206,12 +238,16 @@ returns-clause-untouched g c =
       | in-Err w ↦
           let step : FlushesAt g.D.Disk.Tells g.D.Disk.files g.D.Disk.fault_count one.before one.after (Err w.in-Err.fault) =
           subst (λ x. FlushesAt g.D.Disk.Tells g.D.Disk.files g.D.Disk.fault_count one.before one.after x) w.in-Err.is
-          (c.flush_at.ensures.flushes one.before one.after (subst (λ xs. At xs c.args.replica one.before) (sym now) one.was) (one_after c.args.replica c.self.inside.replicas.items c.flush_at.new.replicas one)) in
-          let new : Volume g.row.D.Denot g.row.D-Piece.Denot = volume_with c.self.inside.settings c.self.inside.number (with_items c.self.inside.replicas c.flush_at.new.replicas).items c.self.inside.rows c.self.inside.front c.self.inside.frozen c.self.inside.unsure in
+          (c.flush_at.ensures.flushes one.before one.after (subst (λ xs. At xs c.args.replica one.before) (sym now) one.was)
+          (one_after c.args.replica c.self.inside.replicas.items c.flush_at.new.replicas one)) in
+          let new : Volume g.row.D.Denot g.row.D-Piece.Denot =
+          volume_with c.self.inside.settings c.self.inside.number (with_items c.self.inside.replicas c.flush_at.new.replicas).items c.self.inside.rows c.self.inside.front
+          c.self.inside.frozen c.self.inside.unsure in
           subst (λ r. IfErr r (λ (f : LogicalFault). IsUntouchedBy f → new ≡ c.args.self.now)) (sym w.result-is)
           (subst (λ (f : LogicalFault). IsUntouchedBy f → new ≡ c.args.self.now) (sym w.answer_at.ensures)
           (λ by. ap (λ rs. volume_with c.self.inside.settings c.self.inside.number rs c.self.inside.rows c.self.inside.front c.self.inside.frozen c.self.inside.unsure)
-          (kept ∙ one_untouched c.args.replica c.self.inside.replicas.items c.flush_at.new.replicas one (flush_untouched g.D.Disk.fault_count one.before one.after c.machine_of-machine.result w.in-Err.fault step.cause by)) ∙ c.self.view_is))
+          (kept ∙ one_untouched c.args.replica c.self.inside.replicas.items c.flush_at.new.replicas one
+          (flush_untouched g.D.Disk.fault_count one.before one.after c.machine_of-machine.result w.in-Err.fault step.cause by)) ∙ c.self.view_is))
     ]
 
 pub returns-in-Some-clause-stuck_index : goal.returns-in-Some-clause-stuck_index
@@ -226,9 +262,12 @@ returns-clause-stuck_index g c = λ none m e.
       | in-Err w ↦
           let step : FlushesAt g.D.Disk.Tells g.D.Disk.files g.D.Disk.fault_count one.before one.after (Err w.in-Err.fault) =
           subst (λ x. FlushesAt g.D.Disk.Tells g.D.Disk.files g.D.Disk.fault_count one.before one.after x) w.in-Err.is
-          (c.flush_at.ensures.flushes one.before one.after (subst (λ xs. At xs c.args.replica one.before) (sym now) one.was) (one_after c.args.replica c.self.inside.replicas.items c.flush_at.new.replicas one)) in
+          (c.flush_at.ensures.flushes one.before one.after (subst (λ xs. At xs c.args.replica one.before) (sym now) one.was)
+          (one_after c.args.replica c.self.inside.replicas.items c.flush_at.new.replicas one)) in
           let said : Err w.answer_at.result ≡ Err (logical.ReadOnly m) = sym w.result-is ∙ e in
-          let is = flush_stuck g.D.Disk.fault_count one.before one.after c.machine_of-machine.result w.in-Err.fault m step.cause (sym w.answer_at.ensures ∙ (let same : w.answer_at.result ≡ logical.ReadOnly m = cc in same)) in (
+          let is =
+          flush_stuck g.D.Disk.fault_count one.before one.after c.machine_of-machine.result w.in-Err.fault m step.cause
+          (sym w.answer_at.ensures ∙ (let same : w.answer_at.result ≡ logical.ReadOnly m = cc in same)) in (
             is.0 ∙ c.machine_of-machine.ensures ∙ ap (λ (v : Volume g.row.D.Denot g.row.D-Piece.Denot). machine_of v.settings v.number c.args.replica) c.self.view_is,
             λ r at. ap is_stuck (at_same c.self.inside.replicas.items c.args.replica r one.before (subst (λ v. At v.replicas c.args.replica r) (sym c.self.view_is) at) one.was) ∙ is.1,
           )
@@ -258,7 +297,8 @@ returns-clause-tight g c = λ tells j tight r' f.
     let there = one_after c.args.replica c.self.inside.replicas.items c.flush_at.new.replicas one in
     let step : FlushesAt g.D.Disk.Tells g.D.Disk.files g.D.Disk.fault_count one.before one.after c.flush_at.result =
     c.flush_at.ensures.flushes one.before one.after (subst (λ xs. At xs c.args.replica one.before) (sym now) one.was) there in
-    tight_one g.D.Disk.files c.args.replica c.self.inside.replicas.items c.flush_at.new.replicas one (tight_flushed g.D.Disk.files one.before one.after g.D.Disk.Tells g.D.Disk.fault_count tells c.flush_at.result step)
+    tight_one g.D.Disk.files c.args.replica c.self.inside.replicas.items c.flush_at.new.replicas one
+    (tight_flushed g.D.Disk.files one.before one.after g.D.Disk.Tells g.D.Disk.fault_count tells c.flush_at.result step)
     j (λ r e. tight r (subst (λ v. At v.replicas j r) c.self.view_is e)) r' (subst (λ xs. At xs j r') kept f)
 
 pub returns-in-Some-clause-refused_seen : goal.returns-in-Some-clause-refused_seen
@@ -318,7 +358,8 @@ returns-clause-refused_seen g c =
           (λ stuck. same_one c.args.replica c.self.inside.settings c.self.inside.number c.self.inside.replicas.items c.flush_at.new.replicas c.self.inside.rows c.self.inside.front
           c.self.inside.frozen c.self.inside.unsure one c.args.self.now c.self.view_is (with_items c.self.inside.replicas c.flush_at.new.replicas).items kept
           (sticks ∙ ap (λ b. record (replica_seen one.before) { stuck = b }) stuck))
-          (λ printed failed stuck. let loose = left.not_stuck (λ e. let wrong : fault.Failed printed ≡ fault.Frozen = cc in cc) in changes_one c.args.replica Sticks c.self.inside.settings c.self.inside.number c.self.inside.replicas.items
+          (λ printed failed stuck. let loose = left.not_stuck (λ e. let wrong : fault.Failed printed ≡ fault.Frozen = cc in cc) in changes_one c.args.replica Sticks
+          c.self.inside.settings c.self.inside.number c.self.inside.replicas.items
           c.flush_at.new.replicas c.self.inside.rows c.self.inside.front c.self.inside.frozen c.self.inside.unsure one c.args.self.now c.self.view_is
           (with_items c.self.inside.replicas c.flush_at.new.replicas).items kept
           (loose, sticks ∙ ap (λ b. record (replica_seen one.before) { stuck = b }) stuck, left.tried printed failed))))

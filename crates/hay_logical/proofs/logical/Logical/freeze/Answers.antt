@@ -31,7 +31,8 @@ returns-then-is_some-clause-still g c = λ none. never c.self.inside.frozen (sym
 
 pub returns-then-is_some-clause-counts : goal.returns-then-is_some-clause-counts
 returns-then-is_some-clause-counts g c =
-    keeps_counts g.D.Disk.fault_count g.D.Disk.fuse_count c.args.self.now.replicas c.args.self.now.replicas refl (λ j r r' e f. counted_same g.D.Disk.fault_count g.D.Disk.fuse_count r r' (at_same c.args.self.now.replicas j r' r f e))
+    keeps_counts g.D.Disk.fault_count g.D.Disk.fuse_count c.args.self.now.replicas c.args.self.now.replicas refl
+    (λ j r r' e f. counted_same g.D.Disk.fault_count g.D.Disk.fuse_count r r' (at_same c.args.self.now.replicas j r' r f e))
 
 pub returns-then-is_some-clause-same : goal.returns-then-is_some-clause-same
 returns-then-is_some-clause-same g c = same_still _

@@ -20,7 +20,8 @@ use Rattle.hay_logical.proofs.logical.Logical.halt.Goals.{After-drop_runs}
 kept : (g : given.Over) (c : After-drop_runs g) → (with_items c.self.inside.replicas c.drop_runs.new.replicas).items ≡ c.drop_runs.new.replicas
 kept g c = with_items_is c.self.inside.replicas c.drop_runs.new.replicas (c.drop_runs.auto.replicas ∙ c.as_mut_slice.ensures.len)
 
-loses : (g : given.Over) (c : After-drop_runs g) (j : ℕ) (r r' : Copy g.row.D.Denot) → At c.self.inside.replicas.items j r → At c.drop_runs.new.replicas j r' → LosesRun g.D.Disk.Tells g.D.Disk.files r r'
+loses : (g : given.Over) (c : After-drop_runs g) (j : ℕ) (r r' : Copy g.row.D.Denot) → At c.self.inside.replicas.items j r → At c.drop_runs.new.replicas j r'
+    → LosesRun g.D.Disk.Tells g.D.Disk.files r r'
 loses g c j r r' e f = c.drop_runs.ensures.each j r r' (subst (λ xs. At xs j r) (sym c.as_mut_slice.ensures.value) e) f
 
 count : (g : given.Over) (c : After-drop_runs g) → length c.drop_runs.new.replicas ≡ length c.self.inside.replicas.items
@@ -37,8 +38,10 @@ invariant_of-self g c =
     let a = (goal.at.invariant_of-self g c).After-drop_runs in
     let some = ((c.self.invariant.0).settings).some in (
       subst (λ rs. IsShaped (volume_with c.self.inside.settings c.self.inside.number rs c.self.inside.rows c.self.inside.front (Some c.machine_of.result) c.self.inside.unsure)) (sym (kept g a))
-          (shaped_on c.self.inside.settings c.self.inside.number c.self.inside.replicas.items c.drop_runs.new.replicas c.self.inside.rows c.self.inside.rows c.self.inside.front c.self.inside.front c.self.inside.frozen (Some c.machine_of.result) c.self.inside.unsure c.self.inside.unsure
-          c.self.invariant.0 (frozen_machine c.self.inside.settings c.self.inside.number 0 c.machine_of.result (let first : 0 < c.self.inside.settings.replicas = omega (arith, some) in first) c.machine_of.ensures) (λ none. some_none none) (count g a)
+          (shaped_on c.self.inside.settings c.self.inside.number c.self.inside.replicas.items c.drop_runs.new.replicas c.self.inside.rows c.self.inside.rows c.self.inside.front
+          c.self.inside.front c.self.inside.frozen (Some c.machine_of.result) c.self.inside.unsure c.self.inside.unsure
+          c.self.invariant.0 (frozen_machine c.self.inside.settings c.self.inside.number 0 c.machine_of.result
+          (let first : 0 < c.self.inside.settings.replicas = omega (arith, some) in first) c.machine_of.ensures) (λ none. some_none none) (count g a)
           (λ j r r' e f. (loses g a j r r' e f).sup) refl (λ none j r r' e f. some_none none)),
       c.self.invariant.1,
       subst (λ rs. CanReach g.D.Disk.Tells g.D.Disk.files g.D.Piece.Piece.Tells rs c.self.inside.rows) (sym (kept g a))

@@ -93,7 +93,8 @@ returns-in-Err-clause-left g c = λ tells k stopped.
     let news = c.open_all.new.replicas in
     let count = c.open_all.ensures.counts.count ∙ ap length now in
     subst (λ rs. HoldsFor g.D.Disk.files (volume_with here.settings here.number rs c.open_all.new.rows here.front here.frozen here.unsure) k) (sym kept)
-    (held_on g.D.Disk.Tells g.D.Disk.files g.D.Piece.Piece.Tells here.settings here.number olds news here.rows c.open_all.new.rows here.front here.front here.frozen here.frozen here.unsure here.unsure k count
+    (held_on g.D.Disk.Tells g.D.Disk.files g.D.Piece.Piece.Tells here.settings here.number olds news here.rows c.open_all.new.rows here.front here.front here.frozen here.frozen
+    here.unsure here.unsure k count
     (λ j r r' e f b a t h. (c.open_all.ensures.left j r r' (subst (λ xs. At xs j r) (sym now) e) f).holds tells b a t h)
     (subst (λ v. HoldsFor g.D.Disk.files v k) (sym c.self.view_is) stopped.holds))
 
@@ -101,14 +102,16 @@ pub returns-in-Err-clause-kept : goal.returns-in-Err-clause-kept
 returns-in-Err-clause-kept g c = λ tells j r r' e f.
     let now = c.as_mut_slice.ensures.value in
     let kept = with_items_is c.self.inside.replicas c.open_all.new.replicas (c.open_all.auto.replicas ∙ c.as_mut_slice.ensures.len) in
-    c.open_all.ensures.kept tells j r r' (subst (λ xs. At xs j r) (sym now) (subst (λ (v : Volume g.row.D.Denot g.row.D-Piece.Denot). At v.replicas j r) (sym c.self.view_is) e)) (subst (λ xs. At xs j r') kept f)
+    c.open_all.ensures.kept tells j r r' (subst (λ xs. At xs j r) (sym now) (subst (λ (v : Volume g.row.D.Denot g.row.D-Piece.Denot). At v.replicas j r) (sym c.self.view_is) e))
+    (subst (λ xs. At xs j r') kept f)
 
 pub returns-in-Err-clause-refused : goal.returns-in-Err-clause-refused
 returns-in-Err-clause-refused g c =
     let now = c.as_mut_slice.ensures.value in
     let kept = with_items_is c.self.inside.replicas c.open_all.new.replicas (c.open_all.auto.replicas ∙ c.as_mut_slice.ensures.len) in
     subst (λ rs. IsRefusedAt g.D.Disk.Tells g.D.Disk.files g.D.Disk.fault_count c.args.self.now.replicas rs c.in-Err.refusal) (sym kept)
-    (subst (λ os. IsRefusedAt g.D.Disk.Tells g.D.Disk.files g.D.Disk.fault_count os c.open_all.new.replicas c.in-Err.refusal) (now ∙ ap (λ (v : Volume g.row.D.Denot g.row.D-Piece.Denot). v.replicas) c.self.view_is) c.in-Err.ensures.refused)
+    (subst (λ os. IsRefusedAt g.D.Disk.Tells g.D.Disk.files g.D.Disk.fault_count os c.open_all.new.replicas c.in-Err.refusal)
+    (now ∙ ap (λ (v : Volume g.row.D.Denot g.row.D-Piece.Denot). v.replicas) c.self.view_is) c.in-Err.ensures.refused)
 
 pub returns-in-Err-clause-whole : goal.returns-in-Err-clause-whole
 unfolding Stopped
@@ -127,7 +130,8 @@ returns-in-Err-clause-counts g c =
     let now = c.as_mut_slice.ensures.value in
     let kept = with_items_is c.self.inside.replicas c.open_all.new.replicas (c.open_all.auto.replicas ∙ c.as_mut_slice.ensures.len) in
     subst (λ rs. KeepsCounts g.D.Disk.fault_count g.D.Disk.fuse_count c.args.self.now.replicas rs) (sym kept)
-    (subst (λ os. KeepsCounts g.D.Disk.fault_count g.D.Disk.fuse_count os c.open_all.new.replicas) (now ∙ ap (λ (v : Volume g.row.D.Denot g.row.D-Piece.Denot). v.replicas) c.self.view_is) c.open_all.ensures.counts)
+    (subst (λ os. KeepsCounts g.D.Disk.fault_count g.D.Disk.fuse_count os c.open_all.new.replicas)
+    (now ∙ ap (λ (v : Volume g.row.D.Denot g.row.D-Piece.Denot). v.replicas) c.self.view_is) c.open_all.ensures.counts)
 
 pub returns-in-Err-clause-same : goal.returns-in-Err-clause-same
 returns-in-Err-clause-same g c =
@@ -165,7 +169,8 @@ returns-in_default-clause-left g c = λ tells k stopped.
     let news = c.open_all.new.replicas in
     let count = c.open_all.ensures.counts.count ∙ ap length now in
     subst (λ rs. HoldsFor g.D.Disk.files (volume_with here.settings here.number rs c.open_all.new.rows here.front here.frozen here.unsure) k) (sym kept)
-    (held_on g.D.Disk.Tells g.D.Disk.files g.D.Piece.Piece.Tells here.settings here.number olds news here.rows c.open_all.new.rows here.front here.front here.frozen here.frozen here.unsure here.unsure k count
+    (held_on g.D.Disk.Tells g.D.Disk.files g.D.Piece.Piece.Tells here.settings here.number olds news here.rows c.open_all.new.rows here.front here.front here.frozen here.frozen
+    here.unsure here.unsure k count
     (λ j r r' e f b a t h. (c.open_all.ensures.left j r r' (subst (λ xs. At xs j r) (sym now) e) f).holds tells b a t h)
     (subst (λ v. HoldsFor g.D.Disk.files v k) (sym c.self.view_is) stopped.holds))
 
@@ -173,7 +178,8 @@ pub returns-in_default-clause-kept : goal.returns-in_default-clause-kept
 returns-in_default-clause-kept g c = λ tells j r r' e f.
     let now = c.as_mut_slice.ensures.value in
     let kept = with_items_is c.self.inside.replicas c.open_all.new.replicas (c.open_all.auto.replicas ∙ c.as_mut_slice.ensures.len) in
-    c.open_all.ensures.kept tells j r r' (subst (λ xs. At xs j r) (sym now) (subst (λ (v : Volume g.row.D.Denot g.row.D-Piece.Denot). At v.replicas j r) (sym c.self.view_is) e)) (subst (λ xs. At xs j r') kept f)
+    c.open_all.ensures.kept tells j r r' (subst (λ xs. At xs j r) (sym now) (subst (λ (v : Volume g.row.D.Denot g.row.D-Piece.Denot). At v.replicas j r) (sym c.self.view_is) e))
+    (subst (λ xs. At xs j r') kept f)
 
 pub returns-in_default-clause-refused : goal.returns-in_default-clause-refused
 returns-in_default-clause-refused g c =
@@ -204,7 +210,8 @@ returns-in_default-clause-counts g c =
     let now = c.as_mut_slice.ensures.value in
     let kept = with_items_is c.self.inside.replicas c.open_all.new.replicas (c.open_all.auto.replicas ∙ c.as_mut_slice.ensures.len) in
     subst (λ rs. KeepsCounts g.D.Disk.fault_count g.D.Disk.fuse_count c.args.self.now.replicas rs) (sym kept)
-    (subst (λ os. KeepsCounts g.D.Disk.fault_count g.D.Disk.fuse_count os c.open_all.new.replicas) (now ∙ ap (λ (v : Volume g.row.D.Denot g.row.D-Piece.Denot). v.replicas) c.self.view_is) c.open_all.ensures.counts)
+    (subst (λ os. KeepsCounts g.D.Disk.fault_count g.D.Disk.fuse_count os c.open_all.new.replicas)
+    (now ∙ ap (λ (v : Volume g.row.D.Denot g.row.D-Piece.Denot). v.replicas) c.self.view_is) c.open_all.ensures.counts)
 
 pub returns-in_default-clause-same : goal.returns-in_default-clause-same
 returns-in_default-clause-same g c =
@@ -224,7 +231,8 @@ invariant_of-self-2 g c =
     λ j r r' e f. c.in-Ok.ensures.opened j r r' (subst (λ xs. At xs j r) (sym now) e) f in
     let shape = c.self.invariant.0 in (
       subst (λ rs. IsShaped (volume_with here.settings here.number rs c.open_all.new.rows 0 None None)) (sym kept)
-          (shaped_on here.settings here.number olds news here.rows c.open_all.new.rows here.front 0 here.frozen None here.unsure None shape (never_frozen here.settings here.number) (λ none. refl) count
+          (shaped_on here.settings here.number olds news here.rows c.open_all.new.rows here.front 0 here.frozen None here.unsure None shape (never_frozen here.settings here.number)
+          (λ none. refl) count
           (λ j r r' e f. (c.open_all.ensures.left j r r' (subst (λ xs. At xs j r) (sym now) e) f).sup)
           (c.open_all.ensures.width ∙ c.new.ensures.replicas ∙ sym shape.width)
           (λ none j r r' e f. up_thawed r' (opened j r r' e f).up)),
@@ -244,10 +252,12 @@ returns-clause-first g c = λ tells k first.
     let opened : (j : ℕ) (r r' : Copy g.row.D.Denot) → At olds j r → At news j r' → OpensAt g.D.Disk.Tells g.D.Disk.files g.D.Piece.Piece.Tells c.open_all.new.rows j r r' =
     λ j r r' e f. c.in-Ok.ensures.opened j r r' (subst (λ xs. At xs j r) (sym now) e) f in
     let all : length olds ≡ here.settings.replicas = subst (λ (v : Volume g.row.D.Denot g.row.D-Piece.Denot). length v.replicas ≡ v.settings.replicas) (sym c.self.view_is) c.requires.all in
-    let was : IsFirst g.D.Disk.files (volume_with here.settings here.number olds here.rows here.front here.frozen here.unsure) k = subst (λ v. IsFirst g.D.Disk.files v k) (sym c.self.view_is) first in (
+    let was : IsFirst g.D.Disk.files (volume_with here.settings here.number olds here.rows here.front here.frozen here.unsure) k =
+    subst (λ v. IsFirst g.D.Disk.files v k) (sym c.self.view_is) first in (
       no_notes here.settings here.number here.unsure (sights_of c.open_all.new.rows) (map replica_seen c.as_slice.result.now) _ was.unsure c.in-Ok-notes_of.ensures.are,
       subst (λ rs. StandsFor g.D.Disk.files g.D.Piece.Piece.Tells (volume_with here.settings here.number rs c.open_all.new.rows 0 None None) k) (sym kept)
-          (first_stands g.D.Disk.Tells g.D.Disk.files g.D.Piece.Piece.Tells here.settings here.number olds news c.open_all.new.rows count opened tells here.rows here.front here.frozen here.unsure k all (c.self.invariant.0).sups was),
+          (first_stands g.D.Disk.Tells g.D.Disk.files g.D.Piece.Piece.Tells here.settings here.number olds news c.open_all.new.rows count opened tells here.rows here.front
+          here.frozen here.unsure k all (c.self.invariant.0).sups was),
     )
 
 pub returns-clause-reopened : goal.returns-clause-reopened
@@ -262,9 +272,11 @@ returns-clause-reopened g c = λ tells k stopped.
     let opened : (j : ℕ) (r r' : Copy g.row.D.Denot) → At olds j r → At news j r' → OpensAt g.D.Disk.Tells g.D.Disk.files g.D.Piece.Piece.Tells c.open_all.new.rows j r r' =
     λ j r r' e f. c.in-Ok.ensures.opened j r r' (subst (λ xs. At xs j r) (sym now) e) f in
     let slice = c.as_slice.ensures.value ∙ kept in
-    let was : StoppedFor g.D.Disk.files (volume_with here.settings here.number olds here.rows here.front here.frozen here.unsure) k = subst (λ v. StoppedFor g.D.Disk.files v k) (sym c.self.view_is) stopped in
+    let was : StoppedFor g.D.Disk.files (volume_with here.settings here.number olds here.rows here.front here.frozen here.unsure) k =
+    subst (λ v. StoppedFor g.D.Disk.files v k) (sym c.self.view_is) stopped in
     reopened_on g.D.Disk.files g.D.Piece.Piece.Tells k here.settings here.number c.open_all.new.rows news _ _ kept
-    (reopened g.D.Disk.Tells g.D.Disk.files g.D.Piece.Piece.Tells here.settings here.number olds news c.open_all.new.rows count opened tells (c.self.invariant.0).settings here.rows here.front here.frozen here.unsure k
+    (reopened g.D.Disk.Tells g.D.Disk.files g.D.Piece.Piece.Tells here.settings here.number olds news c.open_all.new.rows count opened tells (c.self.invariant.0).settings here.rows
+    here.front here.frozen here.unsure k
     was.holds was.unsure (λ j r e. c.in-Ok.ensures.seen tells j r (subst (λ xs. At xs j r) (sym now) e)) _
     (notes_on here.settings here.number here.unsure (sights_of c.open_all.new.rows) c.as_slice.result.now news _ slice c.in-Ok-notes_of.ensures.are))
 
@@ -288,7 +300,9 @@ returns-clause-open g c =
     λ j r r' e f. c.in-Ok.ensures.opened j r r' (subst (λ xs. At xs j r) (sym now) e) f in
     let all : length olds ≡ here.settings.replicas = subst (λ (v : Volume g.row.D.Denot g.row.D-Piece.Denot). length v.replicas ≡ v.settings.replicas) (sym c.self.view_is) c.requires.all in
     record {
-      all = ap length kept ∙ count ∙ ap (λ (v : Volume g.row.D.Denot g.row.D-Piece.Denot). length v.replicas) c.self.view_is ∙ c.requires.all ∙ ap (λ (v : Volume g.row.D.Denot g.row.D-Piece.Denot). v.settings.replicas) (sym c.self.view_is);
+      all =
+          ap length kept ∙ count ∙ ap (λ (v : Volume g.row.D.Denot g.row.D-Piece.Denot). length v.replicas) c.self.view_is ∙ c.requires.all
+          ∙ ap (λ (v : Volume g.row.D.Denot g.row.D-Piece.Denot). v.settings.replicas) (sym c.self.view_is);
       each = λ j r' s.
           let f = subst (λ xs. At xs j r') kept s in
           let old = at_there olds j (let h = at_below news j r' f in let less : j < length olds = omega (arith, h, count) in less) in
@@ -299,14 +313,16 @@ pub returns-clause-kept : goal.returns-clause-kept
 returns-clause-kept g c = λ tells j r r' e f.
     let now = c.as_mut_slice.ensures.value in
     let kept = with_items_is c.self.inside.replicas c.open_all.new.replicas (c.open_all.auto.replicas ∙ c.as_mut_slice.ensures.len) in
-    c.open_all.ensures.kept tells j r r' (subst (λ xs. At xs j r) (sym now) (subst (λ (v : Volume g.row.D.Denot g.row.D-Piece.Denot). At v.replicas j r) (sym c.self.view_is) e)) (subst (λ xs. At xs j r') kept f)
+    c.open_all.ensures.kept tells j r r' (subst (λ xs. At xs j r) (sym now) (subst (λ (v : Volume g.row.D.Denot g.row.D-Piece.Denot). At v.replicas j r) (sym c.self.view_is) e))
+    (subst (λ xs. At xs j r') kept f)
 
 pub returns-clause-counts : goal.returns-clause-counts
 returns-clause-counts g c =
     let now = c.as_mut_slice.ensures.value in
     let kept = with_items_is c.self.inside.replicas c.open_all.new.replicas (c.open_all.auto.replicas ∙ c.as_mut_slice.ensures.len) in
     subst (λ rs. KeepsCounts g.D.Disk.fault_count g.D.Disk.fuse_count c.args.self.now.replicas rs) (sym kept)
-    (subst (λ os. KeepsCounts g.D.Disk.fault_count g.D.Disk.fuse_count os c.open_all.new.replicas) (now ∙ ap (λ (v : Volume g.row.D.Denot g.row.D-Piece.Denot). v.replicas) c.self.view_is) c.open_all.ensures.counts)
+    (subst (λ os. KeepsCounts g.D.Disk.fault_count g.D.Disk.fuse_count os c.open_all.new.replicas)
+    (now ∙ ap (λ (v : Volume g.row.D.Denot g.row.D-Piece.Denot). v.replicas) c.self.view_is) c.open_all.ensures.counts)
 
 pub returns-clause-same : goal.returns-clause-same
 returns-clause-same g c =

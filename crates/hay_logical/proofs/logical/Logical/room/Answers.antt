@@ -62,7 +62,8 @@ returns-in_default-room_in-clause-frozen g c = λ m e.
 pub returns-in_default-room_in-clause-fits : goal.returns-in_default-room_in-clause-fits
 returns-in_default-room_in-clause-fits g c = (
   ap (λ (v : Volume g.row.D.Denot g.row.D-Piece.Denot). v.frozen) (sym c.self.view_is) ∙ c.in_default.is,
-  λ j r e. c.in_default-room_in.ensures.fits j r (subst (λ xs. At xs j r) (sym c.as_slice.ensures.value) (subst (λ (v : Volume g.row.D.Denot g.row.D-Piece.Denot). At v.replicas j r) (sym c.self.view_is) e)),
+  λ j r e. c.in_default-room_in.ensures.fits j r (subst (λ xs. At xs j r) (sym c.as_slice.ensures.value)
+      (subst (λ (v : Volume g.row.D.Denot g.row.D-Piece.Denot). At v.replicas j r) (sym c.self.view_is) e)),
 )
 
 pub machine_of-machine-requires-clause-of : goal.machine_of-machine-requires-clause-of
@@ -85,8 +86,12 @@ returns-clause-known g c = λ tells k stands.
     subst (λ fr. StandsFor g.D.Disk.files g.D.Piece.Piece.Tells (volume_with here.settings here.number here.replicas.items here.rows here.front fr here.unsure) k) c.in_default.is
     (subst (λ v. StandsFor g.D.Disk.files g.D.Piece.Piece.Tells v k) (sym c.self.view_is) stands) in
     let l : LacksRoom c.args.size here.replicas.items c.in-Err.lacking = subst (λ xs. LacksRoom c.args.size xs c.in-Err.lacking) c.as_slice.ensures.value c.in-Err.ensures.lacks in
-    let capacity = known_capacity g.D.Disk.files g.D.Piece.Piece.Tells here.settings here.number here.replicas.items here.rows here.front here.unsure k known (c.self.invariant.0).sups c.args.size c.in-Err.lacking.at l.replica l.there in
-    let refusal = room_some g.D.Disk.files g.D.Piece.Piece.Tells here.settings here.number here.replicas.items here.rows here.front here.unsure k known (c.self.invariant.0).sups c.args.size c.in-Err.lacking l in
+    let capacity =
+    known_capacity g.D.Disk.files g.D.Piece.Piece.Tells here.settings here.number here.replicas.items here.rows here.front here.unsure k known (c.self.invariant.0).sups
+    c.args.size c.in-Err.lacking.at l.replica l.there in
+    let refusal =
+    room_some g.D.Disk.files g.D.Piece.Piece.Tells here.settings here.number here.replicas.items here.rows here.front here.unsure k known (c.self.invariant.0).sups c.args.size
+    c.in-Err.lacking l in
     let total = needle_total c.args.size in
     subst (λ (v : Volume g.row.D.Denot g.row.D-Piece.Denot). Err c.answer_at.result ≡ room_answer v.settings k.frozen (room_refusal_of v.settings v.number k c.args.size)) c.self.view_is
     (ap (λ (f : LogicalFault). Err f) (c.answer_at.ensures ∙ ap (answer_at c.machine_of-machine.result) l.cause)
@@ -124,7 +129,8 @@ pub returns-clause-takes : goal.returns-clause-takes
 returns-clause-takes g c = λ none fits.
     let l = c.in-Err.ensures.lacks in
     let there : At c.args.self.now.replicas c.in-Err.lacking.at l.replica =
-    subst (λ (v : Volume g.row.D.Denot g.row.D-Piece.Denot). At v.replicas c.in-Err.lacking.at l.replica) c.self.view_is (subst (λ xs. At xs c.in-Err.lacking.at l.replica) c.as_slice.ensures.value l.there) in
+    subst (λ (v : Volume g.row.D.Denot g.row.D-Piece.Denot). At v.replicas c.in-Err.lacking.at l.replica) c.self.view_is
+    (subst (λ xs. At xs c.in-Err.lacking.at l.replica) c.as_slice.ensures.value l.there) in
     let room = fits c.in-Err.lacking.at l.replica there in
     let full = l.full in
     absurd (omega (arith, room, full))

@@ -23,7 +23,8 @@ pub returns-clause-seen : goal.returns-clause-seen
 returns-clause-seen g c = elim c.match-see_in.branch [
   | in-Ok w ↦
       let seen = subst (λ x. OnOk x (IsSeen (place_in (row_at c.see_in.new.self.rows c.args.pair) c.args.replica))) w.in-Ok.is c.see_in.ensures.seen in
-      subst (λ r. IfOk r (λ looked. IsSeen (place_in looked.row c.args.replica))) (sym w.result-is) (subst (λ l. IsSeen (place_in l c.args.replica)) (sym (w.row.ensures.row ∙ ap (λ v. row_at v.rows c.args.pair) c.self.view_is)) seen)
+      subst (λ r. IfOk r (λ looked. IsSeen (place_in looked.row c.args.replica))) (sym w.result-is)
+      (subst (λ l. IsSeen (place_in l c.args.replica)) (sym (w.row.ensures.row ∙ ap (λ v. row_at v.rows c.args.pair) c.self.view_is)) seen)
   | in-Err w ↦ rw w.result-is tt
 ]
 
@@ -39,25 +40,37 @@ pub returns-clause-causes : goal.returns-clause-causes
 returns-clause-causes g c = elim c.match-see_in.branch [
   | in-Ok w ↦ rw w.result-is tt
   | in-Err w ↦
-      let cause = subst (λ x. IfErr x (IsSightFault g.D.Disk.fault_count c.args.self.now.settings c.args.self.now.number c.args.self.now.replicas c.see_in.new.self.replicas)) w.in-Err.is c.see_in.ensures.causes in
+      let cause =
+      subst (λ x. IfErr x (IsSightFault g.D.Disk.fault_count c.args.self.now.settings c.args.self.now.number c.args.self.now.replicas c.see_in.new.self.replicas)) w.in-Err.is
+      c.see_in.ensures.causes in
       subst (λ r. IfErr r (IsSightFault g.D.Disk.fault_count c.args.self.now.settings c.args.self.now.number c.args.self.now.replicas c.see_in.new.self.replicas)) (sym w.result-is) cause
 ]
 
 pub returns-clause-known : goal.returns-clause-known
 returns-clause-known g c = λ tells k stands. elim c.match-see_in.branch [
   | in-Ok w ↦
-      let known = subst (λ x. OnOk x ((c.see_in.new.self.front ≡ length k.log) × PlaceMeans g.D.Piece.Piece.Tells c.args.pair (place_in (row_at c.see_in.new.self.rows c.args.pair) c.args.replica) (outcome_at (legal.now k (replica_at k c.args.replica)) c.args.pair))) w.in-Ok.is (c.see_in.ensures.known tells k stands) in
-      subst (λ r. IfOk r (λ looked. (looked.front ≡ length k.log) × PlaceMeans g.D.Piece.Piece.Tells c.args.pair (place_in looked.row c.args.replica) (outcome_at (legal.now k (replica_at k c.args.replica)) c.args.pair))) (sym w.result-is)
-      (ap (λ v. v.front) c.self.view_is ∙ known.0, subst (λ l. PlaceMeans g.D.Piece.Piece.Tells c.args.pair (place_in l c.args.replica) (outcome_at (legal.now k (replica_at k c.args.replica)) c.args.pair)) (sym (w.row.ensures.row ∙ ap (λ v. row_at v.rows c.args.pair) c.self.view_is)) known.1)
+      let known =
+      subst (λ x. OnOk x ((c.see_in.new.self.front ≡ length k.log) × PlaceMeans g.D.Piece.Piece.Tells c.args.pair
+      (place_in (row_at c.see_in.new.self.rows c.args.pair) c.args.replica) (outcome_at (legal.now k (replica_at k c.args.replica)) c.args.pair))) w.in-Ok.is
+      (c.see_in.ensures.known tells k stands) in
+      subst (λ r. IfOk r (λ looked. (looked.front ≡ length k.log) × PlaceMeans g.D.Piece.Piece.Tells c.args.pair (place_in looked.row c.args.replica)
+      (outcome_at (legal.now k (replica_at k c.args.replica)) c.args.pair))) (sym w.result-is) (
+        ap (λ v. v.front) c.self.view_is ∙ known.0,
+        subst (λ l. PlaceMeans g.D.Piece.Piece.Tells c.args.pair (place_in l c.args.replica)
+            (outcome_at (legal.now k (replica_at k c.args.replica)) c.args.pair)) (sym (w.row.ensures.row ∙ ap (λ v. row_at v.rows c.args.pair) c.self.view_is)) known.1,
+      )
   | in-Err w ↦ rw w.result-is tt
 ]
 
 pub returns-clause-row : goal.returns-clause-row
 returns-clause-row g c = elim c.match-see_in.branch [
   | in-Ok w ↦
-      let set = subst (λ x. OnOk x (SetsPlaceAt c.args.pair c.args.replica (place_in (row_at c.see_in.new.self.rows c.args.pair) c.args.replica) c.args.self.now.rows c.see_in.new.self.rows)) w.in-Ok.is c.see_in.ensures.row in
+      let set =
+      subst (λ x. OnOk x (SetsPlaceAt c.args.pair c.args.replica (place_in (row_at c.see_in.new.self.rows c.args.pair) c.args.replica) c.args.self.now.rows
+      c.see_in.new.self.rows)) w.in-Ok.is c.see_in.ensures.row in
       subst (λ r. IfOk r (λ looked. SetsPlaceAt c.args.pair c.args.replica (place_in looked.row c.args.replica) c.args.self.now.rows c.see_in.new.self.rows)) (sym w.result-is)
-      (subst (λ l. SetsPlaceAt c.args.pair c.args.replica (place_in l c.args.replica) c.args.self.now.rows c.see_in.new.self.rows) (sym (w.row.ensures.row ∙ ap (λ v. row_at v.rows c.args.pair) c.self.view_is)) set)
+      (subst (λ l. SetsPlaceAt c.args.pair c.args.replica (place_in l c.args.replica) c.args.self.now.rows c.see_in.new.self.rows)
+      (sym (w.row.ensures.row ∙ ap (λ v. row_at v.rows c.args.pair) c.self.view_is)) set)
   | in-Err w ↦ rw w.result-is tt
 ]
 
@@ -78,7 +91,9 @@ returns-clause-machine g c = λ m count e. elim c.match-see_in.branch [
 pub returns-clause-needle : goal.returns-clause-needle
 returns-clause-needle g c = λ unseen. elim c.match-see_in.branch [
   | in-Ok w ↦
-      let by = subst (λ x. OnOk x (IsSeenBy g.D.Disk.Tells g.D.Piece.Piece.Tells c.see_in.new.out.items (place_in (row_at c.see_in.new.self.rows c.args.pair) c.args.replica))) w.in-Ok.is (c.see_in.ensures.needle unseen) in
+      let by =
+      subst (λ x. OnOk x (IsSeenBy g.D.Disk.Tells g.D.Piece.Piece.Tells c.see_in.new.out.items (place_in (row_at c.see_in.new.self.rows c.args.pair) c.args.replica)))
+      w.in-Ok.is (c.see_in.ensures.needle unseen) in
       subst (λ r. IfOk r (λ looked. IsSeenBy g.D.Disk.Tells g.D.Piece.Piece.Tells c.see_in.new.out.items (place_in looked.row c.args.replica))) (sym w.result-is)
       (subst (λ l. IsSeenBy g.D.Disk.Tells g.D.Piece.Piece.Tells c.see_in.new.out.items (place_in l c.args.replica)) (sym (w.row.ensures.row ∙ ap (λ v. row_at v.rows c.args.pair) c.self.view_is)) by)
   | in-Err w ↦ rw w.result-is tt

@@ -42,38 +42,52 @@ returns-in_err-see_in-clause-stands g c = λ tells k stands. c.see_in.ensures.st
 pub returns-in_err-see_in-clause-undamaged : goal.returns-in_err-see_in-clause-undamaged
 returns-in_err-see_in-clause-undamaged g c = λ tells k stands m at is.
     let fault = err_from_is_err_and c.from_residual.result c.from_residual.ensures.1 in
-    c.see_in.ensures.undamaged tells k (c.loop-replica.invariant.kept.stands tells k stands) m at (c.in_err-see_in.was ∙ ap (λ (f : LogicalFault). Err f) (sym fault.2 ∙ (let same = sym fault.1 ∙ is in cc)))
+    c.see_in.ensures.undamaged tells k (c.loop-replica.invariant.kept.stands tells k stands) m at
+    (c.in_err-see_in.was ∙ ap (λ (f : LogicalFault). Err f) (sym fault.2 ∙ (let same = sym fault.1 ∙ is in cc)))
 
 pub returns-in_err-see_in-clause-causes : goal.returns-in_err-see_in-clause-causes
 returns-in_err-see_in-clause-causes g c =
     let fault = err_from_is_err_and c.from_residual.result c.from_residual.ensures.1 in
-    let cause = cause_later g.D.Disk.Tells g.D.Disk.files g.D.Piece.Piece.Tells g.D.Disk.fault_count g.D.Disk.fuse_count c.args.self.now c.loop-replica.self c.see_in.new.self c.loop-replica.invariant.kept c.in_err-see_in.field-0.0 c.in_err-see_in.ensures.causes in
+    let cause =
+    cause_later g.D.Disk.Tells g.D.Disk.files g.D.Piece.Piece.Tells g.D.Disk.fault_count g.D.Disk.fuse_count c.args.self.now c.loop-replica.self c.see_in.new.self
+    c.loop-replica.invariant.kept c.in_err-see_in.field-0.0 c.in_err-see_in.ensures.causes in
     subst (λ r. IfErr r (IsSightFault g.D.Disk.fault_count c.args.self.now.settings c.args.self.now.number c.args.self.now.replicas c.see_in.new.self.replicas)) (sym fault.1)
     (subst (λ (f : LogicalFault). IsSightFault g.D.Disk.fault_count c.args.self.now.settings c.args.self.now.number c.args.self.now.replicas c.see_in.new.self.replicas f) (sym fault.2) cause)
 
 pub returns-in_err-see_in-clause-counts : goal.returns-in_err-see_in-clause-counts
 returns-in_err-see_in-clause-counts g c =
-    (kept_more g.D.Disk.Tells g.D.Disk.files g.D.Piece.Piece.Tells g.D.Disk.fault_count g.D.Disk.fuse_count c.args.self.now c.loop-replica.self c.see_in.new.self c.loop-replica.invariant.kept c.see_in.ensures.stands c.see_in.ensures.«open» c.see_in.ensures.counts c.see_in.ensures.same c.see_in.ensures.still c.see_in.ensures.runs c.see_in.ensures.files).counts
+    (kept_more g.D.Disk.Tells g.D.Disk.files g.D.Piece.Piece.Tells g.D.Disk.fault_count g.D.Disk.fuse_count c.args.self.now c.loop-replica.self c.see_in.new.self
+    c.loop-replica.invariant.kept c.see_in.ensures.stands c.see_in.ensures.«open» c.see_in.ensures.counts c.see_in.ensures.same c.see_in.ensures.still c.see_in.ensures.runs
+    c.see_in.ensures.files).counts
 
 pub returns-in_err-see_in-clause-same : goal.returns-in_err-see_in-clause-same
 returns-in_err-see_in-clause-same g c =
-    (kept_more g.D.Disk.Tells g.D.Disk.files g.D.Piece.Piece.Tells g.D.Disk.fault_count g.D.Disk.fuse_count c.args.self.now c.loop-replica.self c.see_in.new.self c.loop-replica.invariant.kept c.see_in.ensures.stands c.see_in.ensures.«open» c.see_in.ensures.counts c.see_in.ensures.same c.see_in.ensures.still c.see_in.ensures.runs c.see_in.ensures.files).same
+    (kept_more g.D.Disk.Tells g.D.Disk.files g.D.Piece.Piece.Tells g.D.Disk.fault_count g.D.Disk.fuse_count c.args.self.now c.loop-replica.self c.see_in.new.self
+    c.loop-replica.invariant.kept c.see_in.ensures.stands c.see_in.ensures.«open» c.see_in.ensures.counts c.see_in.ensures.same c.see_in.ensures.still c.see_in.ensures.runs
+    c.see_in.ensures.files).same
 
 pub returns-in_err-see_in-clause-still : goal.returns-in_err-see_in-clause-still
 returns-in_err-see_in-clause-still g c =
-    (kept_more g.D.Disk.Tells g.D.Disk.files g.D.Piece.Piece.Tells g.D.Disk.fault_count g.D.Disk.fuse_count c.args.self.now c.loop-replica.self c.see_in.new.self c.loop-replica.invariant.kept c.see_in.ensures.stands c.see_in.ensures.«open» c.see_in.ensures.counts c.see_in.ensures.same c.see_in.ensures.still c.see_in.ensures.runs c.see_in.ensures.files).still
+    (kept_more g.D.Disk.Tells g.D.Disk.files g.D.Piece.Piece.Tells g.D.Disk.fault_count g.D.Disk.fuse_count c.args.self.now c.loop-replica.self c.see_in.new.self
+    c.loop-replica.invariant.kept c.see_in.ensures.stands c.see_in.ensures.«open» c.see_in.ensures.counts c.see_in.ensures.same c.see_in.ensures.still c.see_in.ensures.runs
+    c.see_in.ensures.files).still
 
 pub loop-replica-preserved : goal.loop-replica-preserved
 loop-replica-preserved g c = record {
-  kept = kept_more g.D.Disk.Tells g.D.Disk.files g.D.Piece.Piece.Tells g.D.Disk.fault_count g.D.Disk.fuse_count c.args.self.now c.loop-replica.self c.see_in.new.self c.loop-replica.invariant.kept c.see_in.ensures.stands c.see_in.ensures.«open» c.see_in.ensures.counts c.see_in.ensures.same c.see_in.ensures.still c.see_in.ensures.runs c.see_in.ensures.files;
+  kept =
+      kept_more g.D.Disk.Tells g.D.Disk.files g.D.Piece.Piece.Tells g.D.Disk.fault_count g.D.Disk.fuse_count c.args.self.now c.loop-replica.self c.see_in.new.self
+      c.loop-replica.invariant.kept c.see_in.ensures.stands c.see_in.ensures.«open» c.see_in.ensures.counts c.see_in.ensures.same c.see_in.ensures.still c.see_in.ensures.runs c.see_in.ensures.files;
   tight = λ tells k stands j tight. c.see_in.ensures.tight tells k (c.loop-replica.invariant.kept.stands tells k stands) j (c.loop-replica.invariant.tight tells k stands j tight);
   stuck = stuck_more c.args.self.now.replicas c.loop-replica.self.replicas c.see_in.new.self.replicas c.loop-replica.invariant.kept.counts.count c.loop-replica.invariant.stuck c.see_in.ensures.stuck;
-  seen = seen_more c.args.pair c.loop-replica.replica c.loop-replica.self.rows c.see_in.new.self.rows (row_at c.see_in.new.self.rows c.args.pair) c.in_ok-see_in.ensures.row refl c.in_ok-see_in.ensures.seen c.loop-replica.invariant.seen;
+  seen =
+      seen_more c.args.pair c.loop-replica.replica c.loop-replica.self.rows c.see_in.new.self.rows (row_at c.see_in.new.self.rows c.args.pair) c.in_ok-see_in.ensures.row refl
+      c.in_ok-see_in.ensures.seen c.loop-replica.invariant.seen;
   looks = looks_more c.args.pair (sights_of c.args.self.now.rows) (sights_of c.loop-replica.self.rows)
       (sights_of c.see_in.new.self.rows) c.loop-replica.invariant.looks c.in_ok-see_in.ensures.sights.looks;
   told = λ tells.
       let kept = c.loop-replica.invariant.kept in
-      told_behind g.D.Disk.files c.args.pair c.args.self.now.replicas c.loop-replica.self.replicas (sights_of c.args.self.now.rows) (sights_of c.loop-replica.self.rows) (sights_of c.see_in.new.self.rows)
+      told_behind g.D.Disk.files c.args.pair c.args.self.now.replicas c.loop-replica.self.replicas (sights_of c.args.self.now.rows) (sights_of c.loop-replica.self.rows)
+      (sights_of c.see_in.new.self.rows)
       kept.counts.count c.loop-replica.invariant.looks
       (bytes_through g.D.Disk.Tells g.D.Disk.files tells c.args.self.now.replicas c.loop-replica.self.replicas kept.bytes (ap (λ (s : VolumeSeen). s.replicas) c.loop-replica.invariant.unchanged))
       c.in_ok-see_in.ensures.sights.looks (c.loop-replica.invariant.told tells) (c.see_in.ensures.told tells);
@@ -103,14 +117,18 @@ returns-clause-still g c = c.loop-replica.invariant.kept.still
 
 pub returns-in_err-see_in-clause-runs : goal.returns-in_err-see_in-clause-runs
 returns-in_err-see_in-clause-runs g c =
-    (kept_more g.D.Disk.Tells g.D.Disk.files g.D.Piece.Piece.Tells g.D.Disk.fault_count g.D.Disk.fuse_count c.args.self.now c.loop-replica.self c.see_in.new.self c.loop-replica.invariant.kept c.see_in.ensures.stands c.see_in.ensures.«open» c.see_in.ensures.counts c.see_in.ensures.same c.see_in.ensures.still c.see_in.ensures.runs c.see_in.ensures.files).runs
+    (kept_more g.D.Disk.Tells g.D.Disk.files g.D.Piece.Piece.Tells g.D.Disk.fault_count g.D.Disk.fuse_count c.args.self.now c.loop-replica.self c.see_in.new.self
+    c.loop-replica.invariant.kept c.see_in.ensures.stands c.see_in.ensures.«open» c.see_in.ensures.counts c.see_in.ensures.same c.see_in.ensures.still c.see_in.ensures.runs
+    c.see_in.ensures.files).runs
 
 pub returns-clause-runs : goal.returns-clause-runs
 returns-clause-runs g c = c.loop-replica.invariant.kept.runs
 
 pub returns-in_err-see_in-clause-files : goal.returns-in_err-see_in-clause-files
 returns-in_err-see_in-clause-files g c =
-    (kept_more g.D.Disk.Tells g.D.Disk.files g.D.Piece.Piece.Tells g.D.Disk.fault_count g.D.Disk.fuse_count c.args.self.now c.loop-replica.self c.see_in.new.self c.loop-replica.invariant.kept c.see_in.ensures.stands c.see_in.ensures.«open» c.see_in.ensures.counts c.see_in.ensures.same c.see_in.ensures.still c.see_in.ensures.runs c.see_in.ensures.files).bytes
+    (kept_more g.D.Disk.Tells g.D.Disk.files g.D.Piece.Piece.Tells g.D.Disk.fault_count g.D.Disk.fuse_count c.args.self.now c.loop-replica.self c.see_in.new.self
+    c.loop-replica.invariant.kept c.see_in.ensures.stands c.see_in.ensures.«open» c.see_in.ensures.counts c.see_in.ensures.same c.see_in.ensures.still c.see_in.ensures.runs
+    c.see_in.ensures.files).bytes
 
 pub returns-clause-files : goal.returns-clause-files
 returns-clause-files g c = c.loop-replica.invariant.kept.bytes

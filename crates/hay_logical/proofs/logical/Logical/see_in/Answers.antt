@@ -49,7 +49,8 @@ machine_of-machine-requires-clause-within g c =
 pub see_at-requires : goal.see_at-requires
 see_at-requires g c =
     let now = c.as_mut_slice.ensures.value in
-    let all : length c.self.inside.replicas.items ≡ c.self.inside.settings.replicas = ap (λ v. length v.replicas) c.self.view_is ∙ c.requires.«open».all ∙ ap (λ v. v.settings.replicas) (sym c.self.view_is) in
+    let all : length c.self.inside.replicas.items ≡ c.self.inside.settings.replicas =
+    ap (λ v. length v.replicas) c.self.view_is ∙ c.requires.«open».all ∙ ap (λ v. v.settings.replicas) (sym c.self.view_is) in
     let within : c.args.replica < c.self.inside.settings.replicas = subst (λ v. c.args.replica < v.settings.replicas) (sym c.self.view_is) c.requires.within in
     let most = (c.self.invariant.0).settings.most in
     let few = (c.self.invariant.0).count in
@@ -68,17 +69,22 @@ invariant_of-self g c =
     let now = c.as_mut_slice.ensures.value in
     let kept = with_items_is c.self.inside.replicas c.see_at.new.replicas (c.see_at.auto.replicas ∙ c.as_mut_slice.ensures.len) in
     let one : CallsOne c.args.replica c.self.inside.replicas.items c.see_at.new.replicas = subst (λ xs. CallsOne c.args.replica xs c.see_at.new.replicas) now c.see_at.ensures.one in
-    let sights : SightsAt g.D.Disk.Tells g.D.Disk.files g.D.Disk.fault_count g.D.Piece.Piece.Tells c.args.pair c.self.inside.rows c.see_at.new.rows c.args.replica one.before one.after c.see_at.result =
+    let sights : SightsAt g.D.Disk.Tells g.D.Disk.files g.D.Disk.fault_count g.D.Piece.Piece.Tells c.args.pair c.self.inside.rows c.see_at.new.rows c.args.replica one.before
+    one.after c.see_at.result =
     c.see_at.ensures.sights one.before one.after (subst (λ xs. At xs c.args.replica one.before) (sym now) one.was) (one_after c.args.replica c.self.inside.replicas.items c.see_at.new.replicas one) in
     let count = one_count c.args.replica c.self.inside.replicas.items c.see_at.new.replicas one in
     let each : (j : ℕ) (r r' : Copy g.row.D.Denot) → At c.self.inside.replicas.items j r → At c.see_at.new.replicas j r' → (r'.sup ≡ r.sup) × (is_frozen r' ≡ is_frozen r) =
     one_each (λ (x y : Copy g.row.D.Denot). (y.sup ≡ x.sup) × (is_frozen y ≡ is_frozen x)) c.args.replica c.self.inside.replicas.items c.see_at.new.replicas one
     (ap (λ (x : Copy g.row.D.Denot). x.sup) sights.copy, ap (λ (x : Copy g.row.D.Denot). is_frozen x) sights.copy) (λ x. (refl, refl)) in (
       subst (λ rs. IsShaped (volume_with c.self.inside.settings c.self.inside.number rs c.see_at.new.rows c.self.inside.front c.self.inside.frozen c.self.inside.unsure)) (sym kept)
-          (shaped_on c.self.inside.settings c.self.inside.number c.self.inside.replicas.items c.see_at.new.replicas c.self.inside.rows c.see_at.new.rows c.self.inside.front c.self.inside.front c.self.inside.frozen c.self.inside.frozen c.self.inside.unsure c.self.inside.unsure
-          c.self.invariant.0 (c.self.invariant.0).frozen_by (c.self.invariant.0).settled count (λ j r r' e f. (each j r r' e f).0) c.see_at.ensures.row.width (λ none j r r' e f. (each j r r' e f).1 ∙ (c.self.invariant.0).thawed none j r e)),
+          (shaped_on c.self.inside.settings c.self.inside.number c.self.inside.replicas.items c.see_at.new.replicas c.self.inside.rows c.see_at.new.rows c.self.inside.front
+          c.self.inside.front c.self.inside.frozen c.self.inside.frozen c.self.inside.unsure c.self.inside.unsure
+          c.self.invariant.0 (c.self.invariant.0).frozen_by (c.self.invariant.0).settled count (λ j r r' e f. (each j r r' e f).0) c.see_at.ensures.row.width
+          (λ none j r r' e f. (each j r r' e f).1 ∙ (c.self.invariant.0).thawed none j r e)),
       c.self.invariant.1,
-      subst (λ rs. CanReach g.D.Disk.Tells g.D.Disk.files g.D.Piece.Piece.Tells rs c.see_at.new.rows) (sym kept) (reach_seen g.D.Disk.Tells g.D.Disk.files g.D.Piece.Piece.Tells g.D.Disk.fault_count c.self.inside.replicas.items c.see_at.new.replicas c.self.inside.rows c.see_at.new.rows c.args.replica c.args.pair c.see_at.result one sights c.see_at.ensures.row c.self.invariant.2),
+      subst (λ rs. CanReach g.D.Disk.Tells g.D.Disk.files g.D.Piece.Piece.Tells rs c.see_at.new.rows) (sym kept)
+          (reach_seen g.D.Disk.Tells g.D.Disk.files g.D.Piece.Piece.Tells g.D.Disk.fault_count c.self.inside.replicas.items c.see_at.new.replicas c.self.inside.rows
+          c.see_at.new.rows c.args.replica c.args.pair c.see_at.result one sights c.see_at.ensures.row c.self.invariant.2),
     )
 
 pub returns-clause-stands : goal.returns-clause-stands
@@ -87,10 +93,14 @@ returns-clause-stands g c = λ tells k stands.
     let now = c.as_mut_slice.ensures.value in
     let kept = with_items_is c.self.inside.replicas c.see_at.new.replicas (c.see_at.auto.replicas ∙ c.as_mut_slice.ensures.len) in
     let one : CallsOne c.args.replica c.self.inside.replicas.items c.see_at.new.replicas = subst (λ xs. CallsOne c.args.replica xs c.see_at.new.replicas) now c.see_at.ensures.one in
-    let sights : SightsAt g.D.Disk.Tells g.D.Disk.files g.D.Disk.fault_count g.D.Piece.Piece.Tells c.args.pair c.self.inside.rows c.see_at.new.rows c.args.replica one.before one.after c.see_at.result =
+    let sights : SightsAt g.D.Disk.Tells g.D.Disk.files g.D.Disk.fault_count g.D.Piece.Piece.Tells c.args.pair c.self.inside.rows c.see_at.new.rows c.args.replica one.before
+    one.after c.see_at.result =
     c.see_at.ensures.sights one.before one.after (subst (λ xs. At xs c.args.replica one.before) (sym now) one.was) (one_after c.args.replica c.self.inside.replicas.items c.see_at.new.replicas one) in
-    subst (λ rs. StandsFor g.D.Disk.files g.D.Piece.Piece.Tells (volume_with c.self.inside.settings c.self.inside.number rs c.see_at.new.rows c.self.inside.front c.self.inside.frozen c.self.inside.unsure) k) (sym kept)
-    (saw g.D.Disk.Tells g.D.Disk.files g.D.Piece.Piece.Tells g.D.Disk.fault_count c.self.inside.replicas.items c.see_at.new.replicas c.self.inside.rows c.see_at.new.rows c.args.replica c.args.pair c.see_at.result one sights c.see_at.ensures.row tells c.self.invariant.2 c.self.inside.settings c.self.inside.number c.self.inside.front c.self.inside.frozen c.self.inside.unsure k (subst (λ v. StandsFor g.D.Disk.files g.D.Piece.Piece.Tells v k) (sym c.self.view_is) stands))
+    subst (λ rs. StandsFor g.D.Disk.files g.D.Piece.Piece.Tells (volume_with c.self.inside.settings c.self.inside.number rs c.see_at.new.rows c.self.inside.front
+    c.self.inside.frozen c.self.inside.unsure) k) (sym kept)
+    (saw g.D.Disk.Tells g.D.Disk.files g.D.Piece.Piece.Tells g.D.Disk.fault_count c.self.inside.replicas.items c.see_at.new.replicas c.self.inside.rows c.see_at.new.rows
+    c.args.replica c.args.pair c.see_at.result one sights c.see_at.ensures.row tells c.self.invariant.2 c.self.inside.settings c.self.inside.number c.self.inside.front
+    c.self.inside.frozen c.self.inside.unsure k (subst (λ v. StandsFor g.D.Disk.files g.D.Piece.Piece.Tells v k) (sym c.self.view_is) stands))
 
 pub returns-clause-known : goal.returns-clause-known
 unfolding Stands
@@ -98,14 +108,22 @@ returns-clause-known g c = λ tells k stands.
     let now = c.as_mut_slice.ensures.value in
     let kept = with_items_is c.self.inside.replicas c.see_at.new.replicas (c.see_at.auto.replicas ∙ c.as_mut_slice.ensures.len) in
     let one : CallsOne c.args.replica c.self.inside.replicas.items c.see_at.new.replicas = subst (λ xs. CallsOne c.args.replica xs c.see_at.new.replicas) now c.see_at.ensures.one in
-    let sights : SightsAt g.D.Disk.Tells g.D.Disk.files g.D.Disk.fault_count g.D.Piece.Piece.Tells c.args.pair c.self.inside.rows c.see_at.new.rows c.args.replica one.before one.after c.see_at.result =
+    let sights : SightsAt g.D.Disk.Tells g.D.Disk.files g.D.Disk.fault_count g.D.Piece.Piece.Tells c.args.pair c.self.inside.rows c.see_at.new.rows c.args.replica one.before
+    one.after c.see_at.result =
     c.see_at.ensures.sights one.before one.after (subst (λ xs. At xs c.args.replica one.before) (sym now) one.was) (one_after c.args.replica c.self.inside.replicas.items c.see_at.new.replicas one) in
     elim c.match-see_at.branch [
       | in-Ok w ↦
-          let seen : IsSeen (place_in (row_at c.see_at.new.rows c.args.pair) c.args.replica) = subst (λ x. OnOk x (IsSeen (place_in (row_at c.see_at.new.rows c.args.pair) c.args.replica))) w.in-Ok.is sights.seen in
-          let is : StandsFor g.D.Disk.files g.D.Piece.Piece.Tells (volume_with c.self.inside.settings c.self.inside.number c.self.inside.replicas.items c.self.inside.rows c.self.inside.front c.self.inside.frozen c.self.inside.unsure) k = (subst (λ v. StandsFor g.D.Disk.files g.D.Piece.Piece.Tells v k) (sym c.self.view_is) stands) in
-          subst (λ r. OnOk r ((c.self.inside.front ≡ length k.log) × PlaceMeans g.D.Piece.Piece.Tells c.args.pair (place_in (row_at c.see_at.new.rows c.args.pair) c.args.replica) (outcome_at (legal.now k (replica_at k c.args.replica)) c.args.pair))) (sym w.result-is)
-          (is.front, (known_seen g.D.Disk.Tells g.D.Disk.files g.D.Piece.Piece.Tells g.D.Disk.fault_count c.self.inside.replicas.items c.see_at.new.replicas c.self.inside.rows c.see_at.new.rows c.args.replica c.args.pair c.see_at.result one sights c.see_at.ensures.row tells c.self.invariant.2 c.self.inside.settings c.self.inside.number c.self.inside.front c.self.inside.frozen c.self.inside.unsure g.D.Disk.fuse_count k is seen))
+          let seen : IsSeen (place_in (row_at c.see_at.new.rows c.args.pair) c.args.replica) =
+          subst (λ x. OnOk x (IsSeen (place_in (row_at c.see_at.new.rows c.args.pair) c.args.replica))) w.in-Ok.is sights.seen in
+          let is : StandsFor g.D.Disk.files g.D.Piece.Piece.Tells (volume_with c.self.inside.settings c.self.inside.number c.self.inside.replicas.items c.self.inside.rows
+          c.self.inside.front c.self.inside.frozen c.self.inside.unsure) k = (subst (λ v. StandsFor g.D.Disk.files g.D.Piece.Piece.Tells v k) (sym c.self.view_is) stands) in
+          subst (λ r. OnOk r ((c.self.inside.front ≡ length k.log) × PlaceMeans g.D.Piece.Piece.Tells c.args.pair (place_in (row_at c.see_at.new.rows c.args.pair) c.args.replica)
+          (outcome_at (legal.now k (replica_at k c.args.replica)) c.args.pair))) (sym w.result-is) (
+            is.front,
+            (known_seen g.D.Disk.Tells g.D.Disk.files g.D.Piece.Piece.Tells g.D.Disk.fault_count c.self.inside.replicas.items c.see_at.new.replicas c.self.inside.rows
+                c.see_at.new.rows c.args.replica c.args.pair c.see_at.result one sights c.see_at.ensures.row tells c.self.invariant.2 c.self.inside.settings c.self.inside.number
+                c.self.inside.front c.self.inside.frozen c.self.inside.unsure g.D.Disk.fuse_count k is seen),
+          )
       | in-Err w ↦ rw w.result-is tt
     ]
 
@@ -115,13 +133,16 @@ returns-clause-undamaged g c = λ tells k stands m at e.
     let now = c.as_mut_slice.ensures.value in
     let kept = with_items_is c.self.inside.replicas c.see_at.new.replicas (c.see_at.auto.replicas ∙ c.as_mut_slice.ensures.len) in
     let one : CallsOne c.args.replica c.self.inside.replicas.items c.see_at.new.replicas = subst (λ xs. CallsOne c.args.replica xs c.see_at.new.replicas) now c.see_at.ensures.one in
-    let sights : SightsAt g.D.Disk.Tells g.D.Disk.files g.D.Disk.fault_count g.D.Piece.Piece.Tells c.args.pair c.self.inside.rows c.see_at.new.rows c.args.replica one.before one.after c.see_at.result =
+    let sights : SightsAt g.D.Disk.Tells g.D.Disk.files g.D.Disk.fault_count g.D.Piece.Piece.Tells c.args.pair c.self.inside.rows c.see_at.new.rows c.args.replica one.before
+    one.after c.see_at.result =
     c.see_at.ensures.sights one.before one.after (subst (λ xs. At xs c.args.replica one.before) (sym now) one.was) (one_after c.args.replica c.self.inside.replicas.items c.see_at.new.replicas one) in
     elim c.match-see_at.branch [
       | in-Ok w ↦ let wrong = sym w.result-is ∙ e in cc
       | in-Err w ↦
           let is = damaged_answer c.machine_of-machine.result w.in-Err.fault m at (sym w.answer_at.ensures ∙ (let same = sym w.result-is ∙ e in cc)) in
-          seen_whole g.D.Disk.Tells g.D.Disk.files g.D.Piece.Piece.Tells g.D.Disk.fault_count c.self.inside.replicas.items c.see_at.new.replicas c.self.inside.rows c.see_at.new.rows c.args.replica c.args.pair c.see_at.result one sights c.see_at.ensures.row tells c.self.inside.settings c.self.inside.number c.self.inside.front c.self.inside.frozen c.self.inside.unsure g.D.Disk.fuse_count k (subst (λ v. StandsFor g.D.Disk.files g.D.Piece.Piece.Tells v k) (sym c.self.view_is) stands) at
+          seen_whole g.D.Disk.Tells g.D.Disk.files g.D.Piece.Piece.Tells g.D.Disk.fault_count c.self.inside.replicas.items c.see_at.new.replicas c.self.inside.rows
+          c.see_at.new.rows c.args.replica c.args.pair c.see_at.result one sights c.see_at.ensures.row tells c.self.inside.settings c.self.inside.number c.self.inside.front
+          c.self.inside.frozen c.self.inside.unsure g.D.Disk.fuse_count k (subst (λ v. StandsFor g.D.Disk.files g.D.Piece.Piece.Tells v k) (sym c.self.view_is) stands) at
           (w.in-Err.is ∙ ap (λ (f : ReplicaFault). Err f) is)
     ]
 
@@ -130,11 +151,13 @@ returns-clause-seen g c =
     let now = c.as_mut_slice.ensures.value in
     let kept = with_items_is c.self.inside.replicas c.see_at.new.replicas (c.see_at.auto.replicas ∙ c.as_mut_slice.ensures.len) in
     let one : CallsOne c.args.replica c.self.inside.replicas.items c.see_at.new.replicas = subst (λ xs. CallsOne c.args.replica xs c.see_at.new.replicas) now c.see_at.ensures.one in
-    let sights : SightsAt g.D.Disk.Tells g.D.Disk.files g.D.Disk.fault_count g.D.Piece.Piece.Tells c.args.pair c.self.inside.rows c.see_at.new.rows c.args.replica one.before one.after c.see_at.result =
+    let sights : SightsAt g.D.Disk.Tells g.D.Disk.files g.D.Disk.fault_count g.D.Piece.Piece.Tells c.args.pair c.self.inside.rows c.see_at.new.rows c.args.replica one.before
+    one.after c.see_at.result =
     c.see_at.ensures.sights one.before one.after (subst (λ xs. At xs c.args.replica one.before) (sym now) one.was) (one_after c.args.replica c.self.inside.replicas.items c.see_at.new.replicas one) in
     elim c.match-see_at.branch [
       | in-Ok w ↦
-          let seen : IsSeen (place_in (row_at c.see_at.new.rows c.args.pair) c.args.replica) = subst (λ x. OnOk x (IsSeen (place_in (row_at c.see_at.new.rows c.args.pair) c.args.replica))) w.in-Ok.is sights.seen in
+          let seen : IsSeen (place_in (row_at c.see_at.new.rows c.args.pair) c.args.replica) =
+          subst (λ x. OnOk x (IsSeen (place_in (row_at c.see_at.new.rows c.args.pair) c.args.replica))) w.in-Ok.is sights.seen in
           subst (λ r. OnOk r (IsSeen (place_in (row_at c.see_at.new.rows c.args.pair) c.args.replica))) (sym w.result-is) seen
       | in-Err w ↦ rw w.result-is tt
     ]
@@ -143,7 +166,8 @@ pub returns-clause-row : goal.returns-clause-row
 returns-clause-row g c = elim c.match-see_at.branch [
   | in-Ok w ↦
       let set : SetsPlaceAt c.args.pair c.args.replica (place_in (row_at c.see_at.new.rows c.args.pair) c.args.replica) c.self.inside.rows c.see_at.new.rows =
-      subst (λ x. OnOk x (SetsPlaceAt c.args.pair c.args.replica (place_in (row_at c.see_at.new.rows c.args.pair) c.args.replica) c.self.inside.rows c.see_at.new.rows)) w.in-Ok.is c.see_at.ensures.row.set in
+      subst (λ x. OnOk x (SetsPlaceAt c.args.pair c.args.replica (place_in (row_at c.see_at.new.rows c.args.pair) c.args.replica) c.self.inside.rows c.see_at.new.rows)) w.in-Ok.is
+      c.see_at.ensures.row.set in
       subst (λ r. OnOk r (SetsPlaceAt c.args.pair c.args.replica (place_in (row_at c.see_at.new.rows c.args.pair) c.args.replica) c.args.self.now.rows c.see_at.new.rows)) (sym w.result-is)
       (subst (λ v. SetsPlaceAt c.args.pair c.args.replica (place_in (row_at c.see_at.new.rows c.args.pair) c.args.replica) v.rows c.see_at.new.rows) c.self.view_is set)
   | in-Err w ↦ rw w.result-is tt
@@ -163,18 +187,21 @@ returns-clause-causes g c =
     let now = c.as_mut_slice.ensures.value in
     let kept = with_items_is c.self.inside.replicas c.see_at.new.replicas (c.see_at.auto.replicas ∙ c.as_mut_slice.ensures.len) in
     let one : CallsOne c.args.replica c.self.inside.replicas.items c.see_at.new.replicas = subst (λ xs. CallsOne c.args.replica xs c.see_at.new.replicas) now c.see_at.ensures.one in
-    let sights : SightsAt g.D.Disk.Tells g.D.Disk.files g.D.Disk.fault_count g.D.Piece.Piece.Tells c.args.pair c.self.inside.rows c.see_at.new.rows c.args.replica one.before one.after c.see_at.result =
+    let sights : SightsAt g.D.Disk.Tells g.D.Disk.files g.D.Disk.fault_count g.D.Piece.Piece.Tells c.args.pair c.self.inside.rows c.see_at.new.rows c.args.replica one.before
+    one.after c.see_at.result =
     c.see_at.ensures.sights one.before one.after (subst (λ xs. At xs c.args.replica one.before) (sym now) one.was) (one_after c.args.replica c.self.inside.replicas.items c.see_at.new.replicas one) in
     let within : c.args.replica < c.self.inside.settings.replicas = subst (λ v. c.args.replica < v.settings.replicas) (sym c.self.view_is) c.requires.within in
     elim c.match-see_at.branch [
       | in-Ok w ↦ rw w.result-is tt
       | in-Err w ↦
           let cause = subst (λ x. IfErr x (physical_faults.IsSightFault (g.D.Disk.fault_count (one.before).disk) (g.D.Disk.fault_count (one.after).disk))) w.in-Err.is sights.cause in
-          subst (λ r. IfErr r (answers.IsSightFault g.D.Disk.fault_count c.args.self.now.settings c.args.self.now.number c.args.self.now.replicas (with_items c.self.inside.replicas c.see_at.new.replicas).items)) (sym w.result-is)
+          subst (λ r. IfErr r (answers.IsSightFault g.D.Disk.fault_count c.args.self.now.settings c.args.self.now.number c.args.self.now.replicas
+          (with_items c.self.inside.replicas c.see_at.new.replicas).items)) (sym w.result-is)
           (subst (λ v. answers.IsSightFault g.D.Disk.fault_count v.settings v.number v.replicas (with_items c.self.inside.replicas c.see_at.new.replicas).items w.answer_at.result) c.self.view_is
           (subst (λ rs. answers.IsSightFault g.D.Disk.fault_count c.self.inside.settings c.self.inside.number c.self.inside.replicas.items rs w.answer_at.result) (sym kept)
           (subst (λ f. answers.IsSightFault g.D.Disk.fault_count c.self.inside.settings c.self.inside.number c.self.inside.replicas.items c.see_at.new.replicas f) (sym w.answer_at.ensures)
-          (sight_cause g.D.Disk.fault_count c.self.inside.settings c.self.inside.number c.self.inside.replicas.items c.see_at.new.replicas c.args.replica c.machine_of-machine.result w.in-Err.fault within c.machine_of-machine.ensures one cause))))
+          (sight_cause g.D.Disk.fault_count c.self.inside.settings c.self.inside.number c.self.inside.replicas.items c.see_at.new.replicas c.args.replica
+          c.machine_of-machine.result w.in-Err.fault within c.machine_of-machine.ensures one cause))))
     ]
 
 pub returns-clause-open : goal.returns-clause-open
@@ -182,7 +209,8 @@ returns-clause-open g c =
     let now = c.as_mut_slice.ensures.value in
     let kept = with_items_is c.self.inside.replicas c.see_at.new.replicas (c.see_at.auto.replicas ∙ c.as_mut_slice.ensures.len) in
     let one : CallsOne c.args.replica c.self.inside.replicas.items c.see_at.new.replicas = subst (λ xs. CallsOne c.args.replica xs c.see_at.new.replicas) now c.see_at.ensures.one in
-    let sights : SightsAt g.D.Disk.Tells g.D.Disk.files g.D.Disk.fault_count g.D.Piece.Piece.Tells c.args.pair c.self.inside.rows c.see_at.new.rows c.args.replica one.before one.after c.see_at.result =
+    let sights : SightsAt g.D.Disk.Tells g.D.Disk.files g.D.Disk.fault_count g.D.Piece.Piece.Tells c.args.pair c.self.inside.rows c.see_at.new.rows c.args.replica one.before
+    one.after c.see_at.result =
     c.see_at.ensures.sights one.before one.after (subst (λ xs. At xs c.args.replica one.before) (sym now) one.was) (one_after c.args.replica c.self.inside.replicas.items c.see_at.new.replicas one) in
     let count = one_count c.args.replica c.self.inside.replicas.items c.see_at.new.replicas one in
     let each : (j : ℕ) (r r' : Copy g.row.D.Denot) → At c.self.inside.replicas.items j r → At c.see_at.new.replicas j r' → IsOpenCopy r → IsOpenCopy r' =
@@ -210,7 +238,8 @@ returns-clause-same g c =
     let now = c.as_mut_slice.ensures.value in
     let kept = with_items_is c.self.inside.replicas c.see_at.new.replicas (c.see_at.auto.replicas ∙ c.as_mut_slice.ensures.len) in
     let one : CallsOne c.args.replica c.self.inside.replicas.items c.see_at.new.replicas = subst (λ xs. CallsOne c.args.replica xs c.see_at.new.replicas) now c.see_at.ensures.one in
-    let sights : SightsAt g.D.Disk.Tells g.D.Disk.files g.D.Disk.fault_count g.D.Piece.Piece.Tells c.args.pair c.self.inside.rows c.see_at.new.rows c.args.replica one.before one.after c.see_at.result =
+    let sights : SightsAt g.D.Disk.Tells g.D.Disk.files g.D.Disk.fault_count g.D.Piece.Piece.Tells c.args.pair c.self.inside.rows c.see_at.new.rows c.args.replica one.before
+    one.after c.see_at.result =
     c.see_at.ensures.sights one.before one.after (subst (λ xs. At xs c.args.replica one.before) (sym now) one.was) (one_after c.args.replica c.self.inside.replicas.items c.see_at.new.replicas one) in
     same_by _ _ _ _ c.self.view_is refl refl kept
     (one_each (λ (x y : Copy g.row.D.Denot). y.sup ≡ x.sup) c.args.replica c.self.inside.replicas.items c.see_at.new.replicas one (ap (λ (x : Copy g.row.D.Denot). x.sup) sights.copy) (λ x. refl))
@@ -245,9 +274,11 @@ returns-clause-runs g c = λ j r r' e f.
     let now = c.as_mut_slice.ensures.value in
     let kept = with_items_is c.self.inside.replicas c.see_at.new.replicas (c.see_at.auto.replicas ∙ c.as_mut_slice.ensures.len) in
     let one : CallsOne c.args.replica c.self.inside.replicas.items c.see_at.new.replicas = subst (λ xs. CallsOne c.args.replica xs c.see_at.new.replicas) now c.see_at.ensures.one in
-    let sights : SightsAt g.D.Disk.Tells g.D.Disk.files g.D.Disk.fault_count g.D.Piece.Piece.Tells c.args.pair c.self.inside.rows c.see_at.new.rows c.args.replica one.before one.after c.see_at.result =
+    let sights : SightsAt g.D.Disk.Tells g.D.Disk.files g.D.Disk.fault_count g.D.Piece.Piece.Tells c.args.pair c.self.inside.rows c.see_at.new.rows c.args.replica one.before
+    one.after c.see_at.result =
     c.see_at.ensures.sights one.before one.after (subst (λ xs. At xs c.args.replica one.before) (sym now) one.was) (one_after c.args.replica c.self.inside.replicas.items c.see_at.new.replicas one) in
-    one_each (λ (x y : Copy g.row.D.Denot). goal_of y ≡ goal_of x) c.args.replica c.self.inside.replicas.items c.see_at.new.replicas one (ap (λ (x : Copy g.row.D.Denot). goal_of x) sights.copy) (λ x. refl)
+    one_each (λ (x y : Copy g.row.D.Denot). goal_of y ≡ goal_of x) c.args.replica c.self.inside.replicas.items c.see_at.new.replicas one
+    (ap (λ (x : Copy g.row.D.Denot). goal_of x) sights.copy) (λ x. refl)
     j r r' (subst (λ v. At v.replicas j r) (sym c.self.view_is) e) (subst (λ xs. At xs j r') kept f)
 
 pub returns-clause-files : goal.returns-clause-files
@@ -255,7 +286,8 @@ returns-clause-files g c =
     let now = c.as_mut_slice.ensures.value in
     let kept = with_items_is c.self.inside.replicas c.see_at.new.replicas (c.see_at.auto.replicas ∙ c.as_mut_slice.ensures.len) in
     let one : CallsOne c.args.replica c.self.inside.replicas.items c.see_at.new.replicas = subst (λ xs. CallsOne c.args.replica xs c.see_at.new.replicas) now c.see_at.ensures.one in
-    let sights : SightsAt g.D.Disk.Tells g.D.Disk.files g.D.Disk.fault_count g.D.Piece.Piece.Tells c.args.pair c.self.inside.rows c.see_at.new.rows c.args.replica one.before one.after c.see_at.result =
+    let sights : SightsAt g.D.Disk.Tells g.D.Disk.files g.D.Disk.fault_count g.D.Piece.Piece.Tells c.args.pair c.self.inside.rows c.see_at.new.rows c.args.replica one.before
+    one.after c.see_at.result =
     c.see_at.ensures.sights one.before one.after (subst (λ xs. At xs c.args.replica one.before) (sym now) one.was) (one_after c.args.replica c.self.inside.replicas.items c.see_at.new.replicas one) in
     subst (λ (v : Volume g.row.D.Denot g.row.D-Piece.Denot). KeepsFiles g.D.Disk.Tells g.D.Disk.files v.replicas (with_items c.self.inside.replicas c.see_at.new.replicas).items) c.self.view_is
     (subst (KeepsFiles g.D.Disk.Tells g.D.Disk.files c.self.inside.replicas.items) (sym kept)
@@ -268,7 +300,8 @@ returns-clause-stuck g c = λ j r r' e f.
     let one : CallsOne c.args.replica c.self.inside.replicas.items c.see_at.new.replicas = subst (λ xs. CallsOne c.args.replica xs c.see_at.new.replicas) now c.see_at.ensures.one in
     let step : SightsAt g.D.Disk.Tells g.D.Disk.files g.D.Disk.fault_count g.D.Piece.Piece.Tells c.args.pair c.self.inside.rows c.see_at.new.rows c.args.replica one.before one.after c.see_at.result =
     c.see_at.ensures.sights one.before one.after (subst (λ xs. At xs c.args.replica one.before) (sym now) one.was) (one_after c.args.replica c.self.inside.replicas.items c.see_at.new.replicas one) in
-    one_each (λ (x y : Copy g.row.D.Denot). is_stuck y ≡ is_stuck x) c.args.replica c.self.inside.replicas.items c.see_at.new.replicas one (ap (λ (x : Copy g.row.D.Denot). is_stuck x) step.copy) (λ x. refl)
+    one_each (λ (x y : Copy g.row.D.Denot). is_stuck y ≡ is_stuck x) c.args.replica c.self.inside.replicas.items c.see_at.new.replicas one
+    (ap (λ (x : Copy g.row.D.Denot). is_stuck x) step.copy) (λ x. refl)
     j r r' (subst (λ v. At v.replicas j r) (sym c.self.view_is) e) (subst (λ xs. At xs j r') kept f)
 
 pub returns-clause-tight : goal.returns-clause-tight
@@ -277,10 +310,12 @@ returns-clause-tight g c = λ tells k stands j tight r' f.
     let now = c.as_mut_slice.ensures.value in
     let kept = with_items_is c.self.inside.replicas c.see_at.new.replicas (c.see_at.auto.replicas ∙ c.as_mut_slice.ensures.len) in
     let one : CallsOne c.args.replica c.self.inside.replicas.items c.see_at.new.replicas = subst (λ xs. CallsOne c.args.replica xs c.see_at.new.replicas) now c.see_at.ensures.one in
-    let sights : SightsAt g.D.Disk.Tells g.D.Disk.files g.D.Disk.fault_count g.D.Piece.Piece.Tells c.args.pair c.self.inside.rows c.see_at.new.rows c.args.replica one.before one.after c.see_at.result =
+    let sights : SightsAt g.D.Disk.Tells g.D.Disk.files g.D.Disk.fault_count g.D.Piece.Piece.Tells c.args.pair c.self.inside.rows c.see_at.new.rows c.args.replica one.before
+    one.after c.see_at.result =
     c.see_at.ensures.sights one.before one.after (subst (λ xs. At xs c.args.replica one.before) (sym now) one.was) (one_after c.args.replica c.self.inside.replicas.items c.see_at.new.replicas one) in
     tight_one g.D.Disk.files c.args.replica c.self.inside.replicas.items c.see_at.new.replicas one
-    (tight_seen c.self.inside.settings c.self.inside.number g.D.Disk.Tells g.D.Disk.files g.D.Piece.Piece.Tells g.D.Disk.fault_count c.self.inside.replicas.items c.self.inside.rows c.see_at.new.rows c.self.inside.front c.self.inside.unsure k tells
+    (tight_seen c.self.inside.settings c.self.inside.number g.D.Disk.Tells g.D.Disk.files g.D.Piece.Piece.Tells g.D.Disk.fault_count c.self.inside.replicas.items c.self.inside.rows
+    c.see_at.new.rows c.self.inside.front c.self.inside.unsure k tells
     c.self.inside.frozen (subst (λ v. StandsFor g.D.Disk.files g.D.Piece.Piece.Tells v k) (sym c.self.view_is) stands) c.args.replica one.before one.after c.args.pair c.see_at.result one.was sights)
     j (λ r e. tight r (subst (λ v. At v.replicas j r) c.self.view_is e)) r' (subst (λ xs. At xs j r') kept f)
 
@@ -289,7 +324,8 @@ returns-clause-unchanged g c =
     let now = c.as_mut_slice.ensures.value in
     let kept = with_items_is c.self.inside.replicas c.see_at.new.replicas (c.see_at.auto.replicas ∙ c.as_mut_slice.ensures.len) in
     let one : CallsOne c.args.replica c.self.inside.replicas.items c.see_at.new.replicas = subst (λ xs. CallsOne c.args.replica xs c.see_at.new.replicas) now c.see_at.ensures.one in
-    let sights : SightsAt g.D.Disk.Tells g.D.Disk.files g.D.Disk.fault_count g.D.Piece.Piece.Tells c.args.pair c.self.inside.rows c.see_at.new.rows c.args.replica one.before one.after c.see_at.result =
+    let sights : SightsAt g.D.Disk.Tells g.D.Disk.files g.D.Disk.fault_count g.D.Piece.Piece.Tells c.args.pair c.self.inside.rows c.see_at.new.rows c.args.replica one.before
+    one.after c.see_at.result =
     c.see_at.ensures.sights one.before one.after (subst (λ xs. At xs c.args.replica one.before) (sym now) one.was) (one_after c.args.replica c.self.inside.replicas.items c.see_at.new.replicas one) in
     same_one c.args.replica c.self.inside.settings c.self.inside.number c.self.inside.replicas.items c.see_at.new.replicas c.self.inside.rows c.self.inside.front c.self.inside.frozen
     c.self.inside.unsure one c.args.self.now c.self.view_is
@@ -359,7 +395,8 @@ pub returns-clause-refused_sights : goal.returns-clause-refused_sights
 returns-clause-refused_sights g c =
     let now = c.as_mut_slice.ensures.value in
     let one : CallsOne c.args.replica c.self.inside.replicas.items c.see_at.new.replicas = subst (λ xs. CallsOne c.args.replica xs c.see_at.new.replicas) now c.see_at.ensures.one in
-    let sights : SightsAt g.D.Disk.Tells g.D.Disk.files g.D.Disk.fault_count g.D.Piece.Piece.Tells c.args.pair c.self.inside.rows c.see_at.new.rows c.args.replica one.before one.after c.see_at.result =
+    let sights : SightsAt g.D.Disk.Tells g.D.Disk.files g.D.Disk.fault_count g.D.Piece.Piece.Tells c.args.pair c.self.inside.rows c.see_at.new.rows c.args.replica one.before
+    one.after c.see_at.result =
     c.see_at.ensures.sights one.before one.after (subst (λ xs. At xs c.args.replica one.before) (sym now) one.was) (one_after c.args.replica c.self.inside.replicas.items c.see_at.new.replicas one) in
     let within : c.args.replica < c.self.inside.settings.replicas = subst (λ v. c.args.replica < v.settings.replicas) (sym c.self.view_is) c.requires.within in
     elim c.match-see_at.branch [

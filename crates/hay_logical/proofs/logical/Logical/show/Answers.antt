@@ -19,16 +19,20 @@ give_row-requires g c =
 pub invariant_of-self : goal.invariant_of-self
 invariant_of-self g c =
     let fits = subst (λ v. IsWrittenFor g.D.Disk.Tells g.D.Disk.files g.D.Piece.Piece.Tells c.args.written v) (sym c.self.view_is) c.requires in (
-      shaped_on c.self.inside.settings c.self.inside.number c.self.inside.replicas.items c.self.inside.replicas.items c.self.inside.rows c.give_row.new.rows c.self.inside.front c.args.written.position c.self.inside.frozen c.self.inside.frozen c.self.inside.unsure c.self.inside.unsure
-          c.self.invariant.0 (c.self.invariant.0).frozen_by (c.self.invariant.0).settled refl (λ j r r' e f. ap (λ x. x.sup) (at_same c.self.inside.replicas.items j r' r f e)) c.give_row.ensures.replicas (λ none j r r' e f. (c.self.invariant.0).thawed none j r' f),
+      shaped_on c.self.inside.settings c.self.inside.number c.self.inside.replicas.items c.self.inside.replicas.items c.self.inside.rows c.give_row.new.rows c.self.inside.front
+          c.args.written.position c.self.inside.frozen c.self.inside.frozen c.self.inside.unsure c.self.inside.unsure
+          c.self.invariant.0 (c.self.invariant.0).frozen_by (c.self.invariant.0).settled refl (λ j r r' e f. ap (λ x. x.sup) (at_same c.self.inside.replicas.items j r' r f e))
+          c.give_row.ensures.replicas (λ none j r r' e f. (c.self.invariant.0).thawed none j r' f),
       c.self.invariant.1,
       fits.reach c.give_row.new.rows c.give_row.ensures,
     )
 
 pub returns-clause-put : goal.returns-clause-put
 returns-clause-put g c = λ tells k tag pair cookie bytes is.
-    put_shown c.self.inside.settings c.self.inside.number g.D.Disk.Tells g.D.Disk.files g.D.Piece.Piece.Tells g.D.Disk.fault_count g.D.Disk.fuse_count c.self.inside.replicas.items c.self.inside.rows c.give_row.new.rows c.self.inside.front c.args.written.position
-    c.self.inside.frozen c.self.inside.unsure k tag pair cookie bytes c.args.written (subst (λ v. IsWritten g.D.Disk.files g.D.Piece.Piece.Tells k pair cookie bytes c.args.written v) (sym c.self.view_is) is) refl c.give_row.ensures.rows
+    put_shown c.self.inside.settings c.self.inside.number g.D.Disk.Tells g.D.Disk.files g.D.Piece.Piece.Tells g.D.Disk.fault_count g.D.Disk.fuse_count c.self.inside.replicas.items
+    c.self.inside.rows c.give_row.new.rows c.self.inside.front c.args.written.position
+    c.self.inside.frozen c.self.inside.unsure k tag pair cookie bytes c.args.written (subst
+    (λ v. IsWritten g.D.Disk.files g.D.Piece.Piece.Tells k pair cookie bytes c.args.written v) (sym c.self.view_is) is) refl c.give_row.ensures.rows
 
 pub returns-clause-rows : goal.returns-clause-rows
 returns-clause-rows g c = subst (λ v. ChangesRows (op.Put c.args.written.pair c.args.written.row) v.rows c.give_row.new.rows) c.self.view_is c.give_row.ensures
@@ -41,6 +45,7 @@ returns-clause-sights g c =
     let fits = subst (λ v. IsWrittenFor g.D.Disk.Tells g.D.Disk.files g.D.Piece.Piece.Tells c.args.written v) (sym c.self.view_is) c.requires in
     let long = fits.long in
     let width = (c.self.invariant.0).width in
-    subst (λ v. (replicas : List ReplicaSeen) → length replicas ≡ v.settings.replicas → AreEnds c.args.written.ends replicas → StoresSights c.args.written.pair replicas (sights_of v.rows) (sights_of c.give_row.new.rows)) c.self.view_is
+    subst (λ v. (replicas : List ReplicaSeen) → length replicas ≡ v.settings.replicas → AreEnds c.args.written.ends replicas
+    → StoresSights c.args.written.pair replicas (sights_of v.rows) (sights_of c.give_row.new.rows)) c.self.view_is
     (stores_sights c.self.inside.rows c.give_row.new.rows c.args.written.pair c.args.written.row c.self.inside.settings.replicas c.args.written.ends c.give_row.ensures.rows
     (λ j h. fits.live j (let less : j < length c.args.written.row = omega (arith, h, long, width) in less)))

@@ -24,15 +24,18 @@ there g c =
 pub returns-clause-is : goal.returns-clause-is
 returns-clause-is g c = λ r e.
     let here : Copy g.row.D.Denot = c.index-as_slice-replica.result in
-    let is : r ≡ here = at_same c.self.inside.replicas.items c.args.replica r here (subst (λ v. At v.replicas c.args.replica r) (sym c.self.view_is) e) (there g (goal.at.returns-clause-is g c).After-standing) in
+    let is : r ≡ here =
+    at_same c.self.inside.replicas.items c.args.replica r here (subst (λ v. At v.replicas c.args.replica r) (sym c.self.view_is) e) (there g (goal.at.returns-clause-is g c).After-standing) in
     c.standing.ensures.is ∙ ap (λ (x : Copy g.row.D.Denot). goal_of x) (sym is)
 
 pub returns-clause-known : goal.returns-clause-known
 unfolding Stands
 returns-clause-known g c = λ tells k stands.
     c.standing.ensures.is
-    ∙ standing_known c.self.inside.settings c.self.inside.number g.D.Disk.Tells g.D.Disk.files g.D.Piece.Piece.Tells g.D.Disk.fault_count c.self.inside.replicas.items c.self.inside.rows c.self.inside.front c.self.inside.frozen c.self.inside.unsure k
-    (subst (λ v. StandsFor g.D.Disk.files g.D.Piece.Piece.Tells v k) (sym c.self.view_is) stands) c.args.replica c.index-as_slice-replica.result (there g (goal.at.returns-clause-known g c).After-standing)
+    ∙ standing_known c.self.inside.settings c.self.inside.number g.D.Disk.Tells g.D.Disk.files g.D.Piece.Piece.Tells g.D.Disk.fault_count c.self.inside.replicas.items
+    c.self.inside.rows c.self.inside.front c.self.inside.frozen c.self.inside.unsure k
+    (subst (λ v. StandsFor g.D.Disk.files g.D.Piece.Piece.Tells v k) (sym c.self.view_is) stands) c.args.replica c.index-as_slice-replica.result
+    (there g (goal.at.returns-clause-known g c).After-standing)
 
 pub returns-clause-next : goal.returns-clause-next
 returns-clause-next g c =

@@ -62,7 +62,8 @@ step_at-requires g c =
     let thawed = not_some c.self.inside.frozen c.in_default.not-Some in
     let up : (j : ℕ) (r : Copy g.row.D.Denot) → At c.self.inside.replicas.items j r → IsUp r =
     λ j r e. open_up r (c.requires.«open».each j r (subst (λ v. At v.replicas j r) c.self.view_is e)) ((c.self.invariant.0).thawed thawed j r e) in
-    let all : length c.self.inside.replicas.items ≡ c.self.inside.settings.replicas = ap (λ v. length v.replicas) c.self.view_is ∙ c.requires.«open».all ∙ ap (λ v. v.settings.replicas) (sym c.self.view_is) in
+    let all : length c.self.inside.replicas.items ≡ c.self.inside.settings.replicas =
+    ap (λ v. length v.replicas) c.self.view_is ∙ c.requires.«open».all ∙ ap (λ v. v.settings.replicas) (sym c.self.view_is) in
     let within : c.args.replica < c.self.inside.settings.replicas = subst (λ v. c.args.replica < v.settings.replicas) (sym c.self.view_is) c.requires.within in
     let most = (c.self.invariant.0).settings.most in
     let few = (c.self.invariant.0).count in
@@ -71,7 +72,9 @@ step_at-requires g c =
       most = (let n : length c.as_mut_slice.result.now ≤ 4 = omega (arith, most, few, long) in n);
       width = (c.self.invariant.0).width ∙ sym all ∙ sym long;
       up = (λ j r e. up j r (subst (λ xs. At xs j r) now e));
-      standing = (λ r e none. stands_there c.standing.result c.is_none.result c.is_none.ensures c.if-is_none.false (c.standing.ensures.is r (subst (λ v. At v.replicas c.args.replica r) c.self.view_is (subst (λ xs. At xs c.args.replica r) now e)) ∙ none));
+      standing =
+          (λ r e none. stands_there c.standing.result c.is_none.result c.is_none.ensures c.if-is_none.false
+          (c.standing.ensures.is r (subst (λ v. At v.replicas c.args.replica r) c.self.view_is (subst (λ xs. At xs c.args.replica r) now e)) ∙ none));
     }
 
 pub invariant_of-self : goal.invariant_of-self
@@ -85,12 +88,15 @@ invariant_of-self g c =
     λ j r e. open_up r (c.requires.«open».each j r (subst (λ v. At v.replicas j r) c.self.view_is e)) ((c.self.invariant.0).thawed thawed j r e) in
     let step : StepsAt g.D.Disk.Tells g.D.Disk.files g.D.Disk.fault_count g.D.Piece.Piece.Tells c.self.inside.rows c.args.replica c.args.cells one.before one.after c.step_at.result =
     c.step_at.ensures.steps one.before one.after (subst (λ xs. At xs c.args.replica one.before) (sym now) one.was) (one_after c.args.replica c.self.inside.replicas.items c.step_at.new.replicas one) in
-    let each : (j : ℕ) (r r' : Copy g.row.D.Denot) → At c.self.inside.replicas.items j r → At c.step_at.new.replicas j r' → (IsUp r → IsUp r') × (r'.sup ≡ r.sup) × StaysInReach g.D.Disk.Tells g.D.Disk.files r r' =
+    let each : (j : ℕ) (r r' : Copy g.row.D.Denot) → At c.self.inside.replicas.items j r → At c.step_at.new.replicas j r'
+    → (IsUp r → IsUp r') × (r'.sup ≡ r.sup) × StaysInReach g.D.Disk.Tells g.D.Disk.files r r' =
     one_each (λ (x y : Copy g.row.D.Denot). (IsUp x → IsUp y) × (y.sup ≡ x.sup) × StaysInReach g.D.Disk.Tells g.D.Disk.files x y) c.args.replica c.self.inside.replicas.items c.step_at.new.replicas one
     (λ u. step.on.up, step.on.sup, step.on.reach) (λ x. (λ u. u, refl, λ tells. reach_still g.D.Disk.files x)) in (
       subst (λ rs. IsShaped (volume_with c.self.inside.settings c.self.inside.number rs c.self.inside.rows c.self.inside.front c.self.inside.frozen c.self.inside.unsure)) (sym kept)
-          (shaped_on c.self.inside.settings c.self.inside.number c.self.inside.replicas.items c.step_at.new.replicas c.self.inside.rows c.self.inside.rows c.self.inside.front c.self.inside.front c.self.inside.frozen c.self.inside.frozen c.self.inside.unsure c.self.inside.unsure
-          c.self.invariant.0 (c.self.invariant.0).frozen_by (c.self.invariant.0).settled count (λ j r r' e f. (each j r r' e f).1) refl (λ none j r r' e f. up_thawed r' ((each j r r' e f).0 (up j r e)))),
+          (shaped_on c.self.inside.settings c.self.inside.number c.self.inside.replicas.items c.step_at.new.replicas c.self.inside.rows c.self.inside.rows c.self.inside.front
+          c.self.inside.front c.self.inside.frozen c.self.inside.frozen c.self.inside.unsure c.self.inside.unsure
+          c.self.invariant.0 (c.self.invariant.0).frozen_by (c.self.invariant.0).settled count (λ j r r' e f. (each j r r' e f).1) refl
+          (λ none j r r' e f. up_thawed r' ((each j r r' e f).0 (up j r e)))),
       c.self.invariant.1,
       subst (λ rs. CanReach g.D.Disk.Tells g.D.Disk.files g.D.Piece.Piece.Tells rs c.self.inside.rows) (sym kept)
           (same_rows g.D.Disk.Tells g.D.Disk.files c.self.inside.replicas.items c.step_at.new.replicas c.self.inside.rows c.self.inside.rows c.self.invariant.2 count
@@ -105,17 +111,26 @@ returns-clause-stepped g c = λ tells k stands.
     let one : CallsOne c.args.replica c.self.inside.replicas.items c.step_at.new.replicas = subst (λ xs. CallsOne c.args.replica xs c.step_at.new.replicas) now c.step_at.ensures.one in
     let thawed = not_some c.self.inside.frozen c.in_default.not-Some in
     let standing : goal_of one.before ≡ None → ⊥ =
-    λ e. stands_there c.standing.result c.is_none.result c.is_none.ensures c.if-is_none.false (c.standing.ensures.is one.before (subst (λ v. At v.replicas c.args.replica one.before) c.self.view_is one.was) ∙ e) in
+    λ e. stands_there c.standing.result c.is_none.result c.is_none.ensures c.if-is_none.false
+    (c.standing.ensures.is one.before (subst (λ v. At v.replicas c.args.replica one.before) c.self.view_is one.was) ∙ e) in
     elim c.match-step_at.branch [
       | in-Ok w ↦
           let step : StepsAt g.D.Disk.Tells g.D.Disk.files g.D.Disk.fault_count g.D.Piece.Piece.Tells c.self.inside.rows c.args.replica c.args.cells one.before one.after (Ok w.in-Ok.number) =
           subst (λ x. StepsAt g.D.Disk.Tells g.D.Disk.files g.D.Disk.fault_count g.D.Piece.Piece.Tells c.self.inside.rows c.args.replica c.args.cells one.before one.after x) w.in-Ok.is
-          (c.step_at.ensures.steps one.before one.after (subst (λ xs. At xs c.args.replica one.before) (sym now) one.was) (one_after c.args.replica c.self.inside.replicas.items c.step_at.new.replicas one)) in
-          subst (λ r. IfOk r (λ n. IsStepped g.D.Disk.files g.D.Piece.Piece.Tells k c.args.replica c.args.cells n (volume_with c.self.inside.settings c.self.inside.number (with_items c.self.inside.replicas c.step_at.new.replicas).items c.self.inside.rows c.self.inside.front c.self.inside.frozen c.self.inside.unsure))) (sym w.result-is)
-          (subst (λ rs. IsStepped g.D.Disk.files g.D.Piece.Piece.Tells k c.args.replica c.args.cells w.in-Ok.number (volume_with c.self.inside.settings c.self.inside.number rs c.self.inside.rows c.self.inside.front c.self.inside.frozen c.self.inside.unsure)) (sym kept)
-          (subst (λ o. IsStepped g.D.Disk.files g.D.Piece.Piece.Tells k c.args.replica c.args.cells w.in-Ok.number (volume_with c.self.inside.settings c.self.inside.number c.step_at.new.replicas c.self.inside.rows c.self.inside.front o c.self.inside.unsure)) (sym thawed)
-          (stepped_on c.self.inside.settings c.self.inside.number g.D.Disk.Tells g.D.Disk.files g.D.Piece.Piece.Tells g.D.Disk.fault_count c.self.inside.replicas.items c.step_at.new.replicas c.self.inside.rows c.self.inside.front c.self.inside.unsure k c.args.replica one
-          (subst (λ o. StandsFor g.D.Disk.files g.D.Piece.Piece.Tells (volume_with c.self.inside.settings c.self.inside.number c.self.inside.replicas.items c.self.inside.rows c.self.inside.front o c.self.inside.unsure) k) thawed (subst (λ v. StandsFor g.D.Disk.files g.D.Piece.Piece.Tells v k) (sym c.self.view_is) stands)) tells c.args.cells w.in-Ok.number standing step)))
+          (c.step_at.ensures.steps one.before one.after (subst (λ xs. At xs c.args.replica one.before) (sym now) one.was)
+          (one_after c.args.replica c.self.inside.replicas.items c.step_at.new.replicas one)) in
+          subst (λ r. IfOk r (λ n. IsStepped g.D.Disk.files g.D.Piece.Piece.Tells k c.args.replica c.args.cells n
+          (volume_with c.self.inside.settings c.self.inside.number (with_items c.self.inside.replicas c.step_at.new.replicas).items c.self.inside.rows c.self.inside.front
+          c.self.inside.frozen c.self.inside.unsure))) (sym w.result-is)
+          (subst (λ rs. IsStepped g.D.Disk.files g.D.Piece.Piece.Tells k c.args.replica c.args.cells w.in-Ok.number
+          (volume_with c.self.inside.settings c.self.inside.number rs c.self.inside.rows c.self.inside.front c.self.inside.frozen c.self.inside.unsure)) (sym kept)
+          (subst (λ o. IsStepped g.D.Disk.files g.D.Piece.Piece.Tells k c.args.replica c.args.cells w.in-Ok.number
+          (volume_with c.self.inside.settings c.self.inside.number c.step_at.new.replicas c.self.inside.rows c.self.inside.front o c.self.inside.unsure)) (sym thawed)
+          (stepped_on c.self.inside.settings c.self.inside.number g.D.Disk.Tells g.D.Disk.files g.D.Piece.Piece.Tells g.D.Disk.fault_count c.self.inside.replicas.items
+          c.step_at.new.replicas c.self.inside.rows c.self.inside.front c.self.inside.unsure k c.args.replica one
+          (subst (λ o. StandsFor g.D.Disk.files g.D.Piece.Piece.Tells (volume_with c.self.inside.settings c.self.inside.number c.self.inside.replicas.items c.self.inside.rows
+          c.self.inside.front o c.self.inside.unsure) k) thawed (subst (λ v. StandsFor g.D.Disk.files g.D.Piece.Piece.Tells v k) (sym c.self.view_is) stands)) tells
+          c.args.cells w.in-Ok.number standing step)))
       | in-Err w ↦ rw w.result-is tt
     ]
 
@@ -127,20 +142,38 @@ returns-clause-refused g c = λ tells k stands.
     let one : CallsOne c.args.replica c.self.inside.replicas.items c.step_at.new.replicas = subst (λ xs. CallsOne c.args.replica xs c.step_at.new.replicas) now c.step_at.ensures.one in
     let thawed = not_some c.self.inside.frozen c.in_default.not-Some in
     let standing : goal_of one.before ≡ None → ⊥ =
-    λ e. stands_there c.standing.result c.is_none.result c.is_none.ensures c.if-is_none.false (c.standing.ensures.is one.before (subst (λ v. At v.replicas c.args.replica one.before) c.self.view_is one.was) ∙ e) in
+    λ e. stands_there c.standing.result c.is_none.result c.is_none.ensures c.if-is_none.false
+    (c.standing.ensures.is one.before (subst (λ v. At v.replicas c.args.replica one.before) c.self.view_is one.was) ∙ e) in
     elim c.match-step_at.branch [
       | in-Ok w ↦ rw w.result-is tt
       | in-Err w ↦
           let step : StepsAt g.D.Disk.Tells g.D.Disk.files g.D.Disk.fault_count g.D.Piece.Piece.Tells c.self.inside.rows c.args.replica c.args.cells one.before one.after (Err w.in-Err.fault) =
           subst (λ x. StepsAt g.D.Disk.Tells g.D.Disk.files g.D.Disk.fault_count g.D.Piece.Piece.Tells c.self.inside.rows c.args.replica c.args.cells one.before one.after x) w.in-Err.is
-          (c.step_at.ensures.steps one.before one.after (subst (λ xs. At xs c.args.replica one.before) (sym now) one.was) (one_after c.args.replica c.self.inside.replicas.items c.step_at.new.replicas one)) in
-          subst (λ r. IfErr r (StepRefused g.D.Disk.files g.D.Piece.Piece.Tells k c.args.replica c.args.cells c.args.self.now (volume_with c.self.inside.settings c.self.inside.number (with_items c.self.inside.replicas c.step_at.new.replicas).items c.self.inside.rows c.self.inside.front c.self.inside.frozen c.self.inside.unsure))) (sym w.result-is)
-          (subst (λ v. StepRefused g.D.Disk.files g.D.Piece.Piece.Tells k c.args.replica c.args.cells v (volume_with c.self.inside.settings c.self.inside.number (with_items c.self.inside.replicas c.step_at.new.replicas).items c.self.inside.rows c.self.inside.front c.self.inside.frozen c.self.inside.unsure) w.answer_at.result) c.self.view_is
-          (subst (λ rs. StepRefused g.D.Disk.files g.D.Piece.Piece.Tells k c.args.replica c.args.cells (volume_with c.self.inside.settings c.self.inside.number c.self.inside.replicas.items c.self.inside.rows c.self.inside.front c.self.inside.frozen c.self.inside.unsure) (volume_with c.self.inside.settings c.self.inside.number rs c.self.inside.rows c.self.inside.front c.self.inside.frozen c.self.inside.unsure) w.answer_at.result) (sym kept)
-          (subst (λ f. StepRefused g.D.Disk.files g.D.Piece.Piece.Tells k c.args.replica c.args.cells (volume_with c.self.inside.settings c.self.inside.number c.self.inside.replicas.items c.self.inside.rows c.self.inside.front c.self.inside.frozen c.self.inside.unsure) (volume_with c.self.inside.settings c.self.inside.number c.step_at.new.replicas c.self.inside.rows c.self.inside.front c.self.inside.frozen c.self.inside.unsure) f) (sym w.answer_at.ensures)
-          (subst (λ o. StepRefused g.D.Disk.files g.D.Piece.Piece.Tells k c.args.replica c.args.cells (volume_with c.self.inside.settings c.self.inside.number c.self.inside.replicas.items c.self.inside.rows c.self.inside.front o c.self.inside.unsure) (volume_with c.self.inside.settings c.self.inside.number c.step_at.new.replicas c.self.inside.rows c.self.inside.front o c.self.inside.unsure) (answer_at c.machine_of-machine.result w.in-Err.fault)) (sym thawed)
-          (step_refused c.self.inside.settings c.self.inside.number g.D.Disk.Tells g.D.Disk.files g.D.Piece.Piece.Tells g.D.Disk.fault_count c.self.inside.replicas.items c.step_at.new.replicas c.self.inside.rows c.self.inside.front c.self.inside.unsure k c.args.replica one
-          (subst (λ o. StandsFor g.D.Disk.files g.D.Piece.Piece.Tells (volume_with c.self.inside.settings c.self.inside.number c.self.inside.replicas.items c.self.inside.rows c.self.inside.front o c.self.inside.unsure) k) thawed (subst (λ v. StandsFor g.D.Disk.files g.D.Piece.Piece.Tells v k) (sym c.self.view_is) stands)) tells c.args.cells c.machine_of-machine.result w.in-Err.fault standing c.machine_of-machine.ensures step)))))
+          (c.step_at.ensures.steps one.before one.after (subst (λ xs. At xs c.args.replica one.before) (sym now) one.was)
+          (one_after c.args.replica c.self.inside.replicas.items c.step_at.new.replicas one)) in
+          subst (λ r. IfErr r (StepRefused g.D.Disk.files g.D.Piece.Piece.Tells k c.args.replica c.args.cells c.args.self.now
+          (volume_with c.self.inside.settings c.self.inside.number (with_items c.self.inside.replicas c.step_at.new.replicas).items c.self.inside.rows c.self.inside.front
+          c.self.inside.frozen c.self.inside.unsure))) (sym w.result-is)
+          (subst (λ v. StepRefused g.D.Disk.files g.D.Piece.Piece.Tells k c.args.replica c.args.cells v
+          (volume_with c.self.inside.settings c.self.inside.number (with_items c.self.inside.replicas c.step_at.new.replicas).items c.self.inside.rows c.self.inside.front
+          c.self.inside.frozen c.self.inside.unsure) w.answer_at.result) c.self.view_is
+          (subst (λ rs. StepRefused g.D.Disk.files g.D.Piece.Piece.Tells k c.args.replica c.args.cells
+          (volume_with c.self.inside.settings c.self.inside.number c.self.inside.replicas.items c.self.inside.rows c.self.inside.front c.self.inside.frozen
+          c.self.inside.unsure) (volume_with c.self.inside.settings c.self.inside.number rs c.self.inside.rows c.self.inside.front c.self.inside.frozen c.self.inside.unsure)
+          w.answer_at.result) (sym kept)
+          (subst (λ f. StepRefused g.D.Disk.files g.D.Piece.Piece.Tells k c.args.replica c.args.cells
+          (volume_with c.self.inside.settings c.self.inside.number c.self.inside.replicas.items c.self.inside.rows c.self.inside.front c.self.inside.frozen
+          c.self.inside.unsure) (volume_with c.self.inside.settings c.self.inside.number c.step_at.new.replicas c.self.inside.rows c.self.inside.front c.self.inside.frozen
+          c.self.inside.unsure) f) (sym w.answer_at.ensures)
+          (subst (λ o. StepRefused g.D.Disk.files g.D.Piece.Piece.Tells k c.args.replica c.args.cells
+          (volume_with c.self.inside.settings c.self.inside.number c.self.inside.replicas.items c.self.inside.rows c.self.inside.front o c.self.inside.unsure)
+          (volume_with c.self.inside.settings c.self.inside.number c.step_at.new.replicas c.self.inside.rows c.self.inside.front o c.self.inside.unsure)
+          (answer_at c.machine_of-machine.result w.in-Err.fault)) (sym thawed)
+          (step_refused c.self.inside.settings c.self.inside.number g.D.Disk.Tells g.D.Disk.files g.D.Piece.Piece.Tells g.D.Disk.fault_count c.self.inside.replicas.items
+          c.step_at.new.replicas c.self.inside.rows c.self.inside.front c.self.inside.unsure k c.args.replica one
+          (subst (λ o. StandsFor g.D.Disk.files g.D.Piece.Piece.Tells (volume_with c.self.inside.settings c.self.inside.number c.self.inside.replicas.items c.self.inside.rows
+          c.self.inside.front o c.self.inside.unsure) k) thawed (subst (λ v. StandsFor g.D.Disk.files g.D.Piece.Piece.Tells v k) (sym c.self.view_is) stands)) tells
+          c.args.cells c.machine_of-machine.result w.in-Err.fault standing c.machine_of-machine.ensures step)))))
     ]
 
 pub returns-clause-causes : goal.returns-clause-causes
@@ -149,18 +182,24 @@ returns-clause-causes g c =
     let kept = with_items_is c.self.inside.replicas c.step_at.new.replicas (c.step_at.auto.replicas ∙ c.as_mut_slice.ensures.len) in
     let one : CallsOne c.args.replica c.self.inside.replicas.items c.step_at.new.replicas = subst (λ xs. CallsOne c.args.replica xs c.step_at.new.replicas) now c.step_at.ensures.one in
     let count = one_count c.args.replica c.self.inside.replicas.items c.step_at.new.replicas one in
-    let all : length c.self.inside.replicas.items ≡ c.self.inside.settings.replicas = ap (λ v. length v.replicas) c.self.view_is ∙ c.requires.«open».all ∙ ap (λ v. v.settings.replicas) (sym c.self.view_is) in
+    let all : length c.self.inside.replicas.items ≡ c.self.inside.settings.replicas =
+    ap (λ v. length v.replicas) c.self.view_is ∙ c.requires.«open».all ∙ ap (λ v. v.settings.replicas) (sym c.self.view_is) in
     elim c.match-step_at.branch [
       | in-Ok w ↦ rw w.result-is tt
       | in-Err w ↦
           let step : StepsAt g.D.Disk.Tells g.D.Disk.files g.D.Disk.fault_count g.D.Piece.Piece.Tells c.self.inside.rows c.args.replica c.args.cells one.before one.after (Err w.in-Err.fault) =
           subst (λ x. StepsAt g.D.Disk.Tells g.D.Disk.files g.D.Disk.fault_count g.D.Piece.Piece.Tells c.self.inside.rows c.args.replica c.args.cells one.before one.after x) w.in-Err.is
-          (c.step_at.ensures.steps one.before one.after (subst (λ xs. At xs c.args.replica one.before) (sym now) one.was) (one_after c.args.replica c.self.inside.replicas.items c.step_at.new.replicas one)) in
-          subst (λ r. IfErr r (answers.IsRunFault g.D.Disk.fault_count c.args.self.now.settings c.args.self.now.number c.args.replica c.args.self.now.replicas (with_items c.self.inside.replicas c.step_at.new.replicas).items)) (sym w.result-is)
-          (subst (λ v. answers.IsRunFault g.D.Disk.fault_count v.settings v.number c.args.replica v.replicas (with_items c.self.inside.replicas c.step_at.new.replicas).items w.answer_at.result) c.self.view_is
+          (c.step_at.ensures.steps one.before one.after (subst (λ xs. At xs c.args.replica one.before) (sym now) one.was)
+          (one_after c.args.replica c.self.inside.replicas.items c.step_at.new.replicas one)) in
+          subst (λ r. IfErr r (answers.IsRunFault g.D.Disk.fault_count c.args.self.now.settings c.args.self.now.number c.args.replica c.args.self.now.replicas
+          (with_items c.self.inside.replicas c.step_at.new.replicas).items)) (sym w.result-is)
+          (subst (λ v. answers.IsRunFault g.D.Disk.fault_count v.settings v.number c.args.replica v.replicas (with_items c.self.inside.replicas c.step_at.new.replicas).items
+          w.answer_at.result) c.self.view_is
           (subst (λ rs. answers.IsRunFault g.D.Disk.fault_count c.self.inside.settings c.self.inside.number c.args.replica c.self.inside.replicas.items rs w.answer_at.result) (sym kept)
-          (subst (λ f. answers.IsRunFault g.D.Disk.fault_count c.self.inside.settings c.self.inside.number c.args.replica c.self.inside.replicas.items c.step_at.new.replicas f) (sym w.answer_at.ensures)
-          (step_fault c.self.inside.settings c.self.inside.number g.D.Disk.Tells g.D.Disk.files g.D.Disk.fault_count g.D.Piece.Piece.Tells c.self.inside.rows c.args.cells c.self.inside.replicas.items c.step_at.new.replicas c.args.replica c.machine_of-machine.result w.in-Err.fault one all c.machine_of-machine.ensures step))))
+          (subst (λ f. answers.IsRunFault g.D.Disk.fault_count c.self.inside.settings c.self.inside.number c.args.replica c.self.inside.replicas.items c.step_at.new.replicas f)
+          (sym w.answer_at.ensures)
+          (step_fault c.self.inside.settings c.self.inside.number g.D.Disk.Tells g.D.Disk.files g.D.Disk.fault_count g.D.Piece.Piece.Tells c.self.inside.rows c.args.cells
+          c.self.inside.replicas.items c.step_at.new.replicas c.args.replica c.machine_of-machine.result w.in-Err.fault one all c.machine_of-machine.ensures step))))
     ]
 
 pub returns-clause-open : goal.returns-clause-open
@@ -174,7 +213,8 @@ returns-clause-open g c =
     λ j r e. open_up r (c.requires.«open».each j r (subst (λ v. At v.replicas j r) c.self.view_is e)) ((c.self.invariant.0).thawed thawed j r e) in
     let step : StepsAt g.D.Disk.Tells g.D.Disk.files g.D.Disk.fault_count g.D.Piece.Piece.Tells c.self.inside.rows c.args.replica c.args.cells one.before one.after c.step_at.result =
     c.step_at.ensures.steps one.before one.after (subst (λ xs. At xs c.args.replica one.before) (sym now) one.was) (one_after c.args.replica c.self.inside.replicas.items c.step_at.new.replicas one) in
-    let each : (j : ℕ) (r r' : Copy g.row.D.Denot) → At c.self.inside.replicas.items j r → At c.step_at.new.replicas j r' → (IsUp r → IsUp r') × (r'.sup ≡ r.sup) × StaysInReach g.D.Disk.Tells g.D.Disk.files r r' =
+    let each : (j : ℕ) (r r' : Copy g.row.D.Denot) → At c.self.inside.replicas.items j r → At c.step_at.new.replicas j r'
+    → (IsUp r → IsUp r') × (r'.sup ≡ r.sup) × StaysInReach g.D.Disk.Tells g.D.Disk.files r r' =
     one_each (λ (x y : Copy g.row.D.Denot). (IsUp x → IsUp y) × (y.sup ≡ x.sup) × StaysInReach g.D.Disk.Tells g.D.Disk.files x y) c.args.replica c.self.inside.replicas.items c.step_at.new.replicas one
     (λ u. step.on.up, step.on.sup, step.on.reach) (λ x. (λ u. u, refl, λ tells. reach_still g.D.Disk.files x)) in
     record {
@@ -237,12 +277,16 @@ returns-clause-untouched g c =
       | in-Err w ↦
           let step : StepsAt g.D.Disk.Tells g.D.Disk.files g.D.Disk.fault_count g.D.Piece.Piece.Tells c.self.inside.rows c.args.replica c.args.cells one.before one.after (Err w.in-Err.fault) =
           subst (λ x. StepsAt g.D.Disk.Tells g.D.Disk.files g.D.Disk.fault_count g.D.Piece.Piece.Tells c.self.inside.rows c.args.replica c.args.cells one.before one.after x) w.in-Err.is
-          (c.step_at.ensures.steps one.before one.after (subst (λ xs. At xs c.args.replica one.before) (sym now) one.was) (one_after c.args.replica c.self.inside.replicas.items c.step_at.new.replicas one)) in
-          let new : Volume g.row.D.Denot g.row.D-Piece.Denot = volume_with c.self.inside.settings c.self.inside.number (with_items c.self.inside.replicas c.step_at.new.replicas).items c.self.inside.rows c.self.inside.front c.self.inside.frozen c.self.inside.unsure in
+          (c.step_at.ensures.steps one.before one.after (subst (λ xs. At xs c.args.replica one.before) (sym now) one.was)
+          (one_after c.args.replica c.self.inside.replicas.items c.step_at.new.replicas one)) in
+          let new : Volume g.row.D.Denot g.row.D-Piece.Denot =
+          volume_with c.self.inside.settings c.self.inside.number (with_items c.self.inside.replicas c.step_at.new.replicas).items c.self.inside.rows c.self.inside.front
+          c.self.inside.frozen c.self.inside.unsure in
           subst (λ r. IfErr r (λ (f : LogicalFault). IsUntouchedBy f → new ≡ c.args.self.now)) (sym w.result-is)
           (subst (λ (f : LogicalFault). IsUntouchedBy f → new ≡ c.args.self.now) (sym w.answer_at.ensures)
           (λ by. ap (λ rs. volume_with c.self.inside.settings c.self.inside.number rs c.self.inside.rows c.self.inside.front c.self.inside.frozen c.self.inside.unsure)
-          (kept ∙ one_untouched c.args.replica c.self.inside.replicas.items c.step_at.new.replicas one (step_untouched g.D.Disk.fault_count one.before one.after c.machine_of-machine.result c.args.cells w.in-Err.fault step.cause by)) ∙ c.self.view_is))
+          (kept ∙ one_untouched c.args.replica c.self.inside.replicas.items c.step_at.new.replicas one
+          (step_untouched g.D.Disk.fault_count one.before one.after c.machine_of-machine.result c.args.cells w.in-Err.fault step.cause by)) ∙ c.self.view_is))
     ]
 
 pub returns-clause-stuck : goal.returns-clause-stuck
@@ -271,7 +315,9 @@ returns-clause-tight g c = λ tells k stands j tight.
     let step : StepsAt g.D.Disk.Tells g.D.Disk.files g.D.Disk.fault_count g.D.Piece.Piece.Tells c.self.inside.rows c.args.replica c.args.cells one.before one.after c.step_at.result =
     c.step_at.ensures.steps one.before one.after (subst (λ xs. At xs c.args.replica one.before) (sym now) one.was) there in
     let thawed = not_some c.self.inside.frozen c.in_default.not-Some in
-    let known = takes g.D.Disk.Tells g.D.Disk.files g.D.Piece.Piece.Tells c.self.inside.settings c.self.inside.number c.self.inside.replicas.items c.self.inside.rows c.self.inside.front c.self.inside.frozen c.self.inside.unsure k
+    let known =
+    takes g.D.Disk.Tells g.D.Disk.files g.D.Piece.Piece.Tells c.self.inside.settings c.self.inside.number c.self.inside.replicas.items c.self.inside.rows c.self.inside.front
+    c.self.inside.frozen c.self.inside.unsure k
     (subst (λ v. StandsFor g.D.Disk.files g.D.Piece.Piece.Tells v k) (sym c.self.view_is) stands) thawed in
     let was = known.each c.args.replica one.before one.was in
     elim c.match-step_at.branch [
@@ -280,7 +326,8 @@ returns-clause-tight g c = λ tells k stands j tight.
           subst (λ x. StepsAt g.D.Disk.Tells g.D.Disk.files g.D.Disk.fault_count g.D.Piece.Piece.Tells c.self.inside.rows c.args.replica c.args.cells one.before one.after x) w.in-Ok.is step in
           subst (λ r. OnOk r ((x : Copy g.row.D.Denot) → At (with_items c.self.inside.replicas c.step_at.new.replicas).items j x → RunsTight g.D.Disk.files x)) (sym w.result-is)
           (λ x f. tight_one g.D.Disk.files c.args.replica c.self.inside.replicas.items c.step_at.new.replicas one
-          (tight_stepped g.D.Disk.files one.before one.after g.D.Disk.Tells g.D.Disk.fault_count tells g.D.Piece.Piece.Tells c.self.inside.rows c.args.replica c.args.cells was.stored was.stands was.places w.in-Ok.number done)
+          (tight_stepped g.D.Disk.files one.before one.after g.D.Disk.Tells g.D.Disk.fault_count tells g.D.Piece.Piece.Tells c.self.inside.rows c.args.replica c.args.cells
+          was.stored was.stands was.places w.in-Ok.number done)
           j (λ r e. tight r (subst (λ v. At v.replicas j r) c.self.view_is e)) x (subst (λ xs. At xs j x) kept f))
       | in-Err w ↦ rw w.result-is tt
     ]
@@ -295,18 +342,23 @@ returns-clause-tight_partly g c = λ tells k stands j tight said x f.
     let step : StepsAt g.D.Disk.Tells g.D.Disk.files g.D.Disk.fault_count g.D.Piece.Piece.Tells c.self.inside.rows c.args.replica c.args.cells one.before one.after c.step_at.result =
     c.step_at.ensures.steps one.before one.after (subst (λ xs. At xs c.args.replica one.before) (sym now) one.was) there in
     let thawed = not_some c.self.inside.frozen c.in_default.not-Some in
-    let known = takes g.D.Disk.Tells g.D.Disk.files g.D.Piece.Piece.Tells c.self.inside.settings c.self.inside.number c.self.inside.replicas.items c.self.inside.rows c.self.inside.front c.self.inside.frozen c.self.inside.unsure k
+    let known =
+    takes g.D.Disk.Tells g.D.Disk.files g.D.Piece.Piece.Tells c.self.inside.settings c.self.inside.number c.self.inside.replicas.items c.self.inside.rows c.self.inside.front
+    c.self.inside.frozen c.self.inside.unsure k
     (subst (λ v. StandsFor g.D.Disk.files g.D.Piece.Piece.Tells v k) (sym c.self.view_is) stands) thawed in
     let was = known.each c.args.replica one.before one.was in
     elim c.match-step_at.branch [
       | in-Ok w ↦ let wrong : Ok w.in-Ok.number ≡ Err logical.NoMemory = sym w.result-is ∙ said in absurd cc
       | in-Err w ↦
           let both : Err w.answer_at.result ≡ Err logical.NoMemory = sym w.result-is ∙ said in
-          let memory : w.in-Err.fault ≡ fault.NoMemory = answered_memory c.machine_of-machine.result w.in-Err.fault (sym w.answer_at.ensures ∙ (let same : w.answer_at.result ≡ logical.NoMemory = cc in same)) in
+          let memory : w.in-Err.fault ≡ fault.NoMemory =
+          answered_memory c.machine_of-machine.result w.in-Err.fault (sym w.answer_at.ensures ∙ (let same : w.answer_at.result ≡ logical.NoMemory = cc in same)) in
           let done : StepsAt g.D.Disk.Tells g.D.Disk.files g.D.Disk.fault_count g.D.Piece.Piece.Tells c.self.inside.rows c.args.replica c.args.cells one.before one.after (Err fault.NoMemory) =
-          subst (λ x. StepsAt g.D.Disk.Tells g.D.Disk.files g.D.Disk.fault_count g.D.Piece.Piece.Tells c.self.inside.rows c.args.replica c.args.cells one.before one.after x) (w.in-Err.is ∙ ap Err memory) step in
+          subst (λ x. StepsAt g.D.Disk.Tells g.D.Disk.files g.D.Disk.fault_count g.D.Piece.Piece.Tells c.self.inside.rows c.args.replica c.args.cells one.before one.after x)
+          (w.in-Err.is ∙ ap Err memory) step in
           tight_one g.D.Disk.files c.args.replica c.self.inside.replicas.items c.step_at.new.replicas one
-          (tight_partly g.D.Disk.files one.before one.after g.D.Disk.Tells g.D.Disk.fault_count tells g.D.Piece.Piece.Tells c.self.inside.rows c.args.replica c.args.cells was.stored was.stands was.places done)
+          (tight_partly g.D.Disk.files one.before one.after g.D.Disk.Tells g.D.Disk.fault_count tells g.D.Piece.Piece.Tells c.self.inside.rows c.args.replica c.args.cells
+          was.stored was.stands was.places done)
           j (λ r e. tight r (subst (λ v. At v.replicas j r) c.self.view_is e)) x (subst (λ xs. At xs j x) kept f)
     ]
 
@@ -322,9 +374,11 @@ returns-clause-thawed g c = λ none m e.
       | in-Err w ↦
           let step : StepsAt g.D.Disk.Tells g.D.Disk.files g.D.Disk.fault_count g.D.Piece.Piece.Tells c.self.inside.rows c.args.replica c.args.cells one.before one.after (Err w.in-Err.fault) =
           subst (λ x. StepsAt g.D.Disk.Tells g.D.Disk.files g.D.Disk.fault_count g.D.Piece.Piece.Tells c.self.inside.rows c.args.replica c.args.cells one.before one.after x) w.in-Err.is
-          (c.step_at.ensures.steps one.before one.after (subst (λ xs. At xs c.args.replica one.before) (sym now) one.was) (one_after c.args.replica c.self.inside.replicas.items c.step_at.new.replicas one)) in
+          (c.step_at.ensures.steps one.before one.after (subst (λ xs. At xs c.args.replica one.before) (sym now) one.was)
+          (one_after c.args.replica c.self.inside.replicas.items c.step_at.new.replicas one)) in
           let said : Err w.answer_at.result ≡ Err (logical.ReadOnly m) = sym w.result-is ∙ e in
-          step_thawed g.D.Disk.fault_count one.before one.after c.machine_of-machine.result c.args.cells w.in-Err.fault m step.cause (sym w.answer_at.ensures ∙ (let same : w.answer_at.result ≡ logical.ReadOnly m = cc in same))
+          step_thawed g.D.Disk.fault_count one.before one.after c.machine_of-machine.result c.args.cells w.in-Err.fault m step.cause
+          (sym w.answer_at.ensures ∙ (let same : w.answer_at.result ≡ logical.ReadOnly m = cc in same))
     ]
 
 pub returns-in-Some-clause-refused_seen : goal.returns-in-Some-clause-refused_seen
@@ -384,7 +438,8 @@ returns-clause-refused_seen g c =
           (subst (λ f. StepRefusedSeen c.args.self.now.settings c.args.self.now.number c.args.replica c.args.cells old new f) (sym said)
           (step_refused_seen c.args.self.now.settings c.args.self.now.number c.args.replica g.D.Disk.fault_count one.before one.after old new
           (sees_before c.args.replica c.self.inside.settings c.self.inside.number c.self.inside.replicas.items c.step_at.new.replicas c.self.inside.rows c.self.inside.front
-          c.self.inside.frozen c.self.inside.unsure one c.args.self.now c.self.view_is (with_items c.self.inside.replicas c.step_at.new.replicas).items kept) c.args.cells none w.in-Err.fault left.cause
+          c.self.inside.frozen c.self.inside.unsure one c.args.self.now c.self.view_is (with_items c.self.inside.replicas c.step_at.new.replicas).items kept) c.args.cells none
+          w.in-Err.fault left.cause
           (λ goal. changes_one c.args.replica StepsPartly c.self.inside.settings c.self.inside.number c.self.inside.replicas.items c.step_at.new.replicas c.self.inside.rows c.self.inside.front
           c.self.inside.frozen c.self.inside.unsure one c.args.self.now c.self.view_is (with_items c.self.inside.replicas c.step_at.new.replicas).items kept
           (has, broken.0 ∙ ap (λ (o : Option ℕ). record (replica_seen one.before) { goal = o; next = next_of one.after }) goal, (broken.1 goal).0, (broken.1 goal).1))
@@ -443,7 +498,8 @@ returns-clause-part g c = λ tells r r' e f said.
       | in-Ok w ↦ let wrong : Ok w.in-Ok.number ≡ Err logical.NoMemory = sym w.result-is ∙ said in absurd cc
       | in-Err w ↦
           let both : Err w.answer_at.result ≡ Err logical.NoMemory = sym w.result-is ∙ said in
-          let memory : w.in-Err.fault ≡ fault.NoMemory = answered_memory c.machine_of-machine.result w.in-Err.fault (sym w.answer_at.ensures ∙ (let same : w.answer_at.result ≡ logical.NoMemory = cc in same)) in
+          let memory : w.in-Err.fault ≡ fault.NoMemory =
+          answered_memory c.machine_of-machine.result w.in-Err.fault (sym w.answer_at.ensures ∙ (let same : w.answer_at.result ≡ logical.NoMemory = cc in same)) in
           subst (λ v. HeadsLeadPart (sights_of v.rows) c.args.replica c.args.cells (next_of r) (next_of r') (volume_bytes g.D.Disk.files r)) c.self.view_is
           (c.step_at.ensures.part tells r r' was there (w.in-Err.is ∙ ap (λ (f : ReplicaFault). Err f) memory))
     ]

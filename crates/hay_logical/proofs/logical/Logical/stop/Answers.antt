@@ -15,11 +15,14 @@ pub invariant_of-self : goal.invariant_of-self
 invariant_of-self g c =
     let now = c.as_mut_slice.ensures.value in
     let kept = with_items_is c.self.inside.replicas c.stop_each.new.replicas (c.stop_each.auto.replicas ∙ c.as_mut_slice.ensures.len) in
-    let stops : (j : ℕ) (r r' : Copy g.row.D.Denot) → At c.self.inside.replicas.items j r → At c.stop_each.new.replicas j r' → Stops g.D.Disk.Tells g.D.Disk.files g.D.Disk.fault_count g.D.Disk.fuse_count r r' =
+    let stops : (j : ℕ) (r r' : Copy g.row.D.Denot) → At c.self.inside.replicas.items j r → At c.stop_each.new.replicas j r'
+    → Stops g.D.Disk.Tells g.D.Disk.files g.D.Disk.fault_count g.D.Disk.fuse_count r r' =
     λ j r r' e f. c.stop_each.ensures.stopped j r r' (subst (λ xs. At xs j r) (sym now) e) f in (
       subst (λ rs. IsShaped (volume_with c.self.inside.settings c.self.inside.number rs c.self.inside.rows c.self.inside.front c.self.inside.frozen c.self.inside.unsure)) (sym kept)
-          (shaped_on c.self.inside.settings c.self.inside.number c.self.inside.replicas.items c.stop_each.new.replicas c.self.inside.rows c.self.inside.rows c.self.inside.front c.self.inside.front c.self.inside.frozen c.self.inside.frozen c.self.inside.unsure c.self.inside.unsure
-          c.self.invariant.0 (c.self.invariant.0).frozen_by (c.self.invariant.0).settled (c.stop_each.ensures.count ∙ ap length now) (λ j r r' e f. (stops j r r' e f).sup) refl (λ none j r r' e f. ap phase_frozen (stops j r r' e f).closed)),
+          (shaped_on c.self.inside.settings c.self.inside.number c.self.inside.replicas.items c.stop_each.new.replicas c.self.inside.rows c.self.inside.rows c.self.inside.front
+          c.self.inside.front c.self.inside.frozen c.self.inside.frozen c.self.inside.unsure c.self.inside.unsure
+          c.self.invariant.0 (c.self.invariant.0).frozen_by (c.self.invariant.0).settled (c.stop_each.ensures.count ∙ ap length now) (λ j r r' e f. (stops j r r' e f).sup) refl
+          (λ none j r r' e f. ap phase_frozen (stops j r r' e f).closed)),
       c.self.invariant.1,
       subst (λ rs. CanReach g.D.Disk.Tells g.D.Disk.files g.D.Piece.Piece.Tells rs c.self.inside.rows) (sym kept)
           (none_open g.D.Disk.Tells g.D.Disk.files c.stop_each.new.replicas c.self.inside.rows (λ j r' f.
@@ -32,10 +35,12 @@ unfolding Stands Stopped
 returns-clause-stopped g c = λ tells k stands.
     let now = c.as_mut_slice.ensures.value in
     let kept = with_items_is c.self.inside.replicas c.stop_each.new.replicas (c.stop_each.auto.replicas ∙ c.as_mut_slice.ensures.len) in
-    let stops : (j : ℕ) (r r' : Copy g.row.D.Denot) → At c.self.inside.replicas.items j r → At c.stop_each.new.replicas j r' → Stops g.D.Disk.Tells g.D.Disk.files g.D.Disk.fault_count g.D.Disk.fuse_count r r' =
+    let stops : (j : ℕ) (r r' : Copy g.row.D.Denot) → At c.self.inside.replicas.items j r → At c.stop_each.new.replicas j r'
+    → Stops g.D.Disk.Tells g.D.Disk.files g.D.Disk.fault_count g.D.Disk.fuse_count r r' =
     λ j r r' e f. c.stop_each.ensures.stopped j r r' (subst (λ xs. At xs j r) (sym now) e) f in
     subst (λ rs. StoppedFor g.D.Disk.files (volume_with c.self.inside.settings c.self.inside.number rs c.self.inside.rows c.self.inside.front c.self.inside.frozen c.self.inside.unsure) k) (sym kept)
-    (stopped c.self.inside.settings c.self.inside.number g.D.Disk.Tells g.D.Disk.files g.D.Piece.Piece.Tells g.D.Disk.fault_count g.D.Disk.fuse_count tells c.self.inside.replicas.items c.stop_each.new.replicas c.self.inside.rows c.self.inside.front c.self.inside.frozen c.self.inside.unsure k
+    (stopped c.self.inside.settings c.self.inside.number g.D.Disk.Tells g.D.Disk.files g.D.Piece.Piece.Tells g.D.Disk.fault_count g.D.Disk.fuse_count tells
+    c.self.inside.replicas.items c.stop_each.new.replicas c.self.inside.rows c.self.inside.front c.self.inside.frozen c.self.inside.unsure k
     (subst (λ v. StandsFor g.D.Disk.files g.D.Piece.Piece.Tells v k) (sym c.self.view_is) stands) (c.stop_each.ensures.count ∙ ap length now) stops)
 
 pub returns-clause-closed : goal.returns-clause-closed

@@ -10,7 +10,8 @@ invariant_of-self-2 g c =
     let is = c.in_ok-replica.ensures.items in
     let same = c.pop.ensures.capacity in
     let room = c.self.invariant.1 in (
-      shaped_shorter c.self.inside.settings c.self.inside.number c.self.inside.replicas.items c.pop.new.self.items c.in_ok-replica.replica c.self.inside.rows c.self.inside.front c.self.inside.frozen c.self.inside.unsure is c.self.invariant.0,
+      shaped_shorter c.self.inside.settings c.self.inside.number c.self.inside.replicas.items c.pop.new.self.items c.in_ok-replica.replica c.self.inside.rows c.self.inside.front
+          c.self.inside.frozen c.self.inside.unsure is c.self.invariant.0,
       omega (arith, same, room),
       shorter g.D.Disk.Tells g.D.Disk.files c.self.inside.replicas.items c.pop.new.self.items c.in_ok-replica.replica c.self.inside.rows is c.self.invariant.2,
     )

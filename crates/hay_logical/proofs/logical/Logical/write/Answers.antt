@@ -73,8 +73,10 @@ ends_of-ends-requires-clause-open g c = λ j r e. c.requires.«open».each j r (
 
 pub returns-in_err-room-clause-refused : goal.returns-in_err-room-clause-refused
 returns-in_err-room-clause-refused g c = λ tells k stands.
-    subst (λ r. IfErr r (PutRefused g.D.Disk.files g.D.Piece.Piece.Tells k c.args.tag c.args.pair c.args.cookie c.args.bytes.now c.args.self.now c.args.self.now)) (sym (is_err_of c.from_residual.result c.in_err-room.field-0.0 c.from_residual.ensures.1))
-    (room_refused g.D.Disk.files g.D.Piece.Piece.Tells k c.args.tag c.args.pair c.args.cookie c.args.bytes.now c.args.self.now c.in_err-room.field-0.0 (sym c.in_err-room.was ∙ c.room.ensures.known tells k stands))
+    subst (λ r. IfErr r (PutRefused g.D.Disk.files g.D.Piece.Piece.Tells k c.args.tag c.args.pair c.args.cookie c.args.bytes.now c.args.self.now c.args.self.now))
+    (sym (is_err_of c.from_residual.result c.in_err-room.field-0.0 c.from_residual.ensures.1))
+    (room_refused g.D.Disk.files g.D.Piece.Piece.Tells k c.args.tag c.args.pair c.args.cookie c.args.bytes.now c.args.self.now c.in_err-room.field-0.0
+    (sym c.in_err-room.was ∙ c.room.ensures.known tells k stands))
 
 pub returns-in_err-room-clause-causes : goal.returns-in_err-room-clause-causes
 returns-in_err-room-clause-causes g c =
@@ -83,15 +85,25 @@ returns-in_err-room-clause-causes g c =
     (room_cause g.D.Disk.fault_count c.args.self.now.settings c.args.self.now.number c.args.self.now.replicas c.args.self.now.replicas c.in_err-room.field-0.0 c.in_err-room.ensures.causes)
 
 pub returns-in_default-clause-refused : goal.returns-in_default-clause-refused
-returns-in_default-clause-refused g c = λ tells k stands. ((room_ok c.args.self.now.settings k.frozen (room_refusal_of c.args.self.now.settings c.args.self.now.number k (length c.args.bytes.now)) c.in_ok-room.field-0 (sym c.in_ok-room.was ∙ c.room.ensures.known tells k stands)), inl stands)
+returns-in_default-clause-refused g c =
+    λ tells k stands. (
+      (room_ok c.args.self.now.settings k.frozen (room_refusal_of c.args.self.now.settings c.args.self.now.number k (length c.args.bytes.now)) c.in_ok-room.field-0
+          (sym c.in_ok-room.was ∙ c.room.ensures.known tells k stands)),
+      inl stands,
+    )
 
 pub invariant_of-self : goal.invariant_of-self
 invariant_of-self g c = (
-  shaped_on c.self.inside.settings c.self.inside.number c.self.inside.replicas.items c.self.inside.replicas.items c.self.inside.rows c.reserve.new.self c.self.inside.front c.self.inside.front c.self.inside.frozen c.self.inside.frozen c.self.inside.unsure c.self.inside.unsure
-      c.self.invariant.0 (c.self.invariant.0).frozen_by (c.self.invariant.0).settled refl (λ j r r' e f. ap (λ x. x.sup) (at_same c.self.inside.replicas.items j r' r f e)) c.reserve.ensures.rows.replicas (λ none j r r' e f. (c.self.invariant.0).thawed none j r' f),
+  shaped_on c.self.inside.settings c.self.inside.number c.self.inside.replicas.items c.self.inside.replicas.items c.self.inside.rows c.reserve.new.self c.self.inside.front
+      c.self.inside.front c.self.inside.frozen c.self.inside.frozen c.self.inside.unsure c.self.inside.unsure
+      c.self.invariant.0 (c.self.invariant.0).frozen_by (c.self.invariant.0).settled refl (λ j r r' e f. ap (λ x. x.sup) (at_same c.self.inside.replicas.items j r' r f e))
+      c.reserve.ensures.rows.replicas (λ none j r r' e f. (c.self.invariant.0).thawed none j r' f),
   c.self.invariant.1,
   same_rows g.D.Disk.Tells g.D.Disk.files c.self.inside.replicas.items c.self.inside.replicas.items c.self.inside.rows c.reserve.new.self c.self.invariant.2 refl
-      (λ j r r' e f. let same = at_same c.self.inside.replicas.items j r' r f e in (λ u. subst (λ (x : Copy g.row.D.Denot). IsUp x) same u, λ u. subst (λ (x : Copy g.row.D.Denot). IsOpenCopy x) same u))
+      (λ j r r' e f. let same = at_same c.self.inside.replicas.items j r' r f e in (
+        λ u. subst (λ (x : Copy g.row.D.Denot). IsUp x) same u,
+        λ u. subst (λ (x : Copy g.row.D.Denot). IsOpenCopy x) same u,
+      ))
       (λ j r r' e f. subst (λ x. StaysInReach g.D.Disk.Tells g.D.Disk.files r x) (at_same c.self.inside.replicas.items j r r' e f) (λ tells. reach_still g.D.Disk.files r)) c.reserve.ensures.rows.rows,
 )
 
@@ -99,8 +111,10 @@ pub returns-then-is_err-clause-refused : goal.returns-then-is_err-clause-refused
 unfolding Stands
 returns-then-is_err-clause-refused g c = λ tells k stands.
     let thawed : c.self.inside.frozen ≡ None = ap (λ v. v.frozen) c.self.view_is ∙ c.in_ok-room.ensures.fits.0 in (
-      (room_ok c.args.self.now.settings k.frozen (room_refusal_of c.args.self.now.settings c.args.self.now.number k (length c.args.bytes.now)) c.in_ok-room.field-0 (sym c.in_ok-room.was ∙ c.room.ensures.known tells k stands)),
-      inl (rows_kept c.self.inside.settings c.self.inside.number g.D.Disk.Tells g.D.Disk.files g.D.Piece.Piece.Tells g.D.Disk.fault_count c.self.inside.replicas.items c.self.inside.rows c.reserve.new.self c.self.inside.front c.self.inside.frozen c.self.inside.unsure k thawed c.reserve.ensures.rows.rows
+      (room_ok c.args.self.now.settings k.frozen (room_refusal_of c.args.self.now.settings c.args.self.now.number k (length c.args.bytes.now)) c.in_ok-room.field-0
+          (sym c.in_ok-room.was ∙ c.room.ensures.known tells k stands)),
+      inl (rows_kept c.self.inside.settings c.self.inside.number g.D.Disk.Tells g.D.Disk.files g.D.Piece.Piece.Tells g.D.Disk.fault_count c.self.inside.replicas.items
+          c.self.inside.rows c.reserve.new.self c.self.inside.front c.self.inside.frozen c.self.inside.unsure k thawed c.reserve.ensures.rows.rows
           (subst (λ v. StandsFor g.D.Disk.files g.D.Piece.Piece.Tells v k) (sym c.self.view_is) stands)),
     )
 
@@ -113,7 +127,8 @@ returns-then-is_err-clause-open g c = record {
 pub returns-then-is_err-clause-counts : goal.returns-then-is_err-clause-counts
 returns-then-is_err-clause-counts g c =
     subst (λ xs. KeepsCounts g.D.Disk.fault_count g.D.Disk.fuse_count xs c.self.inside.replicas.items) (ap (λ v. v.replicas) c.self.view_is)
-    (keeps_counts g.D.Disk.fault_count g.D.Disk.fuse_count c.self.inside.replicas.items c.self.inside.replicas.items refl (λ j r r' e f. counted_same g.D.Disk.fault_count g.D.Disk.fuse_count r r' (at_same c.self.inside.replicas.items j r' r f e)))
+    (keeps_counts g.D.Disk.fault_count g.D.Disk.fuse_count c.self.inside.replicas.items c.self.inside.replicas.items refl
+    (λ j r r' e f. counted_same g.D.Disk.fault_count g.D.Disk.fuse_count r r' (at_same c.self.inside.replicas.items j r' r f e)))
 
 pub invariant_of-self-in-Ok : goal.invariant_of-self-in-Ok
 invariant_of-self-in-Ok g c =
@@ -122,14 +137,19 @@ invariant_of-self-in-Ok g c =
     let thawed : c.self.inside.frozen ≡ None = ap (λ v. v.frozen) c.self.view_is ∙ c.in_ok-room.ensures.fits.0 in
     let up : (j : ℕ) (r : Copy g.row.D.Denot) → At c.self.inside.replicas.items j r → IsUp r =
     λ j r e. open_up r (c.requires.«open».each j r (subst (λ v. At v.replicas j r) c.self.view_is e)) ((c.self.invariant.0).thawed thawed j r e) in
-    let each : (j : ℕ) (r r' : Copy g.row.D.Denot) → At c.self.inside.replicas.items j r → At c.put_each.new.replicas j r' → PutsAt g.D.Disk.Tells g.D.Disk.files g.D.Piece.Piece.Tells c.args.pair c.args.cookie c.args.bytes.now r r' (place_in c.in-Ok.row j) =
+    let each : (j : ℕ) (r r' : Copy g.row.D.Denot) → At c.self.inside.replicas.items j r → At c.put_each.new.replicas j r'
+    → PutsAt g.D.Disk.Tells g.D.Disk.files g.D.Piece.Piece.Tells c.args.pair c.args.cookie c.args.bytes.now r r' (place_in c.in-Ok.row j) =
     λ j r r' e f. c.in-Ok.ensures.put j r r' (subst (λ xs. At xs j r) (sym now) e) f in (
       subst (λ rs. IsShaped (volume_with c.self.inside.settings c.self.inside.number rs c.reserve.new.self c.self.inside.front c.self.inside.frozen c.self.inside.unsure)) (sym kept)
-          (shaped_on c.self.inside.settings c.self.inside.number c.self.inside.replicas.items c.put_each.new.replicas c.self.inside.rows c.reserve.new.self c.self.inside.front c.self.inside.front c.self.inside.frozen c.self.inside.frozen c.self.inside.unsure c.self.inside.unsure
-          c.self.invariant.0 (c.self.invariant.0).frozen_by (c.self.invariant.0).settled (c.put_each.ensures.counts.count ∙ ap length now) (λ j r r' e f. (each j r r' e f).sup) c.reserve.ensures.rows.replicas (λ none j r r' e f. up_thawed r' (each j r r' e f).up)),
+          (shaped_on c.self.inside.settings c.self.inside.number c.self.inside.replicas.items c.put_each.new.replicas c.self.inside.rows c.reserve.new.self c.self.inside.front
+          c.self.inside.front c.self.inside.frozen c.self.inside.frozen c.self.inside.unsure c.self.inside.unsure
+          c.self.invariant.0 (c.self.invariant.0).frozen_by (c.self.invariant.0).settled (c.put_each.ensures.counts.count ∙ ap length now) (λ j r r' e f. (each j r r' e f).sup)
+          c.reserve.ensures.rows.replicas (λ none j r r' e f. up_thawed r' (each j r r' e f).up)),
       c.self.invariant.1,
       subst (λ rs. CanReach g.D.Disk.Tells g.D.Disk.files g.D.Piece.Piece.Tells rs c.reserve.new.self) (sym kept)
-          (same_rows g.D.Disk.Tells g.D.Disk.files c.self.inside.replicas.items c.put_each.new.replicas c.self.inside.rows c.reserve.new.self c.self.invariant.2 (c.put_each.ensures.counts.count ∙ ap length now) (λ j r r' e f. (λ u. up j r e, λ u. up_open r (up j r e))) (λ j r r' e f. c.put_each.ensures.reach j r r' (subst (λ xs. At xs j r) (sym now) e) f) c.reserve.ensures.rows.rows),
+          (same_rows g.D.Disk.Tells g.D.Disk.files c.self.inside.replicas.items c.put_each.new.replicas c.self.inside.rows c.reserve.new.self c.self.invariant.2
+          (c.put_each.ensures.counts.count ∙ ap length now) (λ j r r' e f. (λ u. up j r e, λ u. up_open r (up j r e)))
+          (λ j r r' e f. c.put_each.ensures.reach j r r' (subst (λ xs. At xs j r) (sym now) e) f) c.reserve.ensures.rows.rows),
     )
 
 pub is_untouched-requires : goal.is_untouched-requires
@@ -149,15 +169,22 @@ invariant_of-self-then-is_untouched g c =
     λ j r e. open_up r (c.requires.«open».each j r (subst (λ v. At v.replicas j r) c.self.view_is e)) ((c.self.invariant.0).thawed thawed j r e) in
     let left : PutLeaves g.D.Disk.Tells g.D.Disk.files g.D.Disk.fault_count c.args.pair c.args.cookie c.args.bytes.now c.self.inside.replicas.items c.put_each.new.replicas c.in-Err.broken =
     subst (λ xs. PutLeaves g.D.Disk.Tells g.D.Disk.files g.D.Disk.fault_count c.args.pair c.args.cookie c.args.bytes.now xs c.put_each.new.replicas c.in-Err.broken) now c.in-Err.ensures.broken in
-    let un : IsUntouched c.put_each.new.replicas c.in-Err.broken = subst (λ xs. IsUntouched xs c.in-Err.broken) (c.as_slice-in-Err.ensures.value ∙ kept) (c.is_untouched.ensures.untouched c.if-is_untouched.true) in
-    let remains = put_remains g.D.Disk.Tells g.D.Disk.files g.D.Disk.fault_count c.args.pair c.args.cookie c.args.bytes.now c.self.inside.replicas.items c.put_each.new.replicas c.in-Err.broken left up in (
+    let un : IsUntouched c.put_each.new.replicas c.in-Err.broken =
+    subst (λ xs. IsUntouched xs c.in-Err.broken) (c.as_slice-in-Err.ensures.value ∙ kept) (c.is_untouched.ensures.untouched c.if-is_untouched.true) in
+    let remains =
+    put_remains g.D.Disk.Tells g.D.Disk.files g.D.Disk.fault_count c.args.pair c.args.cookie c.args.bytes.now c.self.inside.replicas.items c.put_each.new.replicas c.in-Err.broken left up in (
       subst (λ rs. IsShaped (volume_with c.self.inside.settings c.self.inside.number rs c.reserve.new.self c.self.inside.front c.self.inside.frozen c.self.inside.unsure)) (sym kept)
-          (shaped_on c.self.inside.settings c.self.inside.number c.self.inside.replicas.items c.put_each.new.replicas c.self.inside.rows c.reserve.new.self c.self.inside.front c.self.inside.front c.self.inside.frozen c.self.inside.frozen c.self.inside.unsure c.self.inside.unsure
-          c.self.invariant.0 (c.self.invariant.0).frozen_by (c.self.invariant.0).settled (c.put_each.ensures.counts.count ∙ ap length now) (λ j r r' e f. (remains j r r' e f).sup) c.reserve.ensures.rows.replicas
-          (λ none j r r' e f. all_thawed g.D.Disk.Tells g.D.Disk.files g.D.Disk.fault_count c.args.pair c.args.cookie c.args.bytes.now c.self.inside.replicas.items c.put_each.new.replicas c.in-Err.broken left un up j r r' e f)),
+          (shaped_on c.self.inside.settings c.self.inside.number c.self.inside.replicas.items c.put_each.new.replicas c.self.inside.rows c.reserve.new.self c.self.inside.front
+          c.self.inside.front c.self.inside.frozen c.self.inside.frozen c.self.inside.unsure c.self.inside.unsure
+          c.self.invariant.0 (c.self.invariant.0).frozen_by (c.self.invariant.0).settled (c.put_each.ensures.counts.count ∙ ap length now) (λ j r r' e f. (remains j r r' e f).sup)
+          c.reserve.ensures.rows.replicas
+          (λ none j r r' e f. all_thawed g.D.Disk.Tells g.D.Disk.files g.D.Disk.fault_count c.args.pair c.args.cookie c.args.bytes.now c.self.inside.replicas.items
+          c.put_each.new.replicas c.in-Err.broken left un up j r r' e f)),
       c.self.invariant.1,
       subst (λ rs. CanReach g.D.Disk.Tells g.D.Disk.files g.D.Piece.Piece.Tells rs c.reserve.new.self) (sym kept)
-          (same_rows g.D.Disk.Tells g.D.Disk.files c.self.inside.replicas.items c.put_each.new.replicas c.self.inside.rows c.reserve.new.self c.self.invariant.2 (c.put_each.ensures.counts.count ∙ ap length now) (λ j r r' e f. (λ u. up j r e, λ u. up_open r (up j r e))) (λ j r r' e f. c.put_each.ensures.reach j r r' (subst (λ xs. At xs j r) (sym now) e) f) c.reserve.ensures.rows.rows),
+          (same_rows g.D.Disk.Tells g.D.Disk.files c.self.inside.replicas.items c.put_each.new.replicas c.self.inside.rows c.reserve.new.self c.self.invariant.2
+          (c.put_each.ensures.counts.count ∙ ap length now) (λ j r r' e f. (λ u. up j r e, λ u. up_open r (up j r e)))
+          (λ j r r' e f. c.put_each.ensures.reach j r r' (subst (λ xs. At xs j r) (sym now) e) f) c.reserve.ensures.rows.rows),
     )
 
 pub returns-then-is_untouched-clause-refused : goal.returns-then-is_untouched-clause-refused
@@ -168,11 +195,18 @@ returns-then-is_untouched-clause-refused g c = λ tells k stands.
     let thawed : c.self.inside.frozen ≡ None = ap (λ v. v.frozen) c.self.view_is ∙ c.in_ok-room.ensures.fits.0 in
     let left : PutLeaves g.D.Disk.Tells g.D.Disk.files g.D.Disk.fault_count c.args.pair c.args.cookie c.args.bytes.now c.self.inside.replicas.items c.put_each.new.replicas c.in-Err.broken =
     subst (λ xs. PutLeaves g.D.Disk.Tells g.D.Disk.files g.D.Disk.fault_count c.args.pair c.args.cookie c.args.bytes.now xs c.put_each.new.replicas c.in-Err.broken) now c.in-Err.ensures.broken in
-    let un : IsUntouched c.put_each.new.replicas c.in-Err.broken = subst (λ xs. IsUntouched xs c.in-Err.broken) (c.as_slice-in-Err.ensures.value ∙ kept) (c.is_untouched.ensures.untouched c.if-is_untouched.true) in (
-      (room_ok c.args.self.now.settings k.frozen (room_refusal_of c.args.self.now.settings c.args.self.now.number k (length c.args.bytes.now)) c.in_ok-room.field-0 (sym c.in_ok-room.was ∙ c.room.ensures.known tells k stands)),
-      inl (subst (λ rs. StandsFor g.D.Disk.files g.D.Piece.Piece.Tells (volume_with c.self.inside.settings c.self.inside.number rs c.reserve.new.self c.self.inside.front c.self.inside.frozen c.self.inside.unsure) k) (sym kept)
-          (untouched c.self.inside.settings c.self.inside.number g.D.Disk.Tells g.D.Disk.files g.D.Piece.Piece.Tells g.D.Disk.fault_count c.args.pair c.args.cookie c.args.bytes.now c.self.inside.replicas.items c.put_each.new.replicas c.in-Err.broken left un (still_runs g.D.Disk.Tells g.D.Disk.files c.self.inside.replicas.items c.put_each.new.replicas c.in-Err.broken (subst (λ xs. EndsRuns g.D.Disk.Tells g.D.Disk.files xs c.put_each.new.replicas c.in-Err.broken) now c.in-Err.ensures.runs) un) tells c.reserve.new.self c.self.inside.front c.self.inside.frozen c.self.inside.unsure k thawed (c.put_each.ensures.counts.count ∙ ap length now)
-          (rows_kept c.self.inside.settings c.self.inside.number g.D.Disk.Tells g.D.Disk.files g.D.Piece.Piece.Tells g.D.Disk.fault_count c.self.inside.replicas.items c.self.inside.rows c.reserve.new.self c.self.inside.front c.self.inside.frozen c.self.inside.unsure k thawed c.reserve.ensures.rows.rows
+    let un : IsUntouched c.put_each.new.replicas c.in-Err.broken =
+    subst (λ xs. IsUntouched xs c.in-Err.broken) (c.as_slice-in-Err.ensures.value ∙ kept) (c.is_untouched.ensures.untouched c.if-is_untouched.true) in (
+      (room_ok c.args.self.now.settings k.frozen (room_refusal_of c.args.self.now.settings c.args.self.now.number k (length c.args.bytes.now)) c.in_ok-room.field-0
+          (sym c.in_ok-room.was ∙ c.room.ensures.known tells k stands)),
+      inl (subst (λ rs. StandsFor g.D.Disk.files g.D.Piece.Piece.Tells (volume_with c.self.inside.settings c.self.inside.number rs c.reserve.new.self c.self.inside.front
+          c.self.inside.frozen c.self.inside.unsure) k) (sym kept)
+          (untouched c.self.inside.settings c.self.inside.number g.D.Disk.Tells g.D.Disk.files g.D.Piece.Piece.Tells g.D.Disk.fault_count c.args.pair c.args.cookie c.args.bytes.now
+          c.self.inside.replicas.items c.put_each.new.replicas c.in-Err.broken left un (still_runs g.D.Disk.Tells g.D.Disk.files c.self.inside.replicas.items
+          c.put_each.new.replicas c.in-Err.broken (subst (λ xs. EndsRuns g.D.Disk.Tells g.D.Disk.files xs c.put_each.new.replicas c.in-Err.broken) now c.in-Err.ensures.runs)
+          un) tells c.reserve.new.self c.self.inside.front c.self.inside.frozen c.self.inside.unsure k thawed (c.put_each.ensures.counts.count ∙ ap length now)
+          (rows_kept c.self.inside.settings c.self.inside.number g.D.Disk.Tells g.D.Disk.files g.D.Piece.Piece.Tells g.D.Disk.fault_count c.self.inside.replicas.items
+          c.self.inside.rows c.reserve.new.self c.self.inside.front c.self.inside.frozen c.self.inside.unsure k thawed c.reserve.ensures.rows.rows
           (subst (λ v. StandsFor g.D.Disk.files g.D.Piece.Piece.Tells v k) (sym c.self.view_is) stands)))),
     )
 
@@ -185,9 +219,11 @@ returns-then-is_untouched-clause-open g c =
     λ j r e. open_up r (c.requires.«open».each j r (subst (λ v. At v.replicas j r) c.self.view_is e)) ((c.self.invariant.0).thawed thawed j r e) in
     let left : PutLeaves g.D.Disk.Tells g.D.Disk.files g.D.Disk.fault_count c.args.pair c.args.cookie c.args.bytes.now c.self.inside.replicas.items c.put_each.new.replicas c.in-Err.broken =
     subst (λ xs. PutLeaves g.D.Disk.Tells g.D.Disk.files g.D.Disk.fault_count c.args.pair c.args.cookie c.args.bytes.now xs c.put_each.new.replicas c.in-Err.broken) now c.in-Err.ensures.broken in
-    let remains = put_remains g.D.Disk.Tells g.D.Disk.files g.D.Disk.fault_count c.args.pair c.args.cookie c.args.bytes.now c.self.inside.replicas.items c.put_each.new.replicas c.in-Err.broken left up in
+    let remains =
+    put_remains g.D.Disk.Tells g.D.Disk.files g.D.Disk.fault_count c.args.pair c.args.cookie c.args.bytes.now c.self.inside.replicas.items c.put_each.new.replicas c.in-Err.broken left up in
     record {
-      all = ap length kept ∙ (c.put_each.ensures.counts.count ∙ ap length now) ∙ ap (λ v. length v.replicas) c.self.view_is ∙ c.requires.«open».all ∙ ap (λ v. v.settings.replicas) (sym c.self.view_is);
+      all =
+          ap length kept ∙ (c.put_each.ensures.counts.count ∙ ap length now) ∙ ap (λ v. length v.replicas) c.self.view_is ∙ c.requires.«open».all ∙ ap (λ v. v.settings.replicas) (sym c.self.view_is);
       each = λ j r' f.
           let there = subst (λ xs. At xs j r') kept f in
           let old = at_there c.self.inside.replicas.items j (subst (λ n. j < n) (c.put_each.ensures.counts.count ∙ ap length now) (at_below c.put_each.new.replicas j r' there)) in
@@ -230,13 +266,20 @@ invariant_of-self-in-Err g c =
     let few = (c.self.invariant.0).count in
     let long = ap length now in
     let within : c.in-Err.broken.at < c.self.inside.settings.replicas = omega (arith, below, few, long) in
-    let remains = put_remains g.D.Disk.Tells g.D.Disk.files g.D.Disk.fault_count c.args.pair c.args.cookie c.args.bytes.now c.self.inside.replicas.items c.put_each.new.replicas c.in-Err.broken left up in (
-      subst (λ rs. IsShaped (volume_with c.self.inside.settings c.self.inside.number rs c.reserve.new.self c.self.inside.front (Some c.put_refusal-refusal.result.machine) (Some (record { tag = c.args.tag; change = change.Put c.ends_of-ends.result })))) (sym kept)
-          (shaped_on c.self.inside.settings c.self.inside.number c.self.inside.replicas.items c.put_each.new.replicas c.self.inside.rows c.reserve.new.self c.self.inside.front c.self.inside.front c.self.inside.frozen (Some c.put_refusal-refusal.result.machine) c.self.inside.unsure (Some (record { tag = c.args.tag; change = change.Put c.ends_of-ends.result }))
-          c.self.invariant.0 (frozen_refusal c.self.inside.settings c.self.inside.number c.in-Err.broken.at c.in-Err.broken.fault c.put_refusal-refusal.result ((c.self.invariant.0).settings).some within c.put_refusal-refusal.ensures) (λ none. some_none none) (c.put_each.ensures.counts.count ∙ ap length now) (λ j r r' e f. (remains j r r' e f).sup) c.reserve.ensures.rows.replicas (λ none j r r' e f. some_none none)),
+    let remains =
+    put_remains g.D.Disk.Tells g.D.Disk.files g.D.Disk.fault_count c.args.pair c.args.cookie c.args.bytes.now c.self.inside.replicas.items c.put_each.new.replicas c.in-Err.broken left up in (
+      subst (λ rs. IsShaped (volume_with c.self.inside.settings c.self.inside.number rs c.reserve.new.self c.self.inside.front (Some c.put_refusal-refusal.result.machine)
+          (Some (record { tag = c.args.tag; change = change.Put c.ends_of-ends.result })))) (sym kept)
+          (shaped_on c.self.inside.settings c.self.inside.number c.self.inside.replicas.items c.put_each.new.replicas c.self.inside.rows c.reserve.new.self c.self.inside.front
+          c.self.inside.front c.self.inside.frozen (Some c.put_refusal-refusal.result.machine) c.self.inside.unsure (Some (record { tag = c.args.tag; change = change.Put c.ends_of-ends.result }))
+          c.self.invariant.0 (frozen_refusal c.self.inside.settings c.self.inside.number c.in-Err.broken.at c.in-Err.broken.fault c.put_refusal-refusal.result
+          ((c.self.invariant.0).settings).some within c.put_refusal-refusal.ensures) (λ none. some_none none) (c.put_each.ensures.counts.count ∙ ap length now)
+          (λ j r r' e f. (remains j r r' e f).sup) c.reserve.ensures.rows.replicas (λ none j r r' e f. some_none none)),
       c.self.invariant.1,
       subst (λ rs. CanReach g.D.Disk.Tells g.D.Disk.files g.D.Piece.Piece.Tells rs c.reserve.new.self) (sym kept)
-          (same_rows g.D.Disk.Tells g.D.Disk.files c.self.inside.replicas.items c.put_each.new.replicas c.self.inside.rows c.reserve.new.self c.self.invariant.2 (c.put_each.ensures.counts.count ∙ ap length now) (λ j r r' e f. (λ u. up j r e, λ u. up_open r (up j r e))) (λ j r r' e f. c.put_each.ensures.reach j r r' (subst (λ xs. At xs j r) (sym now) e) f) c.reserve.ensures.rows.rows),
+          (same_rows g.D.Disk.Tells g.D.Disk.files c.self.inside.replicas.items c.put_each.new.replicas c.self.inside.rows c.reserve.new.self c.self.invariant.2
+          (c.put_each.ensures.counts.count ∙ ap length now) (λ j r r' e f. (λ u. up j r e, λ u. up_open r (up j r e)))
+          (λ j r r' e f. c.put_each.ensures.reach j r r' (subst (λ xs. At xs j r) (sym now) e) f) c.reserve.ensures.rows.rows),
     )
 
 pub returns-in-Ok-clause-written : goal.returns-in-Ok-clause-written
@@ -245,13 +288,20 @@ returns-in-Ok-clause-written g c = λ tells k stands.
     let now = c.as_mut_slice.ensures.value in
     let kept = with_items_is c.self.inside.replicas c.put_each.new.replicas (c.put_each.auto.replicas ∙ c.as_mut_slice.ensures.len) in
     let thawed : c.self.inside.frozen ≡ None = ap (λ v. v.frozen) c.self.view_is ∙ c.in_ok-room.ensures.fits.0 in
-    let each : (j : ℕ) (r r' : Copy g.row.D.Denot) → At c.self.inside.replicas.items j r → At c.put_each.new.replicas j r' → PutsAt g.D.Disk.Tells g.D.Disk.files g.D.Piece.Piece.Tells c.args.pair c.args.cookie c.args.bytes.now r r' (place_in c.in-Ok.row j) =
+    let each : (j : ℕ) (r r' : Copy g.row.D.Denot) → At c.self.inside.replicas.items j r → At c.put_each.new.replicas j r'
+    → PutsAt g.D.Disk.Tells g.D.Disk.files g.D.Piece.Piece.Tells c.args.pair c.args.cookie c.args.bytes.now r r' (place_in c.in-Ok.row j) =
     λ j r r' e f. c.in-Ok.ensures.put j r r' (subst (λ xs. At xs j r) (sym now) e) f in
     let next : c.in-Some.position ≡ c.self.inside.front + 1 = (let h = c.in-Some.ensures in omega (arith, h)) in
     let w : Written g.row.D-Piece.Denot = record { pair = c.args.pair; row = c.in-Ok.row; position = c.in-Some.position; ends = c.ends_of-ends.result } in
-    subst (λ rs. IsWritten g.D.Disk.files g.D.Piece.Piece.Tells k c.args.pair c.args.cookie c.args.bytes.now w (volume_with c.self.inside.settings c.self.inside.number rs c.reserve.new.self c.self.inside.front c.self.inside.frozen c.self.inside.unsure)) (sym kept)
-    (written c.self.inside.settings c.self.inside.number g.D.Disk.Tells g.D.Disk.files g.D.Piece.Piece.Tells g.D.Disk.fault_count g.D.Disk.fuse_count tells c.self.inside.replicas.items c.put_each.new.replicas c.self.inside.rows c.reserve.new.self c.self.inside.front c.self.inside.frozen c.self.inside.unsure k c.args.pair c.args.cookie c.args.bytes.now w
-    (subst (λ v. StandsFor g.D.Disk.files g.D.Piece.Piece.Tells v k) (sym c.self.view_is) stands) thawed (subst (λ v. HasRoom v.settings v.number k (length c.args.bytes.now)) (sym c.self.view_is) (room_ok c.args.self.now.settings k.frozen (room_refusal_of c.args.self.now.settings c.args.self.now.number k (length c.args.bytes.now)) c.in_ok-room.field-0 (sym c.in_ok-room.was ∙ c.room.ensures.known tells k stands)))
+    subst (λ rs. IsWritten g.D.Disk.files g.D.Piece.Piece.Tells k c.args.pair c.args.cookie c.args.bytes.now w
+    (volume_with c.self.inside.settings c.self.inside.number rs c.reserve.new.self c.self.inside.front c.self.inside.frozen c.self.inside.unsure)) (sym kept)
+    (written c.self.inside.settings c.self.inside.number g.D.Disk.Tells g.D.Disk.files g.D.Piece.Piece.Tells g.D.Disk.fault_count g.D.Disk.fuse_count tells
+    c.self.inside.replicas.items c.put_each.new.replicas c.self.inside.rows c.reserve.new.self c.self.inside.front c.self.inside.frozen c.self.inside.unsure k c.args.pair
+    c.args.cookie c.args.bytes.now w
+    (subst (λ v. StandsFor g.D.Disk.files g.D.Piece.Piece.Tells v k) (sym c.self.view_is) stands) thawed
+    (subst (λ v. HasRoom v.settings v.number k (length c.args.bytes.now)) (sym c.self.view_is)
+    (room_ok c.args.self.now.settings k.frozen (room_refusal_of c.args.self.now.settings c.args.self.now.number k (length c.args.bytes.now)) c.in_ok-room.field-0
+    (sym c.in_ok-room.was ∙ c.room.ensures.known tells k stands)))
     (c.put_each.ensures.counts.count ∙ ap length now) refl next (c.in-Ok.ensures.places ∙ ap length now) c.reserve.ensures.rows.rows each
     (λ j r r' e f. c.put_each.ensures.reach j r r' (subst (λ xs. At xs j r) (sym now) e) f) (λ j r e. c.ends_of-ends.ensures j r (subst (λ xs. At xs j r) (sym c.as_slice.ensures.value) e)))
 
@@ -262,7 +312,8 @@ returns-in-Ok-clause-fits g c =
     let thawed : c.self.inside.frozen ≡ None = ap (λ v. v.frozen) c.self.view_is ∙ c.in_ok-room.ensures.fits.0 in
     let up : (j : ℕ) (r : Copy g.row.D.Denot) → At c.self.inside.replicas.items j r → IsUp r =
     λ j r e. open_up r (c.requires.«open».each j r (subst (λ v. At v.replicas j r) c.self.view_is e)) ((c.self.invariant.0).thawed thawed j r e) in
-    let each : (j : ℕ) (r r' : Copy g.row.D.Denot) → At c.self.inside.replicas.items j r → At c.put_each.new.replicas j r' → PutsAt g.D.Disk.Tells g.D.Disk.files g.D.Piece.Piece.Tells c.args.pair c.args.cookie c.args.bytes.now r r' (place_in c.in-Ok.row j) =
+    let each : (j : ℕ) (r r' : Copy g.row.D.Denot) → At c.self.inside.replicas.items j r → At c.put_each.new.replicas j r'
+    → PutsAt g.D.Disk.Tells g.D.Disk.files g.D.Piece.Piece.Tells c.args.pair c.args.cookie c.args.bytes.now r r' (place_in c.in-Ok.row j) =
     λ j r r' e f. c.in-Ok.ensures.put j r r' (subst (λ xs. At xs j r) (sym now) e) f in
     record {
       room = ok_of c.reserve.result _ c.reserve.ensures.room (sym c.is_err.ensures.value ∙ c.if-is_err.false);
@@ -300,10 +351,12 @@ pub returns-in-Ok-clause-open : goal.returns-in-Ok-clause-open
 returns-in-Ok-clause-open g c =
     let now = c.as_mut_slice.ensures.value in
     let kept = with_items_is c.self.inside.replicas c.put_each.new.replicas (c.put_each.auto.replicas ∙ c.as_mut_slice.ensures.len) in
-    let each : (j : ℕ) (r r' : Copy g.row.D.Denot) → At c.self.inside.replicas.items j r → At c.put_each.new.replicas j r' → PutsAt g.D.Disk.Tells g.D.Disk.files g.D.Piece.Piece.Tells c.args.pair c.args.cookie c.args.bytes.now r r' (place_in c.in-Ok.row j) =
+    let each : (j : ℕ) (r r' : Copy g.row.D.Denot) → At c.self.inside.replicas.items j r → At c.put_each.new.replicas j r'
+    → PutsAt g.D.Disk.Tells g.D.Disk.files g.D.Piece.Piece.Tells c.args.pair c.args.cookie c.args.bytes.now r r' (place_in c.in-Ok.row j) =
     λ j r r' e f. c.in-Ok.ensures.put j r r' (subst (λ xs. At xs j r) (sym now) e) f in
     record {
-      all = ap length kept ∙ (c.put_each.ensures.counts.count ∙ ap length now) ∙ ap (λ v. length v.replicas) c.self.view_is ∙ c.requires.«open».all ∙ ap (λ v. v.settings.replicas) (sym c.self.view_is);
+      all =
+          ap length kept ∙ (c.put_each.ensures.counts.count ∙ ap length now) ∙ ap (λ v. length v.replicas) c.self.view_is ∙ c.requires.«open».all ∙ ap (λ v. v.settings.replicas) (sym c.self.view_is);
       each = λ j r' f.
           let there = subst (λ xs. At xs j r') kept f in
           let old = at_there c.self.inside.replicas.items j (subst (λ n. j < n) (c.put_each.ensures.counts.count ∙ ap length now) (at_below c.put_each.new.replicas j r' there)) in
@@ -327,23 +380,37 @@ returns-else-is_untouched-clause-refused g c = λ tells k stands.
     subst (λ xs. PutLeaves g.D.Disk.Tells g.D.Disk.files g.D.Disk.fault_count c.args.pair c.args.cookie c.args.bytes.now xs c.put_each.new.replicas c.in-Err.broken) now c.in-Err.ensures.broken in
     let idle : AllIdle c.put_each.new.replicas = all_idle g.D.Disk.Tells g.D.Disk.files c.self.inside.replicas.items c.put_each.new.replicas c.in-Err.broken
     (subst (λ xs. EndsRuns g.D.Disk.Tells g.D.Disk.files xs c.put_each.new.replicas c.in-Err.broken) now c.in-Err.ensures.runs)
-    (not_untouched c.put_each.new.replicas c.in-Err.broken (λ e f r there. c.is_untouched.ensures.touched c.if-is_untouched.false e f r (subst (λ xs. At xs 0 r) (sym (c.as_slice-in-Err.ensures.value ∙ kept)) there))) in
-    subst (λ v. PutRefused g.D.Disk.files g.D.Piece.Piece.Tells k c.args.tag c.args.pair c.args.cookie c.args.bytes.now v (volume_with c.self.inside.settings c.self.inside.number ((with_items c.self.inside.replicas c.put_each.new.replicas).items) c.reserve.new.self c.self.inside.front (Some c.put_refusal-refusal.result.machine) (Some (record { tag = c.args.tag; change = change.Put c.ends_of-ends.result }))) c.put_refusal-refusal.result.fault) c.self.view_is
-    (subst (λ rs. PutRefused g.D.Disk.files g.D.Piece.Piece.Tells k c.args.tag c.args.pair c.args.cookie c.args.bytes.now (volume_with c.self.inside.settings c.self.inside.number c.self.inside.replicas.items c.self.inside.rows c.self.inside.front c.self.inside.frozen c.self.inside.unsure) (volume_with c.self.inside.settings c.self.inside.number rs c.reserve.new.self c.self.inside.front (Some c.put_refusal-refusal.result.machine) (Some (record { tag = c.args.tag; change = change.Put c.ends_of-ends.result }))) c.put_refusal-refusal.result.fault) (sym kept)
-    (put_refused c.self.inside.settings c.self.inside.number g.D.Disk.Tells g.D.Disk.files g.D.Piece.Piece.Tells g.D.Disk.fault_count c.args.pair c.args.cookie c.args.bytes.now c.self.inside.replicas.items c.put_each.new.replicas c.in-Err.broken c.put_refusal-refusal.result left c.put_refusal-refusal.ensures idle
-    tells c.self.inside.rows c.reserve.new.self c.self.inside.front c.self.inside.frozen c.self.inside.unsure k c.args.tag c.ends_of-ends.result thawed (subst (λ v. StandsFor g.D.Disk.files g.D.Piece.Piece.Tells v k) (sym c.self.view_is) stands) (c.put_each.ensures.counts.count ∙ ap length now) c.reserve.ensures.rows.rows (subst (λ v. HasRoom v.settings v.number k (length c.args.bytes.now)) (sym c.self.view_is) (room_ok c.args.self.now.settings k.frozen (room_refusal_of c.args.self.now.settings c.args.self.now.number k (length c.args.bytes.now)) c.in_ok-room.field-0 (sym c.in_ok-room.was ∙ c.room.ensures.known tells k stands)))
+    (not_untouched c.put_each.new.replicas c.in-Err.broken (λ e f r there. c.is_untouched.ensures.touched c.if-is_untouched.false e f r
+    (subst (λ xs. At xs 0 r) (sym (c.as_slice-in-Err.ensures.value ∙ kept)) there))) in
+    subst (λ v. PutRefused g.D.Disk.files g.D.Piece.Piece.Tells k c.args.tag c.args.pair c.args.cookie c.args.bytes.now v
+    (volume_with c.self.inside.settings c.self.inside.number ((with_items c.self.inside.replicas c.put_each.new.replicas).items) c.reserve.new.self c.self.inside.front
+    (Some c.put_refusal-refusal.result.machine) (Some (record { tag = c.args.tag; change = change.Put c.ends_of-ends.result }))) c.put_refusal-refusal.result.fault) c.self.view_is
+    (subst (λ rs. PutRefused g.D.Disk.files g.D.Piece.Piece.Tells k c.args.tag c.args.pair c.args.cookie c.args.bytes.now
+    (volume_with c.self.inside.settings c.self.inside.number c.self.inside.replicas.items c.self.inside.rows c.self.inside.front c.self.inside.frozen c.self.inside.unsure)
+    (volume_with c.self.inside.settings c.self.inside.number rs c.reserve.new.self c.self.inside.front (Some c.put_refusal-refusal.result.machine)
+    (Some (record { tag = c.args.tag; change = change.Put c.ends_of-ends.result }))) c.put_refusal-refusal.result.fault) (sym kept)
+    (put_refused c.self.inside.settings c.self.inside.number g.D.Disk.Tells g.D.Disk.files g.D.Piece.Piece.Tells g.D.Disk.fault_count c.args.pair c.args.cookie c.args.bytes.now
+    c.self.inside.replicas.items c.put_each.new.replicas c.in-Err.broken c.put_refusal-refusal.result left c.put_refusal-refusal.ensures idle
+    tells c.self.inside.rows c.reserve.new.self c.self.inside.front c.self.inside.frozen c.self.inside.unsure k c.args.tag c.ends_of-ends.result thawed
+    (subst (λ v. StandsFor g.D.Disk.files g.D.Piece.Piece.Tells v k) (sym c.self.view_is) stands) (c.put_each.ensures.counts.count ∙ ap length now) c.reserve.ensures.rows.rows
+    (subst (λ v. HasRoom v.settings v.number k (length c.args.bytes.now)) (sym c.self.view_is)
+    (room_ok c.args.self.now.settings k.frozen (room_refusal_of c.args.self.now.settings c.args.self.now.number k (length c.args.bytes.now)) c.in_ok-room.field-0
+    (sym c.in_ok-room.was ∙ c.room.ensures.known tells k stands)))
     (λ j r r' e f. c.put_each.ensures.reach j r r' (subst (λ xs. At xs j r) (sym now) e) f) (λ j r e. c.ends_of-ends.ensures j r (subst (λ xs. At xs j r) (sym c.as_slice.ensures.value) e))))
 
 pub returns-else-is_untouched-clause-causes : goal.returns-else-is_untouched-clause-causes
 returns-else-is_untouched-clause-causes g c =
     let now = c.as_mut_slice.ensures.value in
     let kept = with_items_is c.self.inside.replicas c.put_each.new.replicas (c.put_each.auto.replicas ∙ c.as_mut_slice.ensures.len) in
-    let all : length c.self.inside.replicas.items ≡ c.self.inside.settings.replicas = ap (λ v. length v.replicas) c.self.view_is ∙ c.requires.«open».all ∙ ap (λ v. v.settings.replicas) (sym c.self.view_is) in
+    let all : length c.self.inside.replicas.items ≡ c.self.inside.settings.replicas =
+    ap (λ v. length v.replicas) c.self.view_is ∙ c.requires.«open».all ∙ ap (λ v. v.settings.replicas) (sym c.self.view_is) in
     let left : PutLeaves g.D.Disk.Tells g.D.Disk.files g.D.Disk.fault_count c.args.pair c.args.cookie c.args.bytes.now c.self.inside.replicas.items c.put_each.new.replicas c.in-Err.broken =
     subst (λ xs. PutLeaves g.D.Disk.Tells g.D.Disk.files g.D.Disk.fault_count c.args.pair c.args.cookie c.args.bytes.now xs c.put_each.new.replicas c.in-Err.broken) now c.in-Err.ensures.broken in
-    subst (λ v. answers.IsPutFault g.D.Disk.fault_count v.settings v.number v.replicas ((with_items c.self.inside.replicas c.put_each.new.replicas).items) c.put_refusal-refusal.result.fault) c.self.view_is
+    subst (λ v. answers.IsPutFault g.D.Disk.fault_count v.settings v.number v.replicas ((with_items c.self.inside.replicas c.put_each.new.replicas).items)
+    c.put_refusal-refusal.result.fault) c.self.view_is
     (subst (λ rs. answers.IsPutFault g.D.Disk.fault_count c.self.inside.settings c.self.inside.number c.self.inside.replicas.items rs c.put_refusal-refusal.result.fault) (sym kept)
-    (put_cause_of g.D.Disk.Tells g.D.Disk.files g.D.Disk.fault_count c.args.pair c.args.cookie c.args.bytes.now c.self.inside.replicas.items c.put_each.new.replicas c.in-Err.broken left c.self.inside.settings c.self.inside.number c.put_refusal-refusal.result c.put_refusal-refusal.ensures all))
+    (put_cause_of g.D.Disk.Tells g.D.Disk.files g.D.Disk.fault_count c.args.pair c.args.cookie c.args.bytes.now c.self.inside.replicas.items c.put_each.new.replicas c.in-Err.broken
+    left c.self.inside.settings c.self.inside.number c.put_refusal-refusal.result c.put_refusal-refusal.ensures all))
 
 pub returns-else-is_untouched-clause-open : goal.returns-else-is_untouched-clause-open
 returns-else-is_untouched-clause-open g c =
@@ -354,9 +421,11 @@ returns-else-is_untouched-clause-open g c =
     λ j r e. open_up r (c.requires.«open».each j r (subst (λ v. At v.replicas j r) c.self.view_is e)) ((c.self.invariant.0).thawed thawed j r e) in
     let left : PutLeaves g.D.Disk.Tells g.D.Disk.files g.D.Disk.fault_count c.args.pair c.args.cookie c.args.bytes.now c.self.inside.replicas.items c.put_each.new.replicas c.in-Err.broken =
     subst (λ xs. PutLeaves g.D.Disk.Tells g.D.Disk.files g.D.Disk.fault_count c.args.pair c.args.cookie c.args.bytes.now xs c.put_each.new.replicas c.in-Err.broken) now c.in-Err.ensures.broken in
-    let remains = put_remains g.D.Disk.Tells g.D.Disk.files g.D.Disk.fault_count c.args.pair c.args.cookie c.args.bytes.now c.self.inside.replicas.items c.put_each.new.replicas c.in-Err.broken left up in
+    let remains =
+    put_remains g.D.Disk.Tells g.D.Disk.files g.D.Disk.fault_count c.args.pair c.args.cookie c.args.bytes.now c.self.inside.replicas.items c.put_each.new.replicas c.in-Err.broken left up in
     record {
-      all = ap length kept ∙ (c.put_each.ensures.counts.count ∙ ap length now) ∙ ap (λ v. length v.replicas) c.self.view_is ∙ c.requires.«open».all ∙ ap (λ v. v.settings.replicas) (sym c.self.view_is);
+      all =
+          ap length kept ∙ (c.put_each.ensures.counts.count ∙ ap length now) ∙ ap (λ v. length v.replicas) c.self.view_is ∙ c.requires.«open».all ∙ ap (λ v. v.settings.replicas) (sym c.self.view_is);
       each = λ j r' f.
           let there = subst (λ xs. At xs j r') kept f in
           let old = at_there c.self.inside.replicas.items j (subst (λ n. j < n) (c.put_each.ensures.counts.count ∙ ap length now) (at_below c.put_each.new.replicas j r' there)) in
@@ -395,7 +464,8 @@ returns-then-is_untouched-clause-same g c =
     let left : PutLeaves g.D.Disk.Tells g.D.Disk.files g.D.Disk.fault_count c.args.pair c.args.cookie c.args.bytes.now c.self.inside.replicas.items c.put_each.new.replicas c.in-Err.broken =
     subst (λ xs. PutLeaves g.D.Disk.Tells g.D.Disk.files g.D.Disk.fault_count c.args.pair c.args.cookie c.args.bytes.now xs c.put_each.new.replicas c.in-Err.broken) now c.in-Err.ensures.broken in
     same_by _ _ _ _ c.self.view_is refl refl kept
-    (λ j r r' e f. (put_remains g.D.Disk.Tells g.D.Disk.files g.D.Disk.fault_count c.args.pair c.args.cookie c.args.bytes.now c.self.inside.replicas.items c.put_each.new.replicas c.in-Err.broken left up j r r' e f).sup)
+    (λ j r r' e f. (put_remains g.D.Disk.Tells g.D.Disk.files g.D.Disk.fault_count c.args.pair c.args.cookie c.args.bytes.now c.self.inside.replicas.items c.put_each.new.replicas
+    c.in-Err.broken left up j r r' e f).sup)
 
 pub returns-else-is_untouched-clause-same : goal.returns-else-is_untouched-clause-same
 returns-else-is_untouched-clause-same g c =
@@ -407,7 +477,8 @@ returns-else-is_untouched-clause-same g c =
     let left : PutLeaves g.D.Disk.Tells g.D.Disk.files g.D.Disk.fault_count c.args.pair c.args.cookie c.args.bytes.now c.self.inside.replicas.items c.put_each.new.replicas c.in-Err.broken =
     subst (λ xs. PutLeaves g.D.Disk.Tells g.D.Disk.files g.D.Disk.fault_count c.args.pair c.args.cookie c.args.bytes.now xs c.put_each.new.replicas c.in-Err.broken) now c.in-Err.ensures.broken in
     same_by _ _ _ _ c.self.view_is refl refl kept
-    (λ j r r' e f. (put_remains g.D.Disk.Tells g.D.Disk.files g.D.Disk.fault_count c.args.pair c.args.cookie c.args.bytes.now c.self.inside.replicas.items c.put_each.new.replicas c.in-Err.broken left up j r r' e f).sup)
+    (λ j r r' e f. (put_remains g.D.Disk.Tells g.D.Disk.files g.D.Disk.fault_count c.args.pair c.args.cookie c.args.bytes.now c.self.inside.replicas.items c.put_each.new.replicas
+    c.in-Err.broken left up j r r' e f).sup)
 
 pub returns-in-Ok-clause-of : goal.returns-in-Ok-clause-of
 returns-in-Ok-clause-of g c =
@@ -422,7 +493,8 @@ returns-in_err-room-clause-takes g c = λ none fits.
     let fine = subst IsOk c.in_err-room.was (c.room.ensures.takes none fits) in absurd cc
 
 pub returns-else-is_untouched-clause-takes : goal.returns-else-is_untouched-clause-takes
-returns-else-is_untouched-clause-takes g c = λ none fits. refusal_breaks c.self.inside.settings c.self.inside.number c.in-Err.broken.at c.in-Err.broken.fault c.put_refusal-refusal.result c.put_refusal-refusal.ensures
+returns-else-is_untouched-clause-takes g c =
+    λ none fits. refusal_breaks c.self.inside.settings c.self.inside.number c.in-Err.broken.at c.in-Err.broken.fault c.put_refusal-refusal.result c.put_refusal-refusal.ensures
 
 pub returns-else-is_untouched-clause-above : goal.returns-else-is_untouched-clause-above
 returns-else-is_untouched-clause-above g c = λ m count e.
@@ -436,12 +508,15 @@ returns-else-is_untouched-clause-above g c = λ m count e.
     let said : c.put_refusal-refusal.result.fault ≡ logical.Failed m count = cc in
     subst (λ v. KeepsAbove g.D.Disk.Tells g.D.Disk.files v.settings v.number m v.replicas (with_items c.self.inside.replicas c.put_each.new.replicas).items) c.self.view_is
     (subst (λ rs. KeepsAbove g.D.Disk.Tells g.D.Disk.files c.self.inside.settings c.self.inside.number m c.self.inside.replicas.items rs) (sym kept)
-    (above_put g.D.Disk.Tells g.D.Disk.files c.self.inside.settings c.self.inside.number c.self.inside.replicas.items c.put_each.new.replicas c.in-Err.broken.at m count c.in-Err.broken.fault c.put_refusal-refusal.result
+    (above_put g.D.Disk.Tells g.D.Disk.files c.self.inside.settings c.self.inside.number c.self.inside.replicas.items c.put_each.new.replicas c.in-Err.broken.at m count
+    c.in-Err.broken.fault c.put_refusal-refusal.result
     (c.self.invariant.0).settings within c.put_refusal-refusal.ensures said left.above))
 
 pub returns-in_err-room-clause-above : goal.returns-in_err-room-clause-above
 returns-in_err-room-clause-above g c = λ m count e.
-    let said = subst (λ r. IfErr r (λ (f : LogicalFault). IsRoomFault c.args.self.now.settings c.args.self.now.number f)) (sym (is_err_of c.from_residual.result c.in_err-room.field-0.0 c.from_residual.ensures.1)) c.in_err-room.ensures.causes in
+    let said =
+    subst (λ r. IfErr r (λ (f : LogicalFault). IsRoomFault c.args.self.now.settings c.args.self.now.number f))
+    (sym (is_err_of c.from_residual.result c.in_err-room.field-0.0 c.from_residual.ensures.1)) c.in_err-room.ensures.causes in
     absurd (subst (λ r. IfErr r (λ (f : LogicalFault). IsRoomFault c.args.self.now.settings c.args.self.now.number f)) e said)
 
 pub returns-in_err-room-clause-stuck : goal.returns-in_err-room-clause-stuck
@@ -485,7 +560,8 @@ returns-else-is_untouched-clause-stuck g c = λ j r r' e f.
 
 pub returns-in_err-room-clause-tight : goal.returns-in_err-room-clause-tight
 returns-in_err-room-clause-tight g c = λ tells j tight.
-    subst (λ r. OnErr r (c.args.self.now.unsure ≡ c.args.self.now.unsure → IsTightAt g.D.Disk.files c.args.self.now j)) (sym (is_err_of c.from_residual.result c.in_err-room.field-0.0 c.from_residual.ensures.1)) (λ same. tight)
+    subst (λ r. OnErr r (c.args.self.now.unsure ≡ c.args.self.now.unsure → IsTightAt g.D.Disk.files c.args.self.now j))
+    (sym (is_err_of c.from_residual.result c.in_err-room.field-0.0 c.from_residual.ensures.1)) (λ same. tight)
 
 pub returns-then-is_err-clause-tight : goal.returns-then-is_err-clause-tight
 returns-then-is_err-clause-tight g c = λ tells j tight same r e. tight r (subst (λ v. At v.replicas j r) c.self.view_is e)
@@ -499,9 +575,13 @@ returns-then-is_untouched-clause-tight g c = λ tells j tight same r' f.
     λ j r e. open_up r (c.requires.«open».each j r (subst (λ v. At v.replicas j r) c.self.view_is e)) ((c.self.invariant.0).thawed thawed j r e) in
     let left : PutLeaves g.D.Disk.Tells g.D.Disk.files g.D.Disk.fault_count c.args.pair c.args.cookie c.args.bytes.now c.self.inside.replicas.items c.put_each.new.replicas c.in-Err.broken =
     subst (λ xs. PutLeaves g.D.Disk.Tells g.D.Disk.files g.D.Disk.fault_count c.args.pair c.args.cookie c.args.bytes.now xs c.put_each.new.replicas c.in-Err.broken) now c.in-Err.ensures.broken in
-    let un : IsUntouched c.put_each.new.replicas c.in-Err.broken = subst (λ xs. IsUntouched xs c.in-Err.broken) (c.as_slice-in-Err.ensures.value ∙ kept) (c.is_untouched.ensures.untouched c.if-is_untouched.true) in
-    let still = still_runs g.D.Disk.Tells g.D.Disk.files c.self.inside.replicas.items c.put_each.new.replicas c.in-Err.broken (subst (λ xs. EndsRuns g.D.Disk.Tells g.D.Disk.files xs c.put_each.new.replicas c.in-Err.broken) now c.in-Err.ensures.runs) un in
-    tight_untouched g.D.Disk.Tells g.D.Disk.files g.D.Disk.fault_count c.args.pair c.args.cookie c.args.bytes.now c.self.inside.replicas.items c.put_each.new.replicas c.in-Err.broken left un still up tells
+    let un : IsUntouched c.put_each.new.replicas c.in-Err.broken =
+    subst (λ xs. IsUntouched xs c.in-Err.broken) (c.as_slice-in-Err.ensures.value ∙ kept) (c.is_untouched.ensures.untouched c.if-is_untouched.true) in
+    let still =
+    still_runs g.D.Disk.Tells g.D.Disk.files c.self.inside.replicas.items c.put_each.new.replicas c.in-Err.broken
+    (subst (λ xs. EndsRuns g.D.Disk.Tells g.D.Disk.files xs c.put_each.new.replicas c.in-Err.broken) now c.in-Err.ensures.runs) un in
+    tight_untouched g.D.Disk.Tells g.D.Disk.files g.D.Disk.fault_count c.args.pair c.args.cookie c.args.bytes.now c.self.inside.replicas.items c.put_each.new.replicas
+    c.in-Err.broken left un still up tells
     (c.put_each.ensures.counts.count ∙ ap length now) j (λ r e. tight r (subst (λ v. At v.replicas j r) c.self.view_is e)) r' (subst (λ xs. At xs j r') kept f)
 
 pub returns-in_err-room-clause-refused_seen : goal.returns-in_err-room-clause-refused_seen
@@ -535,7 +615,8 @@ returns-then-is_untouched-clause-refused_seen g c =
     let now = c.as_mut_slice.ensures.value in
     let kept = with_items_is c.self.inside.replicas c.put_each.new.replicas (c.put_each.auto.replicas ∙ c.as_mut_slice.ensures.len) in
     let with : List ReplicaSeen → VolumeSeen = λ rs. record { front = c.self.inside.front; frozen = c.self.inside.frozen; unsure = c.self.inside.unsure; replicas = rs } in
-    let un : IsUntouched c.put_each.new.replicas c.in-Err.broken = subst (λ xs. IsUntouched xs c.in-Err.broken) (c.as_slice-in-Err.ensures.value ∙ kept) (c.is_untouched.ensures.untouched c.if-is_untouched.true) in
+    let un : IsUntouched c.put_each.new.replicas c.in-Err.broken =
+    subst (λ xs. IsUntouched xs c.in-Err.broken) (c.as_slice-in-Err.ensures.value ∙ kept) (c.is_untouched.ensures.untouched c.if-is_untouched.true) in
     let same : map replica_seen c.put_each.new.replicas ≡ map replica_seen c.self.inside.replicas.items =
     maps_by replica_seen replica_seen c.self.inside.replicas.items c.put_each.new.replicas (c.put_each.ensures.counts.count ∙ ap length now)
     (λ j r r' e f. c.in-Err.ensures.refused_seen un j r r' (subst (λ xs. At xs j r) (sym now) e) f) in
@@ -548,7 +629,8 @@ returns-else-is_untouched-clause-refused_seen g c =
     let thawed : c.self.inside.frozen ≡ None = ap (λ v. v.frozen) c.self.view_is ∙ c.in_ok-room.ensures.fits.0 in
     let idle : AllIdle c.put_each.new.replicas = all_idle g.D.Disk.Tells g.D.Disk.files c.self.inside.replicas.items c.put_each.new.replicas c.in-Err.broken
     (subst (λ xs. EndsRuns g.D.Disk.Tells g.D.Disk.files xs c.put_each.new.replicas c.in-Err.broken) now c.in-Err.ensures.runs)
-    (not_untouched c.put_each.new.replicas c.in-Err.broken (λ e f r there. c.is_untouched.ensures.touched c.if-is_untouched.false e f r (subst (λ xs. At xs 0 r) (sym (c.as_slice-in-Err.ensures.value ∙ kept)) there))) in
+    (not_untouched c.put_each.new.replicas c.in-Err.broken (λ e f r there. c.is_untouched.ensures.touched c.if-is_untouched.false e f r
+    (subst (λ xs. At xs 0 r) (sym (c.as_slice-in-Err.ensures.value ∙ kept)) there))) in
     let pending : Option Unsure = Some (record { tag = c.args.tag; change = change.Put c.ends_of-ends.result }) in
     let old : VolumeSeen = volume_seen
     (volume_with c.self.inside.settings c.self.inside.number c.self.inside.replicas.items c.self.inside.rows c.self.inside.front c.self.inside.frozen c.self.inside.unsure) in
@@ -577,7 +659,8 @@ pub returns-then-is_untouched-clause-files : goal.returns-then-is_untouched-clau
 returns-then-is_untouched-clause-files g c = λ same tells j r r' e f.
     let now = c.as_mut_slice.ensures.value in
     let kept = with_items_is c.self.inside.replicas c.put_each.new.replicas (c.put_each.auto.replicas ∙ c.as_mut_slice.ensures.len) in
-    let un : IsUntouched c.put_each.new.replicas c.in-Err.broken = subst (λ xs. IsUntouched xs c.in-Err.broken) (c.as_slice-in-Err.ensures.value ∙ kept) (c.is_untouched.ensures.untouched c.if-is_untouched.true) in
+    let un : IsUntouched c.put_each.new.replicas c.in-Err.broken =
+    subst (λ xs. IsUntouched xs c.in-Err.broken) (c.as_slice-in-Err.ensures.value ∙ kept) (c.is_untouched.ensures.untouched c.if-is_untouched.true) in
     c.in-Err.ensures.untouched un tells j r r' (subst (λ xs. At xs j r) (sym now) (subst (λ v. At v.replicas j r) (sym c.self.view_is) e)) (subst (λ xs. At xs j r') kept f)
 
 pub returns-in-Ok-clause-ends : goal.returns-in-Ok-clause-ends

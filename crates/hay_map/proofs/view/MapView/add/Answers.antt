@@ -44,7 +44,8 @@ returns-in_err-insert-clause-memory g c =
     let spare = ap (λ (rows : MapRows _). rows.spare_offsets) c.self.view_is in
     absurd (false≢true (c.in_err-insert.ensures.succeeds (omega arith)))
 
-none_before : {P : Type 0} (now reserved inside : MapRows P) (pair : Pair) → has_row now pair ≡ false → ((other : Pair) → has_row reserved other ≡ has_row now other) → inside ≡ reserved → offset_of inside pair ≡ None
+none_before : {P : Type 0} (now reserved inside : MapRows P) (pair : Pair) → has_row now pair ≡ false → ((other : Pair) → has_row reserved other ≡ has_row now other)
+    → inside ≡ reserved → offset_of inside pair ≡ None
 none_before now reserved inside pair none known is = unknown_none inside pair (ap (λ (rows : MapRows _). has_row rows pair) is ∙ known pair ∙ none)
 
 pub invariant_of-self-2 : goal.invariant_of-self-2
@@ -52,7 +53,8 @@ invariant_of-self-2 g c =
     let none : has_row c.args.self.now c.args.pair ≡ false = has_row_is c.args.self.now c.args.pair ∙ sym (ap is_some c.offset.ensures) ∙ sym c.is_some.ensures ∙ c.if-is_some.false in
     let begins : c.len-at.result ≡ length c.self.inside.places.items = c.len-at.ensures ∙ c.self.inside.places.ok.0 in
     added_kept c.args.pair _ _
-    (adds_row c.args.pair c.len-at.result _ _ refl refl c.push_none.ensures (none_before _ _ _ c.args.pair none c.reserve.ensures.known c.self.view_is) begins (λ other. c.in_ok-insert.ensures.updates.0 (other.key, other.alt)))
+    (adds_row c.args.pair c.len-at.result _ _ refl refl c.push_none.ensures (none_before _ _ _ c.args.pair none c.reserve.ensures.known c.self.view_is) begins
+    (λ other. c.in_ok-insert.ensures.updates.0 (other.key, other.alt)))
     c.self.invariant
 
 pub returns-clause-rows : goal.returns-clause-rows
@@ -62,7 +64,8 @@ returns-clause-rows g c =
     keeps_keeps _ _ _ c.in_ok-reserve.ensures.rows
     (rw (← c.self.view_is)
     (added_rows c.args.pair _ _
-    (adds_row c.args.pair c.len-at.result _ _ refl refl c.push_none.ensures (none_before _ _ _ c.args.pair none c.reserve.ensures.known c.self.view_is) begins (λ other. c.in_ok-insert.ensures.updates.0 (other.key, other.alt)))
+    (adds_row c.args.pair c.len-at.result _ _ refl refl c.push_none.ensures (none_before _ _ _ c.args.pair none c.reserve.ensures.known c.self.view_is) begins
+    (λ other. c.in_ok-insert.ensures.updates.0 (other.key, other.alt)))
     c.self.invariant))
 
 pub returns-clause-known : goal.returns-clause-known

@@ -8,7 +8,8 @@ use Rattle.hay_map.proofs.view.MapView.set_all.Goals as goal
 pub set_place-requires : goal.set_place-requires
 set_place-requires g c =
     let had : has_row c.args.self.now c.cell-item.result.pair ≡ true =
-    ap (λ (cell : OpenCell _). has_row c.args.self.now cell.pair) c.cell-item.is ∙ all_known_at c.args.self.now c.args.cells.now c.loop-cell.cell-index c.cell-item.result c.requires.known c.loop-cell-test.true in
+    ap (λ (cell : OpenCell _). has_row c.args.self.now cell.pair) c.cell-item.is ∙ all_known_at c.args.self.now c.args.cells.now c.loop-cell.cell-index c.cell-item.result
+    c.requires.known c.loop-cell-test.true in
     let replica : c.args.replica < c.loop-cell.self.replicas = omega (arith, c.loop-cell.invariant.replicas, c.requires.replica) in
     record { known = c.loop-cell.invariant.known c.cell-item.result.pair had; replica = replica }
 

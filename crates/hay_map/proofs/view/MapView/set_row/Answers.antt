@@ -10,7 +10,8 @@ loop-replica-init g c = first_none _ _ _ (λ other. rw (← c.self.view_is) (row
 pub loop-replica-preserved : goal.loop-replica-preserved
 loop-replica-preserved g c =
     let few = ap (λ (rows : MapRows _). rows.replicas) c.self.view_is in
-    first_more c.args.pair c.args.row.now c.loop-replica.replica _ _ _ c.loop-replica.invariant (omega (arith, c.requires.long)) c.requires.long (rw (c.dup.ensures, c.place.ensures) at c.set_place.ensures.set)
+    first_more c.args.pair c.args.row.now c.loop-replica.replica _ _ _ c.loop-replica.invariant (omega (arith, c.requires.long)) c.requires.long
+    (rw (c.dup.ensures, c.place.ensures) at c.set_place.ensures.set)
 
 pub returns : goal.returns
 returns g c =

@@ -31,7 +31,8 @@ returns-clause-begun g c = λ tells s stands.
 pub returns-clause-stands : goal.returns-clause-stands
 returns-clause-stands g c = λ tells s stands.
     let was = c.self.inside in
-    beside_stands g.D.Disk.files c.args.self.now was.sup was.disk c.begin.new.disk was.phase c.in-Open.files c.begin.new.self s c.self.view_is c.in-Open.is c.begin.ensures.keeps (c.begin.ensures.others tells) stands
+    beside_stands g.D.Disk.files c.args.self.now was.sup was.disk c.begin.new.disk was.phase c.in-Open.files c.begin.new.self s c.self.view_is c.in-Open.is c.begin.ensures.keeps
+    (c.begin.ensures.others tells) stands
 
 pub returns-clause-deletes : goal.returns-clause-deletes
 returns-clause-deletes g c = λ tells at may.

@@ -36,7 +36,8 @@ invariant_of-self g c =
           (λ going.
           let ready = files_ready (files was.disk) was.phase opened c.in-Open.is (c.self.invariant.0 tells) going in (
             ready_looked (files was.disk) (files c.cell.new.disk) opened c.args.at (needle_total c.args.size) ready.0 look.within (c.cell.ensures.seals tells) (c.cell.ensures.others tells),
-            copier_ready_volume (files was.disk) (files c.cell.new.disk) opened opened (files_settled was.phase opened c.in-Open.is c.self.invariant.1) ready.0 ready.1 refl (c.cell.ensures.others tells),
+            copier_ready_volume (files was.disk) (files c.cell.new.disk) opened opened (files_settled was.phase opened c.in-Open.is c.self.invariant.1) ready.0 ready.1 refl
+                (c.cell.ensures.others tells),
           )),
       c.self.invariant.1,
       c.self.invariant.2,
@@ -55,7 +56,8 @@ returns-clause-needle g c =
       seen.3,
       λ tells.
           let here = stands_there c.args.at c.cell.new.out.items (files was.disk opened.volume.file).now seen.0 seen.1 (stands tells) in
-          known_cell files c.args.self.now was.sup was.disk was.phase opened seen.0 c.self.view_is c.in-Open.is (subst (λ k. StandsCell k (files was.disk opened.volume.file).now seen.0) (sym seen.1.place) here),
+          known_cell files c.args.self.now was.sup was.disk was.phase opened seen.0 c.self.view_is c.in-Open.is
+          (subst (λ k. StandsCell k (files was.disk opened.volume.file).now seen.0) (sym seen.1.place) here),
     ))
     c.cell.ensures.needle (told c.cell.result _ _ c.cell.ensures.stands)
 
@@ -81,7 +83,9 @@ returns-clause-can_delete g c = λ tells.
     let opened = c.in-Open.files in
     let look = files_look files c.args.self.now was.sup was.disk was.phase opened c.args.at c.args.size c.self.view_is c.in-Open.is (c.requires.see tells) in
     let flag = own_flag (files was.disk opened.volume.file) (files c.cell.new.disk opened.volume.file) opened.volume.end c.args.at c.args.size look (c.cell.ensures.seals tells) in
-    let may = subst (λ (p : Phase). MayDelete files (record { sup = was.sup; disk = c.cell.new.disk; phase = p }) c.args.at) (sym c.in-Open.is) (open_deletes files was.sup c.cell.new.disk opened c.args.at flag) in
+    let may =
+    subst (λ (p : Phase). MayDelete files (record { sup = was.sup; disk = c.cell.new.disk; phase = p }) c.args.at) (sym c.in-Open.is)
+    (open_deletes files was.sup c.cell.new.disk opened c.args.at flag) in
     if_ok_so c.cell.result _ _ (λ place seen. sight_deletes files _ c.args.at seen.0 place seen.1.place may seen.3) c.cell.ensures.needle
 
 pub returns-clause-deletes : goal.returns-clause-deletes
@@ -91,7 +95,8 @@ returns-clause-deletes g c = λ tells place apart may.
     let opened = c.in-Open.files in
     let flag = files_flag files c.args.self.now was.sup was.disk was.phase opened place c.self.view_is c.in-Open.is may in
     subst (λ (p : Phase). MayDelete files (record { sup = was.sup; disk = c.cell.new.disk; phase = p }) place) (sym c.in-Open.is)
-    (open_deletes files was.sup c.cell.new.disk opened place (other_flag (files was.disk opened.volume.file) (files c.cell.new.disk opened.volume.file) opened.volume.end c.args.at c.args.size place apart (c.cell.ensures.seals tells) flag))
+    (open_deletes files was.sup c.cell.new.disk opened place (other_flag (files was.disk opened.volume.file) (files c.cell.new.disk opened.volume.file) opened.volume.end c.args.at
+    c.args.size place apart (c.cell.ensures.seals tells) flag))
 
 pub returns-clause-sees : goal.returns-clause-sees
 returns-clause-sees g c = λ tells.
@@ -100,7 +105,8 @@ returns-clause-sees g c = λ tells.
     let opened = c.in-Open.files in
     subst (λ (p : Phase). KeepsSight files (UnsealedBy c.args.at c.args.size) c.args.self.now (record { sup = was.sup; disk = c.cell.new.disk; phase = p })) (sym c.in-Open.is)
     (sight_kept files (UnsealedBy c.args.at c.args.size) c.args.self.now was.sup was.disk c.cell.new.disk was.phase opened opened c.self.view_is c.in-Open.is refl (omega arith)
-    (λ place long kept within. range_sealed place (needle_total long) c.args.at (needle_total c.args.size) (files was.disk opened.volume.file) (files c.cell.new.disk opened.volume.file) (c.cell.ensures.seals tells) kept))
+    (λ place long kept within. range_sealed place (needle_total long) c.args.at (needle_total c.args.size) (files was.disk opened.volume.file)
+    (files c.cell.new.disk opened.volume.file) (c.cell.ensures.seals tells) kept))
 
 pub returns-clause-stands : goal.returns-clause-stands
 returns-clause-stands g c = λ tells s stands has.
@@ -127,10 +133,13 @@ returns-clause-run g c = λ tells s run stands has runs.
     let was = c.self.inside in
     let opened = c.in-Open.files in
     let f = files_stand files c.args.self.now was.sup was.disk was.phase opened s c.self.view_is c.in-Open.is stands in
-    let stand = files_stand files (record { sup = was.sup; disk = c.cell.new.disk; phase = was.phase }) was.sup c.cell.new.disk was.phase opened s refl c.in-Open.is (returns-clause-stands g c tells s stands has) in
+    let stand =
+    files_stand files (record { sup = was.sup; disk = c.cell.new.disk; phase = was.phase }) was.sup c.cell.new.disk was.phase opened s refl c.in-Open.is
+    (returns-clause-stands g c tells s stands has) in
     subst (λ (p : Phase). HasRun files (record { sup = was.sup; disk = c.cell.new.disk; phase = p }) s run) (sym c.in-Open.is)
     (run_still run files c.args.self.now was.sup was.disk c.cell.new.disk was.phase opened opened s s c.self.view_is c.in-Open.is refl
-    (λ x r. run_kept was.sup (files was.disk) (files c.cell.new.disk) opened opened s s.records x r refl refl stand (next_besides_volume was.sup (files was.disk) (files was.disk) (files c.cell.new.disk) opened s f (c.cell.ensures.others tells))) runs)
+    (λ x r. run_kept was.sup (files was.disk) (files c.cell.new.disk) opened opened s s.records x r refl refl stand
+    (next_besides_volume was.sup (files was.disk) (files was.disk) (files c.cell.new.disk) opened s f (c.cell.ensures.others tells))) runs)
 
 pub returns-clause-holds : goal.returns-clause-holds
 returns-clause-holds g c = λ tells stuck s t holds.
@@ -149,7 +158,8 @@ pub returns-clause-leaves : goal.returns-clause-leaves
 returns-clause-leaves g c = λ tells image leaves.
     let files = g.D.Disk.files in
     subst (λ (x : Copy _). MayLeave (files x.disk) image) c.self.view_is
-    (leaves_looked (files c.self.inside.disk) (files c.cell.new.disk) c.in-Open.files.volume.file c.args.at (needle_total c.args.size) (c.cell.ensures.seals tells) (c.cell.ensures.others tells) image leaves)
+    (leaves_looked (files c.self.inside.disk) (files c.cell.new.disk) c.in-Open.files.volume.file c.args.at (needle_total c.args.size) (c.cell.ensures.seals tells)
+    (c.cell.ensures.others tells) image leaves)
 
 pub returns-clause-told : goal.returns-clause-told
 returns-clause-told g c = λ tells.
@@ -161,7 +171,8 @@ returns-clause-told g c = λ tells.
     subst (λ (l : List ℕ). IfOk c.cell.result (IsToldBy c.args.size c.args.at l)) bytes
     (if_ok c.cell.result _ _ _
     (λ place seen stands.
-    told_by c.args.size c.args.at (files was.disk opened.volume.file).now seen.0 place (stands_there c.args.at c.cell.new.out.items (files was.disk opened.volume.file).now seen.0 seen.1 stands) seen.2 seen.3)
+    told_by c.args.size c.args.at (files was.disk opened.volume.file).now seen.0 place
+    (stands_there c.args.at c.cell.new.out.items (files was.disk opened.volume.file).now seen.0 seen.1 stands) seen.2 seen.3)
     c.cell.ensures.needle (c.cell.ensures.stands tells))
 
 pub returns-clause-lacks : goal.returns-clause-lacks

@@ -43,7 +43,8 @@ returns-clause-deletes g c = λ tells at may.
 pub returns-clause-ends : goal.returns-clause-ends
 returns-clause-ends g c =
     let was = c.self.inside in
-    if_err_so c.copy.result _ _ (λ why ends. ends_run why (g.D.Disk.fault_count c.copy.new.disk) c.args.self.now was.sup was.disk c.copy.new.disk was.phase c.in-Open.files c.copy.new.self c.self.view_is c.in-Open.is ends) c.copy.ensures.err
+    if_err_so c.copy.result _ _ (λ why ends. ends_run why (g.D.Disk.fault_count c.copy.new.disk) c.args.self.now was.sup was.disk c.copy.new.disk was.phase c.in-Open.files
+    c.copy.new.self c.self.view_is c.in-Open.is ends) c.copy.ensures.err
 
 pub returns-clause-sees : goal.returns-clause-sees
 returns-clause-sees g c = λ tells.
@@ -85,7 +86,8 @@ returns-clause-lacks g c = λ tells head at is.
     let bytes = files_bytes files c.args.self.now was.sup was.disk was.phase opened capacity c.self.view_is c.in-Open.is (files_bounded capacity was.phase opened c.in-Open.is c.self.invariant.2) in
     let next = files_say phase_next c.args.self.now was.sup was.disk was.phase opened c.self.view_is c.in-Open.is in
     let end = files_say phase_end c.args.self.now was.sup was.disk was.phase opened c.self.view_is c.in-Open.is in
-    let stands = subst (λ n. HeadStands n c.args.cell (files was.disk opened.volume.file).now) (sym next) (subst (λ (l : List ℕ). HeadStands (next_of c.args.self.now) c.args.cell l) (sym bytes) head) in
+    let stands =
+    subst (λ n. HeadStands n c.args.cell (files was.disk opened.volume.file).now) (sym next) (subst (λ (l : List ℕ). HeadStands (next_of c.args.self.now) c.args.cell l) (sym bytes) head) in
     subst (λ n. LacksNeedleWithin n at (volume_bytes files c.args.self.now)) end
     (subst (λ (l : List ℕ). LacksNeedleWithin opened.volume.end at l) bytes (c.copy.ensures.lacks tells stands at is))
 
@@ -104,6 +106,8 @@ returns-clause-met g c = λ tells.
     let bytes = files_bytes files c.args.self.now was.sup was.disk was.phase opened capacity c.self.view_is c.in-Open.is (files_bounded capacity was.phase opened c.in-Open.is c.self.invariant.2) in
     let next = files_say phase_next c.args.self.now was.sup was.disk was.phase opened c.self.view_is c.in-Open.is in
     let there = (files was.disk opened.volume.file).now in
-    on_ok_one c.copy.result (IsPassedOrStands (copier_next opened.copier) c.args.cell c.args.latest there) (IsPassedOrStands (next_of c.args.self.now) c.args.cell c.args.latest (volume_bytes files c.args.self.now))
-    (λ met. subst (λ n. IsPassedOrStands n c.args.cell c.args.latest (volume_bytes files c.args.self.now)) next (subst (λ (l : List ℕ). IsPassedOrStands (copier_next opened.copier) c.args.cell c.args.latest l) bytes met))
+    on_ok_one c.copy.result (IsPassedOrStands (copier_next opened.copier) c.args.cell c.args.latest there)
+    (IsPassedOrStands (next_of c.args.self.now) c.args.cell c.args.latest (volume_bytes files c.args.self.now))
+    (λ met. subst (λ n. IsPassedOrStands n c.args.cell c.args.latest (volume_bytes files c.args.self.now)) next
+    (subst (λ (l : List ℕ). IsPassedOrStands (copier_next opened.copier) c.args.cell c.args.latest l) bytes met))
     (c.copy.ensures.met tells)

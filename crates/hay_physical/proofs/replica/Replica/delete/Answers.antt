@@ -32,7 +32,8 @@ repeat_delete-requires-clause-making g c = λ tells.
     let opened = c.in-Open.files in
     let thawed = c.in-Ok.ensures.open in
     let ready = files_ready (files was.disk) was.phase opened c.in-Open.is (c.self.invariant.0 tells) (c.delete.ensures.copier.thawed thawed) in
-    copier_ready_volume (files was.disk) (files c.delete.new.disk) opened c.delete.new.self (files_settled was.phase opened c.in-Open.is c.self.invariant.1) ready.0 ready.1 (c.delete.ensures.copier.same thawed) (c.delete.ensures.others tells)
+    copier_ready_volume (files was.disk) (files c.delete.new.disk) opened c.delete.new.self (files_settled was.phase opened c.in-Open.is c.self.invariant.1) ready.0 ready.1
+    (c.delete.ensures.copier.same thawed) (c.delete.ensures.others tells)
 
 pub returns-in-Ok-clause-deleted : goal.returns-in-Ok-clause-deleted
 returns-in-Ok-clause-deleted g c = λ tells s stands live.
@@ -41,14 +42,16 @@ returns-in-Ok-clause-deleted g c = λ tells s stands live.
     let opened = c.in-Open.files in
     let stand = files_stand files c.args.self.now was.sup was.disk was.phase opened s c.self.view_is c.in-Open.is stands in
     open_stands files was.sup c.repeat_delete.new.disk c.repeat_delete.new.self (without_cell s c.args.at) (ap (λ (o : OpenFiles). o.frozen) c.repeat_delete.ensures.keeps ∙ c.in-Ok.ensures.open)
-    (stand_beside was.sup (files c.delete.new.disk) (files c.repeat_delete.new.disk) c.delete.new.self c.repeat_delete.new.self (without_cell s c.args.at) (c.in-Ok.ensures.deleted tells was.sup s stand live) c.repeat_delete.ensures.keeps (c.repeat_delete.ensures.others tells))
+    (stand_beside was.sup (files c.delete.new.disk) (files c.repeat_delete.new.disk) c.delete.new.self c.repeat_delete.new.self (without_cell s c.args.at)
+    (c.in-Ok.ensures.deleted tells was.sup s stand live) c.repeat_delete.ensures.keeps (c.repeat_delete.ensures.others tells))
 
 pub returns-in-Ok-clause-deletes : goal.returns-in-Ok-clause-deletes
 returns-in-Ok-clause-deletes g c = λ tells place may.
     let files = g.D.Disk.files in
     let was = c.self.inside in
     open_deletes files was.sup c.repeat_delete.new.disk c.repeat_delete.new.self place
-    (flag_beside (files c.delete.new.disk) (files c.repeat_delete.new.disk) c.delete.new.self c.repeat_delete.new.self place (c.delete.ensures.ready tells c.in-Ok.ensures.open) c.repeat_delete.ensures.keeps (c.repeat_delete.ensures.others tells)
+    (flag_beside (files c.delete.new.disk) (files c.repeat_delete.new.disk) c.delete.new.self c.repeat_delete.new.self place (c.delete.ensures.ready tells c.in-Ok.ensures.open)
+    c.repeat_delete.ensures.keeps (c.repeat_delete.ensures.others tells)
     (c.delete.ensures.flags tells place (files_flag files c.args.self.now was.sup was.disk was.phase c.in-Open.files place c.self.view_is c.in-Open.is may)))
 
 pub returns-in-Ok-clause-run : goal.returns-in-Ok-clause-run
@@ -57,15 +60,18 @@ returns-in-Ok-clause-run g c = λ tells s run stands has last.
     let was = c.self.inside in
     let opened = c.in-Open.files in
     let stand = files_stand files c.args.self.now was.sup was.disk was.phase opened s c.self.view_is c.in-Open.is stands in
-    delete_run run files c.args.self.now was.sup was.disk c.delete.new.disk c.repeat_delete.new.disk was.phase opened c.delete.new.self c.repeat_delete.new.self s c.args.pair c.args.at (g.D.Disk.fault_count c.delete.new.disk) (g.D.Disk.fault_count c.repeat_delete.new.disk)
-    c.self.view_is c.in-Open.is stand (c.delete.ensures.copier.same c.in-Ok.ensures.open) c.delete.ensures.volume (c.in-Ok.ensures.deleted tells was.sup s stand (subst (λ k. HasLive k s.cells) last.place (last_live s.cells c.args.pair last.cell last.last last.alive))) (c.delete.ensures.others tells) last
+    delete_run run files c.args.self.now was.sup was.disk c.delete.new.disk c.repeat_delete.new.disk was.phase opened c.delete.new.self c.repeat_delete.new.self s c.args.pair
+    c.args.at (g.D.Disk.fault_count c.delete.new.disk) (g.D.Disk.fault_count c.repeat_delete.new.disk)
+    c.self.view_is c.in-Open.is stand (c.delete.ensures.copier.same c.in-Ok.ensures.open) c.delete.ensures.volume
+    (c.in-Ok.ensures.deleted tells was.sup s stand (subst (λ k. HasLive k s.cells) last.place (last_live s.cells c.args.pair last.cell last.last last.alive))) (c.delete.ensures.others tells) last
     (c.repeat_delete.ensures.repeated tells) c.repeat_delete.ensures.ends c.repeat_delete.ensures.keeps has
 
 pub returns-in-Err-clause-deletes : goal.returns-in-Err-clause-deletes
 returns-in-Err-clause-deletes g c = λ tells place may.
     let files = g.D.Disk.files in
     let was = c.self.inside in
-    open_deletes files was.sup c.delete.new.disk c.delete.new.self place (c.delete.ensures.flags tells place (files_flag files c.args.self.now was.sup was.disk was.phase c.in-Open.files place c.self.view_is c.in-Open.is may))
+    open_deletes files was.sup c.delete.new.disk c.delete.new.self place (c.delete.ensures.flags tells place
+    (files_flag files c.args.self.now was.sup was.disk was.phase c.in-Open.files place c.self.view_is c.in-Open.is may))
 
 pub returns-in-Err-clause-refused : goal.returns-in-Err-clause-refused
 returns-in-Err-clause-refused g c = λ tells s stands live.
@@ -89,10 +95,13 @@ returns-in-Ok-clause-sees g c = λ tells.
     let volume : c.delete.new.self.volume ≡ opened.volume = c.delete.ensures.volume in
     let apart : files c.repeat_delete.new.disk c.delete.new.self.volume.file ≡ files c.delete.new.disk c.delete.new.self.volume.file =
     c.repeat_delete.ensures.others tells c.delete.new.self.volume.file (λ e. omega arith) (λ e. omega arith) in
-    sight_sight files (ApartFrom c.args.at) c.args.self.now (record { sup = was.sup; disk = c.delete.new.disk; phase = Open c.delete.new.self }) (record { sup = was.sup; disk = c.repeat_delete.new.disk; phase = Open c.repeat_delete.new.self })
-    (sight_kept files (ApartFrom c.args.at) c.args.self.now was.sup was.disk c.delete.new.disk was.phase opened c.delete.new.self c.self.view_is c.in-Open.is (ap (λ (v : VolumeFile). v.file) volume) (omega (arith, ap (λ (v : VolumeFile). v.end) volume))
+    sight_sight files (ApartFrom c.args.at) c.args.self.now (record { sup = was.sup; disk = c.delete.new.disk; phase = Open c.delete.new.self })
+    (record { sup = was.sup; disk = c.repeat_delete.new.disk; phase = Open c.repeat_delete.new.self })
+    (sight_kept files (ApartFrom c.args.at) c.args.self.now was.sup was.disk c.delete.new.disk was.phase opened c.delete.new.self c.self.view_is c.in-Open.is
+    (ap (λ (v : VolumeFile). v.file) volume) (omega (arith, ap (λ (v : VolumeFile). v.end) volume))
     (λ at size kept within. range_apart at (needle_total size) c.args.at (files was.disk opened.volume.file) (files c.delete.new.disk opened.volume.file) kept (c.delete.ensures.changes tells going)))
-    (sight_same files (ApartFrom c.args.at) (record { sup = was.sup; disk = c.delete.new.disk; phase = Open c.delete.new.self }) was.sup c.delete.new.disk c.repeat_delete.new.disk (Open c.delete.new.self) c.delete.new.self c.repeat_delete.new.self refl refl
+    (sight_same files (ApartFrom c.args.at) (record { sup = was.sup; disk = c.delete.new.disk; phase = Open c.delete.new.self }) was.sup c.delete.new.disk c.repeat_delete.new.disk
+    (Open c.delete.new.self) c.delete.new.self c.repeat_delete.new.self refl refl
     (ap (λ (o : OpenFiles). o.volume) c.repeat_delete.ensures.keeps) apart)
 
 pub returns-in-Err-clause-sees : goal.returns-in-Err-clause-sees
@@ -102,10 +111,13 @@ returns-in-Err-clause-sees g c = λ tells.
     let opened = c.in-Open.files in
     let volume : c.delete.new.self.volume ≡ opened.volume = c.delete.ensures.volume in
     elim (cases_Bool opened.frozen) [
-      | inl stuck ↦ sight_same files (ApartFrom c.args.at) c.args.self.now was.sup was.disk c.delete.new.disk was.phase opened c.delete.new.self c.self.view_is c.in-Open.is volume (ap (λ d. files d opened.volume.file) (c.delete.ensures.frozen stuck).2)
+      | inl stuck ↦ sight_same files (ApartFrom c.args.at) c.args.self.now was.sup was.disk c.delete.new.disk was.phase opened c.delete.new.self c.self.view_is c.in-Open.is volume
+          (ap (λ d. files d opened.volume.file) (c.delete.ensures.frozen stuck).2)
       | inr going ↦
-          sight_kept files (ApartFrom c.args.at) c.args.self.now was.sup was.disk c.delete.new.disk was.phase opened c.delete.new.self c.self.view_is c.in-Open.is (ap (λ (v : VolumeFile). v.file) volume) (omega (arith, ap (λ (v : VolumeFile). v.end) volume))
-          (λ at size kept within. range_apart at (needle_total size) c.args.at (files was.disk opened.volume.file) (files c.delete.new.disk opened.volume.file) kept (c.delete.ensures.changes tells going))
+          sight_kept files (ApartFrom c.args.at) c.args.self.now was.sup was.disk c.delete.new.disk was.phase opened c.delete.new.self c.self.view_is c.in-Open.is
+          (ap (λ (v : VolumeFile). v.file) volume) (omega (arith, ap (λ (v : VolumeFile). v.end) volume))
+          (λ at size kept within. range_apart at (needle_total size) c.args.at (files was.disk opened.volume.file) (files c.delete.new.disk opened.volume.file) kept
+          (c.delete.ensures.changes tells going))
     ]
 
 pub returns-in-Ok-clause-place : goal.returns-in-Ok-clause-place

@@ -17,7 +17,8 @@ returns-clause-stands g c = λ tells s stands.
     elim c.match-self.branch [
       | in-Open w ↦
           subst (λ x. Stands files (record { sup = x.sup; disk = x.disk; phase = x.phase }) s) (sym w.self-inside-is)
-          (beside_stands files c.args.self.now was.sup was.disk was.disk was.phase w.in-Open.files w.end_run.new.self s c.self.view_is w.in-Open.is w.end_run.ensures.keeps (λ other first second. refl) stands)
+          (beside_stands files c.args.self.now was.sup was.disk was.disk was.phase w.in-Open.files w.end_run.new.self s c.self.view_is w.in-Open.is w.end_run.ensures.keeps
+          (λ other first second. refl) stands)
       | in-Closed w ↦
           subst (λ x. Stands files (record { sup = x.sup; disk = x.disk; phase = x.phase }) s) (sym w.self-inside-is) (subst (λ (x : Copy _). Stands files x s) (sym c.self.view_is) stands)
     ]
@@ -29,7 +30,8 @@ returns-clause-deletes g c = λ tells at may.
     elim c.match-self.branch [
       | in-Open w ↦
           subst (λ x. MayDelete files (record { sup = x.sup; disk = x.disk; phase = x.phase }) at) (sym w.self-inside-is)
-          (open_deletes files was.sup was.disk w.end_run.new.self at (ended_flag (files was.disk) w.in-Open.files w.end_run.new.self at w.end_run.ensures.keeps (files_flag files c.args.self.now was.sup was.disk was.phase w.in-Open.files at c.self.view_is w.in-Open.is may)))
+          (open_deletes files was.sup was.disk w.end_run.new.self at (ended_flag (files was.disk) w.in-Open.files w.end_run.new.self at w.end_run.ensures.keeps
+          (files_flag files c.args.self.now was.sup was.disk was.phase w.in-Open.files at c.self.view_is w.in-Open.is may)))
       | in-Closed w ↦
           subst (λ x. MayDelete files (record { sup = x.sup; disk = x.disk; phase = x.phase }) at) (sym w.self-inside-is) (subst (λ (x : Copy _). MayDelete files x at) (sym c.self.view_is) may)
     ]
@@ -41,7 +43,8 @@ returns-clause-sees g c = λ tells.
     elim c.match-self.branch [
       | in-Open w ↦
           subst (λ x. KeepsSight files Anywhere c.args.self.now (record { sup = x.sup; disk = x.disk; phase = x.phase })) (sym w.self-inside-is)
-          (sight_same files Anywhere c.args.self.now was.sup was.disk was.disk was.phase w.in-Open.files w.end_run.new.self c.self.view_is w.in-Open.is (ap (λ (o : OpenFiles). o.volume) w.end_run.ensures.keeps) refl)
+          (sight_same files Anywhere c.args.self.now was.sup was.disk was.disk was.phase w.in-Open.files w.end_run.new.self c.self.view_is w.in-Open.is
+          (ap (λ (o : OpenFiles). o.volume) w.end_run.ensures.keeps) refl)
       | in-Closed w ↦
           subst (λ x. KeepsSight files Anywhere c.args.self.now (record { sup = x.sup; disk = x.disk; phase = x.phase })) (sym w.self-inside-is)
           (sight_moved files Anywhere c.args.self.now was.sup was.disk was.disk was.phase c.self.view_is refl)

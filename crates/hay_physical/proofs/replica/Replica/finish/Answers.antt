@@ -81,7 +81,8 @@ returns-clause-deletes g c = λ tells at may.
       | inl frozen ↦
           let same = c.finish.ensures.frozen frozen in
           on_any c.finish.result _ (open_deletes files was.sup c.finish.new.disk c.finish.new.self at
-          (subst (λ (d : _). MayFlag (files d c.finish.new.self.volume.file) c.finish.new.self.volume.end at) (sym same.2) (subst (λ (o : OpenFiles). MayFlag (files was.disk o.volume.file) o.volume.end at) (sym same.1) flag)))
+          (subst (λ (d : _). MayFlag (files d c.finish.new.self.volume.file) c.finish.new.self.volume.end at) (sym same.2)
+          (subst (λ (o : OpenFiles). MayFlag (files was.disk o.volume.file) o.volume.end at) (sym same.1) flag)))
       | inr going ↦
           on_err c.finish.result _ _ _
           (λ same file.
@@ -101,7 +102,8 @@ returns-clause-removed g c = λ tells.
     let generation : phase_generation was.phase ≡ opened.head.generation = ap phase_generation c.in-Open.is in
     subst (λ (x : Copy _). OnOk c.finish.result (RemovedBoth files (volume_file (generation_of x)) (index_file (generation_of x)) (count x.disk) after)) c.self.view_is
     (elim (cases_Bool opened.frozen) [
-      | inl frozen ↦ subst (λ r. OnOk r (RemovedBoth files (volume_file (phase_generation was.phase)) (index_file (phase_generation was.phase)) (count was.disk) after)) (sym (c.finish.ensures.frozen frozen).0) tt
+      | inl frozen ↦ subst (λ r. OnOk r (RemovedBoth files (volume_file (phase_generation was.phase)) (index_file (phase_generation was.phase)) (count was.disk) after))
+          (sym (c.finish.ensures.frozen frozen).0) tt
       | inr going ↦
           let ready = (files_ready (g.D.Disk.files was.disk) was.phase opened c.in-Open.is (c.self.invariant.0 tells) going).0 in
           on_ok_one c.finish.result _ _
@@ -119,10 +121,12 @@ returns-clause-sees g c = λ tells.
     elim (cases_Bool opened.frozen) [
       | inl frozen ↦
           let same = c.finish.ensures.frozen frozen in
-          on_any c.finish.result _ (sight_same files Anywhere c.args.self.now was.sup was.disk c.finish.new.disk was.phase opened c.finish.new.self c.self.view_is c.in-Open.is (ap (λ (o : OpenFiles). o.volume) same.1) (ap (λ d. files d opened.volume.file) same.2))
+          on_any c.finish.result _ (sight_same files Anywhere c.args.self.now was.sup was.disk c.finish.new.disk was.phase opened c.finish.new.self c.self.view_is c.in-Open.is
+          (ap (λ (o : OpenFiles). o.volume) same.1) (ap (λ d. files d opened.volume.file) same.2))
       | inr going ↦
           on_err c.finish.result _ _ _
-          (λ same file. sight_same files Anywhere c.args.self.now was.sup was.disk c.finish.new.disk was.phase opened c.finish.new.self c.self.view_is c.in-Open.is (ap (λ (o : OpenFiles). o.volume) same) file)
+          (λ same file. sight_same files Anywhere c.args.self.now was.sup was.disk c.finish.new.disk was.phase opened c.finish.new.self c.self.view_is c.in-Open.is
+          (ap (λ (o : OpenFiles). o.volume) same) file)
           c.finish.ensures.same (c.finish.ensures.volume tells going)
     ]
 
@@ -134,7 +138,9 @@ returns-clause-counted g c = λ tells.
     let was = c.self.inside in
     on_ok_one c.finish.result _ _
     (λ counted t stands.
-    let f = files_stand g.D.Disk.files (record { sup = was.sup; disk = c.finish.new.disk; phase = Open c.finish.new.self }) was.sup c.finish.new.disk (Open c.finish.new.self) c.finish.new.self t refl refl stands in
+    let f =
+    files_stand g.D.Disk.files (record { sup = was.sup; disk = c.finish.new.disk; phase = Open c.finish.new.self }) was.sup c.finish.new.disk (Open c.finish.new.self)
+    c.finish.new.self t refl refl stands in
     counted was.sup t f ∙ sym (ap phase_copied c.in-Open.is) ∙ ap (λ (r : Copy _). copied_of r) c.self.view_is)
     (c.finish.ensures.counted tells)
 

@@ -18,7 +18,8 @@ returns-clause-flushed g c = λ tells s stands.
     let opened = c.in-Open.files in
     let stand = files_stand files c.args.self.now was.sup was.disk was.phase opened s c.self.view_is c.in-Open.is stands in
     let going = files_going files c.args.self.now was.sup was.disk was.phase opened s c.self.view_is c.in-Open.is stands in
-    if_ok_so c.flush.result _ _ (λ n done. (done.0, open_stands files was.sup c.flush.new.disk c.flush.new.self _ (c.flush.ensures.open ∙ going) done.1)) (c.flush.ensures.flushed tells was.sup s stand)
+    if_ok_so c.flush.result _ _ (λ n done. (done.0, open_stands files was.sup c.flush.new.disk c.flush.new.self _ (c.flush.ensures.open ∙ going) done.1))
+    (c.flush.ensures.flushed tells was.sup s stand)
 
 pub returns-clause-refused : goal.returns-clause-refused
 returns-clause-refused g c = λ tells s stands.
@@ -33,7 +34,8 @@ pub returns-clause-deletes : goal.returns-clause-deletes
 returns-clause-deletes g c = λ tells place may.
     let files = g.D.Disk.files in
     let was = c.self.inside in
-    open_deletes files was.sup c.flush.new.disk c.flush.new.self place (c.flush.ensures.flags tells place (files_flag files c.args.self.now was.sup was.disk was.phase c.in-Open.files place c.self.view_is c.in-Open.is may))
+    open_deletes files was.sup c.flush.new.disk c.flush.new.self place (c.flush.ensures.flags tells place
+    (files_flag files c.args.self.now was.sup was.disk was.phase c.in-Open.files place c.self.view_is c.in-Open.is may))
 
 pub invariant_of-self : goal.invariant_of-self
 invariant_of-self g c =
@@ -42,11 +44,15 @@ invariant_of-self g c =
     let opened = c.in-Open.files in
     let settled = files_settled was.phase opened c.in-Open.is c.self.invariant.1 in (
       λ tells thawed.
-          let ready = files_ready (files was.disk) was.phase opened c.in-Open.is (c.self.invariant.0 tells) (sym c.flush.ensures.open ∙ thawed) in
-          (c.flush.ensures.ready tells thawed, copier_ready_index (files was.disk) (files c.flush.new.disk) opened c.flush.new.self settled ready.0 ready.1 c.flush.ensures.copier.0 (c.flush.ensures.others tells)),
+          let ready = files_ready (files was.disk) was.phase opened c.in-Open.is (c.self.invariant.0 tells) (sym c.flush.ensures.open ∙ thawed) in (
+            c.flush.ensures.ready tells thawed,
+            copier_ready_index (files was.disk) (files c.flush.new.disk) opened c.flush.new.self settled ready.0 ready.1 c.flush.ensures.copier.0
+                (c.flush.ensures.others tells),
+          ),
       settled_still opened c.flush.new.self settled c.flush.ensures.copier.1 c.flush.ensures.copier.0 c.flush.ensures.open,
       bounded_still was.sup.settings.capacity opened c.flush.new.self (files_bounded was.sup.settings.capacity was.phase opened c.in-Open.is c.self.invariant.2)
-          c.flush.ensures.copier.1 (ap (λ (v : VolumeFile). v.file) c.flush.ensures.copier.2) (ap (λ (v : VolumeFile). v.capacity) c.flush.ensures.copier.2) (omega (arith, ap (λ (v : VolumeFile). v.end) c.flush.ensures.copier.2)) c.flush.ensures.copier.0,
+          c.flush.ensures.copier.1 (ap (λ (v : VolumeFile). v.file) c.flush.ensures.copier.2) (ap (λ (v : VolumeFile). v.capacity) c.flush.ensures.copier.2)
+          (omega (arith, ap (λ (v : VolumeFile). v.end) c.flush.ensures.copier.2)) c.flush.ensures.copier.0,
     )
 
 pub returns-clause-run : goal.returns-clause-run
@@ -57,7 +63,8 @@ returns-clause-run g c = λ tells s run stands has.
     let f = files_stand files c.args.self.now was.sup was.disk was.phase opened s c.self.view_is c.in-Open.is stands in
     if_ok_unit c.flush.result _ _
     (λ n done. run_still run files c.args.self.now was.sup was.disk c.flush.new.disk was.phase opened c.flush.new.self s (all_recorded s) c.self.view_is c.in-Open.is c.flush.ensures.copier.0
-    (λ x r. run_kept was.sup (files was.disk) (files c.flush.new.disk) opened c.flush.new.self s (length s.cells) x r c.flush.ensures.copier.0 c.flush.ensures.copier.2 done.1 (next_besides_index was.sup (files was.disk) (files was.disk) (files c.flush.new.disk) opened s f (c.flush.ensures.others tells))) has)
+    (λ x r. run_kept was.sup (files was.disk) (files c.flush.new.disk) opened c.flush.new.self s (length s.cells) x r c.flush.ensures.copier.0 c.flush.ensures.copier.2 done.1
+    (next_besides_index was.sup (files was.disk) (files was.disk) (files c.flush.new.disk) opened s f (c.flush.ensures.others tells))) has)
     (c.flush.ensures.flushed tells was.sup s f)
 
 pub returns-clause-run_stays : goal.returns-clause-run_stays
@@ -68,13 +75,15 @@ returns-clause-run_stays g c = λ tells s run stands has.
     let f = files_stand files c.args.self.now was.sup was.disk was.phase opened s c.self.view_is c.in-Open.is stands in
     on_err_so c.flush.result _ _
     (λ stays. run_still run files c.args.self.now was.sup was.disk c.flush.new.disk was.phase opened c.flush.new.self s s c.self.view_is c.in-Open.is c.flush.ensures.copier.0
-    (λ x r. run_kept was.sup (files was.disk) (files c.flush.new.disk) opened c.flush.new.self s s.records x r c.flush.ensures.copier.0 c.flush.ensures.copier.2 stays (next_besides_index was.sup (files was.disk) (files was.disk) (files c.flush.new.disk) opened s f (c.flush.ensures.others tells))) has)
+    (λ x r. run_kept was.sup (files was.disk) (files c.flush.new.disk) opened c.flush.new.self s s.records x r c.flush.ensures.copier.0 c.flush.ensures.copier.2 stays
+    (next_besides_index was.sup (files was.disk) (files was.disk) (files c.flush.new.disk) opened s f (c.flush.ensures.others tells))) has)
     (c.flush.ensures.refused tells was.sup s f)
 
 pub returns-clause-sees : goal.returns-clause-sees
 returns-clause-sees g c = λ tells.
     let was = c.self.inside in
-    sight_same g.D.Disk.files Anywhere c.args.self.now was.sup was.disk c.flush.new.disk was.phase c.in-Open.files c.flush.new.self c.self.view_is c.in-Open.is c.flush.ensures.copier.2 (c.flush.ensures.cells tells)
+    sight_same g.D.Disk.files Anywhere c.args.self.now was.sup was.disk c.flush.new.disk was.phase c.in-Open.files c.flush.new.self c.self.view_is c.in-Open.is
+    c.flush.ensures.copier.2 (c.flush.ensures.cells tells)
 
 pub returns-clause-number : goal.returns-clause-number
 returns-clause-number g c =
@@ -97,4 +106,5 @@ returns-clause-place g c =
 pub returns-clause-tried : goal.returns-clause-tried
 returns-clause-tried g c =
     let was = c.self.inside in
-    if_err_so c.flush.result _ _ (λ fault tried faults is. subst (λ n. 0 < n) (files_say phase_bare c.args.self.now was.sup was.disk was.phase c.in-Open.files c.self.view_is c.in-Open.is) (tried faults is)) c.flush.ensures.tried
+    if_err_so c.flush.result _ _ (λ fault tried faults is. subst (λ n. 0 < n) (files_say phase_bare c.args.self.now was.sup was.disk was.phase c.in-Open.files c.self.view_is
+    c.in-Open.is) (tried faults is)) c.flush.ensures.tried

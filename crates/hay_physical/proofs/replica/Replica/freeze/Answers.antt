@@ -15,4 +15,5 @@ returns-clause-held g c = λ tells s stands.
 pub returns-clause-sees : goal.returns-clause-sees
 returns-clause-sees g c = λ tells.
     let was = c.self.inside in
-    sight_same g.D.Disk.files Anywhere c.args.self.now was.sup was.disk was.disk was.phase c.in-Open.files c.freeze.new.self c.self.view_is c.in-Open.is (ap (λ (o : OpenFiles). o.volume) c.freeze.ensures) refl
+    sight_same g.D.Disk.files Anywhere c.args.self.now was.sup was.disk was.disk was.phase c.in-Open.files c.freeze.new.self c.self.view_is c.in-Open.is
+    (ap (λ (o : OpenFiles). o.volume) c.freeze.ensures) refl

@@ -22,7 +22,8 @@ returns-in_err-head-clause-left g c = λ tells stuck s t holds.
     let left = g.met.D.Disk.may_leave_now was.disk in
     let finds = disk_finds files c.args.self.now (record { sup = was.sup; disk = was.disk; phase = was.phase }) stuck s t c.self.view_is holds in
     let void = finds_not_void was.sup (files was.disk) stuck s t (λ n. left n tells) finds in
-    on_any c.from_residual.result _ (finds_kept was.sup (files was.disk) (files c.open_replica.new.disk) stuck s t (λ n. left n tells) (c.in_err-head.ensures.kept tells void) (c.in_err-head.ensures.stays tells void) finds)
+    on_any c.from_residual.result _ (finds_kept was.sup (files was.disk) (files c.open_replica.new.disk) stuck s t (λ n. left n tells) (c.in_err-head.ensures.kept tells void)
+    (c.in_err-head.ensures.stays tells void) finds)
 
 pub returns-in_err-head-clause-file : goal.returns-in_err-head-clause-file
 returns-in_err-head-clause-file g c = λ file at is.

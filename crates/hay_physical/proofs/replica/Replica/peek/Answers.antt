@@ -57,13 +57,15 @@ returns-clause-deletes g c = λ tells at may.
 pub returns-clause-ends : goal.returns-clause-ends
 returns-clause-ends g c =
     let was = c.self.inside in
-    if_err_so c.peek.result _ _ (λ why ends. ends_run why (g.D.Disk.fault_count c.peek.new.disk) c.args.self.now was.sup was.disk c.peek.new.disk was.phase c.in-Open.files c.peek.new.self c.self.view_is c.in-Open.is ends) c.peek.ensures.err
+    if_err_so c.peek.result _ _ (λ why ends. ends_run why (g.D.Disk.fault_count c.peek.new.disk) c.args.self.now was.sup was.disk c.peek.new.disk was.phase c.in-Open.files
+    c.peek.new.self c.self.view_is c.in-Open.is ends) c.peek.ensures.err
 
 pub returns-clause-sees : goal.returns-clause-sees
 returns-clause-sees g c = λ tells.
     let was = c.self.inside in
     beside_sight g.D.Disk.files Anywhere c.args.self.now was.sup was.disk c.peek.new.disk was.phase c.in-Open.files c.peek.new.self c.self.view_is c.in-Open.is
-    (λ stuck. let same = c.peek.ensures.frozen stuck in (same.1, same.2)) (c.self.invariant.0 tells) c.peek.ensures.keeps (λ other first second. ap (λ (f : Files). f other) (c.peek.ensures.files tells))
+    (λ stuck. let same = c.peek.ensures.frozen stuck in (same.1, same.2)) (c.self.invariant.0 tells) c.peek.ensures.keeps
+    (λ other first second. ap (λ (f : Files). f other) (c.peek.ensures.files tells))
 
 pub returns-clause-place : goal.returns-clause-place
 returns-clause-place g c = λ same.
@@ -100,7 +102,8 @@ returns-clause-lacks g c = λ tells at is.
           let ready = files_ready (files was.disk) was.phase opened c.in-Open.is (c.self.invariant.0 tells) going in
           let room = ready.0.volume.closed.room in
           let fits = g.met.D.Disk.fits was.disk opened.volume.file tells in
-          let bytes = files_bytes files c.args.self.now was.sup was.disk was.phase opened capacity c.self.view_is c.in-Open.is (files_bounded capacity was.phase opened c.in-Open.is c.self.invariant.2) in
+          let bytes =
+          files_bytes files c.args.self.now was.sup was.disk was.phase opened capacity c.self.view_is c.in-Open.is (files_bounded capacity was.phase opened c.in-Open.is c.self.invariant.2) in
           let end = files_say phase_end c.args.self.now was.sup was.disk was.phase opened c.self.view_is c.in-Open.is in
           subst (λ n. LacksNeedleWithin n at (volume_bytes files c.args.self.now)) end
           (subst (λ (l : List ℕ). LacksNeedleWithin opened.volume.end at l) bytes (c.peek.ensures.lacks tells (omega (arith, room, fits)) at is))

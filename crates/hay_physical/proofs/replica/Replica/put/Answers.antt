@@ -40,7 +40,8 @@ pub returns-clause-deletes : goal.returns-clause-deletes
 returns-clause-deletes g c = λ tells place may.
     let files = g.D.Disk.files in
     let was = c.self.inside in
-    open_deletes files was.sup c.put.new.disk c.put.new.self place (c.put.ensures.flags tells place (files_flag files c.args.self.now was.sup was.disk was.phase c.in-Open.files place c.self.view_is c.in-Open.is may))
+    open_deletes files was.sup c.put.new.disk c.put.new.self place (c.put.ensures.flags tells place
+    (files_flag files c.args.self.now was.sup was.disk was.phase c.in-Open.files place c.self.view_is c.in-Open.is may))
 
 pub returns-clause-refused : goal.returns-clause-refused
 returns-clause-refused g c = λ tells s stands.
@@ -63,10 +64,14 @@ invariant_of-self g c =
     let opened = c.in-Open.files in
     let settled = files_settled was.phase opened c.in-Open.is c.self.invariant.1 in (
       λ tells thawed.
-          let ready = files_ready (files was.disk) was.phase opened c.in-Open.is (c.self.invariant.0 tells) (c.put.ensures.copier.thawed thawed) in
-          (c.put.ensures.ready tells thawed, copier_ready_volume (files was.disk) (files c.put.new.disk) opened c.put.new.self settled ready.0 ready.1 (c.put.ensures.copier.same thawed) (c.put.ensures.others tells)),
+          let ready = files_ready (files was.disk) was.phase opened c.in-Open.is (c.self.invariant.0 tells) (c.put.ensures.copier.thawed thawed) in (
+            c.put.ensures.ready tells thawed,
+            copier_ready_volume (files was.disk) (files c.put.new.disk) opened c.put.new.self settled ready.0 ready.1
+                (c.put.ensures.copier.same thawed) (c.put.ensures.others tells),
+          ),
       settled_kept opened c.put.new.self settled c.put.ensures.copier,
-      bounded_kept was.sup.settings.capacity opened c.put.new.self (files_bounded was.sup.settings.capacity was.phase opened c.in-Open.is c.self.invariant.2) c.put.ensures.volume.0 c.put.ensures.limit c.put.ensures.volume.1 c.put.ensures.copier,
+      bounded_kept was.sup.settings.capacity opened c.put.new.self (files_bounded was.sup.settings.capacity was.phase opened c.in-Open.is c.self.invariant.2) c.put.ensures.volume.0
+          c.put.ensures.limit c.put.ensures.volume.1 c.put.ensures.copier,
     )
 
 pub returns-clause-run : goal.returns-clause-run
@@ -81,7 +86,8 @@ returns-clause-run g c = λ tells s run stands has.
     let same = c.put.ensures.copier.same going in
     let file : c.put.new.self.volume.file ≡ opened.volume.file = ap (λ (v : VolumeFile). v.file) (stored.0.volume) ∙ sym (ap (λ (v : VolumeFile). v.file) f.volume) in
     run_through run longer files c.args.self.now was.sup was.disk c.put.new.disk was.phase opened c.put.new.self s t c.self.view_is c.in-Open.is same
-    (λ x r. run_put was.sup (files was.disk) (files c.put.new.disk) opened c.put.new.self s c.args.pair c.args.cookie c.args.bytes.now x r same file stored.0 (next_besides_volume was.sup (files was.disk) (files was.disk) (files c.put.new.disk) opened s f (c.put.ensures.others tells))) has)
+    (λ x r. run_put was.sup (files was.disk) (files c.put.new.disk) opened c.put.new.self s c.args.pair c.args.cookie c.args.bytes.now x r same file stored.0
+    (next_besides_volume was.sup (files was.disk) (files was.disk) (files c.put.new.disk) opened s f (c.put.ensures.others tells))) has)
     (c.put.ensures.stored tells was.sup s f) c.put.ensures.open
 
 pub returns-clause-run_stays : goal.returns-clause-run_stays
@@ -96,7 +102,8 @@ returns-clause-run_stays g c = λ tells s run stands has.
     let same = c.put.ensures.copier.same thawed in
     let stand : FilesStand was.sup (files c.put.new.disk) c.put.new.self s = elim left [ inl stays ↦ stays.1 | inr frozen ↦ absurd (true≢false (sym frozen.0 ∙ thawed)) ] in
     run_still run files c.args.self.now was.sup was.disk c.put.new.disk was.phase opened c.put.new.self s s c.self.view_is c.in-Open.is same
-    (λ x r. run_kept was.sup (files was.disk) (files c.put.new.disk) opened c.put.new.self s s.records x r same (ap (λ (o : OpenFiles). o.volume) (kept thawed)) stand (next_besides_volume was.sup (files was.disk) (files was.disk) (files c.put.new.disk) opened s f (c.put.ensures.others tells))) has)
+    (λ x r. run_kept was.sup (files was.disk) (files c.put.new.disk) opened c.put.new.self s s.records x r same (ap (λ (o : OpenFiles). o.volume) (kept thawed)) stand
+    (next_besides_volume was.sup (files was.disk) (files was.disk) (files c.put.new.disk) opened s f (c.put.ensures.others tells))) has)
     (c.put.ensures.refused tells was.sup s going f) c.put.ensures.kept
 
 pub returns-clause-unchanged : goal.returns-clause-unchanged
@@ -121,12 +128,14 @@ returns-clause-sees g c = λ tells.
     let was = c.self.inside in
     let opened = c.in-Open.files in
     sight_kept files Anywhere c.args.self.now was.sup was.disk c.put.new.disk was.phase opened c.put.new.self c.self.view_is c.in-Open.is c.put.ensures.volume.0 c.put.ensures.volume.1
-    (λ at size kept within. range_before at (needle_total size) opened.volume.end (files was.disk opened.volume.file) (files c.put.new.disk opened.volume.file) within (omega arith) (c.put.ensures.before tells))
+    (λ at size kept within. range_before at (needle_total size) opened.volume.end (files was.disk opened.volume.file) (files c.put.new.disk opened.volume.file) within (omega arith)
+    (c.put.ensures.before tells))
 
 pub returns-clause-apart : goal.returns-clause-apart
 returns-clause-apart g c = λ tells.
     let was = c.self.inside in
-    if_ok_so c.put.result _ _ (λ needle last at size may. put_apart g.D.Disk.files c.args.self.now was.sup was.disk was.phase c.in-Open.files needle.at at size c.self.view_is c.in-Open.is last may) c.put.ensures.place
+    if_ok_so c.put.result _ _ (λ needle last at size may. put_apart g.D.Disk.files c.args.self.now was.sup was.disk was.phase c.in-Open.files needle.at at size c.self.view_is
+    c.in-Open.is last may) c.put.ensures.place
 
 pub returns-clause-bare : goal.returns-clause-bare
 returns-clause-bare g c =

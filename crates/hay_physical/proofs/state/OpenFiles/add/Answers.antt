@@ -19,8 +19,11 @@ returns-in-Err-Failed-clause-refused g c = λ tells sup s stand.
     let refused = c.in-Err-Failed.ensures in
     inr (
       ap (λ (x : OpenFiles). x.frozen) c.failed.ensures.froze,
-      finds_added sup (g.D.Disk.files c.args.disk.now) (g.D.Disk.files c.append.new.disk) c.args.self.now s c.args.pair c.args.cookie c.args.bytes.now stand (refused.others tells) (refused.left tells),
+      finds_added sup (g.D.Disk.files c.args.disk.now) (g.D.Disk.files c.append.new.disk) c.args.self.now s c.args.pair c.args.cookie c.args.bytes.now stand (refused.others tells)
+          (refused.left tells),
     )
 
 pub returns-in-Err-Failed-clause-copier : goal.returns-in-Err-Failed-clause-copier
-returns-in-Err-Failed-clause-copier g c = λ going. freeze_keeps c.args.self.now c.failed.new.self _ going (ap (λ (o : OpenFiles). o.head) c.failed.ensures.froze) (ap (λ (o : OpenFiles). o.frozen) c.failed.ensures.froze) (ap (λ (o : OpenFiles). o.copier) c.failed.ensures.froze)
+returns-in-Err-Failed-clause-copier g c =
+    λ going. freeze_keeps c.args.self.now c.failed.new.self _ going (ap (λ (o : OpenFiles). o.head) c.failed.ensures.froze)
+    (ap (λ (o : OpenFiles). o.frozen) c.failed.ensures.froze) (ap (λ (o : OpenFiles). o.copier) c.failed.ensures.froze)

@@ -13,16 +13,19 @@ use Rattle.hay_physical.proofs.state.OpenFiles.copy.Goals as goal
 
 pub returns-in-Ok-clause-run : goal.returns-in-Ok-clause-run
 returns-in-Ok-clause-run g c = λ tells sup s run p last.
-    run_copied sup (g.D.Disk.files c.args.disk.now) (g.D.Disk.files c.copy.new.disk) c.args.self.now _ s run c.in-Standing.compactor c.copy.new.self c.args.cell c.args.latest c.in-Ok.field-0 p c.in-Standing.is refl refl c.copy.ensures.names last
+    run_copied sup (g.D.Disk.files c.args.disk.now) (g.D.Disk.files c.copy.new.disk) c.args.self.now _ s run c.in-Standing.compactor c.copy.new.self c.args.cell c.args.latest
+    c.in-Ok.field-0 p c.in-Standing.is refl refl c.copy.ensures.names last
     (c.in-Ok.ensures.examined tells sup)
 
 pub returns-in-Ok-clause-others : goal.returns-in-Ok-clause-others
 returns-in-Ok-clause-others g c = λ tells.
-    beside_volume (g.D.Disk.files c.args.disk.now) (g.D.Disk.files c.copy.new.disk) c.args.self.now c.in-Standing.compactor c.requires.settled c.in-Standing.is (c.requires.making tells c.if-self.false c.in-Standing.compactor c.in-Standing.is) (c.copy.ensures.others tells)
+    beside_volume (g.D.Disk.files c.args.disk.now) (g.D.Disk.files c.copy.new.disk) c.args.self.now c.in-Standing.compactor c.requires.settled c.in-Standing.is
+    (c.requires.making tells c.if-self.false c.in-Standing.compactor c.in-Standing.is) (c.copy.ensures.others tells)
 
 pub returns-in-Err-clause-others : goal.returns-in-Err-clause-others
 returns-in-Err-clause-others g c = λ tells.
-    beside_volume (g.D.Disk.files c.args.disk.now) (g.D.Disk.files c.copy.new.disk) c.args.self.now c.in-Standing.compactor c.requires.settled c.in-Standing.is (c.requires.making tells c.if-self.false c.in-Standing.compactor c.in-Standing.is) (c.copy.ensures.others tells)
+    beside_volume (g.D.Disk.files c.args.disk.now) (g.D.Disk.files c.copy.new.disk) c.args.self.now c.in-Standing.compactor c.requires.settled c.in-Standing.is
+    (c.requires.making tells c.if-self.false c.in-Standing.compactor c.in-Standing.is) (c.copy.ensures.others tells)
 
 pub returns-in-Err-clause-memory : goal.returns-in-Err-clause-memory
 returns-in-Err-clause-memory g c = λ tells wants sup s run r.
@@ -49,8 +52,10 @@ pub returns-in-Err-clause-place : goal.returns-in-Err-clause-place
 returns-in-Err-clause-place g c = λ same.
     by_fault c.in-Err.fault (copier_next c.broken_off.new.self.copier ≡ copier_next c.args.self.now.copier)
     (λ memory. ap (λ (o : OpenFiles). copier_next o.copier) (c.broken_off.ensures.memory memory).1 ∙ c.in-Err.ensures.stayed ∙ sym (ap copier_next c.in-Standing.is))
-    (λ failed. absurd (gone c.args.self.now.copier c.broken_off.new.self.copier c.in-Standing.compactor _ c.in-Standing.is (ap (λ (o : OpenFiles). o.copier) (c.broken_off.ensures.failed failed).1) same))
-    (λ k damaged. absurd (gone c.args.self.now.copier c.broken_off.new.self.copier c.in-Standing.compactor _ c.in-Standing.is (ap (λ (o : OpenFiles). o.copier) (c.broken_off.ensures.damaged k damaged).1) same))
+    (λ failed. absurd (gone c.args.self.now.copier c.broken_off.new.self.copier c.in-Standing.compactor _ c.in-Standing.is
+    (ap (λ (o : OpenFiles). o.copier) (c.broken_off.ensures.failed failed).1) same))
+    (λ k damaged. absurd (gone c.args.self.now.copier c.broken_off.new.self.copier c.in-Standing.compactor _ c.in-Standing.is
+    (ap (λ (o : OpenFiles). o.copier) (c.broken_off.ensures.damaged k damaged).1) same))
 
 pub returns-in-Err-clause-whole : goal.returns-in-Err-clause-whole
 returns-in-Err-clause-whole g c = λ tells sup s run p at is.

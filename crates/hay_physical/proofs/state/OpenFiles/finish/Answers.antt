@@ -52,7 +52,8 @@ pub returns-in-Standing-clause-bounded : goal.returns-in-Standing-clause-bounded
 returns-in-Standing-clause-bounded g c = λ capacity bounded.
     let is : c.args.self.now.copier ≡ Standing c.in-Standing.compactor = sym c.replace.ensures.value ∙ c.in-Standing.is in
     let made = c.make_current-answer.ensures in
-    bounded_ended capacity _ _ (made.named bounded.file) (made.limit capacity bounded.volume (bounded.next c.in-Standing.compactor.capacity (ap copier_capacity is))) (made.most bounded.most) (made.from bounded.from) refl
+    bounded_ended capacity _ _ (made.named bounded.file) (made.limit capacity bounded.volume (bounded.next c.in-Standing.compactor.capacity (ap copier_capacity is)))
+    (made.most bounded.most) (made.from bounded.from) refl
 
 pub returns-in-Ended-clause-bounded : goal.returns-in-Ended-clause-bounded
 returns-in-Ended-clause-bounded g c = λ capacity bounded. bounded_dropped capacity c.args.self.now _ _ bounded refl refl

@@ -26,7 +26,8 @@ returns-in-Err-Failed-clause-refused g c = λ tells sup s stand.
     let opened = c.args.self.now in
     let refused = c.in-Err-Failed.ensures in
     let live : opened.index.frozen ≡ false = sym c.is_frozen.ensures ∙ c.if-is_frozen.false in
-    stand_stuck sup (files c.args.disk.now) (files c.flush.new.disk) opened c.flush.new.self s stand live (refused.froze (ap (λ (f : DiskFault). let r : Result ℕ DiskFault = Err f in r) c.in-Err-Failed.field-0-is)) (refused.others tells) (refused.left tells)
+    stand_stuck sup (files c.args.disk.now) (files c.flush.new.disk) opened c.flush.new.self s stand live
+    (refused.froze (ap (λ (f : DiskFault). let r : Result ℕ DiskFault = Err f in r) c.in-Err-Failed.field-0-is)) (refused.others tells) (refused.left tells)
 
 pub returns-in-Err-Failed-clause-tried : goal.returns-in-Err-Failed-clause-tried
 returns-in-Err-Failed-clause-tried g c = λ faults is. some_items (c.args.self.now).index.pending (λ none. let never = (c.in-Err-Failed.ensures.nothing none).0 in cc)

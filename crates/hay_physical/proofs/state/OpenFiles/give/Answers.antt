@@ -18,7 +18,8 @@ returns-in-Ok-clause-given g c = λ tells sup s pair cookie photo stand there si
     let others = subst (λ k. KeepsOthers k old new) c.file.ensures (done.others tells) in
     let read = (done.bytes tells).1 ∙ ap (λ k. Rattle.std.proofs.Common.take c.total_of.result (Rattle.std.proofs.Common.drop c.args.at (old k).now)) c.file.ensures in (
       stand_sealed sup old new opened s pair cookie photo c.args.at c.total_of.result stand there total seals others,
-      last_sealed g.D.Piece.Piece.Tells sup old opened s pair cookie photo (g.D.Piece.Piece.piece_bytes c.in-Ok.piece) c.args.at c.args.size c.total_of.result c.new.result stand there size total c.new.ensures (done.bytes tells).0 read,
+      last_sealed g.D.Piece.Piece.Tells sup old opened s pair cookie photo (g.D.Piece.Piece.piece_bytes c.in-Ok.piece) c.args.at c.args.size c.total_of.result c.new.result stand
+          there size total c.new.ensures (done.bytes tells).0 read,
     )
 
 pub returns-in-Ok-clause-whole : goal.returns-in-Ok-clause-whole

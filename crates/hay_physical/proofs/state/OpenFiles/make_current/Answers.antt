@@ -31,10 +31,12 @@ pub returns-in-Ok-clause-stands : goal.returns-in-Ok-clause-stands
 returns-in-Ok-clause-stands g c = λ tells sup s fresh f making.
     let files = g.D.Disk.files in
     let fin = c.in-Ok.ensures.finished tells sup fresh making in
-    let switches = c.swap.ensures.switches tells (old_apart (files c.args.disk.now) c.args.self.now (c.requires.ready tells)) (old_index_apart (files c.args.disk.now) c.args.self.now (c.requires.ready tells)) in
+    let switches =
+    c.swap.ensures.switches tells (old_apart (files c.args.disk.now) c.args.self.now (c.requires.ready tells)) (old_index_apart (files c.args.disk.now) c.args.self.now (c.requires.ready tells)) in
     if_ok c.swap.result _ _ _
     (λ places is both. (
-      swap_stands g.D.Piece.Piece.Tells sup (files c.args.disk.now) (files c.finish.new.disk) (files c.swap.new.disk) c.args.self.now c.swap.new.self s c.args.compactor fresh c.in-Ok.finished f (c.finish.ensures.others tells) c.requires.next fin is.1 both.0 both.1,
+      swap_stands g.D.Piece.Piece.Tells sup (files c.args.disk.now) (files c.finish.new.disk) (files c.swap.new.disk) c.args.self.now c.swap.new.self s c.args.compactor fresh
+          c.in-Ok.finished f (c.finish.ensures.others tells) c.requires.next fin is.1 both.0 both.1,
       subst (λ x. AreThePlaces g.D.Piece.Piece.Tells fresh x.items) (sym is.0) fin.places,
     ))
     c.swap.ensures.swapped (on_ok_both c.swap.result _ _ switches (c.swap.ensures.others tells))
@@ -65,14 +67,16 @@ returns-in-Ok-clause-ready g c = λ tells going.
     (made_kept (files c.args.disk.now) (files c.finish.new.disk) (files c.swap.new.disk) c.args.self.now c.args.compactor r c.requires.next both.1))
     c.swap.ensures.swapped (on_ok_both c.swap.result _ _ switches (c.swap.ensures.others tells)))
     (on_err c.swap.result _ _ _
-    (λ is kept. subst (λ (f : Files). FilesReady f c.swap.new.self) (sym (kept going)) (unfrozen_ready (files c.args.disk.now) (files c.finish.new.disk) c.args.self.now c.swap.new.self c.args.compactor r (c.finish.ensures.others tells) c.requires.next is))
+    (λ is kept. subst (λ (f : Files). FilesReady f c.swap.new.self) (sym (kept going))
+    (unfrozen_ready (files c.args.disk.now) (files c.finish.new.disk) c.args.self.now c.swap.new.self c.args.compactor r (c.finish.ensures.others tells) c.requires.next is))
     c.swap.ensures.err (c.swap.ensures.kept tells))
 
 pub returns-in-Ok-clause-kept : goal.returns-in-Ok-clause-kept
 returns-in-Ok-clause-kept g c = λ tells sup s f.
     let files = g.D.Disk.files in
     on_err c.swap.result _ _ _
-    (λ is kept going. subst (λ (x : Files). FilesStand sup x c.swap.new.self s) (sym (kept going)) (unfrozen_stands sup (files c.args.disk.now) (files c.finish.new.disk) c.args.self.now c.swap.new.self c.args.compactor s f (c.finish.ensures.others tells) c.requires.next is))
+    (λ is kept going. subst (λ (x : Files). FilesStand sup x c.swap.new.self s) (sym (kept going))
+    (unfrozen_stands sup (files c.args.disk.now) (files c.finish.new.disk) c.args.self.now c.swap.new.self c.args.compactor s f (c.finish.ensures.others tells) c.requires.next is))
     c.swap.ensures.err (c.swap.ensures.kept tells)
 
 pub returns-in-Ok-clause-unsure : goal.returns-in-Ok-clause-unsure
@@ -80,7 +84,8 @@ returns-in-Ok-clause-unsure g c = λ tells sup s fresh f making.
     let files = g.D.Disk.files in
     let fin = c.in-Ok.ensures.finished tells sup fresh making in
     on_err c.swap.result _ _ _
-    (λ left rest froze. swap_finds g.D.Piece.Piece.Tells sup (files c.args.disk.now) (files c.finish.new.disk) (files c.swap.new.disk) c.args.self.now s c.args.compactor fresh c.in-Ok.finished f (c.finish.ensures.others tells) c.requires.next fin left rest)
+    (λ left rest froze. swap_finds g.D.Piece.Piece.Tells sup (files c.args.disk.now) (files c.finish.new.disk) (files c.swap.new.disk) c.args.self.now s c.args.compactor fresh
+    c.in-Ok.finished f (c.finish.ensures.others tells) c.requires.next fin left rest)
     (c.swap.ensures.left tells) (c.swap.ensures.err_others tells)
 
 pub returns-in-Ok-clause-moved : goal.returns-in-Ok-clause-moved
@@ -89,7 +94,8 @@ returns-in-Ok-clause-moved g c = if_ok_unit c.swap.result _ _ (λ places is. ap 
 pub returns-in-Ok-clause-removed : goal.returns-in-Ok-clause-removed
 returns-in-Ok-clause-removed g c = λ tells.
     on_ok_one c.swap.result _ _
-    (removed_since (g.D.Disk.files c.swap.new.disk) c.args.self.now.volume.file c.args.self.now.index.file (g.D.Disk.fault_count c.args.disk.now) (g.D.Disk.fault_count c.finish.new.disk) (g.D.Disk.fault_count c.swap.new.disk)
+    (removed_since (g.D.Disk.files c.swap.new.disk) c.args.self.now.volume.file c.args.self.now.index.file (g.D.Disk.fault_count c.args.disk.now)
+    (g.D.Disk.fault_count c.finish.new.disk) (g.D.Disk.fault_count c.swap.new.disk)
     c.finish.ensures.counted.later)
     (c.swap.ensures.removed tells)
 
@@ -146,12 +152,14 @@ returns-in-Ok-clause-named g c = λ old.
 pub returns-in-Ok-clause-within : goal.returns-in-Ok-clause-within
 returns-in-Ok-clause-within g c =
     if_ok_so c.swap.result _ _
-    (λ places is. subst (λ (o : OpenFiles). ArePlacesWithin o.volume.end places.items) (sym is.1) (subst (λ x. ArePlacesWithin c.in-Ok.finished.volume.end x.items) (sym is.0) c.in-Ok.ensures.within)) c.swap.ensures.swapped
+    (λ places is. subst (λ (o : OpenFiles). ArePlacesWithin o.volume.end places.items) (sym is.1)
+    (subst (λ x. ArePlacesWithin c.in-Ok.finished.volume.end x.items) (sym is.0) c.in-Ok.ensures.within)) c.swap.ensures.swapped
 
 pub returns-in-Ok-clause-needles : goal.returns-in-Ok-clause-needles
 returns-in-Ok-clause-needles g c = λ tells.
     let m = c.requires.making tells in
     let fin = c.in-Ok.ensures.finished tells m.sup m.fresh m.making in
     if_ok_so c.swap.result _ _
-    (λ places is pair. subst (λ x. HasWholeNeedle g.D.Piece.Piece.Tells (last_place x.items pair place.Gone)) (sym is.0) (whole_of g.D.Piece.Piece.Tells (last_cell m.fresh pair) (last_place c.in-Ok.finished.places.items pair place.Gone) (fin.places pair)))
+    (λ places is pair. subst (λ x. HasWholeNeedle g.D.Piece.Piece.Tells (last_place x.items pair place.Gone)) (sym is.0)
+    (whole_of g.D.Piece.Piece.Tells (last_cell m.fresh pair) (last_place c.in-Ok.finished.places.items pair place.Gone) (fin.places pair)))
     c.swap.ensures.swapped

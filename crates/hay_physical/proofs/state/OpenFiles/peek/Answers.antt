@@ -32,7 +32,8 @@ returns-in-Err-clause-whole g c = λ tells sup s run r at is.
     by_fault c.in-Err.fault _
     (λ memory. let e : ReplicaFault.NoMemory ≡ ReplicaFault.Damaged at = (let known = (c.broken_off.ensures.memory memory).0 in cc) in absurd cc)
     (λ failed. let e : ReplicaFault.Failed (g.D.Disk.fault_count c.peek.new.disk) ≡ ReplicaFault.Damaged at = (let known = (c.broken_off.ensures.failed failed).0 in cc) in absurd cc)
-    (λ k damaged. c.in-Err.ensures.whole tells sup s.cells r.fresh r.examined k (copying_at sup (g.D.Disk.files c.args.disk.now) c.args.self.now s run c.in-Standing.compactor r c.in-Standing.is) (ap (λ x. Err x) damaged))
+    (λ k damaged. c.in-Err.ensures.whole tells sup s.cells r.fresh r.examined k (copying_at sup (g.D.Disk.files c.args.disk.now) c.args.self.now s run c.in-Standing.compactor r
+    c.in-Standing.is) (ap (λ x. Err x) damaged))
 
 pub returns-in-Err-clause-memory : goal.returns-in-Err-clause-memory
 returns-in-Err-clause-memory g c = λ wants.
@@ -55,8 +56,10 @@ pub returns-in-Err-clause-place : goal.returns-in-Err-clause-place
 returns-in-Err-clause-place g c = λ same.
     by_fault c.in-Err.fault (copier_next c.broken_off.new.self.copier ≡ copier_next c.args.self.now.copier)
     (λ memory. absurd (c.in-Err.ensures.memory (ap (λ x. Err x) memory)))
-    (λ failed. absurd (gone c.args.self.now.copier c.broken_off.new.self.copier c.in-Standing.compactor _ c.in-Standing.is (ap (λ (o : OpenFiles). o.copier) (c.broken_off.ensures.failed failed).1) same))
-    (λ k damaged. absurd (gone c.args.self.now.copier c.broken_off.new.self.copier c.in-Standing.compactor _ c.in-Standing.is (ap (λ (o : OpenFiles). o.copier) (c.broken_off.ensures.damaged k damaged).1) same))
+    (λ failed. absurd (gone c.args.self.now.copier c.broken_off.new.self.copier c.in-Standing.compactor _ c.in-Standing.is
+    (ap (λ (o : OpenFiles). o.copier) (c.broken_off.ensures.failed failed).1) same))
+    (λ k damaged. absurd (gone c.args.self.now.copier c.broken_off.new.self.copier c.in-Standing.compactor _ c.in-Standing.is
+    (ap (λ (o : OpenFiles). o.copier) (c.broken_off.ensures.damaged k damaged).1) same))
 
 pub returns-in-Ok-clause-end : goal.returns-in-Ok-clause-end
 returns-in-Ok-clause-end g c = subst (λ k. IfNone c.in-Ok.next (c.args.self.now.volume.end ≤ k)) (sym (ap copier_next c.in-Standing.is)) c.in-Ok.ensures.end

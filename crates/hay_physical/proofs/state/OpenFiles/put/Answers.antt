@@ -27,7 +27,8 @@ returns-clause-copier g c =
     let kept = c.add.ensures.copier c.if-self.false in
     by_result c.give.result (KeepsCopier c.args.self.now c.give.new.self)
     (if_ok_from c.give.result _ (λ same. subst (λ (o : OpenFiles). KeepsCopier c.args.self.now o) (sym same) kept) c.give.ensures.stayed)
-    (on_err_so c.give.result _ _ (λ froze. freeze_keeps c.args.self.now c.give.new.self _ c.if-self.false (ap (λ (o : OpenFiles). o.head) froze ∙ kept.head) (ap (λ (o : OpenFiles). o.frozen) froze) (ap (λ (o : OpenFiles). o.copier) froze)) c.give.ensures.froze)
+    (on_err_so c.give.result _ _ (λ froze. freeze_keeps c.args.self.now c.give.new.self _ c.if-self.false (ap (λ (o : OpenFiles). o.head) froze ∙ kept.head)
+    (ap (λ (o : OpenFiles). o.frozen) froze) (ap (λ (o : OpenFiles). o.copier) froze)) c.give.ensures.froze)
 
 pub returns-clause-added : goal.returns-clause-added
 returns-clause-added g c = λ tells sup s going stand none froze.

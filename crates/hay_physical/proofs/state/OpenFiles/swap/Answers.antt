@@ -31,5 +31,6 @@ returns-clause-left g c = λ tells superblock image head solid leaves.
 
 pub returns-in-Ok-clause-removed : goal.returns-in-Ok-clause-removed
 returns-in-Ok-clause-removed g c = λ tells.
-    removed_since (g.D.Disk.files c.adopt.new.disk) c.args.self.now.volume.file c.args.self.now.index.file (g.D.Disk.fault_count c.args.disk.now) (g.D.Disk.fault_count c.switch.new.disk) (g.D.Disk.fault_count c.adopt.new.disk)
+    removed_since (g.D.Disk.files c.adopt.new.disk) c.args.self.now.volume.file c.args.self.now.index.file (g.D.Disk.fault_count c.args.disk.now)
+    (g.D.Disk.fault_count c.switch.new.disk) (g.D.Disk.fault_count c.adopt.new.disk)
     c.switch.ensures.counted.later (c.adopt.ensures.removed tells)

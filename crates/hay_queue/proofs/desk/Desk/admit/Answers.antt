@@ -11,7 +11,8 @@ use Rattle.hay_queue.proofs.Seats.{seated, seat_of}
 use Rattle.hay_queue.proofs.desk.Desk.admit.Goals as goal
 
 pub another-client-requires-clause-channel : goal.another-client-requires-clause-channel
-another-client-requires-clause-channel g c = let i = c.loop-number.invariant in seated (sends_on c.self.inside.sender) c.args.self.now c.loop-number.pass c.self.view_is c.self.invariant.1 i.own i.rests
+another-client-requires-clause-channel g c =
+    let i = c.loop-number.invariant in seated (sends_on c.self.inside.sender) c.args.self.now c.loop-number.pass c.self.view_is c.self.invariant.1 i.own i.rests
 
 pub another-client-requires-clause-rule : goal.another-client-requires-clause-rule
 another-client-requires-clause-rule g c = forks _ _ _ (ap (λ v. v.takes) c.loop-number.invariant.knows)

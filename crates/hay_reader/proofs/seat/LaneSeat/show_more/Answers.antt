@@ -12,7 +12,8 @@ returns-in-Ok-clause-reads g c =
     let fewer : length c.loop-step.causes < length c.args.row.now = omega (arith, c.len-step-end.ensures.is, c.loop-step.invariant.long) in
     let next = next_replica c.args.start c.loop-step.step (length c.loop-step.causes) c.len.result (length c.args.row.now) c.loop-step.invariant.long c.len.ensures.is in
     rw c.reply_of.ensures
-    (shows_place _ _ _ _ _ _ c.args.start c.args.row.now c.args.cookie _ c.args.passed c.loop-step.causes _ c.in-Ok.shown c.loop-step.invariant.passed fewer next c.try_replica.ensures.later c.try_replica.ensures.most (rw c.place.ensures at c.in-Ok.ensures.gives))
+    (shows_place _ _ _ _ _ _ c.args.start c.args.row.now c.args.cookie _ c.args.passed c.loop-step.causes _ c.in-Ok.shown c.loop-step.invariant.passed fewer next
+    c.try_replica.ensures.later c.try_replica.ensures.most (rw c.place.ensures at c.in-Ok.ensures.gives))
 
 pub returns-in-Ok-clause-sure : goal.returns-in-Ok-clause-sure
 returns-in-Ok-clause-sure g c = λ was.
@@ -34,7 +35,9 @@ loop-step-preserved g c =
     let passed : PassedReplica = record { replica = (c.args.start + c.loop-step.step) % c.len.result; cause = c.in-Err.cause } in
     rw c.push.ensures
     (record {
-      passed = places_more _ _ _ _ _ _ c.args.start c.args.row.now c.args.cookie _ c.args.passed c.loop-step.causes passed c.loop-step.invariant.passed next c.loop-step.invariant.later c.try_replica.ensures.later c.try_replica.ensures.most c.in-Err.ensures.cause
+      passed =
+          places_more _ _ _ _ _ _ c.args.start c.args.row.now c.args.cookie _ c.args.passed c.loop-step.causes passed c.loop-step.invariant.passed next c.loop-step.invariant.later
+          c.try_replica.ensures.later c.try_replica.ensures.most c.in-Err.ensures.cause
           (λ was. (c.loop-step.invariant.stays_sure was).0) (rw c.place.ensures at c.in-Err.ensures.gives);
       long = length-append c.loop-step.causes _ ∙ ap (λ (tries : ℕ). tries + 1) c.loop-step.invariant.long;
       within = omega (arith, c.len-step-end.ensures.is);

@@ -13,7 +13,9 @@ pub returns-clause-stays : goal.returns-clause-stays
 returns-clause-stays g c v = stays_there g.D.Disk.Tells g.D.Disk.files g.P.Piece.Tells g.D.Disk.fault_count g.D.Disk.fuse_count c.args.self.now c.begin.ensures.same
 
 pub returns-clause-tells : goal.returns-clause-tells
-returns-clause-tells g c volume at = begin_tells volume c.args.seat.now.sight c.begin.new.seat.sight c.args.tag c.args.replica c.begin.result c.begin_of.result c.begin_of.ensures (told g.D.Disk.Tells g.D.Disk.files g.P.Piece.Tells g.D.Disk.fault_count g.D.Disk.fuse_count c.begin.ensures.begun at)
+returns-clause-tells g c volume at =
+    begin_tells volume c.args.seat.now.sight c.begin.new.seat.sight c.args.tag c.args.replica c.begin.result c.begin_of.result c.begin_of.ensures
+    (told g.D.Disk.Tells g.D.Disk.files g.P.Piece.Tells g.D.Disk.fault_count g.D.Disk.fuse_count c.begin.ensures.begun at)
 
 pub begin_of-requires : goal.begin_of-requires
 begin_of-requires g c =
@@ -21,4 +23,5 @@ begin_of-requires g c =
     (fits.opened.volume.settings, fits.opened.volume.number, c.args.replica, c.begin.ensures.refusals fits.opened (fits.start ∙ fits.is))
 
 pub returns-clause-names : goal.returns-clause-names
-returns-clause-names g c v settings fits = begin_names settings v c.args.replica c.begin.result c.begin_of.result c.begin_of.ensures (of_volume fits (λ s n. IfErr c.begin.result (RefusesBegin s n c.args.replica)) c.begin.ensures.refusals)
+returns-clause-names g c v settings fits =
+    begin_names settings v c.args.replica c.begin.result c.begin_of.result c.begin_of.ensures (of_volume fits (λ s n. IfErr c.begin.result (RefusesBegin s n c.args.replica)) c.begin.ensures.refusals)

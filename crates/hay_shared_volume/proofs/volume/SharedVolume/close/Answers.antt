@@ -20,4 +20,5 @@ returns-clause-left g c volume settings number made sits =
 
 pub returns-clause-of : goal.returns-clause-of
 returns-clause-of g c volume settings number made =
-    is_volume_of made g.D.Disk.Tells g.D.Disk.files g.P.Piece.Tells g.D.Disk.fault_count g.D.Disk.fuse_count (c.close-volume.ensures made.opened (all_seated made c.requires.made.4)) c.front-front.ensures.sups
+    is_volume_of made g.D.Disk.Tells g.D.Disk.files g.P.Piece.Tells g.D.Disk.fault_count g.D.Disk.fuse_count
+    (c.close-volume.ensures made.opened (all_seated made c.requires.made.4)) c.front-front.ensures.sups

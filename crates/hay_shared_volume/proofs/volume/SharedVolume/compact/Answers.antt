@@ -13,7 +13,9 @@ pub returns-clause-stays : goal.returns-clause-stays
 returns-clause-stays g c v = stays_there g.D.Disk.Tells g.D.Disk.files g.P.Piece.Tells g.D.Disk.fault_count g.D.Disk.fuse_count c.args.self.now c.compact.ensures.same
 
 pub returns-clause-tells : goal.returns-clause-tells
-returns-clause-tells g c volume at = compaction_tells volume c.args.seat.now.sight c.compact.new.seat.sight c.args.tag c.args.replica c.compact.result c.compaction_of.result c.compaction_of.ensures (told g.D.Disk.Tells g.D.Disk.files g.P.Piece.Tells g.D.Disk.fault_count g.D.Disk.fuse_count c.compact.ensures.compacted at)
+returns-clause-tells g c volume at =
+    compaction_tells volume c.args.seat.now.sight c.compact.new.seat.sight c.args.tag c.args.replica c.compact.result c.compaction_of.result c.compaction_of.ensures
+    (told g.D.Disk.Tells g.D.Disk.files g.P.Piece.Tells g.D.Disk.fault_count g.D.Disk.fuse_count c.compact.ensures.compacted at)
 
 pub compaction_of-requires : goal.compaction_of-requires
 compaction_of-requires g c =
@@ -21,4 +23,6 @@ compaction_of-requires g c =
     (fits.opened.volume.settings, fits.opened.volume.number, c.args.replica, c.compact.ensures.refusals fits.opened (fits.start ∙ fits.is))
 
 pub returns-clause-names : goal.returns-clause-names
-returns-clause-names g c v settings fits = compaction_names settings v c.args.replica c.compact.result c.compaction_of.result c.compaction_of.ensures (of_volume fits (λ s n. IfErr c.compact.result (RefusesEnd s n c.args.replica)) c.compact.ensures.refusals)
+returns-clause-names g c v settings fits =
+    compaction_names settings v c.args.replica c.compact.result c.compaction_of.result c.compaction_of.ensures
+    (of_volume fits (λ s n. IfErr c.compact.result (RefusesEnd s n c.args.replica)) c.compact.ensures.refusals)

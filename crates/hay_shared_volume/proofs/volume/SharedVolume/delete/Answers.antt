@@ -13,7 +13,9 @@ pub returns-clause-stays : goal.returns-clause-stays
 returns-clause-stays g c v = stays_there g.D.Disk.Tells g.D.Disk.files g.P.Piece.Tells g.D.Disk.fault_count g.D.Disk.fuse_count c.args.self.now c.delete.ensures.same
 
 pub returns-clause-tells : goal.returns-clause-tells
-returns-clause-tells g c volume at = delete_tells volume c.args.seat.now.sight c.delete.new.seat.sight c.args.tag c.args.pair c.delete.result c.delete_of.result c.delete_of.ensures (told g.D.Disk.Tells g.D.Disk.files g.P.Piece.Tells g.D.Disk.fault_count g.D.Disk.fuse_count c.delete.ensures.deleted at)
+returns-clause-tells g c volume at =
+    delete_tells volume c.args.seat.now.sight c.delete.new.seat.sight c.args.tag c.args.pair c.delete.result c.delete_of.result c.delete_of.ensures
+    (told g.D.Disk.Tells g.D.Disk.files g.P.Piece.Tells g.D.Disk.fault_count g.D.Disk.fuse_count c.delete.ensures.deleted at)
 
 pub delete_of-requires : goal.delete_of-requires
 delete_of-requires g c =
@@ -21,4 +23,5 @@ delete_of-requires g c =
     (fits.opened.volume.settings, fits.opened.volume.number, c.delete.ensures.refusals fits.opened (fits.start ∙ fits.is))
 
 pub returns-clause-names : goal.returns-clause-names
-returns-clause-names g c v settings fits = delete_names settings v c.delete.result c.delete_of.result c.delete_of.ensures (of_volume fits (λ s n. IfErr c.delete.result (RefusesDelete s n)) c.delete.ensures.refusals)
+returns-clause-names g c v settings fits =
+    delete_names settings v c.delete.result c.delete_of.result c.delete_of.ensures (of_volume fits (λ s n. IfErr c.delete.result (RefusesDelete s n)) c.delete.ensures.refusals)

@@ -13,7 +13,9 @@ pub returns-clause-stays : goal.returns-clause-stays
 returns-clause-stays g c v = stays_there g.D.Disk.Tells g.D.Disk.files g.P.Piece.Tells g.D.Disk.fault_count g.D.Disk.fuse_count c.args.self.now c.flush.ensures.same
 
 pub returns-clause-tells : goal.returns-clause-tells
-returns-clause-tells g c volume at = flush_tells volume c.args.seat.now.sight c.flush.new.seat.sight c.args.tag c.args.replica c.flush.result c.flush_of.result c.flush_of.ensures (told g.D.Disk.Tells g.D.Disk.files g.P.Piece.Tells g.D.Disk.fault_count g.D.Disk.fuse_count c.flush.ensures.flushed at)
+returns-clause-tells g c volume at =
+    flush_tells volume c.args.seat.now.sight c.flush.new.seat.sight c.args.tag c.args.replica c.flush.result c.flush_of.result c.flush_of.ensures
+    (told g.D.Disk.Tells g.D.Disk.files g.P.Piece.Tells g.D.Disk.fault_count g.D.Disk.fuse_count c.flush.ensures.flushed at)
 
 pub flush_of-requires : goal.flush_of-requires
 flush_of-requires g c =
@@ -21,4 +23,6 @@ flush_of-requires g c =
     (fits.opened.volume.settings, fits.opened.volume.number, c.args.replica, c.flush.ensures.refusals fits.opened (fits.start ∙ fits.is))
 
 pub returns-clause-names : goal.returns-clause-names
-returns-clause-names g c v settings fits = flush_names settings v c.args.replica c.flush.result c.flush_of.result c.flush_of.ensures (of_volume fits (λ s n. IfErr c.flush.result (λ unflushed. RefusesFlush s n c.args.replica unflushed.fault)) c.flush.ensures.refusals)
+returns-clause-names g c v settings fits =
+    flush_names settings v c.args.replica c.flush.result c.flush_of.result c.flush_of.ensures
+    (of_volume fits (λ s n. IfErr c.flush.result (λ unflushed. RefusesFlush s n c.args.replica unflushed.fault)) c.flush.ensures.refusals)

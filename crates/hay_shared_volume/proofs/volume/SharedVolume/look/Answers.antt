@@ -11,4 +11,7 @@ pub returns-clause-long : goal.returns-clause-long
 returns-clause-long g c v settings lane fits = rw c.looked_of.ensures (c.look.ensures.long fits.opened (fits.start ∙ fits.is) ∙ ap (λ (s : Settings). s.replicas) fits.settings_are)
 
 pub returns-clause-tells : goal.returns-clause-tells
-returns-clause-tells g c volume at = rw c.looked_of.ensures (look_tells volume c.args.seat.now.sight c.look.new.self.sight g.P.Piece.Tells c.args.pair c.look.result (told g.D.Disk.Tells g.D.Disk.files g.P.Piece.Tells g.D.Disk.fault_count g.D.Disk.fuse_count c.look.ensures.shown at) (told g.D.Disk.Tells g.D.Disk.files g.P.Piece.Tells g.D.Disk.fault_count g.D.Disk.fuse_count c.look.ensures.places at))
+returns-clause-tells g c volume at =
+    rw c.looked_of.ensures (look_tells volume c.args.seat.now.sight c.look.new.self.sight g.P.Piece.Tells c.args.pair c.look.result
+    (told g.D.Disk.Tells g.D.Disk.files g.P.Piece.Tells g.D.Disk.fault_count g.D.Disk.fuse_count c.look.ensures.shown at)
+    (told g.D.Disk.Tells g.D.Disk.files g.P.Piece.Tells g.D.Disk.fault_count g.D.Disk.fuse_count c.look.ensures.places at))

@@ -14,7 +14,8 @@ first_seat g c =
 
 pub returns-in-Ok-clause-made : goal.returns-in-Ok-clause-made
 returns-in-Ok-clause-made g c number of =
-    is_made_of _ c.args.volume c.args.lanes c.in-Ok.field-0.seats.items c.in-Ok.ensures.made.1 (first_seat g c) c.args.settings c.in-Ok.field-0.room number refl c.in-Ok.ensures.made.0 c.requires.some of
+    is_made_of _ c.args.volume c.args.lanes c.in-Ok.field-0.seats.items c.in-Ok.ensures.made.1 (first_seat g c) c.args.settings c.in-Ok.field-0.room number refl
+    c.in-Ok.ensures.made.0 c.requires.some of
 
 pub returns-in-Ok-clause-seated : goal.returns-in-Ok-clause-seated
 returns-in-Ok-clause-seated g c number of =
@@ -22,11 +23,13 @@ returns-in-Ok-clause-seated g c number of =
 
 pub returns-in-Ok-clause-unseen : goal.returns-in-Ok-clause-unseen
 returns-in-Ok-clause-unseen g c =
-    are_unseen (record { settings = c.args.settings; lock = c.in-Ok.field-0.lock; first = c.of-first.result }) c.args.volume c.args.lanes c.in-Ok.field-0.seats.items c.in-Ok.ensures.made.1 (first_seat g c)
+    are_unseen (record { settings = c.args.settings; lock = c.in-Ok.field-0.lock; first = c.of-first.result }) c.args.volume c.args.lanes c.in-Ok.field-0.seats.items
+    c.in-Ok.ensures.made.1 (first_seat g c)
 
 pub returns-in-Ok-clause-told : goal.returns-in-Ok-clause-told
 returns-in-Ok-clause-told g c number of =
-    are_at (record { settings = c.args.settings; lock = c.in-Ok.field-0.lock; first = c.of-first.result }) c.args.volume c.args.lanes c.in-Ok.field-0.seats.items c.in-Ok.ensures.made.1 (first_seat g c)
+    are_at (record { settings = c.args.settings; lock = c.in-Ok.field-0.lock; first = c.of-first.result }) c.args.volume c.args.lanes c.in-Ok.field-0.seats.items
+    c.in-Ok.ensures.made.1 (first_seat g c)
     g.D.Disk.Tells g.D.Disk.files g.P.Piece.Tells g.D.Disk.fault_count g.D.Disk.fuse_count c.args.settings number of
 
 pub returns-in-Ok-clause-regular : goal.returns-in-Ok-clause-regular

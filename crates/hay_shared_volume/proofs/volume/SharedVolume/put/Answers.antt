@@ -13,7 +13,9 @@ pub returns-clause-stays : goal.returns-clause-stays
 returns-clause-stays g c v = stays_there g.D.Disk.Tells g.D.Disk.files g.P.Piece.Tells g.D.Disk.fault_count g.D.Disk.fuse_count c.args.self.now c.put.ensures.same
 
 pub returns-clause-tells : goal.returns-clause-tells
-returns-clause-tells g c volume at = put_tells volume c.args.seat.now.sight c.put.new.seat.sight c.args.tag c.args.pair c.args.cookie c.args.bytes.now c.put.result c.put_of.result c.put_of.ensures (told g.D.Disk.Tells g.D.Disk.files g.P.Piece.Tells g.D.Disk.fault_count g.D.Disk.fuse_count c.put.ensures.put at)
+returns-clause-tells g c volume at =
+    put_tells volume c.args.seat.now.sight c.put.new.seat.sight c.args.tag c.args.pair c.args.cookie c.args.bytes.now c.put.result c.put_of.result c.put_of.ensures
+    (told g.D.Disk.Tells g.D.Disk.files g.P.Piece.Tells g.D.Disk.fault_count g.D.Disk.fuse_count c.put.ensures.put at)
 
 pub put_of-requires : goal.put_of-requires
 put_of-requires g c =

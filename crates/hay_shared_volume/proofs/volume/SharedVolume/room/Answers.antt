@@ -13,7 +13,9 @@ pub returns-clause-stays : goal.returns-clause-stays
 returns-clause-stays g c v = stays_there g.D.Disk.Tells g.D.Disk.files g.P.Piece.Tells g.D.Disk.fault_count g.D.Disk.fuse_count c.args.self.now c.room.ensures.same
 
 pub returns-clause-tells : goal.returns-clause-tells
-returns-clause-tells g c volume at = room_tells volume c.args.seat.now.sight c.room.new.seat.sight c.args.tag c.args.size c.room.result c.room_of.result c.room_of.ensures (told g.D.Disk.Tells g.D.Disk.files g.P.Piece.Tells g.D.Disk.fault_count g.D.Disk.fuse_count (c.room.ensures.room c.args.tag) at)
+returns-clause-tells g c volume at =
+    room_tells volume c.args.seat.now.sight c.room.new.seat.sight c.args.tag c.args.size c.room.result c.room_of.result c.room_of.ensures
+    (told g.D.Disk.Tells g.D.Disk.files g.P.Piece.Tells g.D.Disk.fault_count g.D.Disk.fuse_count (c.room.ensures.room c.args.tag) at)
 
 pub room_of-requires : goal.room_of-requires
 room_of-requires g c =
@@ -21,4 +23,5 @@ room_of-requires g c =
     (fits.opened.volume.settings, fits.opened.volume.number, c.room.ensures.refusals fits.opened (fits.start ∙ fits.is))
 
 pub returns-clause-names : goal.returns-clause-names
-returns-clause-names g c v settings fits = room_names settings v c.room.result c.room_of.result c.room_of.ensures (of_volume fits (λ s n. IfErr c.room.result (IsRoomFault s n)) c.room.ensures.refusals)
+returns-clause-names g c v settings fits =
+    room_names settings v c.room.result c.room_of.result c.room_of.ensures (of_volume fits (λ s n. IfErr c.room.result (IsRoomFault s n)) c.room.ensures.refusals)

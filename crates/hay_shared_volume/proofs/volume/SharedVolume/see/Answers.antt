@@ -25,7 +25,8 @@ returns-in-Ok-clause-needle g c =
 pub returns-in-Ok-clause-tells : goal.returns-in-Ok-clause-tells
 returns-in-Ok-clause-tells g c volume at =
     rw c.looked_of.ensures
-    (see_tells volume c.args.seat.now.sight c.see.new.seat.sight c.args.tag g.P.Piece.Tells c.args.pair c.args.replica c.see.new.out.items c.in-Ok.looked (told g.D.Disk.Tells g.D.Disk.files g.P.Piece.Tells g.D.Disk.fault_count g.D.Disk.fuse_count c.in-Ok.ensures.seen at)
+    (see_tells volume c.args.seat.now.sight c.see.new.seat.sight c.args.tag g.P.Piece.Tells c.args.pair c.args.replica c.see.new.out.items c.in-Ok.looked
+    (told g.D.Disk.Tells g.D.Disk.files g.P.Piece.Tells g.D.Disk.fault_count g.D.Disk.fuse_count c.in-Ok.ensures.seen at)
     (bytes_tell g.D.Disk.Tells g.P.Piece.Tells c.args.out.now.items c.see.new.out.items (place_in c.in-Ok.looked.row c.args.replica) c.requires.empty at.tells c.in-Ok.ensures.needle))
 
 pub returns-in-Err-clause-stays : goal.returns-in-Err-clause-stays
@@ -33,7 +34,8 @@ returns-in-Err-clause-stays g c v = stays_there g.D.Disk.Tells g.D.Disk.files g.
 
 pub returns-in-Err-clause-tells : goal.returns-in-Err-clause-tells
 returns-in-Err-clause-tells g c volume at =
-    sight_tells volume c.args.seat.now.sight c.see.new.seat.sight c.args.tag g.row.P.Denot g.P.Piece.Tells c.args.pair c.args.replica c.see.new.out.items c.in-Err.fault c.sight_fault_of.result c.sight_fault_of.ensures (told g.D.Disk.Tells g.D.Disk.files g.P.Piece.Tells g.D.Disk.fault_count g.D.Disk.fuse_count c.in-Err.ensures.seen at)
+    sight_tells volume c.args.seat.now.sight c.see.new.seat.sight c.args.tag g.row.P.Denot g.P.Piece.Tells c.args.pair c.args.replica c.see.new.out.items c.in-Err.fault
+    c.sight_fault_of.result c.sight_fault_of.ensures (told g.D.Disk.Tells g.D.Disk.files g.P.Piece.Tells g.D.Disk.fault_count g.D.Disk.fuse_count c.in-Err.ensures.seen at)
 
 pub sight_fault_of-requires : goal.sight_fault_of-requires
 sight_fault_of-requires g c =

@@ -13,7 +13,9 @@ pub returns-clause-stays : goal.returns-clause-stays
 returns-clause-stays g c v = stays_there g.D.Disk.Tells g.D.Disk.files g.P.Piece.Tells g.D.Disk.fault_count g.D.Disk.fuse_count c.args.self.now c.step.ensures.same
 
 pub returns-clause-tells : goal.returns-clause-tells
-returns-clause-tells g c volume at = step_tells volume c.args.seat.now.sight c.step.new.seat.sight c.args.tag c.args.replica c.args.cells c.step.result c.step_of.result c.step_of.ensures (told g.D.Disk.Tells g.D.Disk.files g.P.Piece.Tells g.D.Disk.fault_count g.D.Disk.fuse_count c.step.ensures.stepped at)
+returns-clause-tells g c volume at =
+    step_tells volume c.args.seat.now.sight c.step.new.seat.sight c.args.tag c.args.replica c.args.cells c.step.result c.step_of.result c.step_of.ensures
+    (told g.D.Disk.Tells g.D.Disk.files g.P.Piece.Tells g.D.Disk.fault_count g.D.Disk.fuse_count c.step.ensures.stepped at)
 
 pub step_of-requires : goal.step_of-requires
 step_of-requires g c =
@@ -21,4 +23,5 @@ step_of-requires g c =
     (fits.opened.volume.settings, fits.opened.volume.number, c.args.replica, c.step.ensures.refusals fits.opened (fits.start ∙ fits.is))
 
 pub returns-clause-names : goal.returns-clause-names
-returns-clause-names g c v settings fits = step_names settings v c.args.replica c.step.result c.step_of.result c.step_of.ensures (of_volume fits (λ s n. IfSome c.step.result.refused (RefusesRun s n c.args.replica)) c.step.ensures.refusals)
+returns-clause-names g c v settings fits =
+    step_names settings v c.args.replica c.step.result c.step_of.result c.step_of.ensures (of_volume fits (λ s n. IfSome c.step.result.refused (RefusesRun s n c.args.replica)) c.step.ensures.refusals)

@@ -13,7 +13,8 @@ of-requires g c = let i = c.loop-i.invariant in let v = c.args.maker.me.0 in
     a_seat _ c.requires.start.0 (ap (λ m. m.0.owns) me) (ap (λ m. m.0.start) me ∙ c.requires.start.1) (ap (λ m. m.0.made) me) (ap (λ m. m.0.stage) me) (ap (λ m. m.1) me)
 
 pub loop-i-preserved : goal.loop-i-preserved
-loop-i-preserved g c = let i = c.loop-i.invariant in let v = c.args.maker.me.0 in let split = c.split_seat-token.ensures in let next = next_fresh v.origin v.start c.args.seats c.loop-i.i c.loop-i-test.true in
+loop-i-preserved g c =
+    let i = c.loop-i.invariant in let v = c.args.maker.me.0 in let split = c.split_seat-token.ensures in let next = next_fresh v.origin v.start c.args.seats c.loop-i.i c.loop-i-test.true in
     let p = c.push_reserved.ensures in
     let me = split.4 ∙ (ap (λ m. (first_seat m.0, [])) i.1 ∙ (λ k. (next.1 k, []))) in (
       split.0 ∙ i.0,
@@ -24,7 +25,9 @@ loop-i-preserved g c = let i = c.loop-i.invariant in let v = c.args.maker.me.0 i
     )
 
 pub returns : goal.returns
-returns g c = let i = c.loop-i.invariant in let v = c.args.maker.me.0 in let p = c.push_reserved-2.ensures in let some_seat = c.requires.some in let last = c.loop-i-test.false in let low = c.loop-i.auto.i-end in
+returns g c =
+    let i = c.loop-i.invariant in let v = c.args.maker.me.0 in let p = c.push_reserved-2.ensures in let some_seat = c.requires.some in let last = c.loop-i-test.false in
+    let low = c.loop-i.auto.i-end in
     let z : c.args.seats ≡ c.loop-i.i + 1 = omega arith in let l = last_fresh v.origin v.start c.args.seats c.loop-i.i z _ i.1 c.args.maker.table_id in record {
       len = search rules;
       new = subst (λ t. AreNew t v.start c.args.seats c.push_reserved-2.new.self.items) c.requires.own

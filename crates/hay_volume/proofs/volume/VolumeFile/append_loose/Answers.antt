@@ -8,4 +8,5 @@ overflow_sub-need g c = omega (arith, length-marked c.args.needle.now (live c.re
 
 pub returns-clause-added : goal.returns-clause-added
 returns-clause-added g c = λ tells superblock cells pair cookie photo marked is.
-    needle_grows superblock c.args.needle.now (g.D.Disk.files c.args.disk.now c.args.self.now.file).now (g.D.Disk.files c.write.new.self c.args.self.now.file).now cells c.args.self.now.end pair cookie photo marked (c.in_ok-write.ensures.written tells) is
+    needle_grows superblock c.args.needle.now (g.D.Disk.files c.args.disk.now c.args.self.now.file).now (g.D.Disk.files c.write.new.self c.args.self.now.file).now cells
+    c.args.self.now.end pair cookie photo marked (c.in_ok-write.ensures.written tells) is

@@ -13,5 +13,6 @@ returns-in-Some-clause-cell g c =
 pub returns-in-None-clause-damaged : goal.returns-in-None-clause-damaged
 returns-in-None-clause-damaged g c = λ tells is n begins sized.
     let here = sized_begins c.args.at c.args.size c.total_of-total.result c.read_up_to.new.bytes.items (g.D.Disk.files c.args.disk.now c.args.self.now.file).now n
-    c.total_of-total.ensures (c.in_ok-read_up_to.ensures.read tells (nothing_yet (vec_len c.clear.new.self) c.clear.new.self.items (drop c.args.at (g.D.Disk.files c.args.disk.now c.args.self.now.file).now) c.clear.ensures.len c.clear.ensures.items)) sized begins in
+    c.total_of-total.ensures (c.in_ok-read_up_to.ensures.read tells (nothing_yet (vec_len c.clear.new.self) c.clear.new.self.items
+    (drop c.args.at (g.D.Disk.files c.args.disk.now c.args.self.now.file).now) c.clear.ensures.len c.clear.ensures.items)) sized begins in
     c.in-None.ensures.none n (subst (λ l. BeginsWithNeedle l n) (sym c.as_slice.ensures.value) here) sized

@@ -28,7 +28,8 @@ pub begin-answer-requires-clause-open : goal.begin-answer-requires-clause-open
 begin-answer-requires-clause-open g c = (is_held g.D.Disk.Tells g.D.Disk.files g.P.Piece.Tells g.D.Disk.fault_count g.D.Disk.fuse_count c.seat.invariant c.hold-kept.ensures).is_open
 
 pub act_made-made-requires-clause-all : goal.act_made-made-requires-clause-all
-act_made-made-requires-clause-all g c = c.begin-answer.ensures.counts.count ∙ all_there g.D.Disk.Tells g.D.Disk.files g.P.Piece.Tells g.D.Disk.fault_count g.D.Disk.fuse_count c.seat.invariant c.hold-kept.ensures
+act_made-made-requires-clause-all g c =
+    c.begin-answer.ensures.counts.count ∙ all_there g.D.Disk.Tells g.D.Disk.files g.P.Piece.Tells g.D.Disk.fault_count g.D.Disk.fuse_count c.seat.invariant c.hold-kept.ensures
 
 pub act_made-made-requires-clause-most : goal.act_made-made-requires-clause-most
 act_made-made-requires-clause-most g c = few_there g.D.Disk.Tells g.D.Disk.files g.P.Piece.Tells g.D.Disk.fault_count g.D.Disk.fuse_count c.seat.invariant c.hold-kept.ensures
@@ -39,14 +40,28 @@ free-requires-clause-may g c =
     (c.requires.within c.seat.invariant.opened (sym (ap (λ (s : Seated g.row.D.Denot g.row.P.Denot). s.start) c.seat.view_is) ∙ c.seat.invariant.is)) in
     let after : Guarded g.row.D.Denot g.row.P.Denot = record c.hold-kept.result { logical = c.begin-answer.new.self; begun = c.note_begun.new.begun } in
     let found = begin_call g.D.Disk.Tells g.D.Disk.files g.P.Piece.Tells g.D.Disk.fault_count g.D.Disk.fuse_count c.args.tag c.hold-kept.result after
-    (record { settings = refl; front = refl; ended = refl; same = c.begin-answer.ensures.same; is_open = c.begin-answer.ensures.open; counts = c.begin-answer.ensures.counts; still = c.begin-answer.ensures.still })
+    (record {
+      settings = refl;
+      front = refl;
+      ended = refl;
+      same = c.begin-answer.ensures.same;
+      is_open = c.begin-answer.ensures.open;
+      counts = c.begin-answer.ensures.counts;
+      still = c.begin-answer.ensures.still;
+    })
     c.args.replica within c.begin-answer.result c.faults_of-before.result.items c.faults_of-before.ensures c.begin_did-did.result c.act_made-made.result
-    c.act_made-made.ensures.did c.act_made-made.ensures.tried c.note_begun.ensures c.begin-answer.ensures.others c.begin-answer.ensures.tight c.begin-answer.ensures.begun c.begin-answer.ensures.refused c.begin-answer.ensures.causes c.begin_did-did.ensures in
+    c.act_made-made.ensures.did c.act_made-made.ensures.tried c.note_begun.ensures c.begin-answer.ensures.others c.begin-answer.ensures.tight c.begin-answer.ensures.begun
+    c.begin-answer.ensures.refused c.begin-answer.ensures.causes c.begin_did-did.ensures in
     record {
-      stands_for = made_free g.D.Disk.Tells g.D.Disk.files g.P.Piece.Tells g.D.Disk.fault_count g.D.Disk.fuse_count c.args.tag c.seat.inside.turn c.hold-kept.new.seat (after_free c.hold-kept.new.seat (acts_in c.act_made-made.result))
+      stands_for =
+          made_free g.D.Disk.Tells g.D.Disk.files g.P.Piece.Tells g.D.Disk.fault_count g.D.Disk.fuse_count c.args.tag c.seat.inside.turn c.hold-kept.new.seat
+          (after_free c.hold-kept.new.seat (acts_in c.act_made-made.result))
           c.seat.inside.view c.show_all.new.seat c.hold-kept.result after c.act_made-made.result c.seat.invariant c.hold-kept.ensures c.show_all.ensures.seen.0 c.show_all.ensures.seen.1 found.0 refl;
-      mine = made_mine g.D.Disk.Tells g.D.Disk.files g.P.Piece.Tells g.D.Disk.fault_count g.D.Disk.fuse_count c.args.tag c.seat.inside.turn c.hold-kept.new.seat (after_free c.hold-kept.new.seat (acts_in c.act_made-made.result))
-          c.seat.inside.view c.show_all.new.seat c.hold-kept.result after c.act_made-made.result c.seat.invariant c.hold-kept.ensures c.show_all.ensures.seen.0 c.show_all.ensures.seen.1 found.0 refl (ap (λ (s : Seated g.row.D.Denot g.row.P.Denot). s.number) c.seat.view_is ∙ c.requires.may.lane);
+      mine =
+          made_mine g.D.Disk.Tells g.D.Disk.files g.P.Piece.Tells g.D.Disk.fault_count g.D.Disk.fuse_count c.args.tag c.seat.inside.turn c.hold-kept.new.seat
+          (after_free c.hold-kept.new.seat (acts_in c.act_made-made.result))
+          c.seat.inside.view c.show_all.new.seat c.hold-kept.result after c.act_made-made.result c.seat.invariant c.hold-kept.ensures c.show_all.ensures.seen.0
+          c.show_all.ensures.seen.1 found.0 refl (ap (λ (s : Seated g.row.D.Denot g.row.P.Denot). s.number) c.seat.view_is ∙ c.requires.may.lane);
     }
 
 pub invariant_of-seat : goal.invariant_of-seat
@@ -55,11 +70,21 @@ invariant_of-seat g c =
     (c.requires.within c.seat.invariant.opened (sym (ap (λ (s : Seated g.row.D.Denot g.row.P.Denot). s.start) c.seat.view_is) ∙ c.seat.invariant.is)) in
     let after : Guarded g.row.D.Denot g.row.P.Denot = record c.hold-kept.result { logical = c.begin-answer.new.self; begun = c.note_begun.new.begun } in
     let found = begin_call g.D.Disk.Tells g.D.Disk.files g.P.Piece.Tells g.D.Disk.fault_count g.D.Disk.fuse_count c.args.tag c.hold-kept.result after
-    (record { settings = refl; front = refl; ended = refl; same = c.begin-answer.ensures.same; is_open = c.begin-answer.ensures.open; counts = c.begin-answer.ensures.counts; still = c.begin-answer.ensures.still })
+    (record {
+      settings = refl;
+      front = refl;
+      ended = refl;
+      same = c.begin-answer.ensures.same;
+      is_open = c.begin-answer.ensures.open;
+      counts = c.begin-answer.ensures.counts;
+      still = c.begin-answer.ensures.still;
+    })
     c.args.replica within c.begin-answer.result c.faults_of-before.result.items c.faults_of-before.ensures c.begin_did-did.result c.act_made-made.result
-    c.act_made-made.ensures.did c.act_made-made.ensures.tried c.note_begun.ensures c.begin-answer.ensures.others c.begin-answer.ensures.tight c.begin-answer.ensures.begun c.begin-answer.ensures.refused c.begin-answer.ensures.causes c.begin_did-did.ensures in
+    c.act_made-made.ensures.did c.act_made-made.ensures.tried c.note_begun.ensures c.begin-answer.ensures.others c.begin-answer.ensures.tight c.begin-answer.ensures.begun
+    c.begin-answer.ensures.refused c.begin-answer.ensures.causes c.begin_did-did.ensures in
     made_seated g.D.Disk.Tells g.D.Disk.files g.P.Piece.Tells g.D.Disk.fault_count g.D.Disk.fuse_count c.args.tag c.seat.inside.turn c.hold-kept.new.seat c.free.new.seat
-    c.seat.inside.view c.show_all.new.seat c.hold-kept.result after c.act_made-made.result c.seat.invariant c.hold-kept.ensures c.show_all.ensures.seen.0 c.show_all.ensures.seen.1 found.0 c.free.ensures (ap (λ (s : Seated g.row.D.Denot g.row.P.Denot). s.number) c.seat.view_is ∙ c.requires.may.lane)
+    c.seat.inside.view c.show_all.new.seat c.hold-kept.result after c.act_made-made.result c.seat.invariant c.hold-kept.ensures c.show_all.ensures.seen.0 c.show_all.ensures.seen.1
+    found.0 c.free.ensures (ap (λ (s : Seated g.row.D.Denot g.row.P.Denot). s.number) c.seat.view_is ∙ c.requires.may.lane)
 
 pub returns-clause-begun : goal.returns-clause-begun
 returns-clause-begun g c =
@@ -67,13 +92,23 @@ returns-clause-begun g c =
     (c.requires.within c.seat.invariant.opened (sym (ap (λ (s : Seated g.row.D.Denot g.row.P.Denot). s.start) c.seat.view_is) ∙ c.seat.invariant.is)) in
     let after : Guarded g.row.D.Denot g.row.P.Denot = record c.hold-kept.result { logical = c.begin-answer.new.self; begun = c.note_begun.new.begun } in
     let found = begin_call g.D.Disk.Tells g.D.Disk.files g.P.Piece.Tells g.D.Disk.fault_count g.D.Disk.fuse_count c.args.tag c.hold-kept.result after
-    (record { settings = refl; front = refl; ended = refl; same = c.begin-answer.ensures.same; is_open = c.begin-answer.ensures.open; counts = c.begin-answer.ensures.counts; still = c.begin-answer.ensures.still })
+    (record {
+      settings = refl;
+      front = refl;
+      ended = refl;
+      same = c.begin-answer.ensures.same;
+      is_open = c.begin-answer.ensures.open;
+      counts = c.begin-answer.ensures.counts;
+      still = c.begin-answer.ensures.still;
+    })
     c.args.replica within c.begin-answer.result c.faults_of-before.result.items c.faults_of-before.ensures c.begin_did-did.result c.act_made-made.result
-    c.act_made-made.ensures.did c.act_made-made.ensures.tried c.note_begun.ensures c.begin-answer.ensures.others c.begin-answer.ensures.tight c.begin-answer.ensures.begun c.begin-answer.ensures.refused c.begin-answer.ensures.causes c.begin_did-did.ensures in
+    c.act_made-made.ensures.did c.act_made-made.ensures.tried c.note_begun.ensures c.begin-answer.ensures.others c.begin-answer.ensures.tight c.begin-answer.ensures.begun
+    c.begin-answer.ensures.refused c.begin-answer.ensures.causes c.begin_did-did.ensures in
     subst (λ (s : Seated g.row.D.Denot g.row.P.Denot). IsTold g.D.Disk.Tells g.D.Disk.files g.P.Piece.Tells g.D.Disk.fault_count g.D.Disk.fuse_count s.start
     (λ volume. BeginAnswer volume c.args.tag c.args.replica c.begin-answer.result s.sight (seat_of c.free.new.seat c.show_all.new.seat).sight)) c.seat.view_is
     (made_told g.D.Disk.Tells g.D.Disk.files g.P.Piece.Tells g.D.Disk.fault_count g.D.Disk.fuse_count c.args.tag c.seat.inside.turn c.hold-kept.new.seat c.free.new.seat
-    c.seat.inside.view c.show_all.new.seat c.hold-kept.result after c.act_made-made.result c.seat.invariant c.hold-kept.ensures c.show_all.ensures.seen.0 c.show_all.ensures.seen.1 found.0 c.free.ensures
+    c.seat.inside.view c.show_all.new.seat c.hold-kept.result after c.act_made-made.result c.seat.invariant c.hold-kept.ensures c.show_all.ensures.seen.0 c.show_all.ensures.seen.1
+    found.0 c.free.ensures
     (λ volume. BeginAnswer volume c.args.tag c.args.replica c.begin-answer.result) found.1)
 
 pub returns-clause-causes : goal.returns-clause-causes
@@ -82,12 +117,23 @@ returns-clause-causes g c = λ m f is.
     (c.requires.within c.seat.invariant.opened (sym (ap (λ (s : Seated g.row.D.Denot g.row.P.Denot). s.start) c.seat.view_is) ∙ c.seat.invariant.is)) in
     let after : Guarded g.row.D.Denot g.row.P.Denot = record c.hold-kept.result { logical = c.begin-answer.new.self; begun = c.note_begun.new.begun } in
     let found = begin_call g.D.Disk.Tells g.D.Disk.files g.P.Piece.Tells g.D.Disk.fault_count g.D.Disk.fuse_count c.args.tag c.hold-kept.result after
-    (record { settings = refl; front = refl; ended = refl; same = c.begin-answer.ensures.same; is_open = c.begin-answer.ensures.open; counts = c.begin-answer.ensures.counts; still = c.begin-answer.ensures.still })
+    (record {
+      settings = refl;
+      front = refl;
+      ended = refl;
+      same = c.begin-answer.ensures.same;
+      is_open = c.begin-answer.ensures.open;
+      counts = c.begin-answer.ensures.counts;
+      still = c.begin-answer.ensures.still;
+    })
     c.args.replica within c.begin-answer.result c.faults_of-before.result.items c.faults_of-before.ensures c.begin_did-did.result c.act_made-made.result
-    c.act_made-made.ensures.did c.act_made-made.ensures.tried c.note_begun.ensures c.begin-answer.ensures.others c.begin-answer.ensures.tight c.begin-answer.ensures.begun c.begin-answer.ensures.refused c.begin-answer.ensures.causes c.begin_did-did.ensures in
-    subst (λ (s : Seated g.row.D.Denot g.row.P.Denot). IsAlways g.D.Disk.fault_count g.D.Disk.fuse_count s.start (λ volume. FailedLook volume c.args.tag c.args.replica m f s.sight (seat_of c.free.new.seat c.show_all.new.seat).sight)) c.seat.view_is
+    c.act_made-made.ensures.did c.act_made-made.ensures.tried c.note_begun.ensures c.begin-answer.ensures.others c.begin-answer.ensures.tight c.begin-answer.ensures.begun
+    c.begin-answer.ensures.refused c.begin-answer.ensures.causes c.begin_did-did.ensures in
+    subst (λ (s : Seated g.row.D.Denot g.row.P.Denot). IsAlways g.D.Disk.fault_count g.D.Disk.fuse_count s.start
+    (λ volume. FailedLook volume c.args.tag c.args.replica m f s.sight (seat_of c.free.new.seat c.show_all.new.seat).sight)) c.seat.view_is
     (made_always g.D.Disk.Tells g.D.Disk.files g.P.Piece.Tells g.D.Disk.fault_count g.D.Disk.fuse_count c.args.tag c.seat.inside.turn c.hold-kept.new.seat c.free.new.seat
-    c.seat.inside.view c.show_all.new.seat c.hold-kept.result after c.act_made-made.result c.seat.invariant c.hold-kept.ensures c.show_all.ensures.seen.0 c.show_all.ensures.seen.1 found.0 c.free.ensures
+    c.seat.inside.view c.show_all.new.seat c.hold-kept.result after c.act_made-made.result c.seat.invariant c.hold-kept.ensures c.show_all.ensures.seen.0 c.show_all.ensures.seen.1
+    found.0 c.free.ensures
     (λ volume. FailedLook volume c.args.tag c.args.replica m f) (found.2 m f is))
 
 pub returns-clause-held : goal.returns-clause-held
@@ -96,12 +142,22 @@ returns-clause-held g c =
     (c.requires.within c.seat.invariant.opened (sym (ap (λ (s : Seated g.row.D.Denot g.row.P.Denot). s.start) c.seat.view_is) ∙ c.seat.invariant.is)) in
     let after : Guarded g.row.D.Denot g.row.P.Denot = record c.hold-kept.result { logical = c.begin-answer.new.self; begun = c.note_begun.new.begun } in
     let found = begin_call g.D.Disk.Tells g.D.Disk.files g.P.Piece.Tells g.D.Disk.fault_count g.D.Disk.fuse_count c.args.tag c.hold-kept.result after
-    (record { settings = refl; front = refl; ended = refl; same = c.begin-answer.ensures.same; is_open = c.begin-answer.ensures.open; counts = c.begin-answer.ensures.counts; still = c.begin-answer.ensures.still })
+    (record {
+      settings = refl;
+      front = refl;
+      ended = refl;
+      same = c.begin-answer.ensures.same;
+      is_open = c.begin-answer.ensures.open;
+      counts = c.begin-answer.ensures.counts;
+      still = c.begin-answer.ensures.still;
+    })
     c.args.replica within c.begin-answer.result c.faults_of-before.result.items c.faults_of-before.ensures c.begin_did-did.result c.act_made-made.result
-    c.act_made-made.ensures.did c.act_made-made.ensures.tried c.note_begun.ensures c.begin-answer.ensures.others c.begin-answer.ensures.tight c.begin-answer.ensures.begun c.begin-answer.ensures.refused c.begin-answer.ensures.causes c.begin_did-did.ensures in
+    c.act_made-made.ensures.did c.act_made-made.ensures.tried c.note_begun.ensures c.begin-answer.ensures.others c.begin-answer.ensures.tight c.begin-answer.ensures.begun
+    c.begin-answer.ensures.refused c.begin-answer.ensures.causes c.begin_did-did.ensures in
     subst (λ (s : Seated g.row.D.Denot g.row.P.Denot). OneHolding c.args.tag s.sight (seat_of c.free.new.seat c.show_all.new.seat).sight) c.seat.view_is
     (made_held g.D.Disk.Tells g.D.Disk.files g.P.Piece.Tells g.D.Disk.fault_count g.D.Disk.fuse_count c.args.tag c.seat.inside.turn c.hold-kept.new.seat c.free.new.seat
-    c.seat.inside.view c.show_all.new.seat c.hold-kept.result after c.act_made-made.result c.seat.invariant c.hold-kept.ensures c.show_all.ensures.seen.0 c.show_all.ensures.seen.1 found.0 c.free.ensures)
+    c.seat.inside.view c.show_all.new.seat c.hold-kept.result after c.act_made-made.result c.seat.invariant c.hold-kept.ensures c.show_all.ensures.seen.0 c.show_all.ensures.seen.1
+    found.0 c.free.ensures)
 
 pub returns-clause-same : goal.returns-clause-same
 returns-clause-same g c =
@@ -109,16 +165,28 @@ returns-clause-same g c =
     (c.requires.within c.seat.invariant.opened (sym (ap (λ (s : Seated g.row.D.Denot g.row.P.Denot). s.start) c.seat.view_is) ∙ c.seat.invariant.is)) in
     let after : Guarded g.row.D.Denot g.row.P.Denot = record c.hold-kept.result { logical = c.begin-answer.new.self; begun = c.note_begun.new.begun } in
     let found = begin_call g.D.Disk.Tells g.D.Disk.files g.P.Piece.Tells g.D.Disk.fault_count g.D.Disk.fuse_count c.args.tag c.hold-kept.result after
-    (record { settings = refl; front = refl; ended = refl; same = c.begin-answer.ensures.same; is_open = c.begin-answer.ensures.open; counts = c.begin-answer.ensures.counts; still = c.begin-answer.ensures.still })
+    (record {
+      settings = refl;
+      front = refl;
+      ended = refl;
+      same = c.begin-answer.ensures.same;
+      is_open = c.begin-answer.ensures.open;
+      counts = c.begin-answer.ensures.counts;
+      still = c.begin-answer.ensures.still;
+    })
     c.args.replica within c.begin-answer.result c.faults_of-before.result.items c.faults_of-before.ensures c.begin_did-did.result c.act_made-made.result
-    c.act_made-made.ensures.did c.act_made-made.ensures.tried c.note_begun.ensures c.begin-answer.ensures.others c.begin-answer.ensures.tight c.begin-answer.ensures.begun c.begin-answer.ensures.refused c.begin-answer.ensures.causes c.begin_did-did.ensures in
+    c.act_made-made.ensures.did c.act_made-made.ensures.tried c.note_begun.ensures c.begin-answer.ensures.others c.begin-answer.ensures.tight c.begin-answer.ensures.begun
+    c.begin-answer.ensures.refused c.begin-answer.ensures.causes c.begin_did-did.ensures in
     subst (λ (s : Seated g.row.D.Denot g.row.P.Denot). IsSameSeat s (seat_of c.free.new.seat c.show_all.new.seat)) c.seat.view_is
     (made_same g.D.Disk.Tells g.D.Disk.files g.P.Piece.Tells g.D.Disk.fault_count g.D.Disk.fuse_count c.args.tag c.seat.inside.turn c.hold-kept.new.seat c.free.new.seat
-    c.seat.inside.view c.show_all.new.seat c.hold-kept.result after c.act_made-made.result c.seat.invariant c.hold-kept.ensures c.show_all.ensures.seen.0 c.show_all.ensures.seen.1 found.0 c.free.ensures
+    c.seat.inside.view c.show_all.new.seat c.hold-kept.result after c.act_made-made.result c.seat.invariant c.hold-kept.ensures c.show_all.ensures.seen.0 c.show_all.ensures.seen.1
+    found.0 c.free.ensures
     (ap (λ (s : Seated g.row.D.Denot g.row.P.Denot). s.holds) c.seat.view_is ∙ c.requires.may.rests.rests))
 
 pub returns-clause-refusals : goal.returns-clause-refusals
 returns-clause-refusals g c =
     subst (λ (s : Seated g.row.D.Denot g.row.P.Denot). OfOpened s.start (λ settings v. IfErr c.begin-answer.result (RefusesBegin settings v c.args.replica))) c.seat.view_is
-    (of_opened g.D.Disk.Tells g.D.Disk.files g.P.Piece.Tells g.D.Disk.fault_count g.D.Disk.fuse_count c.seat.invariant c.hold-kept.ensures (λ settings v. IfErr c.begin-answer.result (RefusesBegin settings v c.args.replica))
-    (err_refused (refuses_begin c.hold-kept.result.logical.settings c.hold-kept.result.logical.number g.D.Disk.fault_count c.hold-kept.result.logical.replicas c.begin-answer.new.self.replicas c.args.replica) c.begin-answer.result c.begin-answer.ensures.causes))
+    (of_opened g.D.Disk.Tells g.D.Disk.files g.P.Piece.Tells g.D.Disk.fault_count g.D.Disk.fuse_count c.seat.invariant c.hold-kept.ensures
+    (λ settings v. IfErr c.begin-answer.result (RefusesBegin settings v c.args.replica))
+    (err_refused (refuses_begin c.hold-kept.result.logical.settings c.hold-kept.result.logical.number g.D.Disk.fault_count c.hold-kept.result.logical.replicas
+    c.begin-answer.new.self.replicas c.args.replica) c.begin-answer.result c.begin-answer.ensures.causes))

@@ -28,23 +28,28 @@ loop-seat-preserved g c = record {
 pub close-logical-requires : goal.close-logical-requires
 close-logical-requires g c =
     all_seats (subst (λ (l : TurnId). AreSeated l c.requires.seats.0 c.args.seats.items) (sym c.self.view_is) c.requires.seats.1)
-    (all_turned turn_of c.loop-seat.turns.items (into_iter_items c.loop-seat.seat-iterator) c.args.seats.items c.loop-seat.invariant.turns (sym c.loop-seat.seat-iterator.rest.ok.0 ∙ c.in-None.ensures.steps.0))
+    (all_turned turn_of c.loop-seat.turns.items (into_iter_items c.loop-seat.seat-iterator) c.args.seats.items c.loop-seat.invariant.turns
+    (sym c.loop-seat.seat-iterator.rest.ok.0 ∙ c.in-None.ensures.steps.0))
 
 pub show_each-requires : goal.show_each-requires
 show_each-requires g c =
     subst (λ (l : List (View g.row.D.Denot g.row.P.Denot)). Each (λ v. v.front ≡ c.close-logical.result.front.shown.front) l) (sym c.as_mut_slice.ensures.value)
     (kept_front (subst (λ (l : TurnId). AreSeated l c.requires.seats.0 c.args.seats.items) (sym c.self.view_is) c.requires.seats.1)
-    (all_turned turn_of c.loop-seat.turns.items (into_iter_items c.loop-seat.seat-iterator) c.args.seats.items c.loop-seat.invariant.turns (sym c.loop-seat.seat-iterator.rest.ok.0 ∙ c.in-None.ensures.steps.0))
+    (all_turned turn_of c.loop-seat.turns.items (into_iter_items c.loop-seat.seat-iterator) c.args.seats.items c.loop-seat.invariant.turns
+    (sym c.loop-seat.seat-iterator.rest.ok.0 ∙ c.in-None.ensures.steps.0))
     g.D.Disk.Tells g.D.Disk.files g.P.Piece.Tells g.D.Disk.fault_count g.D.Disk.fuse_count c.close-logical.result c.close-logical.ensures
     c.loop-seat.views.items
-    (viewing_ends c.loop-seat.views.items (into_iter_items c.loop-seat.seat-iterator) c.args.seats.items c.loop-seat.invariant.viewing (sym c.loop-seat.seat-iterator.rest.ok.0 ∙ c.in-None.ensures.steps.0)))
+    (viewing_ends c.loop-seat.views.items (into_iter_items c.loop-seat.seat-iterator) c.args.seats.items c.loop-seat.invariant.viewing
+    (sym c.loop-seat.seat-iterator.rest.ok.0 ∙ c.in-None.ensures.steps.0)))
 
 pub returns : goal.returns
 returns g c = λ opened are.
     closes (subst (λ (l : TurnId). AreSeated l opened c.args.seats.items) (sym c.self.view_is) are)
-    (all_turned turn_of c.loop-seat.turns.items (into_iter_items c.loop-seat.seat-iterator) c.args.seats.items c.loop-seat.invariant.turns (sym c.loop-seat.seat-iterator.rest.ok.0 ∙ c.in-None.ensures.steps.0))
+    (all_turned turn_of c.loop-seat.turns.items (into_iter_items c.loop-seat.seat-iterator) c.args.seats.items c.loop-seat.invariant.turns
+    (sym c.loop-seat.seat-iterator.rest.ok.0 ∙ c.in-None.ensures.steps.0))
     g.D.Disk.Tells g.D.Disk.files g.P.Piece.Tells g.D.Disk.fault_count g.D.Disk.fuse_count c.close-logical.result c.close-tags.result.items c.close-logical.ensures c.close-tags.ensures.tags
     c.as_mut_slice.result.now
     (subst (λ (l : List (View g.row.D.Denot g.row.P.Denot)). AreViews l c.args.seats.items) (sym c.as_mut_slice.ensures.value)
-    (viewing_ends c.loop-seat.views.items (into_iter_items c.loop-seat.seat-iterator) c.args.seats.items c.loop-seat.invariant.viewing (sym c.loop-seat.seat-iterator.rest.ok.0 ∙ c.in-None.ensures.steps.0)))
+    (viewing_ends c.loop-seat.views.items (into_iter_items c.loop-seat.seat-iterator) c.args.seats.items c.loop-seat.invariant.viewing
+    (sym c.loop-seat.seat-iterator.rest.ok.0 ∙ c.in-None.ensures.steps.0)))
     c.show_each.ensures

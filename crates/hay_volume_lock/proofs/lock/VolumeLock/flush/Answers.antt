@@ -30,7 +30,8 @@ pub flush-answer-requires-clause-open : goal.flush-answer-requires-clause-open
 flush-answer-requires-clause-open g c = (is_held g.D.Disk.Tells g.D.Disk.files g.P.Piece.Tells g.D.Disk.fault_count g.D.Disk.fuse_count c.seat.invariant c.hold-kept.ensures).is_open
 
 pub act_made-made-requires-clause-all : goal.act_made-made-requires-clause-all
-act_made-made-requires-clause-all g c = c.flush-answer.ensures.counts.count ∙ all_there g.D.Disk.Tells g.D.Disk.files g.P.Piece.Tells g.D.Disk.fault_count g.D.Disk.fuse_count c.seat.invariant c.hold-kept.ensures
+act_made-made-requires-clause-all g c =
+    c.flush-answer.ensures.counts.count ∙ all_there g.D.Disk.Tells g.D.Disk.files g.P.Piece.Tells g.D.Disk.fault_count g.D.Disk.fuse_count c.seat.invariant c.hold-kept.ensures
 
 pub act_made-made-requires-clause-most : goal.act_made-made-requires-clause-most
 act_made-made-requires-clause-most g c = few_there g.D.Disk.Tells g.D.Disk.files g.P.Piece.Tells g.D.Disk.fault_count g.D.Disk.fuse_count c.seat.invariant c.hold-kept.ensures
@@ -41,14 +42,28 @@ free-requires-clause-may g c =
     (c.requires.within c.seat.invariant.opened (sym (ap (λ (s : Seated g.row.D.Denot g.row.P.Denot). s.start) c.seat.view_is) ∙ c.seat.invariant.is)) in
     let after : Guarded g.row.D.Denot g.row.P.Denot = record c.hold-kept.result { logical = c.flush-answer.new.self } in
     let found = flush_call g.D.Disk.Tells g.D.Disk.files g.P.Piece.Tells g.D.Disk.fault_count g.D.Disk.fuse_count c.args.tag c.hold-kept.result after
-    (record { settings = refl; front = refl; ended = refl; same = c.flush-answer.ensures.same; is_open = c.flush-answer.ensures.open; counts = c.flush-answer.ensures.counts; still = c.flush-answer.ensures.still })
+    (record {
+      settings = refl;
+      front = refl;
+      ended = refl;
+      same = c.flush-answer.ensures.same;
+      is_open = c.flush-answer.ensures.open;
+      counts = c.flush-answer.ensures.counts;
+      still = c.flush-answer.ensures.still;
+    })
     c.args.replica within c.flush-answer.result c.faults_of-before.result.items c.faults_of-before.ensures c.flush_did-did.result c.act_made-made.result
-    c.act_made-made.ensures.did c.act_made-made.ensures.tried refl (λ tells thawed. c.flush-answer.ensures.tight tells) c.flush-answer.ensures.flushed c.flush-answer.ensures.refused c.flush-answer.ensures.causes c.flush_did-did.ensures c.frozen-frozen.result (sym c.frozen-frozen.ensures.is) in
+    c.act_made-made.ensures.did c.act_made-made.ensures.tried refl (λ tells thawed. c.flush-answer.ensures.tight tells) c.flush-answer.ensures.flushed
+    c.flush-answer.ensures.refused c.flush-answer.ensures.causes c.flush_did-did.ensures c.frozen-frozen.result (sym c.frozen-frozen.ensures.is) in
     record {
-      stands_for = made_free g.D.Disk.Tells g.D.Disk.files g.P.Piece.Tells g.D.Disk.fault_count g.D.Disk.fuse_count c.args.tag c.seat.inside.turn c.hold-kept.new.seat (after_free c.hold-kept.new.seat (acts_in c.act_made-made.result))
+      stands_for =
+          made_free g.D.Disk.Tells g.D.Disk.files g.P.Piece.Tells g.D.Disk.fault_count g.D.Disk.fuse_count c.args.tag c.seat.inside.turn c.hold-kept.new.seat
+          (after_free c.hold-kept.new.seat (acts_in c.act_made-made.result))
           c.seat.inside.view c.show_all.new.seat c.hold-kept.result after c.act_made-made.result c.seat.invariant c.hold-kept.ensures c.show_all.ensures.seen.0 c.show_all.ensures.seen.1 found.0 refl;
-      mine = made_mine g.D.Disk.Tells g.D.Disk.files g.P.Piece.Tells g.D.Disk.fault_count g.D.Disk.fuse_count c.args.tag c.seat.inside.turn c.hold-kept.new.seat (after_free c.hold-kept.new.seat (acts_in c.act_made-made.result))
-          c.seat.inside.view c.show_all.new.seat c.hold-kept.result after c.act_made-made.result c.seat.invariant c.hold-kept.ensures c.show_all.ensures.seen.0 c.show_all.ensures.seen.1 found.0 refl (ap (λ (s : Seated g.row.D.Denot g.row.P.Denot). s.number) c.seat.view_is ∙ c.requires.may.lane);
+      mine =
+          made_mine g.D.Disk.Tells g.D.Disk.files g.P.Piece.Tells g.D.Disk.fault_count g.D.Disk.fuse_count c.args.tag c.seat.inside.turn c.hold-kept.new.seat
+          (after_free c.hold-kept.new.seat (acts_in c.act_made-made.result))
+          c.seat.inside.view c.show_all.new.seat c.hold-kept.result after c.act_made-made.result c.seat.invariant c.hold-kept.ensures c.show_all.ensures.seen.0
+          c.show_all.ensures.seen.1 found.0 refl (ap (λ (s : Seated g.row.D.Denot g.row.P.Denot). s.number) c.seat.view_is ∙ c.requires.may.lane);
     }
 
 pub invariant_of-seat : goal.invariant_of-seat
@@ -57,11 +72,21 @@ invariant_of-seat g c =
     (c.requires.within c.seat.invariant.opened (sym (ap (λ (s : Seated g.row.D.Denot g.row.P.Denot). s.start) c.seat.view_is) ∙ c.seat.invariant.is)) in
     let after : Guarded g.row.D.Denot g.row.P.Denot = record c.hold-kept.result { logical = c.flush-answer.new.self } in
     let found = flush_call g.D.Disk.Tells g.D.Disk.files g.P.Piece.Tells g.D.Disk.fault_count g.D.Disk.fuse_count c.args.tag c.hold-kept.result after
-    (record { settings = refl; front = refl; ended = refl; same = c.flush-answer.ensures.same; is_open = c.flush-answer.ensures.open; counts = c.flush-answer.ensures.counts; still = c.flush-answer.ensures.still })
+    (record {
+      settings = refl;
+      front = refl;
+      ended = refl;
+      same = c.flush-answer.ensures.same;
+      is_open = c.flush-answer.ensures.open;
+      counts = c.flush-answer.ensures.counts;
+      still = c.flush-answer.ensures.still;
+    })
     c.args.replica within c.flush-answer.result c.faults_of-before.result.items c.faults_of-before.ensures c.flush_did-did.result c.act_made-made.result
-    c.act_made-made.ensures.did c.act_made-made.ensures.tried refl (λ tells thawed. c.flush-answer.ensures.tight tells) c.flush-answer.ensures.flushed c.flush-answer.ensures.refused c.flush-answer.ensures.causes c.flush_did-did.ensures c.frozen-frozen.result (sym c.frozen-frozen.ensures.is) in
+    c.act_made-made.ensures.did c.act_made-made.ensures.tried refl (λ tells thawed. c.flush-answer.ensures.tight tells) c.flush-answer.ensures.flushed
+    c.flush-answer.ensures.refused c.flush-answer.ensures.causes c.flush_did-did.ensures c.frozen-frozen.result (sym c.frozen-frozen.ensures.is) in
     made_seated g.D.Disk.Tells g.D.Disk.files g.P.Piece.Tells g.D.Disk.fault_count g.D.Disk.fuse_count c.args.tag c.seat.inside.turn c.hold-kept.new.seat c.free.new.seat
-    c.seat.inside.view c.show_all.new.seat c.hold-kept.result after c.act_made-made.result c.seat.invariant c.hold-kept.ensures c.show_all.ensures.seen.0 c.show_all.ensures.seen.1 found.0 c.free.ensures (ap (λ (s : Seated g.row.D.Denot g.row.P.Denot). s.number) c.seat.view_is ∙ c.requires.may.lane)
+    c.seat.inside.view c.show_all.new.seat c.hold-kept.result after c.act_made-made.result c.seat.invariant c.hold-kept.ensures c.show_all.ensures.seen.0 c.show_all.ensures.seen.1
+    found.0 c.free.ensures (ap (λ (s : Seated g.row.D.Denot g.row.P.Denot). s.number) c.seat.view_is ∙ c.requires.may.lane)
 
 pub returns-clause-flushed : goal.returns-clause-flushed
 returns-clause-flushed g c =
@@ -69,15 +94,26 @@ returns-clause-flushed g c =
     (c.requires.within c.seat.invariant.opened (sym (ap (λ (s : Seated g.row.D.Denot g.row.P.Denot). s.start) c.seat.view_is) ∙ c.seat.invariant.is)) in
     let after : Guarded g.row.D.Denot g.row.P.Denot = record c.hold-kept.result { logical = c.flush-answer.new.self } in
     let found = flush_call g.D.Disk.Tells g.D.Disk.files g.P.Piece.Tells g.D.Disk.fault_count g.D.Disk.fuse_count c.args.tag c.hold-kept.result after
-    (record { settings = refl; front = refl; ended = refl; same = c.flush-answer.ensures.same; is_open = c.flush-answer.ensures.open; counts = c.flush-answer.ensures.counts; still = c.flush-answer.ensures.still })
+    (record {
+      settings = refl;
+      front = refl;
+      ended = refl;
+      same = c.flush-answer.ensures.same;
+      is_open = c.flush-answer.ensures.open;
+      counts = c.flush-answer.ensures.counts;
+      still = c.flush-answer.ensures.still;
+    })
     c.args.replica within c.flush-answer.result c.faults_of-before.result.items c.faults_of-before.ensures c.flush_did-did.result c.act_made-made.result
-    c.act_made-made.ensures.did c.act_made-made.ensures.tried refl (λ tells thawed. c.flush-answer.ensures.tight tells) c.flush-answer.ensures.flushed c.flush-answer.ensures.refused c.flush-answer.ensures.causes c.flush_did-did.ensures c.frozen-frozen.result (sym c.frozen-frozen.ensures.is) in
+    c.act_made-made.ensures.did c.act_made-made.ensures.tried refl (λ tells thawed. c.flush-answer.ensures.tight tells) c.flush-answer.ensures.flushed
+    c.flush-answer.ensures.refused c.flush-answer.ensures.causes c.flush_did-did.ensures c.frozen-frozen.result (sym c.frozen-frozen.ensures.is) in
     subst (λ (s : Seated g.row.D.Denot g.row.P.Denot). IsTold g.D.Disk.Tells g.D.Disk.files g.P.Piece.Tells g.D.Disk.fault_count g.D.Disk.fuse_count s.start
     (λ volume. FlushAnswer volume c.args.tag c.args.replica c.flush_answer.result s.sight (seat_of c.free.new.seat c.show_all.new.seat).sight)) c.seat.view_is
     (made_told g.D.Disk.Tells g.D.Disk.files g.P.Piece.Tells g.D.Disk.fault_count g.D.Disk.fuse_count c.args.tag c.seat.inside.turn c.hold-kept.new.seat c.free.new.seat
-    c.seat.inside.view c.show_all.new.seat c.hold-kept.result after c.act_made-made.result c.seat.invariant c.hold-kept.ensures c.show_all.ensures.seen.0 c.show_all.ensures.seen.1 found.0 c.free.ensures
+    c.seat.inside.view c.show_all.new.seat c.hold-kept.result after c.act_made-made.result c.seat.invariant c.hold-kept.ensures c.show_all.ensures.seen.0 c.show_all.ensures.seen.1
+    found.0 c.free.ensures
     (λ volume. FlushAnswer volume c.args.tag c.args.replica c.flush_answer.result)
-    (subst (λ (r : Result ℕ Unflushed). Found g.D.Disk.Tells g.D.Disk.files g.P.Piece.Tells g.D.Disk.fault_count g.D.Disk.fuse_count c.args.tag c.hold-kept.result c.act_made-made.result (λ volume. FlushAnswer volume c.args.tag c.args.replica r)) (sym c.flush_answer.ensures) found.1))
+    (subst (λ (r : Result ℕ Unflushed). Found g.D.Disk.Tells g.D.Disk.files g.P.Piece.Tells g.D.Disk.fault_count g.D.Disk.fuse_count c.args.tag c.hold-kept.result
+    c.act_made-made.result (λ volume. FlushAnswer volume c.args.tag c.args.replica r)) (sym c.flush_answer.ensures) found.1))
 
 pub returns-clause-causes : goal.returns-clause-causes
 returns-clause-causes g c = λ m f o is.
@@ -85,12 +121,23 @@ returns-clause-causes g c = λ m f o is.
     (c.requires.within c.seat.invariant.opened (sym (ap (λ (s : Seated g.row.D.Denot g.row.P.Denot). s.start) c.seat.view_is) ∙ c.seat.invariant.is)) in
     let after : Guarded g.row.D.Denot g.row.P.Denot = record c.hold-kept.result { logical = c.flush-answer.new.self } in
     let found = flush_call g.D.Disk.Tells g.D.Disk.files g.P.Piece.Tells g.D.Disk.fault_count g.D.Disk.fuse_count c.args.tag c.hold-kept.result after
-    (record { settings = refl; front = refl; ended = refl; same = c.flush-answer.ensures.same; is_open = c.flush-answer.ensures.open; counts = c.flush-answer.ensures.counts; still = c.flush-answer.ensures.still })
+    (record {
+      settings = refl;
+      front = refl;
+      ended = refl;
+      same = c.flush-answer.ensures.same;
+      is_open = c.flush-answer.ensures.open;
+      counts = c.flush-answer.ensures.counts;
+      still = c.flush-answer.ensures.still;
+    })
     c.args.replica within c.flush-answer.result c.faults_of-before.result.items c.faults_of-before.ensures c.flush_did-did.result c.act_made-made.result
-    c.act_made-made.ensures.did c.act_made-made.ensures.tried refl (λ tells thawed. c.flush-answer.ensures.tight tells) c.flush-answer.ensures.flushed c.flush-answer.ensures.refused c.flush-answer.ensures.causes c.flush_did-did.ensures c.frozen-frozen.result (sym c.frozen-frozen.ensures.is) in
-    subst (λ (s : Seated g.row.D.Denot g.row.P.Denot). IsAlways g.D.Disk.fault_count g.D.Disk.fuse_count s.start (λ volume. FlushRefused volume c.args.tag c.args.replica (Failed m f) o s.sight (seat_of c.free.new.seat c.show_all.new.seat).sight)) c.seat.view_is
+    c.act_made-made.ensures.did c.act_made-made.ensures.tried refl (λ tells thawed. c.flush-answer.ensures.tight tells) c.flush-answer.ensures.flushed
+    c.flush-answer.ensures.refused c.flush-answer.ensures.causes c.flush_did-did.ensures c.frozen-frozen.result (sym c.frozen-frozen.ensures.is) in
+    subst (λ (s : Seated g.row.D.Denot g.row.P.Denot). IsAlways g.D.Disk.fault_count g.D.Disk.fuse_count s.start
+    (λ volume. FlushRefused volume c.args.tag c.args.replica (Failed m f) o s.sight (seat_of c.free.new.seat c.show_all.new.seat).sight)) c.seat.view_is
     (made_always g.D.Disk.Tells g.D.Disk.files g.P.Piece.Tells g.D.Disk.fault_count g.D.Disk.fuse_count c.args.tag c.seat.inside.turn c.hold-kept.new.seat c.free.new.seat
-    c.seat.inside.view c.show_all.new.seat c.hold-kept.result after c.act_made-made.result c.seat.invariant c.hold-kept.ensures c.show_all.ensures.seen.0 c.show_all.ensures.seen.1 found.0 c.free.ensures
+    c.seat.inside.view c.show_all.new.seat c.hold-kept.result after c.act_made-made.result c.seat.invariant c.hold-kept.ensures c.show_all.ensures.seen.0 c.show_all.ensures.seen.1
+    found.0 c.free.ensures
     (λ volume. FlushRefused volume c.args.tag c.args.replica (Failed m f) o)
     (subst (λ (z : Option ℕ). FoundAlways g.D.Disk.Tells g.D.Disk.files g.P.Piece.Tells g.D.Disk.fault_count g.D.Disk.fuse_count c.args.tag c.hold-kept.result c.act_made-made.result
     (λ volume. FlushRefused volume c.args.tag c.args.replica (Failed m f) z)) (flush_failed_by c.frozen-frozen.result c.flush-answer.result m f o (sym c.flush_answer.ensures ∙ is)).1
@@ -102,12 +149,22 @@ returns-clause-held g c =
     (c.requires.within c.seat.invariant.opened (sym (ap (λ (s : Seated g.row.D.Denot g.row.P.Denot). s.start) c.seat.view_is) ∙ c.seat.invariant.is)) in
     let after : Guarded g.row.D.Denot g.row.P.Denot = record c.hold-kept.result { logical = c.flush-answer.new.self } in
     let found = flush_call g.D.Disk.Tells g.D.Disk.files g.P.Piece.Tells g.D.Disk.fault_count g.D.Disk.fuse_count c.args.tag c.hold-kept.result after
-    (record { settings = refl; front = refl; ended = refl; same = c.flush-answer.ensures.same; is_open = c.flush-answer.ensures.open; counts = c.flush-answer.ensures.counts; still = c.flush-answer.ensures.still })
+    (record {
+      settings = refl;
+      front = refl;
+      ended = refl;
+      same = c.flush-answer.ensures.same;
+      is_open = c.flush-answer.ensures.open;
+      counts = c.flush-answer.ensures.counts;
+      still = c.flush-answer.ensures.still;
+    })
     c.args.replica within c.flush-answer.result c.faults_of-before.result.items c.faults_of-before.ensures c.flush_did-did.result c.act_made-made.result
-    c.act_made-made.ensures.did c.act_made-made.ensures.tried refl (λ tells thawed. c.flush-answer.ensures.tight tells) c.flush-answer.ensures.flushed c.flush-answer.ensures.refused c.flush-answer.ensures.causes c.flush_did-did.ensures c.frozen-frozen.result (sym c.frozen-frozen.ensures.is) in
+    c.act_made-made.ensures.did c.act_made-made.ensures.tried refl (λ tells thawed. c.flush-answer.ensures.tight tells) c.flush-answer.ensures.flushed
+    c.flush-answer.ensures.refused c.flush-answer.ensures.causes c.flush_did-did.ensures c.frozen-frozen.result (sym c.frozen-frozen.ensures.is) in
     subst (λ (s : Seated g.row.D.Denot g.row.P.Denot). OneHolding c.args.tag s.sight (seat_of c.free.new.seat c.show_all.new.seat).sight) c.seat.view_is
     (made_held g.D.Disk.Tells g.D.Disk.files g.P.Piece.Tells g.D.Disk.fault_count g.D.Disk.fuse_count c.args.tag c.seat.inside.turn c.hold-kept.new.seat c.free.new.seat
-    c.seat.inside.view c.show_all.new.seat c.hold-kept.result after c.act_made-made.result c.seat.invariant c.hold-kept.ensures c.show_all.ensures.seen.0 c.show_all.ensures.seen.1 found.0 c.free.ensures)
+    c.seat.inside.view c.show_all.new.seat c.hold-kept.result after c.act_made-made.result c.seat.invariant c.hold-kept.ensures c.show_all.ensures.seen.0 c.show_all.ensures.seen.1
+    found.0 c.free.ensures)
 
 pub returns-clause-same : goal.returns-clause-same
 returns-clause-same g c =
@@ -115,18 +172,32 @@ returns-clause-same g c =
     (c.requires.within c.seat.invariant.opened (sym (ap (λ (s : Seated g.row.D.Denot g.row.P.Denot). s.start) c.seat.view_is) ∙ c.seat.invariant.is)) in
     let after : Guarded g.row.D.Denot g.row.P.Denot = record c.hold-kept.result { logical = c.flush-answer.new.self } in
     let found = flush_call g.D.Disk.Tells g.D.Disk.files g.P.Piece.Tells g.D.Disk.fault_count g.D.Disk.fuse_count c.args.tag c.hold-kept.result after
-    (record { settings = refl; front = refl; ended = refl; same = c.flush-answer.ensures.same; is_open = c.flush-answer.ensures.open; counts = c.flush-answer.ensures.counts; still = c.flush-answer.ensures.still })
+    (record {
+      settings = refl;
+      front = refl;
+      ended = refl;
+      same = c.flush-answer.ensures.same;
+      is_open = c.flush-answer.ensures.open;
+      counts = c.flush-answer.ensures.counts;
+      still = c.flush-answer.ensures.still;
+    })
     c.args.replica within c.flush-answer.result c.faults_of-before.result.items c.faults_of-before.ensures c.flush_did-did.result c.act_made-made.result
-    c.act_made-made.ensures.did c.act_made-made.ensures.tried refl (λ tells thawed. c.flush-answer.ensures.tight tells) c.flush-answer.ensures.flushed c.flush-answer.ensures.refused c.flush-answer.ensures.causes c.flush_did-did.ensures c.frozen-frozen.result (sym c.frozen-frozen.ensures.is) in
+    c.act_made-made.ensures.did c.act_made-made.ensures.tried refl (λ tells thawed. c.flush-answer.ensures.tight tells) c.flush-answer.ensures.flushed
+    c.flush-answer.ensures.refused c.flush-answer.ensures.causes c.flush_did-did.ensures c.frozen-frozen.result (sym c.frozen-frozen.ensures.is) in
     subst (λ (s : Seated g.row.D.Denot g.row.P.Denot). IsSameSeat s (seat_of c.free.new.seat c.show_all.new.seat)) c.seat.view_is
     (made_same g.D.Disk.Tells g.D.Disk.files g.P.Piece.Tells g.D.Disk.fault_count g.D.Disk.fuse_count c.args.tag c.seat.inside.turn c.hold-kept.new.seat c.free.new.seat
-    c.seat.inside.view c.show_all.new.seat c.hold-kept.result after c.act_made-made.result c.seat.invariant c.hold-kept.ensures c.show_all.ensures.seen.0 c.show_all.ensures.seen.1 found.0 c.free.ensures
+    c.seat.inside.view c.show_all.new.seat c.hold-kept.result after c.act_made-made.result c.seat.invariant c.hold-kept.ensures c.show_all.ensures.seen.0 c.show_all.ensures.seen.1
+    found.0 c.free.ensures
     (ap (λ (s : Seated g.row.D.Denot g.row.P.Denot). s.holds) c.seat.view_is ∙ c.requires.may.rests.rests))
 
 pub returns-clause-refusals : goal.returns-clause-refusals
 returns-clause-refusals g c =
-    subst (λ (s : Seated g.row.D.Denot g.row.P.Denot). OfOpened s.start (λ settings v. IfErr c.flush_answer.result (λ unflushed. RefusesFlush settings v c.args.replica unflushed.fault))) c.seat.view_is
-    (of_opened g.D.Disk.Tells g.D.Disk.files g.P.Piece.Tells g.D.Disk.fault_count g.D.Disk.fuse_count c.seat.invariant c.hold-kept.ensures (λ settings v. IfErr c.flush_answer.result (λ unflushed. RefusesFlush settings v c.args.replica unflushed.fault))
-    (subst (λ (r : Result ℕ Unflushed). IfErr r (λ unflushed. RefusesFlush c.hold-kept.result.logical.settings c.hold-kept.result.logical.number c.args.replica unflushed.fault)) (sym c.flush_answer.ensures)
+    subst (λ (s : Seated g.row.D.Denot g.row.P.Denot). OfOpened s.start (λ settings v.
+    IfErr c.flush_answer.result (λ unflushed. RefusesFlush settings v c.args.replica unflushed.fault))) c.seat.view_is
+    (of_opened g.D.Disk.Tells g.D.Disk.files g.P.Piece.Tells g.D.Disk.fault_count g.D.Disk.fuse_count c.seat.invariant c.hold-kept.ensures
+    (λ settings v. IfErr c.flush_answer.result (λ unflushed. RefusesFlush settings v c.args.replica unflushed.fault))
+    (subst (λ (r : Result ℕ Unflushed). IfErr r (λ unflushed. RefusesFlush c.hold-kept.result.logical.settings c.hold-kept.result.logical.number c.args.replica unflushed.fault))
+    (sym c.flush_answer.ensures)
     (flush_refused (RefusesFlush c.hold-kept.result.logical.settings c.hold-kept.result.logical.number c.args.replica) c.frozen-frozen.result c.flush-answer.result
-    (err_refused (refuses_flush c.hold-kept.result.logical.settings c.hold-kept.result.logical.number g.D.Disk.fault_count c.hold-kept.result.logical.replicas c.flush-answer.new.self.replicas c.args.replica) c.flush-answer.result c.flush-answer.ensures.causes))))
+    (err_refused (refuses_flush c.hold-kept.result.logical.settings c.hold-kept.result.logical.number g.D.Disk.fault_count c.hold-kept.result.logical.replicas
+    c.flush-answer.new.self.replicas c.args.replica) c.flush-answer.result c.flush-answer.ensures.causes))))

@@ -13,17 +13,23 @@ returns-clause-looked g c =
 pub returns-clause-shown : goal.returns-clause-shown
 returns-clause-shown g c = λ o is tells k stands volume here. record {
   looked = returns-clause-looked g c;
-  front = front_tells g.D.Disk.Tells g.D.Disk.files g.P.Piece.Tells c.self.inside.turn c.self.inside.stood c.self.inside.view c.look-published.new.self c.self.invariant c.look-published.ensures.seen c.look-published.ensures.fact
-      g.D.Disk.fault_count g.D.Disk.fuse_count c.look-published.result.0 c.all_changes.result c.look-published.ensures.front c.all_changes.ensures o (ap (λ (s : Seated g.row.D.Denot g.row.P.Denot). s.start) c.self.view_is ∙ is) tells k stands volume here;
+  front =
+      front_tells g.D.Disk.Tells g.D.Disk.files g.P.Piece.Tells c.self.inside.turn c.self.inside.stood c.self.inside.view c.look-published.new.self c.self.invariant
+      c.look-published.ensures.seen c.look-published.ensures.fact
+      g.D.Disk.fault_count g.D.Disk.fuse_count c.look-published.result.0 c.all_changes.result c.look-published.ensures.front c.all_changes.ensures o
+      (ap (λ (s : Seated g.row.D.Denot g.row.P.Denot). s.start) c.self.view_is ∙ is) tells k stands volume here;
   is = λ j less. refl;
 }
 
 pub returns-clause-places : goal.returns-clause-places
 returns-clause-places g c = λ o is tells k stands volume here.
-    places_tell g.D.Disk.Tells g.D.Disk.files g.P.Piece.Tells c.self.inside.turn c.self.inside.stood c.self.inside.view c.look-published.new.self c.self.invariant c.look-published.ensures.seen c.look-published.ensures.fact
-    c.args.pair c.look-published.result.1 c.look-published.ensures.row g.D.Disk.fault_count g.D.Disk.fuse_count o (ap (λ (s : Seated g.row.D.Denot g.row.P.Denot). s.start) c.self.view_is ∙ is) tells k stands volume here
+    places_tell g.D.Disk.Tells g.D.Disk.files g.P.Piece.Tells c.self.inside.turn c.self.inside.stood c.self.inside.view c.look-published.new.self c.self.invariant
+    c.look-published.ensures.seen c.look-published.ensures.fact
+    c.args.pair c.look-published.result.1 c.look-published.ensures.row g.D.Disk.fault_count g.D.Disk.fuse_count o
+    (ap (λ (s : Seated g.row.D.Denot g.row.P.Denot). s.start) c.self.view_is ∙ is) tells k stands volume here
 
 pub returns-clause-long : goal.returns-clause-long
 returns-clause-long g c = λ o is.
-    row_long g.D.Disk.Tells g.D.Disk.files g.P.Piece.Tells c.self.inside.turn c.self.inside.stood c.self.inside.view c.look-published.new.self c.self.invariant c.look-published.ensures.seen c.look-published.ensures.fact
+    row_long g.D.Disk.Tells g.D.Disk.files g.P.Piece.Tells c.self.inside.turn c.self.inside.stood c.self.inside.view c.look-published.new.self c.self.invariant
+    c.look-published.ensures.seen c.look-published.ensures.fact
     c.args.pair c.look-published.result.1 c.look-published.ensures.row o (ap (λ (s : Seated g.row.D.Denot g.row.P.Denot). s.start) c.self.view_is ∙ is)
