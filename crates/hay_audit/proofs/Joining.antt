@@ -11,7 +11,7 @@ use Rattle.hay_legal.specs.Items.{Asked}
 use Rattle.hay_legal.specs.Known.{NoneFalls}
 use Rattle.hay_audit_steps.specs.Boxes.{Between, Box, Has, Within, fill, fill_volumes}
 use Rattle.hay_audit_steps.specs.Slacks.{Slack}
-use Rattle.hay_audit_steps.specs.Steps.{AnyOf, Below, with_counts}
+use Rattle.hay_audit_steps.specs.CheckerSteps.{AnyOf, Below, with_counts}
 use Rattle.hay_audit_steps.specs.Reached.{AllAdvance, Candidate as Kept, Leads}
 use Rattle.hay_audit.specs.declared.judge.Candidate.{Candidate}
 use Rattle.hay_audit.specs.Candidates.{AreKept, IsKept, all_standing, standing}

@@ -18,7 +18,7 @@ use Rattle.hay_audit_steps.specs.Boxes.{Box, Has, IsBoxStep}
 use Rattle.hay_audit_steps.specs.Judged.{AreBeforeOpen, Begins, HasOtherHeader, IsAny, IsOpenItem, IsUsed, JudgementOf}
 use Rattle.hay_audit_steps.specs.Judged.Judgement.{Lawful, Open, Unlawful}
 use Rattle.hay_audit_steps.specs.Reached.{AllAdvance, Candidate, IsAdvance, IsNoRestart, Reached, candidate}
-use Rattle.hay_audit_steps.specs.Steps.{plain_row}
+use Rattle.hay_audit_steps.specs.CheckerSteps.{plain_row}
 use Rattle.hay_audit_steps.proofs.Advancing.{lines_advance, unread_lines_end}
 use Rattle.hay_audit_steps.proofs.BoxPlains.{boxes_stand_for_states, plain_lines_keep_boxes, plain_lines_step_boxes}
 use Rattle.hay_audit_steps.proofs.Judging.{candidates_judge, other_headers_are_unlawful}

@@ -2,7 +2,7 @@
 use Rattle.std.specs.Prelude.{◌≡◌, List}
 use Rattle.std.specs.List.{AllByRecursion as Each}
 use Rattle.hay_audit_steps.specs.Boxes.{Box}
-use Rattle.hay_audit_steps.specs.Steps.{AnyOf, Below}
+use Rattle.hay_audit_steps.specs.CheckerSteps.{AnyOf, Below}
 use Rattle.hay_audit.specs.declared.judge.Candidate.{Candidate}
 
 -- the same ranges, above a state that is the same but that no count is higher

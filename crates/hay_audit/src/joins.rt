@@ -2,7 +2,7 @@
 
 ghost use Rattle.std.specs.Prelude.{◌≡◌, ◌∷◌, ◌++◌, List, [], IfOk, IsTrue, OnOk};
 ghost use Rattle.hay_legal.specs.Known.{NoneFalls};
-ghost use Rattle.hay_audit_steps.specs.Steps.{AnyOf};
+ghost use Rattle.hay_audit_steps.specs.CheckerSteps.{AnyOf};
 ghost use Rattle.hay_audit.specs.declared.judge.Candidate.{Candidate as CandidateOf};
 ghost use Rattle.hay_audit.specs.Joined.{Covers, StandsFor, Joined};
 

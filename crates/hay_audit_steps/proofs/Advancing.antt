@@ -24,7 +24,7 @@ use Rattle.hay_legal.specs.Known.{NoneFalls}
 use Rattle.hay_legal.specs.Plain.{LegalPlain}
 use Rattle.hay_legal.specs.Restarts.{LegalRestart, IsRestarted, MayKeep, ReopenedVolumes, replica_notes, pending_notes, volume_notes, row_notes}
 use Rattle.hay_audit_steps.specs.Law.{ExactStatesStep, LinesAdvance, RestartsAdvance, UnreadLinesEnd, UnreadNotesEnd}
-use Rattle.hay_audit_steps.specs.Steps.{Below, AnyOf, IsStepOf, with_counts, plain_row}
+use Rattle.hay_audit_steps.specs.CheckerSteps.{Below, AnyOf, IsStepOf, with_counts, plain_row}
 use Rattle.hay_audit_steps.specs.Reopen.{restart_row}
 use Rattle.hay_audit_steps.specs.Reached.{Candidate, Leads, IsAdvance, Is, candidate, IsNoRestart, volume_note_count, volumes_note_count, note_count}
 use Rattle.hay_audit_steps.proofs.Feeds.{one_reply, one_notes}

@@ -39,7 +39,7 @@ use Rattle.hay_audit_steps.specs.Reached.{note_count, volumes_note_count}
 use Rattle.hay_audit_steps.specs.Reopen.{Read, new_rows, restart_row}
 use Rattle.hay_audit_steps.specs.Rooms.{IsWhole, lowest, put_box, put_by, put_boxes, refuse_box, refused_boxes, try_cuts, all_refused_at}
 use Rattle.hay_audit_steps.specs.Slacks.{Lies, Slack, fill_replica, fill_run, no_slack}
-use Rattle.hay_audit_steps.specs.Steps.{plain_row}
+use Rattle.hay_audit_steps.specs.CheckerSteps.{plain_row}
 use Rattle.hay_audit_steps.proofs.BoxReopens.{restarts_step_boxes}
 use Rattle.hay_audit_steps.proofs.Choices.{each_choice}
 use Rattle.hay_audit_steps.proofs.Cuts.{within_at, within_own}

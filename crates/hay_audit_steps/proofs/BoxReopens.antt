@@ -25,7 +25,7 @@ use Rattle.hay_audit_steps.specs.Parts.{ArePartsOf, InParts, InVolumeParts, Part
 use Rattle.hay_audit_steps.specs.Reopen.{Read, new_rows, read_kept, restart_row, says}
 use Rattle.hay_audit_steps.specs.Rooms.{IsWhole}
 use Rattle.hay_audit_steps.specs.Slacks.{Lies, Slack}
-use Rattle.hay_audit_steps.specs.Steps.{AnyOf, Below, with_counts}
+use Rattle.hay_audit_steps.specs.CheckerSteps.{AnyOf, Below, with_counts}
 use Rattle.hay_audit_steps.proofs.Choices.{any_choice, each_choice, volumes_reopen_complete, volumes_reopen_sound}
 use Rattle.hay_audit_steps.proofs.Counts.{falls_refl, falls_trans}
 use Rattle.hay_audit_steps.proofs.Pointwise.{boxes_are_parts}

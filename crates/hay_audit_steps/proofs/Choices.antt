@@ -14,7 +14,7 @@ use Rattle.hay_legal.specs.declared.known.VolumeKnown.{VolumeKnown}
 use Rattle.hay_legal.specs.Known.{empty_volume, empty_replica, now, stands}
 use Rattle.hay_legal.specs.Restarts.{ReopenedReplica, ReopenedReplicas, ReopenedVolume, MayKeep, KeptAfter, KeptBelow, nothing_at, with_entries, kept_entry, is_kept}
 use Rattle.hay_audit_steps.specs.Law.{VolumesReopenSound, VolumesReopenComplete}
-use Rattle.hay_audit_steps.specs.Steps.{AnyOf}
+use Rattle.hay_audit_steps.specs.CheckerSteps.{AnyOf}
 use Rattle.hay_audit_steps.specs.Slacks.{Lies}
 use Rattle.hay_audit_steps.specs.Parts.{Part, In, InParts, InVolumeParts, ArePartsOf, choices_with, reopened_parts, reopened_choices}
 use Rattle.hay_audit_steps.proofs.Laying.{any_left, any_right, each_both}

@@ -5,7 +5,7 @@ use Rattle.std.specs.List.{AllZip, AllByRecursion as Each}
 use Rattle.std.proofs.lemmas.Bool.{cases_lt}
 use Rattle.hay_legal.specs.declared.known.Known.{Known}
 use Rattle.hay_audit_steps.specs.BoxLaw.{EndsCutBoxes, SidesOfCuts, CutBoxesStep}
-use Rattle.hay_audit_steps.specs.Steps.{Below, AnyOf, with_counts}
+use Rattle.hay_audit_steps.specs.CheckerSteps.{Below, AnyOf, with_counts}
 use Rattle.hay_legal.specs.Known.{NoneFalls}
 use Rattle.hay_audit_steps.specs.Slacks.{Lies, Slack, no_slack}
 use Rattle.hay_audit_steps.specs.Boxes.{IsPlace, Between, Box, Has, Within, above, set_slack, slack_at, up_to}

@@ -18,7 +18,7 @@ use Rattle.hay_legal.specs.declared.known.Known.{Known}
 use Rattle.hay_legal.specs.declared.known.ReplicaKnown.{ReplicaKnown}
 use Rattle.hay_legal.specs.Known.{Leaves, NoneFalls, home_of, volume_at, slot_of, replica_on, fault_count, closed}
 use Rattle.hay_legal.specs.Plain.{LegalDel, HasPair, change_volume, with_del, ended_where, without_run, disk_rose, frozen_with, IsClosedHome}
-use Rattle.hay_audit_steps.specs.Steps.{Below, AnyOf, IsStep, with_counts}
+use Rattle.hay_audit_steps.specs.CheckerSteps.{Below, AnyOf, IsStep, with_counts}
 use Rattle.hay_audit_steps.specs.Laid.{raise_disk, next_count}
 use Rattle.hay_audit_steps.specs.Next.{is_at, keep_if, with_fault, endings, raise_ended, deleted, is_home, stands_there, is_closed_home, del_failed_by, next_del}
 use Rattle.hay_audit_steps.proofs.Counts.{falls_refl, falls_trans, falls_set, falls_at, falls_length, falls_raised, index_set, index_there}

@@ -5,7 +5,7 @@ use Rattle.std.specs.List.{AllZip, AllByRecursion as Each}
 use Rattle.hay_legal.specs.declared.known.VolumeKnown.{VolumeKnown}
 use Rattle.hay_legal.specs.declared.known.Known.{Known}
 use Rattle.hay_legal.specs.Known.{NoneFalls, volume_at, empty_volume}
-use Rattle.hay_audit_steps.specs.Steps.{Below, AnyOf, with_counts}
+use Rattle.hay_audit_steps.specs.CheckerSteps.{Below, AnyOf, with_counts}
 use Rattle.hay_audit_steps.specs.Slacks.{Lies, Slack}
 use Rattle.hay_audit_steps.specs.Boxes.{Box, Has, IsBoxStep, IsFilled, IsPlace, Within}
 use Rattle.hay_audit_steps.specs.Rooms.{IsWhole, lowest}

@@ -14,7 +14,7 @@ use Rattle.hay_legal.specs.Known.{volume_at, now}
 use Rattle.hay_legal.specs.Plain.{LegalFinish, OnReplica, MayFinish, Names, IsOpen, replica_of}
 use Rattle.hay_audit_steps.specs.BoxLaw.{FinishesStepBoxes}
 use Rattle.hay_audit_steps.specs.BoxNext.{least_end, least_cells, most_end, most_cells, swapped_box, has_sizes, may_finish, finished_boxes}
-use Rattle.hay_audit_steps.specs.Steps.{with_counts}
+use Rattle.hay_audit_steps.specs.CheckerSteps.{with_counts}
 use Rattle.hay_audit_steps.specs.Next.{names, is_open}
 use Rattle.hay_audit_steps.specs.Slacks.{Slack, fill_replica, fill_run}
 use Rattle.hay_audit_steps.specs.Boxes.{Box, Has, IsBoxStep, IsFilled, fill, slack_at}

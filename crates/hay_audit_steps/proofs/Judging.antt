@@ -12,7 +12,7 @@ use Rattle.hay_legal.specs.Known.{NoneFalls, fresh, fresh_unharmed, disk_count}
 use Rattle.hay_legal.specs.Statuses.{IsFront}
 use Rattle.hay_legal.specs.Legal.{Legal}
 use Rattle.hay_legal.specs.Transcript.{turn_text}
-use Rattle.hay_audit_steps.specs.Steps.{Below, AnyOf}
+use Rattle.hay_audit_steps.specs.CheckerSteps.{Below, AnyOf}
 use Rattle.hay_audit_steps.specs.Reached.{FitsTurn, Candidate, texts, Runs, Reached}
 use Rattle.hay_legal.specs.Items.{item_of_turn, items_of}
 use Rattle.hay_legal.specs.Legal.{known_after}

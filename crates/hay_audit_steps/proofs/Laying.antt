@@ -7,7 +7,7 @@ use Rattle.std.specs.List.{AllByRecursion as Each}
 use Rattle.std.proofs.lemmas.Bool.Decides.{nat_tests}
 use Rattle.hay_legal.specs.declared.known.Known.{Known}
 use Rattle.hay_legal.specs.Known.{NoneFalls, fault_count, arm_count, has_risen}
-use Rattle.hay_audit_steps.specs.Steps.{Below, AnyOf}
+use Rattle.hay_audit_steps.specs.CheckerSteps.{Below, AnyOf}
 use Rattle.hay_audit_steps.specs.Laid.{next_count, raise_disk, raise_arm, on_disk, on_arm, laid_once, laid}
 use Rattle.hay_audit_steps.proofs.Counts.{falls_refl, falls_trans, falls_set, falls_at, falls_length, falls_raised, index_set, index_there}
 

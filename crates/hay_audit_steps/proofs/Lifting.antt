@@ -26,7 +26,7 @@ use Rattle.hay_core.specs.declared.entry.Entry.TheVariants as entry
 use Rattle.hay_url.specs.Url.{cookie_of}
 use Rattle.hay_audit_steps.specs.BoxLaw.{StoredPutsStepBoxes}
 use Rattle.hay_audit_steps.specs.BoxNext.{stored_if}
-use Rattle.hay_audit_steps.specs.Steps.{Below, AnyOf, IsStep}
+use Rattle.hay_audit_steps.specs.CheckerSteps.{Below, AnyOf, IsStep}
 use Rattle.hay_audit_steps.specs.Laid.{laid, laid_once, on_disk, on_arm, raise_disk, raise_arm}
 use Rattle.hay_audit_steps.specs.Next.{is_at, is_seen, shows_photo, shows_nothing, shows_other, slots_before, shown_by, keep_if, next_show, may_pass, may_cause, all_caused}
 use Rattle.hay_audit_steps.specs.Next.{caused, arms_rise, stored, next_put, is_dir_open, cookie_eq}

@@ -9,7 +9,7 @@ use Rattle.hay_legal.specs.Known.{NoneFalls}
 use Rattle.hay_legal.specs.Legal.{LegalTurn, Legal, known_after}
 use Rattle.hay_legal.specs.Transcript.{turn_text}
 use Rattle.hay_audit_steps.specs.Law.{CandidatesBegin, NoneAdvance, CandidatesAdvance, CandidatesGoOn}
-use Rattle.hay_audit_steps.specs.Steps.{Below, AnyOf, with_counts}
+use Rattle.hay_audit_steps.specs.CheckerSteps.{Below, AnyOf, with_counts}
 use Rattle.hay_audit_steps.specs.Reached.{FitsTurn, texts, Runs}
 use Rattle.hay_audit_steps.proofs.Laying.{any_left, any_right, each_both}
 

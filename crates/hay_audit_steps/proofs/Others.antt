@@ -21,7 +21,7 @@ use Rattle.hay_legal.specs.declared.known.Known.{Known}
 use Rattle.hay_legal.specs.Known.{Leaves, NoneFalls, home_of, volume_at, slot_of, machine_of, fuse_count}
 use Rattle.hay_legal.specs.Plain.{LegalUrl, LegalShow, LegalGetAt, GetShows, LegalFlush, LegalBegin, LegalDrain, LegalUndrain, LegalFuse, LegalFuseDir, IsFused, OnReplica, Names}
 use Rattle.hay_legal.specs.Plain.{IsOpen, IsFrozenBy, IsStuckOn, IsAtRest, RoseTo, change_replica, with_bare, with_stuck, with_run, replica_of, start_of, with_drain, with_fuses}
-use Rattle.hay_audit_steps.specs.Steps.{IsStep, with_counts}
+use Rattle.hay_audit_steps.specs.CheckerSteps.{IsStep, with_counts}
 use Rattle.hay_audit_steps.specs.Next.{is_at, cookie_eq, with_fault, next_url, get_shows, get_by, next_show, names, is_open, is_frozen_by, is_stuck_on, next_flush, is_idle}
 use Rattle.hay_audit_steps.specs.Next.{is_resting, is_busy, next_begin, next_drain, next_undrain, fused, next_fuse, next_fuse_dir, on_replica, next_bad}
 use Rattle.hay_audit_steps.proofs.Counts.{index_set}

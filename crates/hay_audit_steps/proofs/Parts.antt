@@ -10,7 +10,7 @@ use Rattle.hay_legal.specs.declared.known.ReplicaKnown.{ReplicaKnown}
 use Rattle.hay_legal.specs.declared.known.VolumeKnown.{VolumeKnown}
 use Rattle.hay_legal.specs.Known.{now}
 use Rattle.hay_legal.specs.Restarts.{ReopenedReplica, StandsAsItWas, StandsSwapped, BareIs, with_entries, added_cells}
-use Rattle.hay_audit_steps.specs.Steps.{AnyOf}
+use Rattle.hay_audit_steps.specs.CheckerSteps.{AnyOf}
 use Rattle.hay_audit_steps.specs.Slacks.{Slack, fill_replica, Lies}
 use Rattle.hay_audit_steps.specs.Reopen.{reopened_replica}
 use Rattle.hay_audit_steps.specs.Law.{PartsAreSound, PartsAreComplete}

@@ -8,7 +8,7 @@ use Rattle.hay_legal.specs.declared.known.VolumeKnown.{VolumeKnown}
 use Rattle.hay_legal.specs.declared.known.Known.{Known}
 use Rattle.hay_legal.specs.Known.{Leaves, NoneFalls, volume_at}
 use Rattle.hay_legal.specs.Plain.{change_replica, replica_of}
-use Rattle.hay_audit_steps.specs.Steps.{Below, AnyOf, with_counts}
+use Rattle.hay_audit_steps.specs.CheckerSteps.{Below, AnyOf, with_counts}
 use Rattle.hay_audit_steps.specs.Slacks.{Lies, Slack, fill_replica}
 use Rattle.hay_audit_steps.specs.Boxes.{Box, Has, IsBoxStep, IsFilled, IsPlace, fill, fill_replicas, fill_volume, fill_volumes, set_slack, slack_at}
 use Rattle.hay_audit_steps.specs.Parts.{Part, In}

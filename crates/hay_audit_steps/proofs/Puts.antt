@@ -16,7 +16,7 @@ use Rattle.hay_legal.specs.declared.known.Known.{Known}
 use Rattle.hay_legal.specs.declared.known.DirKnown.{DirKnown}
 use Rattle.hay_legal.specs.Known.{Leaves, NoneFalls, home_of, volume_at, taker_of, settled, slot_of, replica_on, refusal_of, tries_of, fault_count}
 use Rattle.hay_legal.specs.Plain.{LegalPut, DirectoryOpen, as_closed, wants_room, put_frozen, row_pending}
-use Rattle.hay_audit_steps.specs.Steps.{Below, IsStep, with_counts}
+use Rattle.hay_audit_steps.specs.CheckerSteps.{Below, IsStep, with_counts}
 use Rattle.hay_audit_steps.specs.Next.{is_at, cookie_eq, refuse_so, is_dir_open, stored, with_fault, is_least, rises_to, put_failed_by, row_failed_by, next_put}
 use Rattle.hay_audit_steps.proofs.Counts.{falls_refl, falls_set, falls_at, falls_length, falls_raised, index_set, index_there}
 use Rattle.hay_audit_steps.proofs.Rows.{IsRow, stays, comes, kept, never, calm}

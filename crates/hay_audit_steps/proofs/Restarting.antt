@@ -13,7 +13,7 @@ use Rattle.hay_legal.specs.declared.known.Known.{Known}
 use Rattle.hay_legal.specs.Known.{NoneFalls}
 use Rattle.hay_legal.specs.Restarts.{ReopenedVolumes, IsRestarted, pending_notes, volume_notes, row_notes, kept_row, directory_with, undrained}
 use Rattle.hay_audit_steps.specs.Law.{RestartsAreSteps}
-use Rattle.hay_audit_steps.specs.Steps.{Below, AnyOf, with_counts}
+use Rattle.hay_audit_steps.specs.CheckerSteps.{Below, AnyOf, with_counts}
 use Rattle.hay_audit_steps.specs.Reopen.{Read, reopen, and_volumes, then_all, reopen_all, row_by, new_rows, restarted_rows, restarted_by, next_restart, IsDecided, restart_row}
 use Rattle.std.specs.List.{AllByRecursion as Each}
 use Rattle.hay_audit_steps.proofs.Counts.{falls_refl, falls_trans}

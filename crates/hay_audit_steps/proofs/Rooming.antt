@@ -12,7 +12,7 @@ use Rattle.hay_legal.specs.Known.{volume_at, empty_replica, closed, lacks_room, 
 use Rattle.hay_legal.specs.Plain.{replica_of}
 use Rattle.hay_legal.proofs.Subject.Entries.{each_in_range}
 use Rattle.hay_audit_steps.specs.BoxNext.{takes}
-use Rattle.hay_audit_steps.specs.Steps.{AnyOf}
+use Rattle.hay_audit_steps.specs.CheckerSteps.{AnyOf}
 use Rattle.hay_audit_steps.specs.Slacks.{Slack}
 use Rattle.hay_audit_steps.specs.Boxes.{Box, Has, IsCut, IsFilled, above, fill, fill_replicas, slack_at, up_to}
 use Rattle.hay_audit_steps.specs.Next.{is_least}

@@ -5,7 +5,7 @@ use Rattle.std.specs.Bool.{Decides}
 use Rattle.std.specs.List.{AllByRecursion as Each}
 use Rattle.hay_legal.specs.declared.known.Known.{Known}
 use Rattle.hay_legal.specs.Known.{Leaves, NoneFalls}
-use Rattle.hay_audit_steps.specs.Steps.{Below, AnyOf, IsStep, with_counts}
+use Rattle.hay_audit_steps.specs.CheckerSteps.{Below, AnyOf, IsStep, with_counts}
 use Rattle.hay_audit_steps.proofs.Counts.{falls_refl, falls_trans}
 
 -- a row needs something of what stands, and leaves e

@@ -24,7 +24,7 @@ use Rattle.hay_reply.specs.declared.Reply.TheVariants as reply
 use Rattle.hay_legal.specs.declared.known.Known.{Known}
 use Rattle.hay_legal.specs.Known.{NoneFalls, home_of, volume_at, replica_at, now, slot_of, machine_of, replica_on, has_risen, fault_count, arm_count, CameUp, EachPair}
 use Rattle.hay_legal.specs.Plain.{LegalShow, IsShown, HasCause, ArmRises, PassedReplicas, order_from, disk_rose}
-use Rattle.hay_audit_steps.specs.Steps.{Below, IsStep, with_counts}
+use Rattle.hay_audit_steps.specs.CheckerSteps.{Below, IsStep, with_counts}
 use Rattle.hay_audit_steps.specs.Laid.{laid}
 use Rattle.hay_audit_steps.specs.Next.{is_at, is_seen, cookie_eq, shows_photo, shows_nothing, shows_other, slots_before, shown_by, next_show, caused, may_cause, may_pass}
 use Rattle.hay_audit_steps.specs.Next.{all_caused, arm_rises, rises_on, arms_rise}

@@ -19,7 +19,7 @@ use Rattle.hay_legal.specs.Plain.{start_of, with_drain, change_replica, change_v
 use Rattle.hay_audit_steps.specs.Law.{IsExact}
 use Rattle.hay_audit_steps.specs.BoxLaw.{SizelessLinesStepBoxes}
 use Rattle.hay_audit_steps.specs.BoxNext.{IsSizeless}
-use Rattle.hay_audit_steps.specs.Steps.{plain_row}
+use Rattle.hay_audit_steps.specs.CheckerSteps.{plain_row}
 use Rattle.hay_audit_steps.specs.Slacks.{Slack}
 use Rattle.hay_audit_steps.specs.Boxes.{fill}
 use Rattle.hay_audit_steps.specs.Next.{is_at, is_home, keep_if, rises_to, with_fault, stands_there, deleted, del_failed_by, next_del, endings, is_busy, is_frozen_by, is_stuck_on}

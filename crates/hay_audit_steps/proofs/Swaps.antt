@@ -17,7 +17,7 @@ use Rattle.hay_legal.specs.Known.{Leaves, NoneFalls, volume_at, now, slot_of, re
 use Rattle.hay_legal.specs.Plain.{LegalStep, LegalCompact, LegalFinish, OnReplica, LegalCommand, Names, IsOpen, IsAtRest, IsFrozenBy, RoseTo, SwapFailed, HasRun, change_replica}
 use Rattle.hay_legal.specs.Plain.{change_volume, with_run, stepped, without_run, swapped, as_it_is, poised_by, replica_of, start_of, LegalFlush, LegalBegin, LegalFuse}
 use Rattle.hay_audit_steps.specs.Law.{IsExact, PlainLinesAreSteps}
-use Rattle.hay_audit_steps.specs.Steps.{IsStep, with_counts}
+use Rattle.hay_audit_steps.specs.CheckerSteps.{IsStep, with_counts}
 use Rattle.hay_audit_steps.specs.Next.{with_fault, names, is_open, is_idle, is_resting, is_busy, stepped_by, next_step, swap_failed, tight, next_compact, next_finish, on_replica}
 use Rattle.hay_audit_steps.specs.Next.{next_flush, next_begin, next_fuse, next_command}
 use Rattle.hay_audit_steps.proofs.Counts.{index_set}

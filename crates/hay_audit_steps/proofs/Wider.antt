@@ -10,7 +10,7 @@ use Rattle.hay_legal.specs.declared.known.Known.{Known}
 use Rattle.hay_legal.specs.Known.{Leaves, NoneFalls, volume_at, replica_at, now, empty_replica}
 use Rattle.hay_legal.specs.Plain.{Swaps, IsLoose, as_it_is, change_volume, change_replica, swapped, replica_of}
 use Rattle.hay_audit_steps.specs.BoxNext.{least_end, least_cells, most_end, most_cells, room_above, swapped_box}
-use Rattle.hay_audit_steps.specs.Steps.{Below, with_counts}
+use Rattle.hay_audit_steps.specs.CheckerSteps.{Below, with_counts}
 use Rattle.hay_audit_steps.specs.Slacks.{Lies, Slack, fill_replica, no_slack}
 use Rattle.hay_audit_steps.specs.Boxes.{IsPlace, IsFilled, Box, Has, IsBoxStep, Within, fill, fill_replicas, fill_volume, fill_volumes, set_slack, slack_at}
 use Rattle.hay_audit_steps.proofs.Cuts.{within_at, slack_set}

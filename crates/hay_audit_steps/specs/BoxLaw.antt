@@ -13,7 +13,7 @@ use Rattle.hay_legal.specs.declared.known.Known.{Known}
 use Rattle.hay_legal.specs.declared.turn.Item.{Item}
 use Rattle.hay_legal.specs.declared.turn.Item.TheVariants as item
 use Rattle.hay_legal.specs.Known.{replica_on, taker_of, tries_of, lacks_room}
-use Rattle.hay_audit_steps.specs.Steps.{plain_row, with_counts}
+use Rattle.hay_audit_steps.specs.CheckerSteps.{plain_row, with_counts}
 use Rattle.hay_audit_steps.specs.Next.{next_plain}
 use Rattle.hay_audit_steps.specs.Slacks.{Slack, fill_replica}
 use Rattle.hay_audit_steps.specs.Boxes.{Box, Between, Has, IsBoxStep, IsCut, EachIn, IsShaped, IsPlace, IsFilled, fill, ranged, slack_at, up_to, above}

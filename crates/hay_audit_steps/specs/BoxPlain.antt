@@ -20,7 +20,7 @@ use Rattle.hay_audit_steps.specs.Places.{compacted_boxes, flushed_boxes, stepped
 use Rattle.hay_audit_steps.specs.Reached.{note_count}
 use Rattle.hay_audit_steps.specs.Rooms.{IsWhole, put_boxes}
 use Rattle.hay_audit_steps.specs.Slacks.{Slack, no_slack}
-use Rattle.hay_audit_steps.specs.Steps.{plain_row}
+use Rattle.hay_audit_steps.specs.CheckerSteps.{plain_row}
 
 abbrev pub on_place : Option ℕ → (ℕ → List Box) → List Box
 on_place None boxes = []

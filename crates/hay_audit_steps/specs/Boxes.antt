@@ -5,7 +5,7 @@ use Rattle.hay_legal.specs.declared.known.ReplicaKnown.{ReplicaKnown}
 use Rattle.hay_legal.specs.declared.known.VolumeKnown.{VolumeKnown}
 use Rattle.hay_legal.specs.declared.known.Known.{Known}
 use Rattle.hay_legal.specs.Known.{volume_at}
-use Rattle.hay_audit_steps.specs.Steps.{AnyOf, IsStepOf}
+use Rattle.hay_audit_steps.specs.CheckerSteps.{AnyOf, IsStepOf}
 use Rattle.hay_audit_steps.specs.Slacks.{Slack, fill_replica, no_slack, Lies}
 use Rattle.hay_audit_steps.specs.Parts.{Part, In}
 

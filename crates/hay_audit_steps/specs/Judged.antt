@@ -13,7 +13,7 @@ use Rattle.hay_legal.specs.Known.{fresh, fresh_unharmed, disk_count}
 use Rattle.hay_legal.specs.Statuses.{IsFront, asked_of}
 use Rattle.hay_legal.specs.Transcript.{transcript_text}
 use Rattle.hay_legal.specs.Legal.{Legal}
-use Rattle.hay_audit_steps.specs.Steps.{AnyOf}
+use Rattle.hay_audit_steps.specs.CheckerSteps.{AnyOf}
 use Rattle.hay_audit_steps.specs.Reached.{FitsTurn, Candidate, Reached}
 
 -- WHAT FITS

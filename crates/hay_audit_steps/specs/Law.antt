@@ -18,7 +18,7 @@ use Rattle.hay_legal.specs.Items.{Asked, items_of}
 use Rattle.hay_legal.specs.Items.Asked.{Alone}
 use Rattle.hay_legal.specs.Known.{empty_volume}
 use Rattle.hay_legal.specs.Restarts.{MayKeep, ReopenedReplica, ReopenedVolume}
-use Rattle.hay_audit_steps.specs.Steps.{AnyOf, IsStep, IsStepOf, plain_row}
+use Rattle.hay_audit_steps.specs.CheckerSteps.{AnyOf, IsStep, IsStepOf, plain_row}
 use Rattle.hay_audit_steps.specs.Next.{next_plain}
 use Rattle.hay_audit_steps.specs.Reopen.{IsDecided, next_restart, restart_row}
 use Rattle.hay_audit_steps.specs.Slacks.{Lies}

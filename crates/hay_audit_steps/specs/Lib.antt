@@ -13,4 +13,4 @@ pub mod Reached
 pub mod Reopen
 pub mod Rooms
 pub mod Slacks
-pub mod Steps
+pub mod CheckerSteps

@@ -15,7 +15,7 @@ use Rattle.hay_legal.specs.Items.{Asked, item_of_turn}
 use Rattle.hay_legal.specs.Known.{NoneFalls}
 use Rattle.hay_legal.specs.Legal.{LegalTurn, Legal, known_after}
 use Rattle.hay_legal.specs.Transcript.{turn_text}
-use Rattle.hay_audit_steps.specs.Steps.{Below, AnyOf, with_counts}
+use Rattle.hay_audit_steps.specs.CheckerSteps.{Below, AnyOf, with_counts}
 
 -- the numbers of a turn's replies and notes fit their texts
 abbrev pub FitsTurn : Turn → Type 0

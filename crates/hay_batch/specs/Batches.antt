@@ -21,12 +21,16 @@ batch_total photos = sum_by photo_total photos
 abbrev pub IsStorable : NewPhoto → Type 0
 IsStorable photo = length photo.bytes ≤ max_photo Two
 
--- one photo at least and 64 at most, and 67,108,864 bytes of needles at most
+-- the bytes of a batch's needles at most
+abbrev pub max_total : ℕ
+max_total = 67108864
+
+-- one photo at least and 64 at most, and `max_total` bytes of needles at most
 pub record IsBatch (photos : List NewPhoto) : Type 0 where
   pub some : 0 < length photos
   pub most : length photos ≤ 64
   pub storable : All IsStorable photos
-  pub total : batch_total photos ≤ 67108864
+  pub total : batch_total photos ≤ max_total
 
 -- no two photos are of one pair
 abbrev pub AreDistinct : List NewPhoto → Type 0

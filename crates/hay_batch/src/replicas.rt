@@ -4,7 +4,7 @@ ghost use Rattle.std.specs.Prelude.{◌≡◌, ◌≤◌, ◌<◌, ℕ, length, 
 ghost use Rattle.hay_disk.specs.Counts.{Rose};
 ghost use Rattle.hay_batch.specs.declared.replica.LoadReplica.{LoadReplica};
 ghost use Rattle.hay_batch.specs.declared.replicas.AppendFault.{AppendFault};
-ghost use Rattle.hay_batch.specs.Batches.{IsBatch, batch_total};
+ghost use Rattle.hay_batch.specs.Batches.{IsBatch, batch_total, max_total};
 ghost use Rattle.hay_batch.specs.Replicas.{Adds, At, HasRoom, IsFirstFull, IsReady, MayAdd};
 
 use crate::photo::NewPhoto;
@@ -24,7 +24,7 @@ pub(crate) enum AppendFault {
 /// The lowest replica that lacks room for needles of so many bytes.
 pub(crate) fn first_full<D>(replicas: &[LoadReplica<D>], need: u64) -> Option<(u32, u64)>
     requires few { length replicas.now ≤ 4 }
-    requires need { need ≤ 67108864 }
+    requires need { need ≤ max_total }
     ensures full { IfSome result (λ full. (r : LoadReplica D) × IsFirstFull need replicas.now full.0 r × (full.1 ≡ r.volume.end)) }
     ensures room { IfNone result ((j : ℕ) (r : LoadReplica D) → At replicas.now j r → HasRoom need r) }
 {

@@ -2,6 +2,7 @@
 
 ghost use Rattle.std.specs.Prelude.{◌≡◌, ◌⊎◌, ◌≤◌, ◌<◌, ◌+◌, ◌%◌, ℕ, List, Err, IfErr, IfOk};
 ghost use Rattle.hay_needle.specs.declared.settings.Settings.{Settings};
+ghost use Rattle.hay_batch.specs.Batches.{max_total};
 ghost use Rattle.hay_batch.specs.declared.fault.FullTry.{FullTry};
 ghost use Rattle.hay_batch.specs.declared.fault.LoadFault.{LoadFault};
 ghost use Rattle.hay_batch.specs.declared.replica.LoadReplica.{LoadReplica};
@@ -56,7 +57,7 @@ impl<D> LoadStore<D> {
     // The first try in which each replica has room for needles of so many bytes.
     pub(crate) fn find_room(&self, alloc: Global, key: u64, need: u64) -> Result<u32, LoadFault>
         requires shape { IsShaped self.now }
-        requires need { need ≤ 67108864 }
+        requires need { need ≤ max_total }
         ensures there { IfOk result (λ volume. volume < self.now.settings.volumes) }
         ensures room { IfOk result (λ volume. (w : LoadVolume D) → At self.now.volumes.items volume w → (j : ℕ) (r : LoadReplica D) → At w.replicas.items j r → HasRoom need r) }
         ensures first { IfOk result (λ volume. (turn : ℕ) × (volume ≡ try_at self.now.settings key turn) × (tries : List FullTry) × AreTries self.now key need turn tries) }

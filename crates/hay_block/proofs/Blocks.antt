@@ -20,7 +20,7 @@ use Rattle.hay_legal.specs.declared.turn.LogNote.{LogNote}
 use Rattle.hay_legal.specs.declared.turn.RowNote.{RowNote}
 use Rattle.hay_legal.specs.Known.{EachPair, arm_count, empty_volume, volume_at, volumes_of}
 use Rattle.hay_history.specs.Histories.{first_of}
-use Rattle.hay_history.specs.Steps.{Follows, Standing}
+use Rattle.hay_history.specs.LaneSteps.{Follows, Standing}
 use Rattle.hay_meeting.specs.declared.act.DirAct.{DirAct}
 use Rattle.hay_meeting.specs.declared.act.VolumeAct.{VolumeAct}
 use Rattle.hay_meeting.specs.Acts.{Happened, Start, row_lock, volume_lock}

@@ -10,7 +10,7 @@ use Rattle.hay_legal.specs.declared.turn.RowNote.{RowNote}
 use Rattle.hay_legal.specs.Blocks.{LegalBlock, log_note, log_notes}
 use Rattle.hay_legal.specs.Known.{empty_volume, volume_at, volumes_of}
 use Rattle.hay_history.specs.Histories.{first_rows, row_note}
-use Rattle.hay_history.specs.Steps.{RowsStanding}
+use Rattle.hay_history.specs.LaneSteps.{RowsStanding}
 use Rattle.hay_meeting.specs.Acts.{Happened, Start}
 use Rattle.hay_meeting.specs.Chains.{EndsAs, IsWhole, Lines}
 use Rattle.hay_meeting.specs.Law.{cut_of}

@@ -11,7 +11,7 @@ use Rattle.hay_legal.specs.Known.{volume_at}
 use Rattle.hay_legal.specs.Blocks.{log_note, new_entries}
 use Rattle.hay_history.specs.Histories.{row_line}
 use Rattle.hay_history.proofs.Changes.{log_by}
-use Rattle.hay_history.specs.Steps.{Follows, RowsStanding, Standing}
+use Rattle.hay_history.specs.LaneSteps.{Follows, RowsStanding, Standing}
 use Rattle.hay_meeting.specs.declared.act.DirAct.{DirAct}
 use Rattle.hay_meeting.specs.declared.act.DirDid.{DirDid}
 use Rattle.hay_meeting.specs.declared.act.DirDid.TheVariants as act_row

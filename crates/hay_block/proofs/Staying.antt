@@ -9,7 +9,7 @@ use Rattle.hay_core.specs.declared.entry.Entry.{Entry}
 use Rattle.hay_front.specs.declared.front.Tag.{Tag}
 use Rattle.hay_legal.specs.declared.known.VolumeKnown.{VolumeKnown}
 use Rattle.hay_legal.specs.Known.{empty_volume}
-use Rattle.hay_history.specs.Steps.{Standing}
+use Rattle.hay_history.specs.LaneSteps.{Standing}
 use Rattle.hay_meeting.specs.declared.act.VolumeAct.{VolumeAct}
 use Rattle.hay_meeting.specs.Acts.{volume_lock}
 use Rattle.hay_meeting.specs.Locks.{LockSight, left}

@@ -9,7 +9,7 @@ use Rattle.hay_legal.specs.Known.{disk_count}
 use Rattle.hay_legal.specs.Subject.{IsOf}
 use Rattle.hay_history.specs.Commands.{IsRegular}
 use Rattle.hay_history.specs.Histories.{first_of, first_rows}
-use Rattle.hay_history.specs.Steps.{Follows, FollowsRows}
+use Rattle.hay_history.specs.LaneSteps.{Follows, FollowsRows}
 use Rattle.hay_meeting.specs.declared.act.DirAct.{DirAct}
 use Rattle.hay_meeting.specs.declared.act.VolumeAct.{VolumeAct}
 use Rattle.hay_meeting.specs.Acts.{Happened, IsSized, Start, row_lock, volume_lock}

@@ -6,7 +6,7 @@ use Rattle.hay_front.specs.declared.front.Tag.{Tag}
 use Rattle.hay_legal.specs.declared.known.DirKnown.{DirKnown}
 use Rattle.hay_legal.specs.declared.known.HomeRow.{HomeRow}
 use Rattle.hay_legal.specs.declared.known.PendingRow.{PendingRow}
-use Rattle.hay_history.specs.Steps.{FollowsRows, RowsStanding}
+use Rattle.hay_history.specs.LaneSteps.{FollowsRows, RowsStanding}
 use Rattle.hay_meeting.specs.declared.act.DirAct.{DirAct}
 use Rattle.hay_meeting.specs.Acts.{Start, row_lock}
 use Rattle.hay_meeting.specs.Locks.{LockSight, left, replayed}

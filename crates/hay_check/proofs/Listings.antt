@@ -1,21 +1,20 @@
 -- An index file beside rows has one reading: it is damaged at one place, or not at all.
 use Rattle.std.proofs.Common.{◌≡◌, ◌≢◌, ◌⊎◌, inl, inr, ℕ, zero, suc, ◌+◌, ◌<◌, ◌^◌, List, [], ◌∷◌, ◌++◌, length, take, drop, refl, sym, ap, ◌∙◌, subst, arith, append_assoc}
-use Rattle.std.proofs.Common.{length-append, length-drop, take-append-drop, Some, Err}
-use Rattle.std.specs.Prelude.{All}
+use Rattle.std.proofs.Common.{length-append, length-drop, Some, Err}
 use Rattle.std.specs.List.{flat_map, slice_get}
 use Rattle.std.proofs.lemmas.Bool.{cases_lt}
 use Rattle.std.proofs.lemmas.Grind.{flat_map-append}
-use Rattle.std.proofs.lemmas.List.{drop_at, drop-drop, drop-take}
+use Rattle.std.proofs.lemmas.List.{drop_at}
 use Rattle.std.proofs.lemmas.Option.{same_Some}
 use Rattle.hay_needle.specs.declared.settings.Super.{Super}
 use Rattle.hay_needle.specs.declared.superblock.SuperFault.{SuperFault}
 use Rattle.hay_needle.specs.Super.{SuperFits, fault_place, super_bytes}
 use Rattle.hay_needle.proofs.Supers.{is_only}
-use Rattle.hay_disk.specs.Gate.{HasBytesAt, IsClosed}
+use Rattle.hay_disk.specs.Gate.{IsClosed}
 use Rattle.hay_index.specs.declared.record.Record.{Record}
-use Rattle.hay_index.specs.Records.{BeginsWithBlock, HasRecords, IsBlock, IsBrokenAt, IsIndex, block_bytes, index_magic}
+use Rattle.hay_index.specs.Records.{BeginsWithBlock, HasRecords, IsBrokenAt, IsIndex, block_bytes, index_magic}
 use Rattle.hay_index.proofs.BlockLaws.{block_long}
-use Rattle.hay_index.proofs.Readings.{front_is, one_block}
+use Rattle.hay_index.proofs.Readings.{all_lead, first_begins, front_is, LeadsFrom, one_block, others_lead}
 use Rattle.hay_check.specs.Listing.{HasMisfit, IsBrokenBehind, IsDamagedListing, IsMisfitAt}
 
 -- RECORDS THAT ARE NOT THE ROWS
@@ -58,51 +57,6 @@ no_misfit : (rows block tail : List Record) (first place : ℕ) → rows ≡ blo
 no_misfit rows block tail first place are m =
     let within : length m.before < length block = omega (arith, ap length m.parts, length-append m.before (m.misfit ∷ m.after)) in
     no_such_row rows block first place m (ap (λ (l : List Record). slice_get l (length m.before)) are ∙ get_front block tail (length m.before) within ∙ there_is rows block first place m)
-
--- BLOCKS FROM A PLACE ON
-
-all_first : {X : Type 0} (P : X → Type 0) (x : X) (xs : List X) → All P (x ∷ xs) → P x
-all_first P x xs all = all 0 x (omega arith)
-
-all_rest : {X : Type 0} (P : X → Type 0) (x : X) (xs : List X) → All P (x ∷ xs) → All P xs
-all_rest P x xs all = λ k d within. all (suc k) d (omega arith)
-
-record LeadsFrom (at : ℕ) (file : List ℕ) (blocks : List (List Record)) (end : ℕ) : Type 0 where
-  stand : HasBytesAt at (flat_map block_bytes blocks) file
-  ends : at + length (flat_map block_bytes blocks) ≡ end
-  whole : All IsBlock blocks
-
-all_lead : (superblock file : List ℕ) (records : List Record) (end : ℕ) (has : HasRecords superblock file records end) → LeadsFrom 64 file has.blocks end
-all_lead superblock file records end has =
-    let bytes = flat_map block_bytes has.blocks in
-    let ends : 64 + length bytes ≡ end = omega (arith, has.ends, length-append superblock bytes, has.sized) in
-    let stand : take (length bytes) (drop 64 file) ≡ bytes =
-    sym (drop-take 64 (length bytes) file) ∙ ap (λ n. drop 64 (take n file)) ends ∙ ap (λ (l : List ℕ). drop 64 l) has.begins ∙ drop_at superblock bytes 64 has.sized in
-    record { stand = stand; ends = ends; whole = has.whole }
-
-first_begins : (at end : ℕ) (file : List ℕ) (block : List Record) (blocks : List (List Record)) → LeadsFrom at file (block ∷ blocks) end → BeginsWithBlock (drop at file) block
-first_begins at end file block blocks leads =
-    let bytes = flat_map block_bytes (block ∷ blocks) in
-    record {
-      rest = flat_map block_bytes blocks ++ drop (length bytes) (drop at file);
-      parts =
-          sym (take-append-drop (length bytes) (drop at file)) ∙ ap (λ (l : List ℕ). l ++ drop (length bytes) (drop at file)) leads.stand
-          ∙ append_assoc (block_bytes block) (flat_map block_bytes blocks) (drop (length bytes) (drop at file));
-      is = all_first IsBlock block blocks leads.whole;
-    }
-
-others_lead : (at end : ℕ) (file : List ℕ) (block : List Record) (blocks : List (List Record)) → LeadsFrom at file (block ∷ blocks) end → LeadsFrom (at + length (block_bytes block)) file blocks end
-others_lead at end file block blocks leads =
-    let first = block_bytes block in
-    let rest = flat_map block_bytes blocks in
-    let there : drop (length first) (drop at file) ≡ drop (at + length first) file = drop-drop (length first) at file in
-    record {
-      stand =
-          ap (λ (l : List ℕ). take (length rest) l) (sym there) ∙ sym (drop-take (length first) (length rest) (drop at file))
-          ∙ ap (λ n. drop (length first) (take n (drop at file))) (sym (length-append first rest)) ∙ ap (λ (l : List ℕ). drop (length first) l) leads.stand ∙ drop_at first rest (length first) refl;
-      ends = omega (arith, leads.ends, length-append first rest);
-      whole = all_rest IsBlock block blocks leads.whole;
-    }
 
 -- a block stands where the blocks `more` end, and `blocks` goes on with it
 abbrev GoesOn : List ℕ → List (List Record) → List (List Record) → ℕ → Type 0

@@ -14,7 +14,7 @@ use Rattle.hay_reply.specs.declared.Reply.{Reply}
 use Rattle.hay_reply.specs.declared.Reply.TheVariants as reply
 use Rattle.hay_core.specs.declared.entry.CoreTag.{CoreTag}
 use Rattle.hay_core.specs.declared.entry.Entry.TheVariants as entry
-use Rattle.hay_physical.specs.Copies.{Copy}
+use Rattle.hay_physical.specs.OpenCopies.{Copy}
 use Rattle.hay_legal.specs.declared.known.Known.{Known}
 use Rattle.hay_legal.specs.declared.known.VolumeKnown.{VolumeKnown}
 use Rattle.hay_legal.specs.Known.{Leaves, closed, drained_of, has_risen, home_of, machine_of, replica_on, slot_of, volume_at, with_volume}

@@ -4,7 +4,7 @@ use Rattle.std.proofs.lemmas.List.{append-nil, length-append}
 use Rattle.std.specs.List.{AllByRecursion, flat_map}
 use Rattle.hay_mount.specs.Mounts.{InOrder, SameFrom}
 use Rattle.hay_mount.proofs.Orders.{InOrder-append, InOrder-map}
-use Rattle.hay_physical.specs.Copies.{Copy}
+use Rattle.hay_physical.specs.OpenCopies.{Copy}
 use Rattle.hay_cluster.specs.Store.{disk_of}
 use Rattle.hay_cluster.proofs.Lists.{map-append}
 

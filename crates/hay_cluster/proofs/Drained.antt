@@ -7,7 +7,7 @@ use Rattle.std.proofs.lemmas.Bool.{cases_Bool, cond-true, cond-false}
 use Rattle.hay_needle.specs.declared.settings.Settings.{Settings}
 use Rattle.hay_legal.specs.Known.{machine_of, replicas_of}
 use Rattle.hay_cluster.specs.Seen.{Closes, IsOpenTo, IsThawed, StoreSeen, is_drained}
-use Rattle.hay_cluster.proofs.Machines.{below_next}
+use Rattle.hay_legal.proofs.Machines.{below_next}
 
 none_then : {X : Type 0} {Q R : Type 0} (o : Option X) → IfNone o Q → (Q → R) → IfNone o R
 none_then None q onwards = onwards q

@@ -6,7 +6,7 @@ use Rattle.std.specs.Option.{option_map_or}
 use Rattle.hay_disk.specs.Disk.{Files, IsImage}
 use Rattle.hay_core.specs.declared.entry.Entry.{Entry}
 use Rattle.hay_open.specs.Stored.{Stored}
-use Rattle.hay_physical.specs.Copies.{Copy}
+use Rattle.hay_physical.specs.OpenCopies.{Copy}
 use Rattle.hay_physical.specs.Replicas as physical
 use Rattle.hay_physical.proofs.Openings.{finds_not_void}
 use Rattle.hay_legal.specs.declared.known.DirKnown.{DirKnown}

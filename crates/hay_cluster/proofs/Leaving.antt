@@ -11,11 +11,11 @@ use Rattle.hay_core.specs.declared.entry.CoreTag.{CoreTag}
 use Rattle.hay_legal.specs.declared.known.HomeRow.{HomeRow}
 use Rattle.hay_legal.specs.Known.{machine_of, slot_of}
 use Rattle.hay_legal.specs.Stands.{Contents}
-use Rattle.hay_physical.specs.Copies.{Copy}
+use Rattle.hay_physical.specs.OpenCopies.{Copy}
 use Rattle.hay_logical.specs.Answers.{BreaksPutOff}
 use Rattle.hay_logical.specs.Fits.{At}
 use Rattle.hay_logical.specs.Refusals.{IsUntouchedBy}
-use Rattle.hay_logical.specs.Steps.{KeepsAbove, KeepsFiles}
+use Rattle.hay_logical.specs.ReplicaCalls.{KeepsAbove, KeepsFiles}
 use Rattle.hay_logical.specs.declared.unsure.Change.TheVariants.{Delete, Put}
 use Rattle.hay_logical.specs.declared.unsure.Unsure.{Unsure}
 use Rattle.hay_logical.specs.Volumes.{Volume}

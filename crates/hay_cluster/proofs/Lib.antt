@@ -4,14 +4,13 @@ pub mod Changing
 pub mod ClosingSlots
 pub mod ClosingStore
 pub mod Drained
-pub mod Finds
+pub mod Ranges
 pub mod Fitting
 pub mod Formatted
 pub mod GivenDraws
 pub mod Leaving
 pub mod Lists
 pub mod Lying
-pub mod Machines
 pub mod Maintaining
 pub mod Moves
 pub mod Needling

@@ -8,7 +8,7 @@ use Rattle.hay_needle.specs.declared.settings.Settings.{Settings}
 use Rattle.hay_disk.specs.Counts.{IsNext, Rose}
 use Rattle.hay_disk.specs.Disk.{Files}
 use Rattle.hay_mount.specs.Mounts.{InOrder}
-use Rattle.hay_physical.specs.Copies.{Copy}
+use Rattle.hay_physical.specs.OpenCopies.{Copy}
 use Rattle.hay_legal.specs.declared.known.DirKnown.{DirKnown}
 use Rattle.hay_legal.specs.declared.known.Known.{Known}
 use Rattle.hay_legal.specs.declared.known.VolumeKnown.{VolumeKnown}
@@ -27,7 +27,7 @@ use Rattle.hay_cluster.specs.State.{Stands, StandsFor}
 use Rattle.hay_cluster.specs.Store.{Open, IsShaped, IsUp, IsVolumeOf, disk_of, disks_of, volume_disks}
 use Rattle.hay_cluster.proofs.Lists.{AllByRecursion-set, AllZip-at, AllZip-long, AllZip-set, InOrder-get, InOrder-set, length-set, numbers-at, numbers-later, numbers-same}
 use Rattle.hay_cluster.proofs.Lists.{numbers-set, set-same, slice_get-set}
-use Rattle.hay_cluster.proofs.Machines.{replica_found}
+use Rattle.hay_legal.proofs.Machines.{replica_found}
 
 -- COUNTS OF A VOLUME'S DISKS
 

@@ -11,7 +11,7 @@ use Rattle.hay_reply.specs.declared.Reply.TheVariants as reply
 use Rattle.hay_legal.specs.Known.{machine_of, replica_on, slot_of}
 use Rattle.hay_legal.specs.Stands.{Contents}
 use Rattle.hay_open.specs.Stored.{volume_file}
-use Rattle.hay_physical.specs.Copies.{Copy, generation_of, volume_bytes}
+use Rattle.hay_physical.specs.OpenCopies.{Copy, generation_of, volume_bytes}
 use Rattle.hay_logical.specs.Fits.{At}
 use Rattle.hay_logical.specs.Needles.{AreToldBy, DeletesTold, IsDamagedLook, IsToldBy, LacksSeen, LacksSeenOn}
 use Rattle.hay_logical.specs.Seen.{ReplicaSeen, VolumeSeen, replica_seen, volume_seen}
@@ -31,7 +31,7 @@ use Rattle.hay_cluster.specs.Sights.{ChangesPhotos, KeepsPhotos, told_by}
 use Rattle.hay_cluster.specs.Store.{IsBuilt, IsShaped, Open, contents_in, disks_of}
 use Rattle.hay_cluster.proofs.ClosingStore.{contents_at, order_item, order_self}
 use Rattle.hay_cluster.proofs.Lists.{map-at}
-use Rattle.hay_cluster.proofs.Machines.{replica_found}
+use Rattle.hay_legal.proofs.Machines.{replica_found}
 use Rattle.hay_cluster.proofs.Moves.{volume_of}
 use Rattle.hay_cluster.proofs.OpeningStore.{slot_below}
 use Rattle.hay_cluster.proofs.OpeningTaken.{in_volume}

@@ -25,10 +25,10 @@ use Rattle.hay_directory.specs.Seen.{directory_seen}
 use Rattle.hay_directory.specs.Seen as homes
 use Rattle.hay_directory.specs.State as directory
 use Rattle.hay_directory.proofs.RowLaws.{opens_void}
-use Rattle.hay_physical.specs.Copies.{Copy, contents_of}
+use Rattle.hay_physical.specs.OpenCopies.{Copy, contents_of}
 use Rattle.hay_logical.specs.Fits.{At, IsReplica, super_of}
 use Rattle.hay_logical.specs.Seen.{replica_seen, volume_seen}
-use Rattle.hay_logical.specs.Steps.{IsOpenFault}
+use Rattle.hay_logical.specs.ReplicaCalls.{IsOpenFault}
 use Rattle.hay_logical.specs.Volumes.{Volume}
 use Rattle.hay_cluster.specs.declared.fault.ClusterFault.{ClusterFault}
 use Rattle.hay_cluster.specs.declared.fault.ClusterFault.TheVariants.{Shelf, Failed, Damaged, NoMemory}

@@ -18,7 +18,7 @@ use Rattle.hay_legal.specs.declared.known.VolumeKnown.{VolumeKnown}
 use Rattle.hay_legal.specs.Known.{FaultsRose, empty_replica, empty_volume, replica_at, slot_of, volume_at}
 use Rattle.hay_legal.specs.Stands.{Contents}
 use Rattle.hay_legal.specs.Statuses.{IsNew, IsNewVolume, IsUntouched}
-use Rattle.hay_physical.specs.Copies.{Copy, contents_of, is_stuck}
+use Rattle.hay_physical.specs.OpenCopies.{Copy, contents_of, is_stuck}
 use Rattle.hay_physical.specs.Draws.{DrewLittle}
 use Rattle.hay_physical.proofs.Drawing.{flushed_draws, stands_stored}
 use Rattle.hay_logical.specs.declared.unsure.Unsure.{Unsure}

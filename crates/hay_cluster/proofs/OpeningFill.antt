@@ -6,7 +6,7 @@ use Rattle.std.specs.Prelude.{slice_set, reverse}
 use Rattle.std.specs.List.{AllByRecursion, flat_map}
 use Rattle.hay_mount.specs.Mounts.{InOrder}
 use Rattle.hay_physical.specs.declared.state.Phase.TheVariants.{Closed}
-use Rattle.hay_physical.specs.Copies.{Copy}
+use Rattle.hay_physical.specs.OpenCopies.{Copy}
 use Rattle.hay_needle.specs.declared.settings.Settings.{Settings}
 use Rattle.hay_logical.specs.Fits.{At, super_of}
 use Rattle.hay_logical.specs.Volumes.{Volume, HasSupers, IsClosed}

@@ -21,7 +21,7 @@ use Rattle.hay_legal.specs.Statuses.{HoldsNew, IsNewVolume}
 use Rattle.hay_directory.specs.Rows.{OpensRows}
 use Rattle.hay_directory.specs.State as directory
 use Rattle.hay_directory.proofs.RowLaws.{opens_once}
-use Rattle.hay_physical.specs.Copies.{contents_of}
+use Rattle.hay_physical.specs.OpenCopies.{contents_of}
 use Rattle.hay_logical.specs.Fits.{At, IsReplica}
 use Rattle.hay_logical.specs.Stands.{IsFirst}
 use Rattle.hay_logical.specs.Volumes.{Volume}

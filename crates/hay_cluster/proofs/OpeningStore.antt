@@ -26,7 +26,7 @@ use Rattle.hay_directory.specs.State as directory
 use Rattle.hay_logical.specs.Fits.{At, IsReplica}
 use Rattle.hay_logical.specs.Stands.{Stopped}
 use Rattle.hay_logical.specs.Stands as logical
-use Rattle.hay_logical.specs.Steps.{IsOpenFault}
+use Rattle.hay_logical.specs.ReplicaCalls.{IsOpenFault}
 use Rattle.hay_logical.specs.Volumes.{HasSupers, IsOfSettings, Volume}
 use Rattle.hay_logical.specs.Volumes as volumes
 use Rattle.hay_cluster.specs.declared.fault.ClusterFault.{ClusterFault}
@@ -237,7 +237,7 @@ module _ {D P A : Type 0} (DiskTells : Type 0) (files : D → Files) (Tells : Ty
 
   by_volume : (mid new : Open D P A) (v : ℕ) (before after : Volume D P) (f : OpenFault) (j : ℕ) → IsShaped mid → IsShaped new → new.settings ≡ mid.settings
       → At mid.volumes v before → At new.volumes v after
-      → (b a : Rattle.hay_physical.specs.Copies.Copy D) → At before.replicas j b → At after.replicas j a → IsOpenFault DiskTells files faults b a f
+      → (b a : Rattle.hay_physical.specs.OpenCopies.Copy D) → At before.replicas j b → At after.replicas j a → IsOpenFault DiskTells files faults b a f
       → HasFaultCause mid.settings (map faults (disks_of mid)) (map faults (disks_of new)) (not_opened (slot_of mid.settings v j) f)
   by_volume mid new v before after (opening.Failed n) j shape shape' same was is b a there here cause =
       let of_v = volume_of mid v before shape was in

@@ -10,7 +10,7 @@ use Rattle.hay_mount.specs.Mounts.{InOrder, IsArmBack, IsMountedArm, IsMountedDi
 use Rattle.hay_mount.proofs.Orders.{InOrder-front, InOrder-rest}
 use Rattle.hay_legal.specs.Known.{NoneFalls, disk_count, slot_of}
 use Rattle.hay_directory.specs.State as directory
-use Rattle.hay_physical.specs.Copies.{Copy}
+use Rattle.hay_physical.specs.OpenCopies.{Copy}
 use Rattle.hay_logical.specs.Fits.{At}
 use Rattle.hay_logical.specs.Stands.{IsIdleVolume}
 use Rattle.hay_logical.specs.Volumes.{IsClosed, Volume}

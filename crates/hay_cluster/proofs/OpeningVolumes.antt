@@ -9,14 +9,14 @@ use Rattle.hay_disk.specs.Disk.{Files}
 use Rattle.hay_mount.specs.Mounts.{InOrder}
 use Rattle.hay_open.specs.declared.fault.OpenFault.{OpenFault}
 use Rattle.hay_open.specs.declared.fault.OpenFault.TheVariants as opening
-use Rattle.hay_physical.specs.Copies.{Copy}
+use Rattle.hay_physical.specs.OpenCopies.{Copy}
 use Rattle.hay_legal.specs.declared.known.VolumeKnown.{VolumeKnown}
 use Rattle.hay_legal.specs.Known.{NoneFalls}
 use Rattle.hay_legal.specs.Restarts.{ReopenedVolume, pending_notes}
 use Rattle.hay_logical.specs.Answers.{IsReopened}
 use Rattle.hay_logical.specs.Fits.{At}
 use Rattle.hay_logical.specs.Stands.{IsFirst, IsIdleVolume, Stopped, Holds}
-use Rattle.hay_logical.specs.Steps.{KeepsDisk}
+use Rattle.hay_logical.specs.ReplicaCalls.{KeepsDisk}
 use Rattle.hay_logical.specs.Stands as logical
 use Rattle.hay_logical.specs.Volumes.{Volume, IsSame, KeepsCounts}
 use Rattle.hay_logical.proofs.Calls.{disk_same}

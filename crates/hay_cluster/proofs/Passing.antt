@@ -19,7 +19,7 @@ use Rattle.hay_cluster.specs.Passing.{CauseCameUp, IsOfPlace, PassesOver, Stands
 use Rattle.hay_cluster.specs.Reads.{IsPassedFor, MayHave, PassesAll, PassesFrom, PassesTo, passed_at}
 use Rattle.hay_cluster.specs.Seen.{StoreSeen}
 use Rattle.hay_cluster.specs.Store.{IsBuilt}
-use Rattle.hay_cluster.proofs.Machines.{replica_found}
+use Rattle.hay_legal.proofs.Machines.{replica_found}
 use Rattle.hay_cluster.proofs.ReadSights.{told_over}
 use Rattle.hay_cluster.proofs.Showing.{all_tried, in_order, machines_told, rises_each, split_tries, to_below}
 

@@ -12,7 +12,7 @@ use Rattle.hay_map.specs.Places.{place_in}
 use Rattle.hay_reply.specs.declared.Cause.{Cause}
 use Rattle.hay_reply.specs.declared.Cause.TheVariants.{Arm, Damage, Disk}
 use Rattle.hay_legal.specs.Stands.{Contents}
-use Rattle.hay_physical.specs.Copies.{Copy, IsOpenCopy}
+use Rattle.hay_physical.specs.OpenCopies.{Copy, IsOpenCopy}
 use Rattle.hay_physical.specs.Replicas.{HasWholeNeedle}
 use Rattle.hay_logical.specs.declared.fault.LogicalFault.{LogicalFault}
 use Rattle.hay_logical.specs.declared.fault.LogicalFault.TheVariants as refusal

@@ -31,7 +31,8 @@ use Rattle.hay_cluster.specs.declared.put.Tried.TheVariants.{Taker}
 use Rattle.hay_cluster.specs.Puts.{IsPutReply, IsRefusal, IsTried, StoredAs, Stores}
 use Rattle.hay_cluster.specs.State.{Stands}
 use Rattle.hay_cluster.specs.Store.{Open, IsVolumeOf, disks_of}
-use Rattle.hay_cluster.proofs.Finds.{map_hit, range-snoc}
+use Rattle.hay_legal.proofs.Finds.{map_hit}
+use Rattle.hay_cluster.proofs.Ranges.{range-snoc}
 use Rattle.hay_cluster.proofs.Lists.{AllZip-long, map-append, set-same}
 use Rattle.hay_cluster.proofs.Moves.{falls_at, falls_trans}
 use Rattle.hay_cluster.proofs.Refusals.{open-thawed}

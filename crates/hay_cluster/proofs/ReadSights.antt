@@ -31,7 +31,7 @@ use Rattle.hay_cluster.specs.Reads.{AwaitsFor, FoundSees, IsFoundAs, IsSightCaus
 use Rattle.hay_cluster.specs.Seen.{StoreSeen}
 use Rattle.hay_cluster.specs.Sights.{IsAbsent, SeesOn}
 use Rattle.hay_cluster.specs.Store.{IsBuilt}
-use Rattle.hay_cluster.proofs.Machines.{replica_found, same_machine}
+use Rattle.hay_legal.proofs.Machines.{replica_found, same_machine}
 use Rattle.hay_cluster.proofs.Showing.{all_tried}
 
 -- PLACES

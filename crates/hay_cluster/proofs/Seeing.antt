@@ -26,7 +26,7 @@ use Rattle.hay_cluster.specs.Puts.{IsPutReply, IsRefusal, settle_reply}
 use Rattle.hay_cluster.specs.Seen.{AnswersDelete, AnswersPut, Closes, GetsHome, IsOpenAtHome, IsOpenTo, IsTaker, IsTurnedAside, Keeps, MovesDirectory, MovesVolume, NeedsHome}
 use Rattle.hay_cluster.specs.Seen.{PutsAt, RefusesPhoto, StoreSeen, TakesPhotoAt, TurnsAside, home_seen, store_seen}
 use Rattle.hay_cluster.specs.Store.{Open}
-use Rattle.hay_cluster.proofs.Finds.{range-at}
+use Rattle.hay_cluster.proofs.Ranges.{range-at}
 use Rattle.hay_cluster.proofs.Lists.{map-append, map-at, map-set, set-kept}
 use Rattle.hay_cluster.proofs.Moves.{with_directory, with_one}
 

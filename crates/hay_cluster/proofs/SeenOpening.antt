@@ -12,7 +12,7 @@ use Rattle.hay_directory.specs.Notes.{notes_by}
 use Rattle.hay_directory.specs.Rows.{RowsWithin}
 use Rattle.hay_directory.specs.Seen.{directory_seen}
 use Rattle.hay_directory.specs.Seen as directory
-use Rattle.hay_physical.specs.Copies.{Copy, volume_bytes}
+use Rattle.hay_physical.specs.OpenCopies.{Copy, volume_bytes}
 use Rattle.hay_logical.specs.declared.unsure.Unsure.{Unsure}
 use Rattle.hay_logical.specs.Fits.{At}
 use Rattle.hay_logical.specs.Notes.{NotesTell, ToldUnsure}

@@ -4,7 +4,7 @@ use Rattle.hay_needle.specs.declared.settings.Settings.{Settings}
 use Rattle.hay_logical.specs.declared.fault.LogicalFault.TheVariants as refusal
 use Rattle.hay_logical.specs.Seen.{VolumeSeen}
 use Rattle.hay_logical.specs.Volumes.{IsMachineOf, Volume}
-use Rattle.hay_physical.specs.Copies.{Copy}
+use Rattle.hay_physical.specs.OpenCopies.{Copy}
 use Rattle.hay_legal.specs.declared.known.VolumeKnown.{VolumeKnown}
 use Rattle.hay_disk.specs.Disk.{Files}
 use Rattle.hay_cluster.specs.declared.maintenance.Maintenance.{Maintenance}

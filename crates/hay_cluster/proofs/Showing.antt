@@ -27,7 +27,7 @@ use Rattle.hay_map.specs.declared.place.Place.TheVariants as place
 use Rattle.hay_map.specs.Places.{place_in}
 use Rattle.hay_map.specs.Rows.{row_at}
 use Rattle.hay_compact.specs.Finishing.{IsSeen}
-use Rattle.hay_physical.specs.Copies.{Copy}
+use Rattle.hay_physical.specs.OpenCopies.{Copy}
 use Rattle.hay_legal.specs.declared.known.Known.{Known}
 use Rattle.hay_legal.specs.declared.known.VolumeKnown.{VolumeKnown}
 use Rattle.hay_legal.specs.Known.{NoneFalls, arm_count, empty_volume, fault_count, has_risen, home_of, machine_of, now, replica_at, replica_on, slot_of, volume_at}
@@ -38,7 +38,7 @@ use Rattle.hay_legal.specs.Suiting.{ShowsOf}
 use Rattle.hay_logical.specs.Answers as answers
 use Rattle.hay_logical.specs.Fits.{At, PlaceStands}
 use Rattle.hay_logical.specs.Stands as logical
-use Rattle.hay_logical.specs.Steps.{IsSeenBy}
+use Rattle.hay_logical.specs.ReplicaCalls.{IsSeenBy}
 use Rattle.hay_logical.specs.Volumes.{Volume}
 use Rattle.hay_logical.specs.declared.fault.LogicalFault.{LogicalFault}
 use Rattle.hay_logical.specs.declared.fault.LogicalFault.TheVariants as refusal
@@ -71,7 +71,7 @@ use Rattle.hay_logical.specs.Sights.{Sight, sight}
 use Rattle.hay_cluster.specs.Store.{IsBuilt, IsShaped, Open, disks_of}
 use Rattle.hay_cluster.proofs.Changing.{comes_still}
 use Rattle.hay_cluster.proofs.Lists.{length-set, slice_get-set}
-use Rattle.hay_cluster.proofs.Machines.{replica_found, same_machine}
+use Rattle.hay_legal.proofs.Machines.{replica_found, same_machine}
 use Rattle.hay_cluster.proofs.Moves.{Called, called_failed, called_shape, count_at, falls_at, falls_trans, has_item, none_falls, volume_comes, volume_of, volume_stood, with_one}
 
 range_get : (f : ℕ → Outcome) (n at i : ℕ) (x : Outcome) → slice_get (map f (range_with_len at n)) i ≡ Some x → (i < n) × (f (at + i) ≡ x)

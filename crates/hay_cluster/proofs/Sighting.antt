@@ -20,8 +20,8 @@ use Rattle.hay_logical.specs.declared.fault.LogicalFault.TheVariants as refusal
 use Rattle.hay_logical.specs.Answers.{BreaksPutOff}
 use Rattle.hay_logical.specs.Fits.{At}
 use Rattle.hay_logical.specs.Seen.{ReplicaSeen, SeesAt, VolumeSeen, replica_seen, volume_seen}
-use Rattle.hay_logical.specs.Steps.{KeepsRuns}
-use Rattle.hay_physical.specs.Copies.{Copy}
+use Rattle.hay_logical.specs.ReplicaCalls.{KeepsRuns}
+use Rattle.hay_physical.specs.OpenCopies.{Copy}
 use Rattle.hay_logical.specs.Volumes.{Volume}
 use Rattle.hay_logical.proofs.Lists.{at_set_other}
 use Rattle.hay_logical.specs.Sights.{AwaitsLook, BecomesSeen, DeleteRefusedSights, FindsPhoto, IsLiveSight, IsSeenOn, KeepsSights, Looks, LooksAtPair, LooksInVain, Sight, Sights}

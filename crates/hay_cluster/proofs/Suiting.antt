@@ -25,9 +25,10 @@ use Rattle.hay_cluster.specs.Lacks.{LacksRoom, lack_of}
 use Rattle.hay_cluster.specs.Maintenance.{IsRefusedAs, command_of, done_as}
 use Rattle.hay_cluster.specs.Puts.{IsPutReply, IsRefusal, settle_reply}
 use Rattle.hay_cluster.specs.Store.{IsBuilt}
-use Rattle.hay_cluster.proofs.Finds.{range-snoc, map_found}
+use Rattle.hay_legal.proofs.Finds.{map_found}
+use Rattle.hay_cluster.proofs.Ranges.{range-snoc}
 use Rattle.hay_cluster.proofs.Lists.{AllZip-append, map-append}
-use Rattle.hay_cluster.proofs.Machines.{replica_found}
+use Rattle.hay_legal.proofs.Machines.{replica_found}
 
 -- WHERE REPLICAS ARE
 

@@ -8,7 +8,7 @@ use Rattle.hay_open.specs.Stored.{volume_file}
 use Rattle.hay_legal.specs.declared.known.Known.{Known}
 use Rattle.hay_legal.specs.Known.{replica_at, slot_of, volume_at}
 use Rattle.hay_legal.specs.Stands.{Contents}
-use Rattle.hay_physical.specs.Copies.{Copy}
+use Rattle.hay_physical.specs.OpenCopies.{Copy}
 use Rattle.hay_physical.specs.Draws.{DrewLittle}
 use Rattle.hay_logical.specs.Draws.{DrewAt, HasDrawnNothing, looked_pair}
 use Rattle.hay_logical.specs.Fits.{At, super_of}

@@ -7,7 +7,7 @@ use Rattle.hay_script.specs.declared.Command.TheVariants as command
 use Rattle.hay_reply.specs.declared.Reply.{Reply}
 use Rattle.hay_reply.specs.declared.Reply.TheVariants as reply
 use Rattle.hay_legal.specs.declared.known.VolumeKnown.{VolumeKnown}
-use Rattle.hay_physical.specs.Copies.{Copy}
+use Rattle.hay_physical.specs.OpenCopies.{Copy}
 use Rattle.hay_logical.specs.Answers.{BeginRefused, CompactRefused, FinishRefused, FlushRefused, IsBeginFault, IsBegun, IsCompactFault, IsCompacted, IsFinished, IsFlushFault}
 use Rattle.hay_logical.specs.Answers.{IsFlushed, IsRunFault, IsStepped, StepRefused}
 use Rattle.hay_logical.specs.declared.fault.LogicalFault.{LogicalFault}

@@ -20,7 +20,7 @@ use Rattle.hay_directory.specs.Seen as open_seen
 use Rattle.hay_directory.specs.State.{State}
 use Rattle.hay_directory.specs.State as directory
 use Rattle.hay_open.specs.Stored.{OpensAs, Stored}
-use Rattle.hay_physical.specs.Copies.{Copy, contents_of, volume_bytes}
+use Rattle.hay_physical.specs.OpenCopies.{Copy, contents_of, volume_bytes}
 use Rattle.hay_logical.specs.declared.fault.Unopened.{Unopened}
 use Rattle.hay_logical.specs.Answers.{IsReopened}
 use Rattle.hay_logical.specs.Fits.{At}
@@ -29,7 +29,7 @@ use Rattle.hay_logical.specs.Seen.{IsFoundAs, OpenSeen, replica_seen, volume_see
 use Rattle.hay_logical.specs.Sights.{LiesWithinEach, sights_of}
 use Rattle.hay_logical.specs.Stands.{IsFirst, IsIdleVolume, Stopped}
 use Rattle.hay_logical.specs.Stands as logical
-use Rattle.hay_logical.specs.Steps.{IsRefusedAt, KeepsDisk}
+use Rattle.hay_logical.specs.ReplicaCalls.{IsRefusedAt, KeepsDisk}
 use Rattle.hay_logical.specs.Volumes.{Volume, HasSupers, IsClosed, IsOpenVolume, IsSame, KeepsCounts}
 use Rattle.hay_cluster.specs.declared.fault.ClusterFault.{ClusterFault}
 use Rattle.hay_cluster.specs.declared.fault.ClusterFault.TheVariants.{Shelf, Failed, Damaged, NoMemory}

@@ -15,9 +15,9 @@ use Rattle.hay_legal.specs.Known.{Leaves, all_tries, refusal_of, replica_on, vol
 use Rattle.hay_legal.specs.Plain.{RoseTo, as_closed, change_volume, first_machine, frozen_with, wants_room, put_entry, with_put}
 use Rattle.hay_directory.specs.declared.fault.DirFault.{DirFault}
 use Rattle.hay_directory.specs.declared.fault.DirFault.TheVariants as settling
-use Rattle.hay_physical.specs.Copies.{Copy}
+use Rattle.hay_physical.specs.OpenCopies.{Copy}
 use Rattle.hay_logical.specs.Fits.{At}
-use Rattle.hay_logical.specs.Steps.{RoomFor}
+use Rattle.hay_logical.specs.ReplicaCalls.{RoomFor}
 use Rattle.hay_logical.specs.Volumes.{Volume}
 use Rattle.hay_logical.specs.declared.fault.LogicalFault.{LogicalFault}
 use Rattle.hay_logical.specs.declared.fault.LogicalFault.TheVariants as refusal

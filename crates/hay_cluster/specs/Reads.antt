@@ -22,7 +22,7 @@ use Rattle.hay_legal.specs.Known.{machine_of, now, replica_at, slot_of}
 use Rattle.hay_legal.specs.Plain.{LegalShow}
 use Rattle.hay_compact.specs.Finishing.{IsSeen}
 use Rattle.hay_logical.specs.Fits.{At}
-use Rattle.hay_logical.specs.Steps.{IsSeenBy}
+use Rattle.hay_logical.specs.ReplicaCalls.{IsSeenBy}
 use Rattle.hay_logical.specs.Volumes.{Volume}
 use Rattle.hay_logical.specs.declared.fault.LogicalFault.{LogicalFault}
 use Rattle.hay_logical.specs.declared.fault.LogicalFault.TheVariants as fault

@@ -6,7 +6,7 @@ ghost use Rattle.hay_legal.specs.declared.known.Known.{Known};
 ghost use Rattle.hay_legal.specs.declared.known.VolumeKnown.{VolumeKnown};
 ghost use Rattle.hay_legal.specs.Known.{NoneFalls};
 ghost use Rattle.hay_legal.specs.Suiting.{Suits};
-ghost use Rattle.hay_physical.specs.Copies.{Copy, volume_bytes};
+ghost use Rattle.hay_physical.specs.OpenCopies.{Copy, volume_bytes};
 ghost use Rattle.hay_logical.specs.Fits.{At};
 ghost use Rattle.hay_logical.specs.Needles.{IsDamagedCell};
 ghost use Rattle.hay_logical.specs.Refusals.{IsUntouchedBy};

@@ -4,7 +4,7 @@ use Rattle.std.specs.Prelude.{slice_get, slice_index_or}
 use Rattle.std.specs.List.{AllByRecursion as Each, AllZip, range_with_len}
 use Rattle.std.proofs.lemmas.List.{length-map, map-append}
 use Rattle.hay_needle.specs.declared.settings.Settings.{Settings}
-use Rattle.hay_physical.specs.Copies.{Copy}
+use Rattle.hay_physical.specs.OpenCopies.{Copy}
 use Rattle.hay_logical.specs.Volumes.{Volume}
 use Rattle.hay_directory.specs.State.{State}
 use Rattle.hay_block.specs.Stores.{by_slot}

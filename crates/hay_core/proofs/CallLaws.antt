@@ -26,9 +26,9 @@ use Rattle.hay_core.specs.Calls
 use Rattle.hay_core.specs.Sides
 use Rattle.hay_core.specs.Sides.{settle, made, broken, files_of, with_progress, next_progress, after_ok, after_failed, after_harm, no_copy}
 use Rattle.hay_core.specs.Calls.{call_of, call_from, call_at, copy_next}
-use Rattle.hay_core.specs.Steps
-use Rattle.hay_core.specs.Steps.{Stepped, allowed, change, change_in, change_of, at_first, put_first, first_call, first_of_two, device_ok, device_failed, read_failed, publish}
-use Rattle.hay_core.specs.Steps.{end_hold, begin, look_up, stop, open_call, after_event, after_events}
+use Rattle.hay_core.specs.Transitions
+use Rattle.hay_core.specs.Transitions.{Stepped, allowed, change, change_in, change_of, at_first, put_first, first_call, first_of_two, device_ok, device_failed, read_failed, publish}
+use Rattle.hay_core.specs.Transitions.{end_hold, begin, look_up, stop, open_call, after_event, after_events}
 use Rattle.hay_core.specs.declared.machine.Reader.{Reader}
 use Rattle.hay_core.specs.declared.machine.Core.{Core}
 use Rattle.hay_core.proofs.HarmLaws.{SideHurt, hurt_of, good_of, hurt_again, side_hurt, not_deleting, harm_copy, on_copy, side_fits_failed, held_on, harm_sure, harm_settles, failed_grows}
@@ -113,7 +113,7 @@ pub record Held (c : Core) (h : Hold) : Type 0 where
   pub sides : (p : Pair) → AllByRecursion (SideGood p c.up c.log (change_in (Some h) c.pending) (Some h)) c.sides
   pub fits : AllByRecursion (SideFits c.up (Some h)) c.sides
   pub calm : c.frozen ≡ false → CalmIn h.failed h.work c.sides
-  pub logged : h.published ≡ true → (front : List Logged) × (c.log ≡ front ++ Steps.entry_list (change_of h.tag h.work))
+  pub logged : h.published ≡ true → (front : List Logged) × (c.log ≡ front ++ Transitions.entry_list (change_of h.tag h.work))
 
 pub held : (c : Core) (h : Hold) → CoreGood c → c.hold ≡ Some h → Held c h
 held c h g e =
@@ -160,7 +160,7 @@ under_way h pending out = cond-false h.published None (change_of h.tag h.work) o
 pub device_ok_good : (c : Core) → CoreGood c → CoreGood (device_ok c.hold c).core
 device_ok_good c g = by c.hold refl
   where
-    made_by : (h : Hold) → c.hold ≡ Some h → (o : Option DeviceCall) → first_call h.work c.sides ≡ o → CoreGood (Steps.device_ok_by h o c).core
+    made_by : (h : Hold) → c.hold ≡ Some h → (o : Option DeviceCall) → first_call h.work c.sides ≡ o → CoreGood (Transitions.device_ok_by h o c).core
     made_by h is None e = g
     made_by h is (Some x) e =
         allowed_good (not h.failed) (record c { sides = at_first h.work (after_ok h.work) c.sides; hold = Some h }) c
@@ -217,25 +217,25 @@ no_change tag (work.Start side) f = refl
 no_change tag (work.Step side cells) f = refl
 no_change tag (work.Finish side) f = refl
 
-pub fits_failed : (up : Bool) (h : Hold) (o : Option Hold) (s : Side) → SideFits up o s → SideFits up (Steps.failed_hold h) s
+pub fits_failed : (up : Bool) (h : Hold) (o : Option Hold) (s : Side) → SideFits up o s → SideFits up (Transitions.failed_hold h) s
 fits_failed up h o s f = record { is_open = f.is_open; rows = f.rows; most = f.most; copy = f.copy; held = λ no. absurd (true≢false no) }
 
-fits_no_copy : (up : Bool) (h : Hold) (s : Side) → SideFits up (Steps.failed_hold h) s → SideFits up (Steps.failed_hold h) (no_copy s)
+fits_no_copy : (up : Bool) (h : Hold) (s : Side) → SideFits up (Transitions.failed_hold h) s → SideFits up (Transitions.failed_hold h) (no_copy s)
 fits_no_copy up h s f = record { is_open = f.is_open; rows = f.rows; most = f.most; copy = tt; held = λ no. absurd (true≢false no) }
 
 -- what holds of a side of a volume that a failure freezes
-frozen_good : (p : Pair) (up : Bool) (log : List Logged) (l : Option Logged) (h : Hold) (s : Side) → SideHurt p up log l s → SideGood p up log l (Steps.failed_hold h) (no_copy s)
-frozen_good p up log l h s g = good_of p up log l (Steps.failed_hold h) (no_copy s) (hurt_again p up log l s None s.progress g) (λ f. tt)
+frozen_good : (p : Pair) (up : Bool) (log : List Logged) (l : Option Logged) (h : Hold) (s : Side) → SideHurt p up log l s → SideGood p up log l (Transitions.failed_hold h) (no_copy s)
+frozen_good p up log l h s g = good_of p up log l (Transitions.failed_hold h) (no_copy s) (hurt_again p up log l s None s.progress g) (λ f. tt)
 
 pub freezes_good : (c : Core) (h : Hold) (sides : List Side) → CoreGood c → Held c h → AllGrow c.sides sides
-    → ((p : Pair) → AllByRecursion (SideHurt p c.up c.log (change_in (Some h) c.pending)) sides) → AllByRecursion (SideFits c.up (Steps.failed_hold h)) sides
-    → CoreGood (record c { sides = map no_copy sides; hold = Steps.failed_hold h; frozen = true })
+    → ((p : Pair) → AllByRecursion (SideHurt p c.up c.log (change_in (Some h) c.pending)) sides) → AllByRecursion (SideFits c.up (Transitions.failed_hold h)) sides
+    → CoreGood (record c { sides = map no_copy sides; hold = Transitions.failed_hold h; frozen = true })
 freezes_good c h sides g v grow hurt fits = record {
   flags = (v.up, v.none, (λ t. refl), (λ t f. absurd (true≢false f)));
   readers_up = g.readers_up;
-  sides = λ p. all_map (SideHurt p c.up c.log (change_in (Some h) c.pending)) (λ s. SideGood p c.up c.log (change_in (Some h) c.pending) (Steps.failed_hold h) s) no_copy
+  sides = λ p. all_map (SideHurt p c.up c.log (change_in (Some h) c.pending)) (λ s. SideGood p c.up c.log (change_in (Some h) c.pending) (Transitions.failed_hold h) s) no_copy
       (λ s. frozen_good p c.up c.log (change_in (Some h) c.pending) h s) sides (hurt p);
-  fits = all_map (λ s. SideFits c.up (Steps.failed_hold h) s) (λ s. SideFits c.up (Steps.failed_hold h) s) no_copy (fits_no_copy c.up h) sides fits;
+  fits = all_map (λ s. SideFits c.up (Transitions.failed_hold h) s) (λ s. SideFits c.up (Transitions.failed_hold h) s) no_copy (fits_no_copy c.up h) sides fits;
   sure = λ down. absurd (true≢false (sym v.up ∙ down));
   calm = λ f. absurd (true≢false f);
   readers =
@@ -246,11 +246,11 @@ freezes_good c h sides g v grow hurt fits = record {
 pub device_failed_good : (c : Core) → CoreGood c → CoreGood (device_failed c.hold c).core
 device_failed_good c g = by c.hold refl
   where
-    failed_by : (h : Hold) → c.hold ≡ Some h → (o : Option DeviceCall) → first_call h.work c.sides ≡ o → CoreGood (Steps.device_failed_by h o c).core
+    failed_by : (h : Hold) → c.hold ≡ Some h → (o : Option DeviceCall) → first_call h.work c.sides ≡ o → CoreGood (Transitions.device_failed_by h o c).core
     failed_by h is None e = g
     failed_by h is (Some x) e =
         let S : List Side = at_first h.work (after_failed h.work) c.sides in
-        allowed_good (not h.failed) (Steps.harmed h x.harm S c) c
+        allowed_good (not h.failed) (Transitions.harmed h x.harm S c) c
         (λ allowed.
         let v = held c h g is in
         let ok : h.failed ≡ false = not-true h.failed allowed in
@@ -262,7 +262,7 @@ device_failed_good c g = by c.hold refl
         let L : Pair → Option Logged → Type 0 = λ p l. AllByRecursion (SideGood p c.up c.log l (Some h)) c.sides in
         let G : Pair → Side → Type 0 = λ p s. SideGood p c.up c.log l (Some h) s in
         let F : Side → Type 0 = λ s. SideFits c.up (Some h) s in
-        let T : Side → Type 0 = λ s. SideFits c.up (Steps.failed_hold h) s in
+        let T : Side → Type 0 = λ s. SideFits c.up (Transitions.failed_hold h) s in
         let goods : (p : Pair) → AllByRecursion (G p) c.sides = λ p. subst (L p) out (v.sides p) in
         let fit = first_harms h.work x c.sides e in
         let grow : AllGrow c.sides S = grow_at_first h.work (after_failed h.work) (λ x s. failed_grows h.work x s) c.sides in
@@ -271,18 +271,18 @@ device_failed_good c g = by c.hold refl
         (λ s at sure good. side_hurt c.up v.up p c.log h s x at good) in
         let tired : AllByRecursion T S =
         on_call h.work (after_failed h.work) F T x c.sides e v.fits calm (λ s f. fits_failed c.up h (Some h) s f)
-        (λ s at sure f. side_fits_failed c.up h (Steps.failed_hold h) s x at f (λ no. absurd (true≢false no))) in
+        (λ s at sure f. side_fits_failed c.up h (Transitions.failed_hold h) s x at f (λ no. absurd (true≢false no))) in
         let Z : Pair → Option Logged → Type 0 = λ p l. AllByRecursion (SideHurt p c.up c.log l) S in
-        let ends : changes h.work ≡ false → (x.harm ≡ Freezes → ⊥) → CoreGood (record c { sides = S; hold = Steps.failed_hold h }) = λ still alive.
-        let N : Pair → Option Logged → Type 0 = λ p l. AllByRecursion (SideGood p c.up c.log l (Steps.failed_hold h)) S in
+        let ends : changes h.work ≡ false → (x.harm ≡ Freezes → ⊥) → CoreGood (record c { sides = S; hold = Transitions.failed_hold h }) = λ still alive.
+        let N : Pair → Option Logged → Type 0 = λ p l. AllByRecursion (SideGood p c.up c.log l (Transitions.failed_hold h)) S in
         let sure = all_sure h.work x c.sides e (harm_settles (changes h.work) x.effect x.harm alive fit) calm in
         record {
           flags = (v.up, v.none, (λ t. refl), (λ t f. out ∙ no_change h.tag h.work still));
           readers_up = g.readers_up;
-          sides = λ p. subst (N p) (sym out) (on_call h.work (after_failed h.work) (G p) (λ s. SideGood p c.up c.log l (Steps.failed_hold h) s) x c.sides e (goods p) calm
-              (λ s good. good_of p c.up c.log l (Steps.failed_hold h) s (hurt_of p c.up c.log l (Some h) s good)
+          sides = λ p. subst (N p) (sym out) (on_call h.work (after_failed h.work) (G p) (λ s. SideGood p c.up c.log l (Transitions.failed_hold h) s) x c.sides e (goods p) calm
+              (λ s good. good_of p c.up c.log l (Transitions.failed_hold h) s (hurt_of p c.up c.log l (Some h) s good)
               (λ f. good.copied (and_right (not h.failed) (is_deleting h.work p s) (not_deleting h.work p s still))))
-              (λ s at sure good. good_of p c.up c.log l (Steps.failed_hold h) (after_failed h.work x s) (side_hurt c.up v.up p c.log h s x at good)
+              (λ s at sure good. good_of p c.up c.log l (Transitions.failed_hold h) (after_failed h.work x s) (side_hurt c.up v.up p c.log h s x at good)
               (λ f. harm_copy p h.work x.effect s x.harm (good.copied (and_right (not h.failed) (is_deleting h.work p s) (not_deleting h.work p s still))))));
           fits = tired;
           sure = λ down. absurd (true≢false (sym v.up ∙ down));
@@ -290,8 +290,8 @@ device_failed_good c g = by c.hold refl
           readers = seen_go_on c.log c.sides S c.readers grow g.readers;
           logged = v.logged;
         } in
-        let go : (y : Harm) → x.harm ≡ y → harm_fits (changes h.work) y x.effect ≡ true → CoreGood (Steps.harmed h y S c) =
-        λ y. elim y as (λ y. x.harm ≡ y → harm_fits (changes h.work) y x.effect ≡ true → CoreGood (Steps.harmed h y S c)) [
+        let go : (y : Harm) → x.harm ≡ y → harm_fits (changes h.work) y x.effect ≡ true → CoreGood (Transitions.harmed h y S c) =
+        λ y. elim y as (λ y. x.harm ≡ y → harm_fits (changes h.work) y x.effect ≡ true → CoreGood (Transitions.harmed h y S c)) [
           | Freezes ↦ λ y fits. freezes_good c h S g v grow (λ p. subst (Z p) (sym out) (hurt p)) tired
           | Fails ↦ λ y fits. ends (not-true (changes h.work) (and_parts (not (changes h.work)) (is_calm x.effect) fits).0) (λ z. let no : Fails ≡ Freezes = cc in absurd cc)
           | Ends ↦ λ y fits. ends (not-true (changes h.work) (and_parts (not (changes h.work)) (is_calm x.effect) fits).0) (λ z. let no : Ends ≡ Freezes = cc in absurd cc)
@@ -359,7 +359,7 @@ head_settles (x ∷ copied) (suc (suc zero)) c e h = let same : c ≡ Calls.call
 head_settles (x ∷ copied) (suc (suc (suc zero))) c e h = let same : c ≡ Calls.call Freezes Quiet = cc in ap (λ (y : DeviceCall). settles y.effect) same
 head_settles (x ∷ copied) (suc (suc (suc (suc t)))) c e h = let small : suc (suc (suc (suc t))) ≤ 3 = leb-true (suc (suc (suc (suc t)))) 3 h in absurd (omega arith)
 
-finish_settles : (side : ℕ) (s : Side) (t : Option ℕ) (c : DeviceCall) → call_from (work.Finish side) t s ≡ Some c → Steps.is_before_head t s ≡ true → settles c.effect ≡ false
+finish_settles : (side : ℕ) (s : Side) (t : Option ℕ) (c : DeviceCall) → call_from (work.Finish side) t s ≡ Some c → Transitions.is_before_head t s ≡ true → settles c.effect ≡ false
 finish_settles side s None c e h = absurd cc
 finish_settles side s (Some t) c e h = finishing s.copy e (and_parts (is_some s.copy) (nat_le t (length (Calls.closing_calls s.fresh))) h).0
   where
@@ -374,46 +374,46 @@ finish_settles side s (Some t) c e h = finishing s.copy e (and_parts (is_some s.
     finishing None e f = absurd (false≢true f)
     finishing (Some n) e f = closing (copy_next (length s.current) (drop n s.current)) e
 
-pub finish_sure : (side : ℕ) (sides : List Side) → Steps.first_passes (work.Finish side) Steps.before_head sides ≡ true → Calm (work.Finish side) sides → AllByRecursion IsSure sides
+pub finish_sure : (side : ℕ) (sides : List Side) → Transitions.first_passes (work.Finish side) Transitions.before_head sides ≡ true → Calm (work.Finish side) sides → AllByRecursion IsSure sides
 finish_sure side [] f h = tt
 finish_sure side (s ∷ sides) f h = go (call_of (work.Finish side) s) refl f h (λ f h. finish_sure side sides f h)
   where
-    go : (o : Option DeviceCall) → call_of (work.Finish side) s ≡ o → Steps.first_side_passes o (Steps.before_head s)
-        (Steps.first_passes (work.Finish side) Steps.before_head sides) ≡ true → CalmAt o s sides (Calm (work.Finish side) sides)
-        → (Steps.first_passes (work.Finish side) Steps.before_head sides ≡ true → Calm (work.Finish side) sides → AllByRecursion IsSure sides) → IsSure s × AllByRecursion IsSure sides
+    go : (o : Option DeviceCall) → call_of (work.Finish side) s ≡ o → Transitions.first_side_passes o (Transitions.before_head s)
+        (Transitions.first_passes (work.Finish side) Transitions.before_head sides) ≡ true → CalmAt o s sides (Calm (work.Finish side) sides)
+        → (Transitions.first_passes (work.Finish side) Transitions.before_head sides ≡ true → Calm (work.Finish side) sides → AllByRecursion IsSure sides) → IsSure s × AllByRecursion IsSure sides
     go None e f h later = (h.0, later f h.1)
     go (Some c) e f h later = (h.0 (finish_settles side s s.progress c e f), h.1)
 
 ended_copy_hurt : (p : Pair) (up : Bool) (log : List Logged) (l : Option Logged) (h : Hold) (s : Side) → SideHurt p up log l s → CopyGood p s.fresh s.current s.copy
-    → SideGood p up log l (Steps.failed_hold h) (Steps.ended_copy s)
+    → SideGood p up log l (Transitions.failed_hold h) (Transitions.ended_copy s)
 ended_copy_hurt p up log l h s g copied =
-    cond_both (Sides.has_part s) (no_copy s) s (λ (t : Side). SideGood p up log l (Steps.failed_hold h) t)
-    (λ b. frozen_good p up log l h s g) (λ b. good_of p up log l (Steps.failed_hold h) s g (λ f. copied))
+    cond_both (Sides.has_part s) (no_copy s) s (λ (t : Side). SideGood p up log l (Transitions.failed_hold h) t)
+    (λ b. frozen_good p up log l h s g) (λ b. good_of p up log l (Transitions.failed_hold h) s g (λ f. copied))
 
 read_ends : (c : Core) (h : Hold) → CoreGood c → Held c h → changes h.work ≡ false → AllByRecursion IsSure c.sides
-    → CoreGood (record c { sides = map Steps.ended_copy c.sides; hold = Steps.failed_hold h })
+    → CoreGood (record c { sides = map Transitions.ended_copy c.sides; hold = Transitions.failed_hold h })
 read_ends c h g v still sure = record {
   flags = (v.up, v.none, (λ t. refl), (λ t f. cond_both h.published None (change_of h.tag h.work) (λ (o : Option Logged). o ≡ None) (λ b. refl) (λ b. no_change h.tag h.work still)));
   readers_up = g.readers_up;
-  sides = λ p. all_map (λ s. SideGood p c.up c.log (change_in (Some h) c.pending) (Some h) s) (λ s. SideGood p c.up c.log (change_in (Some h) c.pending) (Steps.failed_hold h) s) Steps.ended_copy
+  sides = λ p. all_map (λ s. SideGood p c.up c.log (change_in (Some h) c.pending) (Some h) s) (λ s. SideGood p c.up c.log (change_in (Some h) c.pending) (Transitions.failed_hold h) s) Transitions.ended_copy
       (λ s good. ended_copy_hurt p c.up c.log (change_in (Some h) c.pending) h s (hurt_of p c.up c.log (change_in (Some h) c.pending) (Some h) s good)
       (good.copied (and_right (not h.failed) (is_deleting h.work p s) (not_deleting h.work p s still)))) c.sides (v.sides p);
-  fits = all_map (λ s. SideFits c.up (Some h) s) (λ s. SideFits c.up (Steps.failed_hold h) s) Steps.ended_copy
-      (λ s f. cond_both (Sides.has_part s) (no_copy s) s (λ (t : Side). SideFits c.up (Steps.failed_hold h) t) (λ b. fits_no_copy c.up h s (fits_failed c.up h (Some h) s f))
+  fits = all_map (λ s. SideFits c.up (Some h) s) (λ s. SideFits c.up (Transitions.failed_hold h) s) Transitions.ended_copy
+      (λ s f. cond_both (Sides.has_part s) (no_copy s) s (λ (t : Side). SideFits c.up (Transitions.failed_hold h) t) (λ b. fits_no_copy c.up h s (fits_failed c.up h (Some h) s f))
       (λ b. fits_failed c.up h (Some h) s f)) c.sides v.fits;
   sure = λ down. absurd (true≢false (sym v.up ∙ down));
-  calm = λ f. all_map IsSure IsSure Steps.ended_copy (λ s h. cond_both (Sides.has_part s) (no_copy s) s (λ (t : Side). IsSure t) (λ b. h) (λ b. h)) c.sides sure;
-  readers = seen_go_on c.log c.sides (map Steps.ended_copy c.sides) c.readers
-      (grow_map Steps.ended_copy (λ s. cond_both (Sides.has_part s) (no_copy s) s (λ (t : Side). Grows s t) (λ b. record { base = refl; shows = λ x o h. h }) (λ b. grows_same s)) c.sides) g.readers;
+  calm = λ f. all_map IsSure IsSure Transitions.ended_copy (λ s h. cond_both (Sides.has_part s) (no_copy s) s (λ (t : Side). IsSure t) (λ b. h) (λ b. h)) c.sides sure;
+  readers = seen_go_on c.log c.sides (map Transitions.ended_copy c.sides) c.readers
+      (grow_map Transitions.ended_copy (λ s. cond_both (Sides.has_part s) (no_copy s) s (λ (t : Side). Grows s t) (λ b. record { base = refl; shows = λ x o h. h }) (λ b. grows_same s)) c.sides) g.readers;
   logged = v.logged;
 }
 
-read_good : (c : Core) (h : Hold) → CoreGood c → Held c h → Calm h.work c.sides → (w : Work) → h.work ≡ w → Steps.may_read w c.sides ≡ true → CoreGood (Steps.read_harmed h w c)
+read_good : (c : Core) (h : Hold) → CoreGood c → Held c h → Calm h.work c.sides → (w : Work) → h.work ≡ w → Transitions.may_read w c.sides ≡ true → CoreGood (Transitions.read_harmed h w c)
 read_good c h g v calm (work.Put pair photo) is f =
     freezes_good c h c.sides g v (grow_same c.sides)
     (λ p. keep (λ s. SideGood p c.up c.log (change_in (Some h) c.pending) (Some h) s) (SideHurt p c.up c.log (change_in (Some h) c.pending))
     (λ s good. hurt_of p c.up c.log (change_in (Some h) c.pending) (Some h) s good) c.sides (v.sides p))
-    (keep (λ s. SideFits c.up (Some h) s) (λ s. SideFits c.up (Steps.failed_hold h) s) (λ s f. fits_failed c.up h (Some h) s f) c.sides v.fits)
+    (keep (λ s. SideFits c.up (Some h) s) (λ s. SideFits c.up (Transitions.failed_hold h) s) (λ s f. fits_failed c.up h (Some h) s f) c.sides v.fits)
   where
     keep : (P Q : Side → Type 0) → ((s : Side) → P s → Q s) → (sides : List Side) → AllByRecursion P sides → AllByRecursion Q sides
     keep P Q k [] all = tt
@@ -440,10 +440,10 @@ read_failed_good c g = by c.hold refl
     by : (o : Option Hold) → c.hold ≡ o → CoreGood (read_failed o c).core
     by None is = g
     by (Some h) is =
-        allowed_good (not h.failed && (not h.published && Steps.may_read h.work c.sides)) (Steps.read_harmed h h.work c) c
+        allowed_good (not h.failed && (not h.published && Transitions.may_read h.work c.sides)) (Transitions.read_harmed h h.work c) c
         (λ allowed.
-        let first = and_parts (not h.failed) (not h.published && Steps.may_read h.work c.sides) allowed in
-        let second = and_parts (not h.published) (Steps.may_read h.work c.sides) first.1 in
+        let first = and_parts (not h.failed) (not h.published && Transitions.may_read h.work c.sides) allowed in
+        let second = and_parts (not h.published) (Transitions.may_read h.work c.sides) first.1 in
         let v = held c h g is in
         read_good c h g v (calm_of c h v (not-true h.failed first.0)) h.work refl second.1)
         g

@@ -20,7 +20,7 @@ use Rattle.hay_core.specs.Calls
 use Rattle.hay_core.specs.Sides
 use Rattle.hay_core.specs.Sides.{settle, made, broken, files_of, with_progress, next_progress, after_ok, after_failed, after_harm, no_copy}
 use Rattle.hay_core.specs.Calls.{call_of, call_from, call_at, copy_next}
-use Rattle.hay_core.specs.Steps.{at_first, put_first, first_call, first_of_two}
+use Rattle.hay_core.specs.Transitions.{at_first, put_first, first_call, first_of_two}
 use Rattle.hay_core.specs.Goodness.{settles, IsSure, Calm, CalmAt}
 use Rattle.hay_core.proofs.SideLaws.{slice_all}
 

@@ -27,7 +27,7 @@ use Rattle.hay_core.specs.Calls
 use Rattle.hay_core.specs.Sides
 use Rattle.hay_core.specs.Sides.{settle, made, broken, files_of, with_progress, next_progress, after_ok, after_failed, after_harm, no_copy}
 use Rattle.hay_core.specs.Calls.{call_of, call_from, call_at, copy_next}
-use Rattle.hay_core.specs.Steps.{change_of}
+use Rattle.hay_core.specs.Transitions.{change_of}
 use Rattle.hay_core.specs.Goodness.{Shows, with_change, settled_change, CopyGood, CopyFits, SideGood, SideFits, is_deleting, is_behind, settles, IsSure}
 use Rattle.hay_needle.proofs.TableLaws.{pair_same, pair_refl, length-flag_last}
 use Rattle.hay_core.proofs.CopyNext.{passed_fits}

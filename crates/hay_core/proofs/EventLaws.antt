@@ -19,9 +19,9 @@ use Rattle.hay_needle.specs.Tables.{look, look_after, rows_of}
 use Rattle.hay_core.specs.Entries.{logged_row, rows_after}
 use Rattle.hay_core.specs.Sides
 use Rattle.hay_core.specs.Sides.{settle, made, broken, files_of, with_progress, next_progress, after_ok, after_failed, after_harm, no_copy}
-use Rattle.hay_core.specs.Steps
-use Rattle.hay_core.specs.Steps.{Stepped, allowed, change, change_in, change_of, at_first, put_first, first_call, first_of_two, device_ok, device_failed, read_failed, publish}
-use Rattle.hay_core.specs.Steps.{end_hold, begin, look_up, stop, open_call, after_event, after_events}
+use Rattle.hay_core.specs.Transitions
+use Rattle.hay_core.specs.Transitions.{Stepped, allowed, change, change_in, change_of, at_first, put_first, first_call, first_of_two, device_ok, device_failed, read_failed, publish}
+use Rattle.hay_core.specs.Transitions.{end_hold, begin, look_up, stop, open_call, after_event, after_events}
 use Rattle.hay_core.specs.declared.machine.Reader.{Reader}
 use Rattle.hay_core.specs.declared.machine.Core.{Core}
 use Rattle.hay_core.specs.declared.machine.Event.{Event}
@@ -44,10 +44,10 @@ row_good p up is_up log l o (s ∷ sides) fits all =
     (subst P is_up (all.0.mapped (fits.0.is_open is_up)), row_good p up is_up log l o sides fits.1 all.1)
 
 put_good : (log : List Logged) (sides : List Side) (r : Reader) (readers : List Reader) → ReaderGood log sides r → AllByRecursion (ReaderGood log sides) readers
-    → AllByRecursion (ReaderGood log sides) (Steps.with_reader r readers)
+    → AllByRecursion (ReaderGood log sides) (Transitions.with_reader r readers)
 put_good log sides r [] good all = (good, tt)
 put_good log sides r (x ∷ readers) good all =
-    cond_both (nat_eq x.number r.number) (r ∷ readers) (x ∷ Steps.with_reader r readers) (λ (rs : List Reader). AllByRecursion (ReaderGood log sides) rs)
+    cond_both (nat_eq x.number r.number) (r ∷ readers) (x ∷ Transitions.with_reader r readers) (λ (rs : List Reader). AllByRecursion (ReaderGood log sides) rs)
     (λ t. (good, all.1)) (λ f. (all.0, put_good log sides r readers good all.1))
 
 take_whole : (log : List Logged) → take (length log) log ≡ log
@@ -57,7 +57,7 @@ take_whole (x ∷ log) = ap (λ (xs : List Logged). x ∷ xs) (take_whole log)
 pub look_good : (reader : ℕ) (p : Pair) (c : Core) → CoreGood c → CoreGood (look_up reader p c).core
 look_good reader p c g =
     let r : Reader = record { number = reader; pair = p; front = length c.log; row = map (λ s. spot_in s.spots p) c.sides } in
-    allowed_good c.up (record c { readers = Steps.with_reader r c.readers }) c
+    allowed_good c.up (record c { readers = Transitions.with_reader r c.readers }) c
     (λ up.
     let P : List Logged → Type 0 = λ log. RowGood p log c.sides (map (λ s. spot_in s.spots p) c.sides) in
     let good : ReaderGood c.log c.sides r = record {
@@ -77,11 +77,11 @@ look_good reader p c g =
     })
     g
 
-pub fetch_good : (replica : ℕ) (o : Option Reader) (c : Core) → CoreGood c → CoreGood (Steps.fetch_by replica o c).core
+pub fetch_good : (replica : ℕ) (o : Option Reader) (c : Core) → CoreGood c → CoreGood (Transitions.fetch_by replica o c).core
 fetch_good replica None c g = g
 fetch_good replica (Some r) c g = at (slice_get c.sides replica) (slice_get r.row replica)
   where
-    at : (s : Option Side) (x : Option Spot) → CoreGood (Steps.fetch_at s x c).core
+    at : (s : Option Side) (x : Option Spot) → CoreGood (Transitions.fetch_at s x c).core
     at None x = g
     at (Some s) None = g
     at (Some s) (Some x) = g
@@ -117,7 +117,7 @@ stopped_fits up o false true s f = record { is_open = λ no. absurd (false≢tru
 stopped_fits up o false false s f = record { is_open = λ no. absurd (false≢true no); rows = omega arith; most = omega (arith, f.rows, f.most); copy = tt; held = tt }
 
 all_stopped : (P Q : Side → Type 0) → ((k r : Bool) (s : Side) → P s → Q (Sides.stopped k r s)) → (keep rows : List Bool) (sides : List Side) → AllByRecursion P sides
-    → AllByRecursion Q (Steps.stopped_sides keep rows sides)
+    → AllByRecursion Q (Transitions.stopped_sides keep rows sides)
 all_stopped P Q h [] rows sides all = tt
 all_stopped P Q h (k ∷ keep) [] sides all = tt
 all_stopped P Q h (k ∷ keep) (r ∷ rows) [] all = tt
@@ -125,7 +125,7 @@ all_stopped P Q h (k ∷ keep) (r ∷ rows) (s ∷ sides) all = (h k r s all.0, 
 
 pub stop_good : (keep rows : List Bool) (c : Core) → CoreGood c → CoreGood (stop keep rows c).core
 stop_good keep rows c g =
-    let S : List Side = Steps.stopped_sides keep rows c.sides in
+    let S : List Side = Transitions.stopped_sides keep rows c.sides in
     allowed_good (nat_eq (length keep) (length c.sides) && nat_eq (length rows) (length c.sides))
     (record c { sides = S; hold = None; readers = []; pending = change c; up = false }) c
     (λ allowed.
@@ -175,7 +175,7 @@ opened_good p log l s sure g = record {
   copied = λ f. g.copied refl;
 }
 
-pub all_at : (P : Side → Type 0) (f : Side → Side) → ((s : Side) → P s → P (f s)) → (j : ℕ) (sides : List Side) → AllByRecursion P sides → AllByRecursion P (Steps.at_side j f sides)
+pub all_at : (P : Side → Type 0) (f : Side → Side) → ((s : Side) → P s → P (f s)) → (j : ℕ) (sides : List Side) → AllByRecursion P sides → AllByRecursion P (Transitions.at_side j f sides)
 all_at P f h j [] all = tt
 all_at P f h zero (s ∷ sides) all = (h s all.0, all.1)
 all_at P f h (suc j) (s ∷ sides) all = (all.0, all_at P f h j sides all.1)
@@ -194,7 +194,7 @@ pub all_open : (sides : List Side) → Rattle.std.specs.List.list_all (λ s. s.i
 all_open [] e = tt
 all_open (s ∷ sides) e = let a = and_parts s.is_open (Rattle.std.specs.List.list_all (λ s. s.is_open) sides) e in (a.0, all_open sides a.1)
 
-pub closed_down : (j : ℕ) (up : Bool) (o : Option Hold) (sides : List Side) → AllByRecursion (SideFits up o) sides → Steps.side_passes j (λ s. not s.is_open) sides ≡ true → up ≡ false
+pub closed_down : (j : ℕ) (up : Bool) (o : Option Hold) (sides : List Side) → AllByRecursion (SideFits up o) sides → Transitions.side_passes j (λ s. not s.is_open) sides ≡ true → up ≡ false
 closed_down j up o [] all e = absurd (false≢true e)
 closed_down zero up o (s ∷ sides) all e = false_from_ne_true up (λ t. false≢true (sym (not-true s.is_open e) ∙ all.0.is_open t))
 closed_down (suc j) up o (s ∷ sides) all e = closed_down j up o sides all.1 e
@@ -209,8 +209,8 @@ weak P Q h (s ∷ sides) all = (h s all.0, weak P Q h sides all.1)
 
 pub open_good : (j : ℕ) (c : Core) → CoreGood c → CoreGood (open_call j c).core
 open_good j c g =
-    let S : List Side = Steps.at_side j Sides.opened c.sides in
-    allowed_good (Steps.side_passes j (λ s. not s.is_open) c.sides) (Steps.risen (Rattle.std.specs.List.list_all (λ s. s.is_open) S) S c) c
+    let S : List Side = Transitions.at_side j Sides.opened c.sides in
+    allowed_good (Transitions.side_passes j (λ s. not s.is_open) c.sides) (Transitions.risen (Rattle.std.specs.List.list_all (λ s. s.is_open) S) S c) c
     (λ allowed.
     let down : c.up ≡ false = closed_down j c.up c.hold c.sides g.fits allowed in
     let free : c.hold ≡ None = down_hold c.hold c.up c.frozen c.pending down g.flags in
@@ -232,8 +232,8 @@ open_good j c g =
     let fit : AllByRecursion (SideFits false None) S = all_at (λ s. SideFits false None s) Sides.opened
     (λ s f. record { is_open = λ no. absurd (false≢true no); rows = f.rows; most = f.most; copy = f.copy; held = tt }) j c.sides fits in
     let now_sure : AllByRecursion IsSure S = all_at IsSure Sides.opened (λ s h. h) j c.sides sure in
-    let rise : (b : Bool) → Rattle.std.specs.List.list_all (λ s. s.is_open) S ≡ b → CoreGood (Steps.risen b S c) =
-    λ b. elim b as (λ b. Rattle.std.specs.List.list_all (λ s. s.is_open) S ≡ b → CoreGood (Steps.risen b S c)) [
+    let rise : (b : Bool) → Rattle.std.specs.List.list_all (λ s. s.is_open) S ≡ b → CoreGood (Transitions.risen b S c) =
+    λ b. elim b as (λ b. Rattle.std.specs.List.list_all (λ s. s.is_open) S ≡ b → CoreGood (Transitions.risen b S c)) [
       | true ↦ λ open_all.
           let each = all_open S open_all in
           let F : Option Hold → Type 0 = λ o. HoldFlags o true false None in
@@ -289,7 +289,7 @@ event_good event.ReadFailed c g = read_failed_good c g
 event_good event.Publish c g = publish_good c g
 event_good event.EndHold c g = end_hold_good c g
 event_good (event.Look reader pair) c g = look_good reader pair c g
-event_good (event.Fetch reader replica) c g = fetch_good replica (Steps.reader_by reader c.readers) c g
+event_good (event.Fetch reader replica) c g = fetch_good replica (Transitions.reader_by reader c.readers) c g
 event_good (event.Stop keep rows) c g = stop_good keep rows c g
 event_good (event.OpenCall replica) c g = open_good replica c g
 
@@ -298,11 +298,11 @@ events_good [] c g = g
 events_good (e ∷ events) c g = events_good events (after_event c e).core (event_good e c g)
 
 -- a new volume
-new_sides : (P : Side → Type 0) → P Steps.new_side → (n : ℕ) → AllByRecursion P (Rattle.std.specs.Prelude.replicate n Steps.new_side)
+new_sides : (P : Side → Type 0) → P Transitions.new_side → (n : ℕ) → AllByRecursion P (Rattle.std.specs.Prelude.replicate n Transitions.new_side)
 new_sides P h zero = tt
 new_sides P h (suc n) = (h, new_sides P h n)
 
-pub new_good : (n : ℕ) → CoreGood (Steps.new_core n)
+pub new_good : (n : ℕ) → CoreGood (Transitions.new_core n)
 new_good n = record {
   flags = λ up f. refl;
   readers_up = λ no. absurd (true≢false no);

@@ -19,7 +19,7 @@ use Rattle.hay_needle.specs.Tables.{look, rows_of}
 use Rattle.hay_core.specs.Entries.{rows_after}
 use Rattle.hay_core.specs.Sides.{made, broken, next_progress, after_failed, after_harm}
 use Rattle.hay_core.specs.Calls.{call_of}
-use Rattle.hay_core.specs.Steps.{change_of}
+use Rattle.hay_core.specs.Transitions.{change_of}
 use Rattle.hay_core.specs.Goodness.{Shows, with_change, settled_change, DoubtGood, CopyGood, CopyFits, SideGood, SideFits, SideHeld, HeldGood, is_deleted, is_deleting, settles, IsSure}
 use Rattle.hay_core.proofs.DeviceLaws.{stays_mapped, settled_ok}
 use Rattle.hay_core.proofs.CalmLaws.{harms, harm_fits, is_calm, is_again, is_quiet, changes}

@@ -6,7 +6,7 @@ use Rattle.hay_core.specs.declared.machine.Work.{Work}
 use Rattle.hay_core.specs.declared.calls.Harm.{Harm}
 use Rattle.hay_core.specs.declared.calls.DeviceCall.{DeviceCall}
 use Rattle.hay_core.specs.Calls.{call_of}
-use Rattle.hay_core.specs.Steps.{at_first, put_first, first_call, first_of_two, first_passes, first_side_passes}
+use Rattle.hay_core.specs.Transitions.{at_first, put_first, first_call, first_of_two, first_passes, first_side_passes}
 use Rattle.hay_core.proofs.Lists.{next_left}
 
 -- what becomes of the sides that are left, once a call was met or not

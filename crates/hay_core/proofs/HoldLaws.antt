@@ -28,9 +28,9 @@ use Rattle.hay_core.specs.Calls
 use Rattle.hay_core.specs.Sides
 use Rattle.hay_core.specs.Sides.{settle, made, broken, files_of, with_progress, next_progress, after_ok, after_failed, after_harm, no_copy}
 use Rattle.hay_core.specs.Calls.{call_of, call_from, call_at, copy_next}
-use Rattle.hay_core.specs.Steps
-use Rattle.hay_core.specs.Steps.{Stepped, allowed, change, change_in, change_of, at_first, put_first, first_call, first_of_two, device_ok, device_failed, read_failed, publish}
-use Rattle.hay_core.specs.Steps.{end_hold, begin, look_up, stop, open_call, after_event, after_events}
+use Rattle.hay_core.specs.Transitions
+use Rattle.hay_core.specs.Transitions.{Stepped, allowed, change, change_in, change_of, at_first, put_first, first_call, first_of_two, device_ok, device_failed, read_failed, publish}
+use Rattle.hay_core.specs.Transitions.{end_hold, begin, look_up, stop, open_call, after_event, after_events}
 use Rattle.hay_core.specs.declared.machine.Core.{Core}
 use Rattle.hay_core.proofs.HarmLaws.{SideHurt, hurt_of, good_of, hurt_again}
 use Rattle.hay_core.specs.Goodness.{CoreGood, HoldFlags, CalmIn, CalmHold, Shows, with_change, settled_change, DoubtGood, CopyGood, CopyFits, SideGood, SideFits, is_deleting, is_behind, IsSure}
@@ -52,7 +52,7 @@ no_photo : (o : Outcome) → Sides.is_photo o ≡ false → o ≡ outcome.Nothin
 no_photo outcome.Nothing f = refl
 no_photo (outcome.Photo x) f = absurd (true≢false f)
 
-left_out : (p : Pair) (tag : CoreTag) (w : Work) (j : ℕ) (s : Side) (rows : List Row) → Steps.takes_part w j s ≡ false → ((q : Pair) → q ≡ p → look (rows_of s.current) q ≡ look rows q)
+left_out : (p : Pair) (tag : CoreTag) (w : Work) (j : ℕ) (s : Side) (rows : List Row) → Transitions.takes_part w j s ≡ false → ((q : Pair) → q ≡ p → look (rows_of s.current) q ≡ look rows q)
     → look (rows_of s.current) p ≡ look (with_change (change_of tag w) rows) p
 left_out p tag (work.Put pair photo) j s rows f h = absurd (true≢false f)
 left_out p tag (work.Del q) j s rows f h =
@@ -71,7 +71,7 @@ left_out p tag (work.Finish side) j s rows f h = h p refl
 
 begun_hurt : (p : Pair) (up : Bool) (log : List Logged) (tag : CoreTag) (w : Work) (j : ℕ) (s : Side) → look (rows_of s.current) p ≡ look (rows_after log s.base) p
     → DoubtGood p (change_of tag w) s.fresh s.current s.doubt
-    → SideGood p up log None None s → (part : Bool) → Steps.takes_part w j s ≡ part → SideHurt p up log (change_of tag w) (Steps.begun_side part s)
+    → SideGood p up log None None s → (part : Bool) → Transitions.takes_part w j s ≡ part → SideHurt p up log (change_of tag w) (Transitions.begun_side part s)
 begun_hurt p up log tag w j s table doubted g true is = record { tabled = table; mapped = g.mapped; opened = g.opened; doubted = doubted }
 begun_hurt p up log tag w j s table doubted g false is = record {
   tabled = left_out p tag w j s (rows_after log s.base) is (λ q same. let R : Pair → Type 0 = λ x. look (rows_of s.current) x ≡ look (rows_after log s.base) x in subst R (sym same) table);
@@ -81,14 +81,14 @@ begun_hurt p up log tag w j s table doubted g false is = record {
 }
 
 begun_good : (p : Pair) (up : Bool) (log : List Logged) (tag : CoreTag) (w : Work) (h : Hold) (j : ℕ) (s : Side) → IsSure s → SideGood p up log None None s
-    → (part : Bool) → Steps.takes_part w j s ≡ part → SideGood p up log (change_of tag w) (Some h) (Steps.begun_side part s)
+    → (part : Bool) → Transitions.takes_part w j s ≡ part → SideGood p up log (change_of tag w) (Some h) (Transitions.begun_side part s)
 begun_good p up log tag w h j s sure g part is =
     let table : look (rows_of s.current) p ≡ look (rows_after log s.base) p = g.tabled ∙ ap (λ (rows : List Row). look rows p) (settled_none s.settled (rows_after log s.base)) in
     let D : Doubt → Type 0 = λ d. DoubtGood p (change_of tag w) s.fresh s.current d in
-    good_of p up log (change_of tag w) (Some h) (Steps.begun_side part s) (begun_hurt p up log tag w j s table (subst D (sym sure) tt) g part is) (λ f. g.copied refl)
+    good_of p up log (change_of tag w) (Some h) (Transitions.begun_side part s) (begun_hurt p up log tag w j s table (subst D (sym sure) tt) g part is) (λ f. g.copied refl)
 
 begun_fits : (up : Bool) (w : Work) (tag : CoreTag) (s : Side) → SideFits up None s → (part : Bool)
-    → SideFits up (Some (record { tag = tag; work = w; failed = false; published = false })) (Steps.begun_side part s)
+    → SideFits up (Some (record { tag = tag; work = w; failed = false; published = false })) (Transitions.begun_side part s)
 begun_fits up w tag s f true = record {
   is_open = f.is_open;
   rows = f.rows;
@@ -108,20 +108,20 @@ begun_fits up w tag s f false = record { is_open = f.is_open; rows = f.rows; mos
 
 begun_goods : (p : Pair) (up : Bool) (log : List Logged) (tag : CoreTag) (w : Work) (h : Hold) (j : ℕ) (sides : List Side) → AllByRecursion IsSure sides
     → AllByRecursion (SideGood p up log None None) sides
-    → AllByRecursion (SideGood p up log (change_of tag w) (Some h)) (Steps.begun_sides w j sides)
+    → AllByRecursion (SideGood p up log (change_of tag w) (Some h)) (Transitions.begun_sides w j sides)
 begun_goods p up log tag w h j [] sure all = tt
-begun_goods p up log tag w h j (s ∷ sides) sure all = (begun_good p up log tag w h j s sure.0 all.0 (Steps.takes_part w j s) refl, begun_goods p up log tag w h (j + 1) sides sure.1 all.1)
+begun_goods p up log tag w h j (s ∷ sides) sure all = (begun_good p up log tag w h j s sure.0 all.0 (Transitions.takes_part w j s) refl, begun_goods p up log tag w h (j + 1) sides sure.1 all.1)
 
 begun_fit : (up : Bool) (w : Work) (tag : CoreTag) (j : ℕ) (sides : List Side) → AllByRecursion (SideFits up None) sides
-    → AllByRecursion (SideFits up (Some (record { tag = tag; work = w; failed = false; published = false }))) (Steps.begun_sides w j sides)
+    → AllByRecursion (SideFits up (Some (record { tag = tag; work = w; failed = false; published = false }))) (Transitions.begun_sides w j sides)
 begun_fit up w tag j [] all = tt
-begun_fit up w tag j (s ∷ sides) all = (begun_fits up w tag s all.0 (Steps.takes_part w j s), begun_fit up w tag (j + 1) sides all.1)
+begun_fit up w tag j (s ∷ sides) all = (begun_fits up w tag s all.0 (Transitions.takes_part w j s), begun_fit up w tag (j + 1) sides all.1)
 
-begun_sure : (w : Work) (j : ℕ) (sides : List Side) → AllByRecursion IsSure sides → AllByRecursion IsSure (Steps.begun_sides w j sides)
+begun_sure : (w : Work) (j : ℕ) (sides : List Side) → AllByRecursion IsSure sides → AllByRecursion IsSure (Transitions.begun_sides w j sides)
 begun_sure w j [] all = tt
 begun_sure w j (s ∷ sides) all = (all.0, begun_sure w (j + 1) sides all.1)
 
-begun_grow : (w : Work) (j : ℕ) (sides : List Side) → AllGrow sides (Steps.begun_sides w j sides)
+begun_grow : (w : Work) (j : ℕ) (sides : List Side) → AllGrow sides (Transitions.begun_sides w j sides)
 begun_grow w j [] = tt
 begun_grow w j (s ∷ sides) = (record { base = refl; shows = λ x o h. h }, begun_grow w (j + 1) sides)
 
@@ -132,11 +132,11 @@ none_of (Some x) f = absurd (false≢true f)
 pub begin_good : (tag : CoreTag) (w : Work) (c : Core) → CoreGood c → CoreGood (begin tag w c).core
 begin_good tag w c g =
     let h : Hold = record { tag = tag; work = w; failed = false; published = false } in
-    allowed_good (c.up && (not (is_some c.hold) && (not c.frozen && Steps.can_begin w c.sides))) (record c { hold = Some h; sides = Steps.begun_sides w 0 c.sides }) c
+    allowed_good (c.up && (not (is_some c.hold) && (not c.frozen && Transitions.can_begin w c.sides))) (record c { hold = Some h; sides = Transitions.begun_sides w 0 c.sides }) c
     (λ allowed.
-    let a = and_parts c.up (not (is_some c.hold) && (not c.frozen && Steps.can_begin w c.sides)) allowed in
-    let b = and_parts (not (is_some c.hold)) (not c.frozen && Steps.can_begin w c.sides) a.1 in
-    let d = and_parts (not c.frozen) (Steps.can_begin w c.sides) b.1 in
+    let a = and_parts c.up (not (is_some c.hold) && (not c.frozen && Transitions.can_begin w c.sides)) allowed in
+    let b = and_parts (not (is_some c.hold)) (not c.frozen && Transitions.can_begin w c.sides) a.1 in
+    let d = and_parts (not c.frozen) (Transitions.can_begin w c.sides) b.1 in
     let free : c.hold ≡ None = none_of c.hold b.0 in
     let thawed : c.frozen ≡ false = not-true c.frozen d.0 in
     let F : Option Hold → Type 0 = λ o. HoldFlags o c.up c.frozen c.pending in
@@ -152,8 +152,8 @@ begin_good tag w c g =
       sides = λ p. begun_goods p c.up c.log tag w h 0 c.sides sure (subst (U p) none (subst (S p) free (g.sides p)));
       fits = begun_fit c.up w tag 0 c.sides (subst T free g.fits);
       sure = λ down. absurd (true≢false (sym a.0 ∙ down));
-      calm = λ f. calm_sure w (Steps.begun_sides w 0 c.sides) (begun_sure w 0 c.sides sure);
-      readers = seen_go_on c.log c.sides (Steps.begun_sides w 0 c.sides) c.readers (begun_grow w 0 c.sides) g.readers;
+      calm = λ f. calm_sure w (Transitions.begun_sides w 0 c.sides) (begun_sure w 0 c.sides sure);
+      readers = seen_go_on c.log c.sides (Transitions.begun_sides w 0 c.sides) c.readers (begun_grow w 0 c.sides) g.readers;
       logged = λ out. absurd (false≢true out);
     })
     g
@@ -202,14 +202,14 @@ call_spots (work.Finish side) s spots (Some t) = finishing s.copy
     finishing (Some n) = closing (copy_next (length s.current) (drop n s.current))
 
 -- the table after the log with the change is the table with the change
-pub logged : (log : List Logged) (base : List Row) (l : Option Logged) → rows_after (log ++ Steps.entry_list l) base ≡ with_change l (rows_after log base)
+pub logged : (log : List Logged) (base : List Row) (l : Option Logged) → rows_after (log ++ Transitions.entry_list l) base ≡ with_change l (rows_after log base)
 logged log base None = ap (λ (log : List Logged). rows_after log base) (append-nil log)
 logged log base (Some m) =
     ap (λ (rows : List Row). base ++ rows) (map-append logged_row log (m ∷ [])) ∙ sym (append_assoc base (map logged_row log) (logged_row m ∷ []))
 
 told_spots : (p : Pair) (log : List Logged) (tag : CoreTag) (w : Work) (s : Side) → s.is_open ≡ true
-    → look (rows_of s.current) p ≡ look (rows_after (log ++ Steps.entry_list (change_of tag w)) s.base) p
-    → Shows s (spot_in s.spots p) (look (rows_after log s.base) p) → Shows s (spot_in (Steps.publish_pair w s).spots p) (look (rows_after (log ++ Steps.entry_list (change_of tag w)) s.base) p)
+    → look (rows_of s.current) p ≡ look (rows_after (log ++ Transitions.entry_list (change_of tag w)) s.base) p
+    → Shows s (spot_in s.spots p) (look (rows_after log s.base) p) → Shows s (spot_in (Transitions.publish_pair w s).spots p) (look (rows_after (log ++ Transitions.entry_list (change_of tag w)) s.base) p)
 told_spots p log tag (work.Put pair photo) s is now h =
     let m : Logged = record { tag = tag; entry = entry.Put pair photo.cookie photo.bytes } in
     let new = log ++ m ∷ [] in
@@ -248,7 +248,7 @@ told_spots p log tag (work.Finish side) s is now h =
     (λ b. subst S now (spots_show s.past s.current p)) (λ b. subst Q (sym (append-nil log)) h)
 
 -- what a publish leaves of a side: its map alone
-published_as : (w : Work) (s : Side) → Steps.publish_pair w s ≡ record s { spots = (Steps.publish_pair w s).spots }
+published_as : (w : Work) (s : Side) → Transitions.publish_pair w s ≡ record s { spots = (Transitions.publish_pair w s).spots }
 published_as (work.Put pair photo) s = refl
 published_as (work.Del q) s = refl
 published_as (work.Flush side) s = refl
@@ -266,10 +266,10 @@ none_deleting (work.Finish side) p s e = refl
 
 published_good : (p : Pair) (up : Bool) → up ≡ true → (log : List Logged) (h k : Hold) → h.failed ≡ false → (s : Side) → call_of h.work s ≡ None → IsSure s → SideFits up (Some h) s
     → SideGood p up log (change_of h.tag h.work) (Some h) s
-    → SideGood p up (log ++ Steps.entry_list (change_of h.tag h.work)) None (Some k) (record s { spots = (Steps.publish_pair h.work s).spots })
+    → SideGood p up (log ++ Transitions.entry_list (change_of h.tag h.work)) None (Some k) (record s { spots = (Transitions.publish_pair h.work s).spots })
 published_good p up is_up log h k ok s none sure fits g =
     let l = change_of h.tag h.work in
-    let new = log ++ Steps.entry_list l in
+    let new = log ++ Transitions.entry_list l in
     let settled : with_change (settled_change s.settled l) (rows_after log s.base) ≡ with_change l (rows_after log s.base) =
     elim (cases_Bool (changes h.work)) [
       | inl t ↦ let b : s.settled ≡ true = (fits.held ok).settled (behind_none h.work s s.progress t none) in ap (λ (b : Bool). with_change (settled_change b l) (rows_after log s.base)) b
@@ -280,7 +280,7 @@ published_good p up is_up log h k ok s none sure fits g =
     let now : look (rows_of s.current) p ≡ look (rows_after new s.base) p = g.tabled ∙ ap (λ (rows : List Row). look rows p) (settled ∙ sym (logged log s.base l)) in
     let open_now : s.is_open ≡ true = fits.is_open is_up in
     let old : Bool → Type 0 = λ b. Shows s (spot_in s.spots p) (look (rows_after (cond b log []) s.base) p) in
-    let fresh : Bool → Type 0 = λ b. Shows s (spot_in (Steps.publish_pair h.work s).spots p) (look (rows_after (cond b new []) s.base) p) in
+    let fresh : Bool → Type 0 = λ b. Shows s (spot_in (Transitions.publish_pair h.work s).spots p) (look (rows_after (cond b new []) s.base) p) in
     record {
       tabled = now ∙ ap (λ (rows : List Row). look rows p) (sym (settled_none s.settled (rows_after new s.base)));
       mapped = λ is. subst fresh (sym is_up) (told_spots p log h.tag h.work s is now (subst old is_up (g.mapped is)));
@@ -290,9 +290,9 @@ published_good p up is_up log h k ok s none sure fits g =
     }
 
 published_fits : (up : Bool) (h k : Hold) → k.work ≡ h.work → h.failed ≡ false → (s : Side) → call_of h.work s ≡ None → SideFits up (Some h) s
-    → SideFits up (Some k) (record s { spots = (Steps.publish_pair h.work s).spots })
+    → SideFits up (Some k) (record s { spots = (Transitions.publish_pair h.work s).spots })
 published_fits up h k same ok s none f =
-    let t : Side = record s { spots = (Steps.publish_pair h.work s).spots } in
+    let t : Side = record s { spots = (Transitions.publish_pair h.work s).spots } in
     let P : Work → Type 0 = λ w. is_behind w s.progress ≡ true → s.settled ≡ true in
     let Q : Work → Type 0 = λ w. call_of w t ≡ None in
     record {
@@ -300,10 +300,10 @@ published_fits up h k same ok s none f =
       rows = f.rows;
       most = f.most;
       copy = f.copy;
-      held = λ failed. record { settled = subst P (sym same) (f.held ok).settled; all_made = λ out. subst Q (sym same) (call_spots h.work s (Steps.publish_pair h.work s).spots s.progress ∙ none) };
+      held = λ failed. record { settled = subst P (sym same) (f.held ok).settled; all_made = λ out. subst Q (sym same) (call_spots h.work s (Transitions.publish_pair h.work s).spots s.progress ∙ none) };
     }
 
-publish_grows : (w : Work) (s : Side) → Grows s (Steps.publish_pair w s)
+publish_grows : (w : Work) (s : Side) → Grows s (Transitions.publish_pair w s)
 publish_grows w s = let P : Side → Type 0 = λ t. Grows s t in subst P (sym (published_as w s)) (record { base = refl; shows = λ x o h. h })
 
 pub publish_good : (c : Core) → CoreGood c → CoreGood (publish c.hold c).core
@@ -314,13 +314,13 @@ publish_good c g = by c.hold refl
     by (Some h) is =
         let k : Hold = record h { published = true } in
         let l : Option Logged = change_of h.tag h.work in
-        let S : List Side = map (Steps.publish_pair h.work) c.sides in
-        allowed_good (not h.failed && (not h.published && (Steps.publishes h.work && not (is_some (first_call h.work c.sides)))))
-        (record c { log = c.log ++ Steps.entry_list l; sides = S; hold = Some k }) c
+        let S : List Side = map (Transitions.publish_pair h.work) c.sides in
+        allowed_good (not h.failed && (not h.published && (Transitions.publishes h.work && not (is_some (first_call h.work c.sides)))))
+        (record c { log = c.log ++ Transitions.entry_list l; sides = S; hold = Some k }) c
         (λ allowed.
-        let a = and_parts (not h.failed) (not h.published && (Steps.publishes h.work && not (is_some (first_call h.work c.sides)))) allowed in
-        let b = and_parts (not h.published) (Steps.publishes h.work && not (is_some (first_call h.work c.sides))) a.1 in
-        let d = and_parts (Steps.publishes h.work) (not (is_some (first_call h.work c.sides))) b.1 in
+        let a = and_parts (not h.failed) (not h.published && (Transitions.publishes h.work && not (is_some (first_call h.work c.sides)))) allowed in
+        let b = and_parts (not h.published) (Transitions.publishes h.work && not (is_some (first_call h.work c.sides))) a.1 in
+        let d = and_parts (Transitions.publishes h.work) (not (is_some (first_call h.work c.sides))) b.1 in
         let v = held c h g is in
         let ok = not-true h.failed a.0 in
         let out = under_way h c.pending (not-true h.published b.0) in
@@ -336,17 +336,17 @@ publish_good c g = by c.hold refl
           readers_up = g.readers_up;
           sides = λ p.
               let G : Side → Type 0 = λ s. SideGood p c.up c.log l (Some h) s in
-              let H : Side → Type 0 = λ s. SideGood p c.up (c.log ++ Steps.entry_list l) None (Some k) s in
-              all_map (λ s. (N s × (IsSure s × F s)) × G s) H (Steps.publish_pair h.work)
+              let H : Side → Type 0 = λ s. SideGood p c.up (c.log ++ Transitions.entry_list l) None (Some k) s in
+              all_map (λ s. (N s × (IsSure s × F s)) × G s) H (Transitions.publish_pair h.work)
               (λ s all. subst H (sym (published_as h.work s)) (published_good p c.up v.up c.log h k ok s all.0.0 all.0.1.0 all.0.1.1 all.1))
               c.sides (all_both (λ s. N s × (IsSure s × F s)) G c.sides three (subst (L p) out (v.sides p)));
           fits =
               let T : Side → Type 0 = λ s. SideFits c.up (Some k) s in
-              all_map (λ s. N s × (IsSure s × F s)) T (Steps.publish_pair h.work) (λ s all. subst T (sym (published_as h.work s)) (published_fits c.up h k refl ok s all.0 all.1.1)) c.sides three;
+              all_map (λ s. N s × (IsSure s × F s)) T (Transitions.publish_pair h.work) (λ s all. subst T (sym (published_as h.work s)) (published_fits c.up h k refl ok s all.0 all.1.1)) c.sides three;
           sure = λ down. absurd (true≢false (sym v.up ∙ down));
           calm = λ f. subst D (sym ok) (calm_sure h.work S
-              (all_map IsSure IsSure (Steps.publish_pair h.work) (λ s h2. subst IsSure (sym (published_as h.work s)) h2) c.sides sure));
-          readers = seen_grow c.log (Steps.entry_list l) c.sides S c.readers (grow_map (Steps.publish_pair h.work) (publish_grows h.work) c.sides) g.readers;
+              (all_map IsSure IsSure (Transitions.publish_pair h.work) (λ s h2. subst IsSure (sym (published_as h.work s)) h2) c.sides sure));
+          readers = seen_grow c.log (Transitions.entry_list l) c.sides S c.readers (grow_map (Transitions.publish_pair h.work) (publish_grows h.work) c.sides) g.readers;
           logged = λ out. (c.log, refl);
         })
         g
@@ -404,14 +404,14 @@ ended_fit (work.Start side) s h = h
 ended_fit (work.Finish side) s h = h
 ended_fit (work.Step side cells) s h = passed_fit s.progress s.copy cells (length s.current) h
 
-unpublished : (h : Hold) (pending : Option Logged) → (h.published || not (Steps.publishes h.work)) ≡ true → change_in (Some h) pending ≡ None
+unpublished : (h : Hold) (pending : Option Logged) → (h.published || not (Transitions.publishes h.work)) ≡ true → change_in (Some h) pending ≡ None
 unpublished h pending f =
-    elim (or_cases h.published (not (Steps.publishes h.work)) f) [
+    elim (or_cases h.published (not (Transitions.publishes h.work)) f) [
       | inl t ↦ cond-true h.published None (change_of h.tag h.work) t
-      | inr n ↦ cond_both h.published None (change_of h.tag h.work) (λ (o : Option Logged). o ≡ None) (λ b. refl) (λ b. no_change h.tag h.work (only h.work (not-true (Steps.publishes h.work) n)))
+      | inr n ↦ cond_both h.published None (change_of h.tag h.work) (λ (o : Option Logged). o ≡ None) (λ b. refl) (λ b. no_change h.tag h.work (only h.work (not-true (Transitions.publishes h.work) n)))
     ]
   where
-    only : (w : Work) → Steps.publishes w ≡ false → changes w ≡ false
+    only : (w : Work) → Transitions.publishes w ≡ false → changes w ≡ false
     only (work.Put pair photo) f = absurd (true≢false f)
     only (work.Del q) f = absurd (true≢false f)
     only (work.Flush side) f = refl
@@ -429,15 +429,15 @@ end_hold_good c g = by c.hold refl
     by : (o : Option Hold) → c.hold ≡ o → CoreGood (end_hold o c).core
     by None is = g
     by (Some h) is =
-        let test = h.failed || (not (is_some (first_call h.work c.sides)) && (h.published || not (Steps.publishes h.work))) in
+        let test = h.failed || (not (is_some (first_call h.work c.sides)) && (h.published || not (Transitions.publishes h.work))) in
         let S : List Side = map (Sides.ended h.work h.failed) c.sides in
         let l : Option Logged = change_in (Some h) c.pending in
         allowed_good test (record c { sides = S; hold = None; pending = l }) c
         (λ allowed.
         let v = held c h g is in
-        let rest : h.failed ≡ false → (not (is_some (first_call h.work c.sides)) ≡ true) × ((h.published || not (Steps.publishes h.work)) ≡ true) = λ ok.
-        and_parts (not (is_some (first_call h.work c.sides))) (h.published || not (Steps.publishes h.work))
-        (sym (ap (λ (b : Bool). b || (not (is_some (first_call h.work c.sides)) && (h.published || not (Steps.publishes h.work)))) ok) ∙ allowed) in
+        let rest : h.failed ≡ false → (not (is_some (first_call h.work c.sides)) ≡ true) × ((h.published || not (Transitions.publishes h.work)) ≡ true) = λ ok.
+        and_parts (not (is_some (first_call h.work c.sides))) (h.published || not (Transitions.publishes h.work))
+        (sym (ap (λ (b : Bool). b || (not (is_some (first_call h.work c.sides)) && (h.published || not (Transitions.publishes h.work)))) ok) ∙ allowed) in
         let none : h.failed ≡ false → AllByRecursion (λ s. call_of h.work s ≡ None) c.sides = λ ok. none_left h.work c.sides (none_of (first_call h.work c.sides) (rest ok).0) in
         let sure : c.frozen ≡ false → AllByRecursion IsSure c.sides = λ f.
         elim (cases_Bool h.failed) [

@@ -4,7 +4,7 @@ use Rattle.std.specs.Prelude.{nat_eq, if◌then◌else◌}
 use Rattle.std.proofs.lemmas.Bool.{cond-true, cond-false, eq-eqb, eqb-true, false_from_ne_true}
 use Rattle.hay_core.specs.declared.machine.Side.{Side}
 use Rattle.hay_core.specs.Sides.{opened}
-use Rattle.hay_core.specs.Steps.{at_side}
+use Rattle.hay_core.specs.Transitions.{at_side}
 
 -- the sides, the first of which has the number i, once that of number j is opened
 abbrev pub from_here : ℕ → ℕ → List Side → List Side

@@ -14,8 +14,8 @@ use Rattle.hay_core.specs.declared.calls.DeviceCall.{DeviceCall}
 use Rattle.hay_core.specs.Calls
 use Rattle.hay_core.specs.Calls.{call_of, call_from}
 use Rattle.hay_core.specs.Sides.{has_part, no_copy}
-use Rattle.hay_core.specs.Steps
-use Rattle.hay_core.specs.Steps.{change_in, change_of, at_side, ended_copy}
+use Rattle.hay_core.specs.Transitions
+use Rattle.hay_core.specs.Transitions.{change_in, change_of, at_side, ended_copy}
 use Rattle.hay_core.specs.Goodness.{CoreGood, SideGood, SideFits, CopyGood, CopyFits, IsSure, HoldFlags, CalmHold, Calm, CalmAt, is_deleting, settles}
 use Rattle.hay_core.specs.Refusals.{frozen, failed_of, dropped, cut, cut_side, CutsAt, given_up, given_up_side, may_give_up, RefusalsKeepGood}
 use Rattle.hay_core.proofs.CopyNext.{copy_passed}
@@ -77,7 +77,7 @@ frozen_keeps c g = by c.hold refl
         let l : Option Logged = change_in (Some h) c.pending in
         freezes_good c h c.sides g v (grow_same c.sides)
         (λ p. weak (λ s. SideGood p c.up c.log l (Some h) s) (SideHurt p c.up c.log l) (λ s good. hurt_of p c.up c.log l (Some h) s good) c.sides (v.sides p))
-        (weak (λ s. SideFits c.up (Some h) s) (λ s. SideFits c.up (Steps.failed_hold h) s) (λ s f. fits_failed c.up h (Some h) s f) c.sides v.fits)
+        (weak (λ s. SideFits c.up (Some h) s) (λ s. SideFits c.up (Transitions.failed_hold h) s) (λ s f. fits_failed c.up h (Some h) s f) c.sides v.fits)
 
 -- A COPY DROPPED
 

@@ -16,10 +16,10 @@ use Rattle.hay_core.specs.declared.machine.Event.TheVariants as event
 use Rattle.hay_core.specs.declared.machine.CoreReply.{CoreReply}
 use Rattle.hay_core.specs.declared.machine.CoreReply.TheVariants.{Done, Shown}
 use Rattle.hay_core.specs.Sides
-use Rattle.hay_core.specs.Steps
-use Rattle.hay_core.specs.Steps.{after_event, after_events, replies_to}
+use Rattle.hay_core.specs.Transitions
+use Rattle.hay_core.specs.Transitions.{after_event, after_events, replies_to}
 use Rattle.hay_core.specs.Goodness.{CoreGood}
-use Rattle.hay_core.specs.Runs.{core_at, KeepsGood, ShowsFronts, OpensTables, Rises, RisesByOpening, LogGrows, KeepsEntries}
+use Rattle.hay_core.specs.Invariants.{core_at, KeepsGood, ShowsFronts, OpensTables, Rises, RisesByOpening, LogGrows, KeepsEntries}
 use Rattle.hay_core.proofs.EventLaws.{event_good, events_good}
 use Rattle.hay_core.proofs.ShownLaws.{fetch_shows, opens, ended_logged}
 use Rattle.hay_core.proofs.LogLaws.{Grown, grown_same, grown_on, goes_on, shows_by_fetch}
@@ -108,30 +108,30 @@ shows_fronts c es g n o reply =
     let P : Event → Type 0 = λ e. (after_event now e).reply ≡ Shown o in
     (fetch.0, fetch.1, at.1 ∙ ap (λ (e : Event). Some e) fetch.2, fetch_shows fetch.0 fetch.1 now o (keeps_good c es g n) (subst P fetch.2 told))
 
-opened_at : (c : Core) (j : ℕ) → (Steps.open_call j c).reply ≡ Done → (s : Side) × (slice_get c.sides j ≡ Some s) × (slice_get (Steps.open_call j c).core.sides j ≡ Some (Sides.opened s))
-opened_at c j done = go (Steps.side_passes j (λ s. not s.is_open) c.sides) refl done
+opened_at : (c : Core) (j : ℕ) → (Transitions.open_call j c).reply ≡ Done → (s : Side) × (slice_get c.sides j ≡ Some s) × (slice_get (Transitions.open_call j c).core.sides j ≡ Some (Sides.opened s))
+opened_at c j done = go (Transitions.side_passes j (λ s. not s.is_open) c.sides) refl done
   where
     sides : List Side
-    sides = Steps.at_side j Sides.opened c.sides
+    sides = Transitions.at_side j Sides.opened c.sides
 
-    found : (j : ℕ) (sides : List Side) → Steps.side_passes j (λ s. not s.is_open) sides ≡ true
-        → (s : Side) × (slice_get sides j ≡ Some s) × (slice_get (Steps.at_side j Sides.opened sides) j ≡ Some (Sides.opened s))
+    found : (j : ℕ) (sides : List Side) → Transitions.side_passes j (λ s. not s.is_open) sides ≡ true
+        → (s : Side) × (slice_get sides j ≡ Some s) × (slice_get (Transitions.at_side j Sides.opened sides) j ≡ Some (Sides.opened s))
     found j [] e = absurd (true≢false (sym e))
     found zero (s ∷ sides) e = (s, refl, refl)
     found (suc j) (s ∷ sides) e = found j sides e
 
-    risen_sides : (b : Bool) (sides : List Side) → (Steps.risen b sides c).sides ≡ sides
+    risen_sides : (b : Bool) (sides : List Side) → (Transitions.risen b sides c).sides ≡ sides
     risen_sides true sides = refl
     risen_sides false sides = refl
 
-    go : (b : Bool) → Steps.side_passes j (λ s. not s.is_open) c.sides ≡ b → (Steps.allowed b
-        (Steps.risen (list_all (λ s. s.is_open) (Steps.at_side j Sides.opened c.sides)) (Steps.at_side j Sides.opened c.sides) c) c).reply ≡ Done
-        → (s : Side) × (slice_get c.sides j ≡ Some s) × (slice_get (Steps.allowed b (Steps.risen (list_all (λ s. s.is_open) (Steps.at_side j Sides.opened c.sides))
-        (Steps.at_side j Sides.opened c.sides) c) c).core.sides j ≡ Some (Sides.opened s))
+    go : (b : Bool) → Transitions.side_passes j (λ s. not s.is_open) c.sides ≡ b → (Transitions.allowed b
+        (Transitions.risen (list_all (λ s. s.is_open) (Transitions.at_side j Sides.opened c.sides)) (Transitions.at_side j Sides.opened c.sides) c) c).reply ≡ Done
+        → (s : Side) × (slice_get c.sides j ≡ Some s) × (slice_get (Transitions.allowed b (Transitions.risen (list_all (λ s. s.is_open) (Transitions.at_side j Sides.opened c.sides))
+        (Transitions.at_side j Sides.opened c.sides) c) c).core.sides j ≡ Some (Sides.opened s))
     go false e done = absurd cc
     go true e done =
         let at = found j c.sides e in
-        (at.0, at.1, ap (λ (ss : List Side). slice_get ss j) (risen_sides (list_all (λ s. s.is_open) (Steps.at_side j Sides.opened c.sides)) (Steps.at_side j Sides.opened c.sides)) ∙ at.2)
+        (at.0, at.1, ap (λ (ss : List Side). slice_get ss j) (risen_sides (list_all (λ s. s.is_open) (Transitions.at_side j Sides.opened c.sides)) (Transitions.at_side j Sides.opened c.sides)) ∙ at.2)
 
 pub opens_tables : (c : Core) (es : List Event) → CoreGood c → OpensTables c es
 opens_tables c es g n j p is reply =
@@ -196,10 +196,10 @@ log_grows c es g m n le never =
     let is : n ≡ m + d = omega (arith, le) in
     grows_by c es m d n g is never
 
-publishes_change : (h : Hold) (l : Logged) → Steps.change_of h.tag h.work ≡ Some l → Steps.publishes h.work ≡ true
+publishes_change : (h : Hold) (l : Logged) → Transitions.change_of h.tag h.work ≡ Some l → Transitions.publishes h.work ≡ true
 publishes_change h l e = by h.work e
   where
-    by : (w : Work) → Steps.change_of h.tag w ≡ Some l → Steps.publishes w ≡ true
+    by : (w : Work) → Transitions.change_of h.tag w ≡ Some l → Transitions.publishes w ≡ true
     by (work.Put pair photo) e = refl
     by (work.Del pair) e = refl
     by (work.Flush side) e = absurd cc
@@ -212,7 +212,7 @@ keeps_entries c es g m n h l lt is reply held ok change never =
     let now = core_at c es m in
     let ended = ended_logged now h (keeps_good c es g m) held ok (publishes_change h l change) (next_reply c es m event.EndHold Done is reply) in
     let next = next_core c es m event.EndHold is in
-    let there : (core_at c es (m + 1)).log ≡ ended.0 ++ l ∷ [] = ap (λ (d : Core). d.log) next ∙ ended.1 ∙ ap (λ (o : Option Logged). ended.0 ++ Steps.entry_list o) change in
+    let there : (core_at c es (m + 1)).log ≡ ended.0 ++ l ∷ [] = ap (λ (d : Core). d.log) next ∙ ended.1 ∙ ap (λ (o : Option Logged). ended.0 ++ Transitions.entry_list o) change in
     let later = log_grows c es g (m + 1) n (omega arith) (λ k a b. never k (omega arith) b) in
     (ended.0, later.0, later.1 ∙ ap (λ (xs : List Logged). xs ++ later.0) there ∙ append_assoc ended.0 (l ∷ []) later.0)
 

@@ -16,10 +16,10 @@ use Rattle.hay_core.specs.declared.machine.Event.TheVariants as event
 use Rattle.hay_needle.specs.Tables.{look}
 use Rattle.hay_core.specs.Entries.{rows_after}
 use Rattle.hay_core.specs.Sides
-use Rattle.hay_core.specs.Steps
-use Rattle.hay_core.specs.Steps.{after_event, reader_by}
+use Rattle.hay_core.specs.Transitions
+use Rattle.hay_core.specs.Transitions.{after_event, reader_by}
 use Rattle.hay_core.specs.Goodness.{CoreGood, HoldLogged, ReaderGood, RowGood, Shows, SideGood, with_change, settled_change}
-use Rattle.hay_core.specs.Runs.{ShowsFront}
+use Rattle.hay_core.specs.Invariants.{ShowsFront}
 use Rattle.hay_core.proofs.EventLaws.{shows_is}
 
 row_at : (p : Pair) (log : List Logged) (sides : List Side) (row : List Spot) (j : ℕ) (s : Side) (x : Spot) → RowGood p log sides row → slice_get sides j ≡ Some s
@@ -49,7 +49,7 @@ pub fetch_shows : (reader replica : ℕ) (c : Core) (o : Outcome) → CoreGood c
 fetch_shows reader replica c o g e = by (reader_by reader c.readers) refl e
   where
     at : (r : Reader) → reader_by reader c.readers ≡ Some r → (s : Option Side) → slice_get c.sides replica ≡ s → (x : Option Spot) → slice_get r.row replica ≡ x
-        → (Steps.fetch_at s x c).reply ≡ Shown o → ShowsFront c reader replica o
+        → (Transitions.fetch_at s x c).reply ≡ Shown o → ShowsFront c reader replica o
     at r is None a x b e = absurd cc
     at r is (Some s) a None b e = absurd cc
     at r is (Some s) a (Some x) b e =
@@ -64,7 +64,7 @@ fetch_shows reader replica c o g e = by (reader_by reader c.readers) refl e
               (row_at r.pair (take r.front c.log) c.sides r.row replica s x good.row a b);
         }
 
-    by : (r : Option Reader) → reader_by reader c.readers ≡ r → (Steps.fetch_by replica r c).reply ≡ Shown o → ShowsFront c reader replica o
+    by : (r : Option Reader) → reader_by reader c.readers ≡ r → (Transitions.fetch_by replica r c).reply ≡ Shown o → ShowsFront c reader replica o
     by None is e = absurd cc
     by (Some r) is e = at r is (slice_get c.sides replica) refl (slice_get r.row replica) refl e
 
@@ -75,25 +75,25 @@ side_at P (t ∷ sides) (suc j) s all e = side_at P sides j s all.1 e
 
 -- an opened side's table is that of the whole log, with the change under way where it is settled
 pub opens : (c : Core) (j : ℕ) (s : Side) (p : Pair) → CoreGood c → slice_get c.sides j ≡ Some s
-    → look (Sides.opened s).base p ≡ look (with_change (settled_change s.settled (Steps.change c)) (rows_after c.log s.base)) p
-opens c j s p g e = (side_at (λ s. SideGood p c.up c.log (Steps.change c) c.hold s) c.sides j s (g.sides p) e).tabled
+    → look (Sides.opened s).base p ≡ look (with_change (settled_change s.settled (Transitions.change c)) (rows_after c.log s.base)) p
+opens c j s p g e = (side_at (λ s. SideGood p c.up c.log (Transitions.change c) c.hold s) c.sides j s (g.sides p) e).tabled
 
 -- a holding that made a change and ends unfailed leaves it at the end of the log
-pub ended_logged : (c : Core) (h : Hold) → CoreGood c → c.hold ≡ Some h → h.failed ≡ false → Steps.publishes h.work ≡ true → (after_event c event.EndHold).reply ≡ Done
-    → (front : List Logged) × ((after_event c event.EndHold).core.log ≡ front ++ Steps.entry_list (Steps.change_of h.tag h.work))
+pub ended_logged : (c : Core) (h : Hold) → CoreGood c → c.hold ≡ Some h → h.failed ≡ false → Transitions.publishes h.work ≡ true → (after_event c event.EndHold).reply ≡ Done
+    → (front : List Logged) × ((after_event c event.EndHold).core.log ≡ front ++ Transitions.entry_list (Transitions.change_of h.tag h.work))
 ended_logged c h g is ok pub_work e =
     let K : Option Hold → Type 0 = λ o. HoldLogged o c.log in
-    let L : Option Hold → Type 0 = λ o. (Steps.end_hold o c).reply ≡ Done in
-    let out : (b : Bool) (next : Core) → (Steps.allowed b next c).reply ≡ Done → b ≡ true =
-    λ b next. elim b as (λ b. (Steps.allowed b next c).reply ≡ Done → b ≡ true) [ true ↦ λ e. refl | false ↦ λ e. absurd cc ] in
-    let test = h.failed || (not (is_some (Steps.first_call h.work c.sides)) && (h.published || not (Steps.publishes h.work))) in
-    let next : Core = record c { sides = map (Sides.ended h.work h.failed) c.sides; hold = None; pending = Steps.change_in (Some h) c.pending } in
+    let L : Option Hold → Type 0 = λ o. (Transitions.end_hold o c).reply ≡ Done in
+    let out : (b : Bool) (next : Core) → (Transitions.allowed b next c).reply ≡ Done → b ≡ true =
+    λ b next. elim b as (λ b. (Transitions.allowed b next c).reply ≡ Done → b ≡ true) [ true ↦ λ e. refl | false ↦ λ e. absurd cc ] in
+    let test = h.failed || (not (is_some (Transitions.first_call h.work c.sides)) && (h.published || not (Transitions.publishes h.work))) in
+    let next : Core = record c { sides = map (Sides.ended h.work h.failed) c.sides; hold = None; pending = Transitions.change_in (Some h) c.pending } in
     let told : test ≡ true = out test next (subst L is e) in
-    let rest = sym (ap (λ (b : Bool). b || (not (is_some (Steps.first_call h.work c.sides)) && (h.published || not (Steps.publishes h.work)))) ok) ∙ told in
-    let either = (and_parts (not (is_some (Steps.first_call h.work c.sides))) (h.published || not (Steps.publishes h.work)) rest).1 in
+    let rest = sym (ap (λ (b : Bool). b || (not (is_some (Transitions.first_call h.work c.sides)) && (h.published || not (Transitions.publishes h.work)))) ok) ∙ told in
+    let either = (and_parts (not (is_some (Transitions.first_call h.work c.sides))) (h.published || not (Transitions.publishes h.work)) rest).1 in
     let published : h.published ≡ true =
-    elim (or_cases h.published (not (Steps.publishes h.work)) either) [ inl t ↦ t | inr n ↦ absurd (true≢false (sym pub_work ∙ not-true (Steps.publishes h.work) n)) ] in
+    elim (or_cases h.published (not (Transitions.publishes h.work)) either) [ inl t ↦ t | inr n ↦ absurd (true≢false (sym pub_work ∙ not-true (Transitions.publishes h.work) n)) ] in
     let entry = (subst K is g.logged) published in
-    let same : (b : Bool) → (Steps.allowed b next c).core.log ≡ c.log = λ b. elim b as (λ b. (Steps.allowed b next c).core.log ≡ c.log) [ true ↦ refl | false ↦ refl ] in
-    let M : Option Hold → Type 0 = λ o. (Steps.end_hold o c).core.log ≡ c.log in
+    let same : (b : Bool) → (Transitions.allowed b next c).core.log ≡ c.log = λ b. elim b as (λ b. (Transitions.allowed b next c).core.log ≡ c.log) [ true ↦ refl | false ↦ refl ] in
+    let M : Option Hold → Type 0 = λ o. (Transitions.end_hold o c).core.log ≡ c.log in
     (entry.0, subst M (sym is) (same test) ∙ entry.1)

@@ -28,7 +28,7 @@ use Rattle.hay_core.specs.Calls
 use Rattle.hay_core.specs.Sides
 use Rattle.hay_core.specs.Sides.{settle, made, broken, files_of, with_progress, next_progress, after_ok, after_failed, no_copy}
 use Rattle.hay_core.specs.Calls.{call_of, call_from, call_at, copy_next}
-use Rattle.hay_core.specs.Steps.{change_of}
+use Rattle.hay_core.specs.Transitions.{change_of}
 use Rattle.hay_core.specs.Goodness.{Shows, ShowsIn, with_change, settled_change, DoubtGood, CopyGood, CopyFits, is_deleting, settles}
 use Rattle.hay_needle.specs.Copies.{CopiesAt}
 use Rattle.hay_needle.proofs.TableLaws.{look_append, rows_append, flag_other, flag_same, pair_same, extends_append, extends_flag}

@@ -28,7 +28,7 @@ use Rattle.hay_core.specs.Entries.{rows_after, logged_row}
 use Rattle.hay_core.specs.Spots.{spot_in, needle_at}
 use Rattle.hay_core.specs.Calls.{call_of}
 use Rattle.hay_core.specs.Sides.{files_of}
-use Rattle.hay_core.specs.Steps.{entry_list, change, change_in, change_of}
+use Rattle.hay_core.specs.Transitions.{entry_list, change, change_in, change_of}
 
 -- ONE SIDE, AT ONE PAIR
 

@@ -2,7 +2,7 @@ pub mod Entries
 pub mod Spots
 pub mod Calls
 pub mod Sides
-pub mod Steps
+pub mod Transitions
 pub mod Goodness
-pub mod Runs
+pub mod Invariants
 pub mod Refusals

@@ -8,7 +8,7 @@ use Rattle.hay_core.specs.declared.machine.Hold.{Hold}
 use Rattle.hay_core.specs.declared.machine.Core.{Core}
 use Rattle.hay_core.specs.Calls.{copy_next}
 use Rattle.hay_core.specs.Sides.{has_part, no_copy}
-use Rattle.hay_core.specs.Steps.{failed_hold, ended_copy, may_read, at_side}
+use Rattle.hay_core.specs.Transitions.{failed_hold, ended_copy, may_read, at_side}
 use Rattle.hay_core.specs.Goodness.{CoreGood}
 
 -- A FREEZE, at any moment: the holder, if there is one, has failed, and no compaction stands.

@@ -1,7 +1,7 @@
 //! What each event makes of a volume: the volume behind it, or `None` where it is not enabled.
 
 ghost use Rattle.std.specs.Prelude.{◌≡◌, ◌++◌, IfOk};
-ghost use Rattle.hay_core.specs.Steps as steps;
+ghost use Rattle.hay_core.specs.Transitions as steps;
 
 use crate::calls::Harm;
 use crate::entry::{CoreTag, Entry, Logged};

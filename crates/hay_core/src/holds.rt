@@ -4,7 +4,7 @@ ghost use Rattle.std.specs.Prelude.{◌≡◌, ◌∷◌, [], IfOk, map, option_
 ghost use Rattle.std.specs.List.{list_any};
 ghost use Rattle.hay_core.specs.Calls as calls;
 ghost use Rattle.hay_core.specs.Sides as sides;
-ghost use Rattle.hay_core.specs.Steps as steps;
+ghost use Rattle.hay_core.specs.Transitions as steps;
 
 use crate::calls::{Harm, call_of, closing_count};
 use crate::machine::{Side, Work};

@@ -3,8 +3,8 @@
 ghost use Rattle.std.specs.Prelude.{◌≡◌, ℕ, IfOk, OnErr, take};
 ghost use Rattle.hay_core.specs.Goodness.{CoreGood};
 ghost use Rattle.hay_core.specs.Refusals.{RefusalsKeepGood};
-ghost use Rattle.hay_core.specs.Runs.{KeepsEntries, KeepsGood, LogGrows, OpensTables, RisesByOpening, ShowsFronts};
-ghost use Rattle.hay_core.specs.Steps as steps;
+ghost use Rattle.hay_core.specs.Invariants.{KeepsEntries, KeepsGood, LogGrows, OpensTables, RisesByOpening, ShowsFronts};
+ghost use Rattle.hay_core.specs.Transitions as steps;
 
 use crate::machine::{Core, CoreReply, Event};
 use hay_base::NoMemory;

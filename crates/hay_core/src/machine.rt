@@ -2,7 +2,7 @@
 
 ghost use Rattle.std.specs.Prelude.{◌≡◌, ◌≤◌, IfOk, OnErr, replicate};
 ghost use Rattle.hay_core.specs.Goodness.{CoreGood};
-ghost use Rattle.hay_core.specs.Steps as steps;
+ghost use Rattle.hay_core.specs.Transitions as steps;
 
 use crate::entry::{CoreTag, Logged};
 use crate::events::{begin, device_failed, device_ok, end_hold, publish, read_failed};

@@ -5,7 +5,7 @@ ghost use Rattle.std.specs.Option.{option_copied};
 ghost use Rattle.std.specs.List.{list_all};
 ghost use Rattle.hay_core.specs.Spots as spots;
 ghost use Rattle.hay_core.specs.Sides as sides;
-ghost use Rattle.hay_core.specs.Steps as steps;
+ghost use Rattle.hay_core.specs.Transitions as steps;
 
 use crate::events::change;
 use crate::machine::{Core, CoreReply, Reader, Side, Spot};

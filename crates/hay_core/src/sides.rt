@@ -4,7 +4,7 @@ ghost use Rattle.std.specs.Prelude.{◌≡◌, ◌+◌, ◌<◌, ◌^◌, ℕ, S
 ghost use Rattle.hay_core.specs.declared.calls.Effect.TheVariants as effects;
 ghost use Rattle.hay_core.specs.Calls as calls;
 ghost use Rattle.hay_core.specs.Sides as sides;
-ghost use Rattle.hay_core.specs.Steps as steps;
+ghost use Rattle.hay_core.specs.Transitions as steps;
 
 use crate::calls::{Copied, DeviceCall, Effect, Harm};
 use crate::machine::{Doubt, Mapped, Side, Spot, Work};

@@ -11,7 +11,7 @@ use Rattle.hay_legal.specs.declared.known.HomeRow.{HomeRow}
 use Rattle.hay_front.specs.Entries.{LogEntry}
 use Rattle.hay_front.specs.Fronts.{with_deed}
 use Rattle.hay_front.specs.declared.front.Tag.{Tag}
-use Rattle.hay_history.specs.Steps.{FollowsRows, IsMissing, LeadsDrains, LeadsRowFuses, LeadsRows, RowsStanding}
+use Rattle.hay_history.specs.LaneSteps.{FollowsRows, IsMissing, LeadsDrains, LeadsRowFuses, LeadsRows, RowsStanding}
 use Rattle.hay_meeting.specs.declared.act.DirAct.{DirAct}
 use Rattle.hay_meeting.specs.declared.act.DirDid.{DirDid}
 use Rattle.hay_meeting.specs.declared.act.DirDid.TheVariants as did

@@ -8,7 +8,7 @@ use Rattle.hay_disk.specs.Disk.{Files}
 use Rattle.hay_core.specs.declared.entry.CoreTag.{CoreTag}
 use Rattle.hay_legal.specs.declared.known.HomeRow.{HomeRow}
 use Rattle.hay_legal.specs.Known.{home_in}
-use Rattle.hay_history.specs.Steps.RowDid.{AddsRow}
+use Rattle.hay_history.specs.LaneSteps.RowDid.{AddsRow}
 use Rattle.hay_turn.specs.Acts.{AllOf}
 use Rattle.hay_turn.specs.Seats.{Holds, MayFree, SeatState, after_free}
 use Rattle.hay_turn.specs.Slots.{acts_in}

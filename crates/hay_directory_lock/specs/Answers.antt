@@ -3,7 +3,7 @@ use Rattle.std.specs.Prelude.{◌≡◌, ◌⊎◌, ℕ, true, List, ◌++◌, l
 use Rattle.hay_core.specs.declared.entry.CoreTag.{CoreTag}
 use Rattle.hay_legal.specs.declared.known.HomeRow.{HomeRow}
 use Rattle.hay_legal.specs.Known.{home_in}
-use Rattle.hay_history.specs.Steps.RowDid.{AddsRow, PendsRow}
+use Rattle.hay_history.specs.LaneSteps.RowDid.{AddsRow, PendsRow}
 use Rattle.hay_turn.specs.Slots.{acts_in}
 use Rattle.hay_meeting.specs.declared.act.DirAct.{DirAct}
 use Rattle.hay_meeting.specs.Acts.{Start, row_lock}

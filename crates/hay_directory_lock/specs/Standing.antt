@@ -7,7 +7,7 @@ use Rattle.hay_front.specs.Fronts.{FrontState}
 use Rattle.hay_legal.specs.declared.known.DirKnown.{DirKnown}
 use Rattle.hay_legal.specs.declared.known.HomeRow.{HomeRow}
 use Rattle.hay_legal.specs.Known.{home_in}
-use Rattle.hay_history.specs.Steps.{FollowsRows, RowsStanding}
+use Rattle.hay_history.specs.LaneSteps.{FollowsRows, RowsStanding}
 use Rattle.hay_meeting.specs.declared.act.DirAct.{DirAct}
 use Rattle.hay_meeting.specs.Acts.{row_lock}
 use Rattle.hay_meeting.specs.Locks.{entries, left, replayed}

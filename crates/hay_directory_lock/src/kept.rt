@@ -6,7 +6,7 @@ ghost use Rattle.hay_turn.specs.Slots.{acts_in};
 ghost use Rattle.hay_meeting.specs.declared.act.DirAct.{DirAct};
 ghost use Rattle.hay_meeting.specs.Acts.{Start, row_did_of};
 ghost use Rattle.hay_holdings.specs.Rows.{MadeRow};
-ghost use Rattle.hay_history.specs.Steps.RowDid.{Drains, FusesRow};
+ghost use Rattle.hay_history.specs.LaneSteps.RowDid.{Drains, FusesRow};
 ghost use Rattle.hay_legal.specs.declared.known.DirKnown.{DirKnown};
 ghost use Rattle.hay_directory.specs.Rows.{home_row};
 ghost use Rattle.hay_directory.specs.State.{IsUp, Stands};

@@ -16,9 +16,9 @@ use Rattle.hay_legal.specs.declared.turn.LaneItem.{LaneItem}
 use Rattle.hay_legal.specs.Known.{Leaves, empty_volume, fault_count, replica_at, slot_of, volume_at}
 use Rattle.hay_legal.specs.Plain.{IsBusy, IsFrozenBy, IsOpen, IsWorn, RoseTo, change_volume}
 use Rattle.hay_legal.specs.Blocks.{tag_of}
-use Rattle.hay_history.specs.Steps.{Did, Leads, LeadsRows, NoneFall, RowDid, RowsStanding, RowStep, Standing, Step}
-use Rattle.hay_history.specs.Steps.Did.{Tries}
-use Rattle.hay_history.specs.Steps.RowDid.{TriesRow}
+use Rattle.hay_history.specs.LaneSteps.{Did, Leads, LeadsRows, NoneFall, RowDid, RowsStanding, RowStep, Standing, Step}
+use Rattle.hay_history.specs.LaneSteps.Did.{Tries}
+use Rattle.hay_history.specs.LaneSteps.RowDid.{TriesRow}
 use Rattle.hay_history.specs.Histories.{Course, History, NoRows, NoSteps, OneRowStep, OneStep, OneTry, OnlyOn, behind, changes, first_of, first_rows, own, own_rows, rows_behind}
 use Rattle.hay_history.specs.Histories.{rows_standing, standing, volume_then}
 use Rattle.hay_history.specs.Commands.{CameBy, IsFrozen, IsLast, IsLastRow, MetBusy, MetWorn, RoseIn}

@@ -18,8 +18,8 @@ use Rattle.hay_legal.specs.Known.{EachPair, Leaves, empty_replica, empty_volume,
 use Rattle.hay_legal.specs.Plain.{IsAtRest, IsFrozenBy, IsOpen, IsTight, LegalCompact, OnReplica, RoseTo, SwapFailed, SwapNoMem, Swaps as LegalSwaps, as_it_is, change_volume}
 use Rattle.hay_legal.specs.Plain.{first_machine, frozen_by, poised, poised_by, stepped, swapped, with_run, without_run}
 use Rattle.hay_legal.specs.Blocks.{tag_of}
-use Rattle.hay_history.specs.Steps.{Did, Leads, Standing, Step, change_at, swap_at}
-use Rattle.hay_history.specs.Steps.Did.{Begins, Ends, Examines, Poises, Swaps, Tries}
+use Rattle.hay_history.specs.LaneSteps.{Did, Leads, Standing, Step, change_at, swap_at}
+use Rattle.hay_history.specs.LaneSteps.Did.{Begins, Ends, Examines, Poises, Swaps, Tries}
 use Rattle.hay_history.specs.Histories.{History, changes_it, first_of, own, standing, volume_then}
 use Rattle.hay_history.specs.Commands.{CameInLanes, CompactDid, CompactFailed, CompactRefused, CompactWanting, IsTightAlone, Ran, RanAs}
 use Rattle.hay_history.proofs.Alone.{all_own, among, between, busy_known, frozen_known, place_within, rose_to, same_between, worn_known}

@@ -19,8 +19,8 @@ use Rattle.hay_legal.specs.Known.{CameUp, Leaves, closed, closed_by, drained_of,
 use Rattle.hay_legal.specs.Plain.{DelFailed as LegalFailed, DelNoMem, HasPair, IsAbsent, IsClosedHome, IsDeleted, IsStuckOn, LegalDel, LegalFlush, OnReplica, change_volume}
 use Rattle.hay_legal.specs.Plain.{ended_where, first_machine, frozen_with, has_pair, with_bare, with_del, with_stuck, without_run}
 use Rattle.hay_legal.specs.Blocks.{tag_of}
-use Rattle.hay_history.specs.Steps.{Did, change_at}
-use Rattle.hay_history.specs.Steps.Did.{Entered, Flushes, Pends, Sticks}
+use Rattle.hay_history.specs.LaneSteps.{Did, change_at}
+use Rattle.hay_history.specs.LaneSteps.Did.{Entered, Flushes, Pends, Sticks}
 use Rattle.hay_history.specs.Histories.{History, NoSteps, closing_then, standing, volume_then}
 use Rattle.hay_history.specs.Commands.{CameInLanes, DelAbsent, DelDid, DelDone, DelFailed, DelWanting, DidNothing, FailedOpen, FlushDid, HomeIsClosed, IsStuck, LookFroze, stood_then}
 use Rattle.hay_history.proofs.Alone.{count_at, count_to_last, counts_rise, frozen_known, left_one, left_still, one_led, rose_to, still, still_before}

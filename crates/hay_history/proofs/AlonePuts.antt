@@ -22,9 +22,9 @@ use Rattle.hay_legal.specs.Plain.{DirectoryOpen, IsStored, LegalPut, PutFailed a
 use Rattle.hay_legal.specs.Plain.{frozen_with, put_entry, put_frozen, row_pending, with_put}
 use Rattle.hay_legal.specs.Blocks.{tag_of}
 use Rattle.hay_legal.proofs.Subject.Effects.{each_try, home_added}
-use Rattle.hay_history.specs.Steps.{Did, IsMissing}
-use Rattle.hay_history.specs.Steps.Did.{Entered, Pends}
-use Rattle.hay_history.specs.Steps.RowDid.{AddsRow, PendsRow}
+use Rattle.hay_history.specs.LaneSteps.{Did, IsMissing}
+use Rattle.hay_history.specs.LaneSteps.Did.{Entered, Pends}
+use Rattle.hay_history.specs.LaneSteps.RowDid.{AddsRow, PendsRow}
 use Rattle.hay_history.specs.Histories.{History, NoRows, NoSteps, OneStep, OnlyOn, SeesHome, SeesRefusal, SeesTaker, changes, refusal_then, rows_standing, volume_then}
 use Rattle.hay_history.specs.Commands.{AddedRow, CameInLanes, HomeRefuses, MayAddRow, PutDid, PutFailed, PutRefused, PutRowFailed, PutStored, PutWanting, RowPends, SeesRefusals}
 use Rattle.hay_history.proofs.Alone.{leaves_as, left_one, left_still, many_changed, one_led, one_row_led, rose_to, row_rose_to, rows_left_one, rows_left_still, rows_still}

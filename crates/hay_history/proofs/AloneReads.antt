@@ -27,8 +27,8 @@ use Rattle.hay_legal.specs.Known.{CameUp, Leaves, arm_count, fault_count, home_i
 use Rattle.hay_legal.specs.Plain.{HasCause, IsOpen, IsShown, IsUnreadable, LeavesElsewhere, LegalGetAt, LegalShow, LegalUrl, PassedReplicas, change_volume, disk_rose}
 use Rattle.hay_legal.specs.Plain.{first_machine, frozen_by, order_from}
 use Rattle.hay_legal.specs.Blocks.{tag_of}
-use Rattle.hay_history.specs.Steps.{Did, IsThawed, Leads, Standing, Step}
-use Rattle.hay_history.specs.Steps.Did.{Freezes, Tries}
+use Rattle.hay_history.specs.LaneSteps.{Did, IsThawed, Leads, Standing, Step}
+use Rattle.hay_history.specs.LaneSteps.Did.{Freezes, Tries}
 use Rattle.hay_history.specs.Histories.{History, NoRows, NoSteps, OnlyOn, SeesHome, changes, changes_it, first_of, own, rows_standing, standing, volume_then}
 use Rattle.hay_history.specs.Commands.{CameInLanes, DidNothing, GetDid, LookFailed, LookFroze, OnlyLooks, PassedFor, PassedOver, ShowDid, Showed, ShowedNone, UrlDid}
 use Rattle.hay_history.proofs.Alone.{all_own, among, between, counts_rise, count_to_last, leaves_as, left_still, many_changed, rows_left_still, rows_still, still, volumes_changed}

@@ -16,9 +16,9 @@ use Rattle.hay_legal.specs.declared.turn.LaneItem.{LaneItem}
 use Rattle.hay_legal.specs.Known.{Leaves, empty_volume, replica_at, replica_on, volume_at}
 use Rattle.hay_legal.specs.Plain.{HasRun as LegalRun, IsAtRest, IsIdle, IsLoose, IsOpen, LegalBegin, LegalFinish, LegalStep, MayFinish, OnReplica, RoseTo, Swaps as LegalSwaps}
 use Rattle.hay_legal.specs.Plain.{as_it_is, change_volume, first_machine, frozen_by, poised, poised_by, stepped, swapped, with_run, without_run}
-use Rattle.hay_history.specs.Steps.{Did, MayHaveSizes, RowStep, change_at, swap_at}
-use Rattle.hay_history.specs.Steps.Did.{Begins, Ends, Examines, Fuses, Poises, Swaps, Tries}
-use Rattle.hay_history.specs.Steps.RowDid.{Drains, FusesRow, TriesRow}
+use Rattle.hay_history.specs.LaneSteps.{Did, MayHaveSizes, RowStep, change_at, swap_at}
+use Rattle.hay_history.specs.LaneSteps.Did.{Begins, Ends, Examines, Fuses, Poises, Swaps, Tries}
+use Rattle.hay_history.specs.LaneSteps.RowDid.{Drains, FusesRow, TriesRow}
 use Rattle.hay_history.specs.Histories.{Course, HasRunOf, History, NoRows, NoSteps, begun_by, volume_then}
 use Rattle.hay_history.specs.Commands.{BeginDid, BeginFailed, CameBy, DidNothing, FinishDid, MetIdle, OnlyDid, StepDid, Stepping, WentOn}
 use Rattle.hay_history.specs.Law.{RunsOfPlain}

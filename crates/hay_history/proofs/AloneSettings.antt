@@ -12,9 +12,9 @@ use Rattle.hay_legal.specs.declared.turn.Item.{Item}
 use Rattle.hay_legal.specs.declared.turn.LaneItem.{LaneItem}
 use Rattle.hay_legal.specs.Known.{Leaves, disk_count, fuse_count, replica_on, slot_of, volume_at}
 use Rattle.hay_legal.specs.Plain.{IsFused, LegalDrain, LegalFuse, LegalFuseDir, LegalUndrain, OnReplica, with_drain, with_fuses}
-use Rattle.hay_history.specs.Steps.{Did, LeadsDrains, LeadsFuses, LeadsRowFuses, RowDid, RowsStanding, RowStep, Standing, Step}
-use Rattle.hay_history.specs.Steps.Did.{Fuses, Tries}
-use Rattle.hay_history.specs.Steps.RowDid.{Drains, FusesRow, TriesRow}
+use Rattle.hay_history.specs.LaneSteps.{Did, LeadsDrains, LeadsFuses, LeadsRowFuses, RowDid, RowsStanding, RowStep, Standing, Step}
+use Rattle.hay_history.specs.LaneSteps.Did.{Fuses, Tries}
+use Rattle.hay_history.specs.LaneSteps.RowDid.{Drains, FusesRow, TriesRow}
 use Rattle.hay_history.specs.Histories.{Course, History, NoRows, NoSteps, OneRowStep, OneStep, first_of, first_rows, rows_standing, standing}
 use Rattle.hay_history.specs.Commands.{CameBy, DrainDid, FuseDid, FuseDirDid, OnlyDid, OnlyDidRow, UndrainDid}
 use Rattle.hay_history.proofs.Alone.{between, leaves_as, left_one, left_still, one_led, one_row_led, place_within, row_place_within, rows_between, rows_left_one, rows_left_still}

@@ -11,9 +11,9 @@ use Rattle.hay_reply.specs.declared.Reply.{Reply}
 use Rattle.hay_legal.specs.declared.turn.Item.{Item}
 use Rattle.hay_legal.specs.declared.turn.LaneItem.{LaneItem}
 use Rattle.hay_legal.specs.Known.{disk_count, slot_of}
-use Rattle.hay_history.specs.Steps.{Did, Follows, FollowsRows, LeadsDrains, LeadsFuses, LeadsRowFuses, RowDid, RowsStanding, RowStep, Standing, Step}
-use Rattle.hay_history.specs.Steps.Did.{Begins, Ends, Entered, Examines, Flushes, Freezes, Fuses, Pends, Poises, Sticks, Swaps, Tries}
-use Rattle.hay_history.specs.Steps.RowDid.{AddsRow, Drains, FusesRow, PendsRow, TriesRow}
+use Rattle.hay_history.specs.LaneSteps.{Did, Follows, FollowsRows, LeadsDrains, LeadsFuses, LeadsRowFuses, RowDid, RowsStanding, RowStep, Standing, Step}
+use Rattle.hay_history.specs.LaneSteps.Did.{Begins, Ends, Entered, Examines, Flushes, Freezes, Fuses, Pends, Poises, Sticks, Swaps, Tries}
+use Rattle.hay_history.specs.LaneSteps.RowDid.{AddsRow, Drains, FusesRow, PendsRow, TriesRow}
 use Rattle.hay_history.specs.Histories.{Course, History, behind, first_of, first_rows, rows_behind}
 use Rattle.hay_history.specs.Commands.{CameBy, CameInLanes}
 use Rattle.hay_history.proofs.Lines.{answered, course_of, owner}

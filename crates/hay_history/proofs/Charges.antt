@@ -12,8 +12,8 @@ use Rattle.hay_legal.specs.declared.turn.LaneItem.{LaneItem}
 use Rattle.hay_legal.specs.Known.{replica_at}
 use Rattle.hay_legal.specs.Plain.{with_run, with_stuck}
 use Rattle.hay_legal.specs.Blocks.{tag_of}
-use Rattle.hay_history.specs.Steps.{Did, Leads, Standing, Step}
-use Rattle.hay_history.specs.Steps.Did.{Begins, Ends, Pends, Poises, Sticks, Tries}
+use Rattle.hay_history.specs.LaneSteps.{Did, Leads, Standing, Step}
+use Rattle.hay_history.specs.LaneSteps.Did.{Begins, Ends, Pends, Poises, Sticks, Tries}
 use Rattle.hay_history.proofs.Own.{NoBegins}
 use Rattle.hay_history.proofs.OwnRuns.{ran_stood}
 use Rattle.hay_history.proofs.Trying.{changed}

@@ -19,8 +19,8 @@ use Rattle.hay_legal.specs.Known.{machine_of, replica_at, replica_on, volume_at}
 use Rattle.hay_legal.specs.Plain.{IsFrozenBy, IsOpen, run_grown, with_stuck}
 use Rattle.hay_legal.specs.Blocks.{CompactIsLegal, FlushIsLegal, IsLeftStuck, MayBeAtRest, MayBeBusy, MayFlush, MetOpen, RunsBeside, tag_of}
 use Rattle.std.proofs.lemmas.Option.{slice_get_cases, slice_get_within}
-use Rattle.hay_history.specs.Steps.{Did, Leads, Standing, Step}
-use Rattle.hay_history.specs.Steps.Did.{Begins, Flushes, Sticks, Tries}
+use Rattle.hay_history.specs.LaneSteps.{Did, Leads, Standing, Step}
+use Rattle.hay_history.specs.LaneSteps.Did.{Begins, Flushes, Sticks, Tries}
 use Rattle.hay_history.proofs.Trying.{changed, tried_or_changed}
 use Rattle.hay_history.specs.Histories.{Course, History, IsMoment, OneStep, behind, changes, first_of, own, standing, volume_then}
 use Rattle.hay_history.specs.Commands.{CameInLanes, CompactDid, CompactFailed, CompactRefused, FlushDid, IsFrozen, Ran}

@@ -22,8 +22,8 @@ use Rattle.hay_legal.specs.Plain.{order_from, put_entry, start_of}
 use Rattle.hay_legal.specs.Blocks.{CountedBeside, FreezesLast, told, tag_of}
 use Rattle.hay_legal.specs.Blocks.Told.{Blamed}
 use Rattle.hay_legal.proofs.Subject.Effects.{each_append}
-use Rattle.hay_history.specs.Steps.{Did, IsThawed, Leads, Standing, Step}
-use Rattle.hay_history.specs.Steps.Did.{Ends, Pends, Poises, Sticks}
+use Rattle.hay_history.specs.LaneSteps.{Did, IsThawed, Leads, Standing, Step}
+use Rattle.hay_history.specs.LaneSteps.Did.{Ends, Pends, Poises, Sticks}
 use Rattle.hay_history.specs.Histories.{Course, History, changes, changes_it, own, standing, volume_then}
 use Rattle.hay_history.specs.Commands.{CameInLanes, CompactDid, CompactFailed, DelDid, FlushDid, GetDid, IsLast, ItemDid, LookFailed, PassedFor, PutDid, Ran, RanAs, RoseIn}
 use Rattle.hay_history.proofs.Charges.{count_grows, one_line}

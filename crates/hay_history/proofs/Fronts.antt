@@ -23,8 +23,8 @@ use Rattle.hay_legal.specs.Known.{EachPair, all_lanes, replica_on, volume_at, vo
 use Rattle.hay_legal.specs.Plain.{start_of}
 use Rattle.hay_legal.specs.Blocks.{Between, FrontsAreLegal, FrontsGrow, InOrder, Printed, lane_items, printed, row_added, row_fronts, row_print, tag_of, volume_print}
 use Rattle.hay_legal.proofs.Subject.Effects.{each_append}
-use Rattle.hay_history.specs.Steps.{Did, Leads, Standing, Step}
-use Rattle.hay_history.specs.Steps.Did.{Entered}
+use Rattle.hay_history.specs.LaneSteps.{Did, Leads, Standing, Step}
+use Rattle.hay_history.specs.LaneSteps.Did.{Entered}
 use Rattle.hay_history.proofs.Trying.{changed}
 use Rattle.hay_history.specs.Histories.{Course, History, IsLater, IsMoment, IsRowMoment, OneStep, SeesHome, own, row_note, rows_standing, standing, volume_then}
 use Rattle.hay_history.specs.Commands.{AnsweredBy, CameInLanes, CommandDid, CompactDid, DelDid, FlushDid, GetDid, ItemDid, PutDid, ShowDid, Showed, UrlDid}

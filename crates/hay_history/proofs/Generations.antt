@@ -20,7 +20,7 @@ use Rattle.hay_legal.specs.declared.turn.LaneItem.{LaneItem}
 use Rattle.hay_legal.specs.Known.{EachPair, all_lanes, machine_of, replica_at, replica_on, volume_at}
 use Rattle.hay_legal.specs.Plain.{Names, first_machine}
 use Rattle.hay_legal.specs.Blocks.{GenerationsAreLegal, InOrder, Printed, froze_at_compact, generation_print, is_wanting, lane_items, made_on, printed, tag_of}
-use Rattle.hay_history.specs.Steps.{Did, Leads, Standing, Step}
+use Rattle.hay_history.specs.LaneSteps.{Did, Leads, Standing, Step}
 use Rattle.hay_history.proofs.Trying.{changed}
 use Rattle.hay_history.specs.Histories.{Course, History, IsLater, IsMoment, behind, first_of, own, standing}
 use Rattle.hay_history.specs.Commands.{CameInLanes, CompactDid, FlushDid, GetDid, ItemDid, MetBusy, MetWorn}

@@ -19,8 +19,8 @@ use Rattle.hay_legal.specs.declared.turn.LaneItem.{LaneItem}
 use Rattle.hay_legal.specs.Known.{EachPair, machine_of, replica_at, replica_on, volume_at}
 use Rattle.hay_legal.specs.Plain.{Names, with_stuck}
 use Rattle.hay_legal.specs.Blocks.{IndexIsLegal, MayPrecede, MetLoose, MetStuck, StandsBefore, SticksBy, SwappedWhere, froze_at_compact, is_wanting, made_on, sticks_on}
-use Rattle.hay_history.specs.Steps.{Did, Leads, Standing, Step}
-use Rattle.hay_history.specs.Steps.Did.{Flushes, Sticks}
+use Rattle.hay_history.specs.LaneSteps.{Did, Leads, Standing, Step}
+use Rattle.hay_history.specs.LaneSteps.Did.{Flushes, Sticks}
 use Rattle.hay_history.specs.Histories.{History, IsLater, behind, first_of, own, steps_of}
 use Rattle.hay_history.specs.Commands.{CameInLanes, FlushDid, ItemDid}
 use Rattle.hay_history.proofs.Changes.{leads_becomes, leads_extends}

@@ -18,8 +18,8 @@ use Rattle.hay_legal.specs.declared.turn.Item.TheVariants as asks
 use Rattle.hay_legal.specs.Known.{EachPair, machine_of, replica_on}
 use Rattle.hay_legal.specs.Plain.{ArmRises, order_from, put_entry, start_of}
 use Rattle.hay_legal.specs.Blocks.{before_machine}
-use Rattle.hay_history.specs.Steps.{Did, RowStep, Step}
-use Rattle.hay_history.specs.Steps.Did.{Ends, Fuses, Pends, Poises, Sticks, Tries}
+use Rattle.hay_history.specs.LaneSteps.{Did, RowStep, Step}
+use Rattle.hay_history.specs.LaneSteps.Did.{Ends, Fuses, Pends, Poises, Sticks, Tries}
 use Rattle.hay_history.proofs.Trying.{changed, changed_row}
 use Rattle.hay_history.specs.Histories.{Course, OneStep, OneTry, changes, own, own_rows, rows_standing}
 use Rattle.hay_history.specs.Commands.{CompactDid, CompactFailed, DelDid, FlushDid, GetDid, ItemDid, LookFailed, OnlyLooks, PassedFor, PassedOver, PutDid, RanAs, RanUntil, RoseIn, ShowDid, UrlDid}

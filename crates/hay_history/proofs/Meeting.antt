@@ -24,8 +24,8 @@ use Rattle.hay_needle.specs.Sizes.{needle_total}
 use Rattle.hay_legal.specs.declared.known.ReplicaKnown.{ReplicaKnown}
 use Rattle.hay_legal.specs.Plain.{as_closed, put_entry, start_of}
 use Rattle.hay_legal.specs.Blocks.{MayBeStuck, MetFreeze, MetOpen, RefusedAsStuck, SticksBy, tag_of, volume_named}
-use Rattle.hay_history.specs.Steps.{Did, IsThawed, Leads, Standing, Step}
-use Rattle.hay_history.specs.Steps.Did.{Ends, Entered, Flushes, Pends, Poises, Sticks, Swaps}
+use Rattle.hay_history.specs.LaneSteps.{Did, IsThawed, Leads, Standing, Step}
+use Rattle.hay_history.specs.LaneSteps.Did.{Ends, Entered, Flushes, Pends, Poises, Sticks, Swaps}
 use Rattle.hay_history.specs.Histories.{Course, History, IsMoment, OneStep, OneTry, SeesFrozen, SeesRefusal, closing_then, own, refusal_then, standing, volume_then}
 use Rattle.hay_history.specs.Commands.{CameInLanes, CommandDid, CompactDid, CompactFailed, CompactRefused, DelDid, FlushDid, GetDid, HomeIsClosed, HomeRefuses, IsFrozen, IsStuck}
 use Rattle.hay_history.specs.Commands.{ItemDid, PutDid, PutRefused, RanAs, ShowDid, UrlDid}

@@ -13,8 +13,8 @@ use Rattle.hay_legal.specs.declared.turn.Item.{Item}
 use Rattle.hay_legal.specs.declared.turn.LaneItem.{LaneItem}
 use Rattle.hay_legal.specs.Known.{replica_at, volume_at}
 use Rattle.hay_legal.specs.Plain.{run_grown}
-use Rattle.hay_history.specs.Steps.{Did, Step}
-use Rattle.hay_history.specs.Steps.Did.{Begins}
+use Rattle.hay_history.specs.LaneSteps.{Did, Step}
+use Rattle.hay_history.specs.LaneSteps.Did.{Begins}
 use Rattle.hay_history.specs.Histories.{Course, History, begun_by, behind, first_of}
 use Rattle.hay_history.specs.Commands.{Came, CameBy, CameInLanes, MayStandInLane}
 use Rattle.hay_history.specs.Law.{RunsOfPlain, RunsStayPlain, StoresStayRegular}

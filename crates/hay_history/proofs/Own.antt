@@ -21,8 +21,8 @@ use Rattle.hay_legal.specs.Known.{EachPair, machine_of, replica_at, replica_on}
 use Rattle.hay_legal.specs.Plain.{first_machine, put_entry, start_of}
 use Rattle.hay_legal.specs.Blocks.{HasReplica, SticksBy, acknowledged, entry_of_item, is_compacted}
 use Rattle.hay_legal.proofs.Subject.Effects.{each_append}
-use Rattle.hay_history.specs.Steps.{Did, Step}
-use Rattle.hay_history.specs.Steps.Did.{Begins, Ends, Entered, Examines, Flushes, Freezes, Fuses, Pends, Poises, Sticks, Swaps, Tries}
+use Rattle.hay_history.specs.LaneSteps.{Did, Step}
+use Rattle.hay_history.specs.LaneSteps.Did.{Begins, Ends, Entered, Examines, Flushes, Freezes, Fuses, Pends, Poises, Sticks, Swaps, Tries}
 use Rattle.hay_history.specs.Histories.{Course, NoSteps, OneStep, OneTry, OnlyOn, SeesHome, SeesOpen, changes, changes_it, closing_then, own, refusal_then, volume_then}
 use Rattle.hay_history.specs.Commands.{CommandDid, CompactDid, CompactFailed, CompactRefused, CompactWanting, DelDid, FlushDid, GetDid, ItemDid, LeftPending, LookFroze}
 use Rattle.hay_history.specs.Commands.{LookWanting, OnlyLooks, PutDid, Ran, RanAs, ShowDid, UrlDid, stood_then}

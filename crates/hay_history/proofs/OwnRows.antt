@@ -22,8 +22,8 @@ use Rattle.hay_legal.specs.declared.turn.LaneItem.{LaneItem}
 use Rattle.hay_legal.specs.Known.{EachPair, home_in, replica_on}
 use Rattle.hay_legal.specs.Blocks.{InOrder, MetRowsFrozen, MetRowsOpen, Printed, printed, row_added, row_print, tag_of}
 use Rattle.hay_legal.proofs.Subject.Effects.{home_stays}
-use Rattle.hay_history.specs.Steps.{FollowsRows, LeadsRows, RowDid, RowsStanding, RowStep}
-use Rattle.hay_history.specs.Steps.RowDid.{AddsRow, Drains, FusesRow, PendsRow, TriesRow}
+use Rattle.hay_history.specs.LaneSteps.{FollowsRows, LeadsRows, RowDid, RowsStanding, RowStep}
+use Rattle.hay_history.specs.LaneSteps.RowDid.{AddsRow, Drains, FusesRow, PendsRow, TriesRow}
 use Rattle.hay_history.specs.Histories.{Course, History, IsLater, SeesHome, first_rows, own_rows, row_line, row_note, row_steps_of, rows_behind, rows_standing}
 use Rattle.hay_history.specs.Commands.{CameInLanes, CompactDid, FlushDid, GetDid, ItemDid, PutDid, RowPends}
 use Rattle.hay_history.proofs.Histories.{along_rows, leads_rows_at, rows_behind_step}

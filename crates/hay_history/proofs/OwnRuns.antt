@@ -14,8 +14,8 @@ use Rattle.hay_legal.specs.Known.{replica_at}
 use Rattle.hay_legal.specs.Plain.{grown, run_grown}
 use Rattle.hay_legal.specs.Blocks.{tag_of}
 use Rattle.hay_legal.proofs.Subject.Effects.{each_append}
-use Rattle.hay_history.specs.Steps.{Did, Follows, Standing, Step}
-use Rattle.hay_history.specs.Steps.Did.{Begins, Ends, Entered, Examines, Flushes, Freezes, Fuses, Pends, Poises, Sticks, Swaps, Tries}
+use Rattle.hay_history.specs.LaneSteps.{Did, Follows, Standing, Step}
+use Rattle.hay_history.specs.LaneSteps.Did.{Begins, Ends, Entered, Examines, Flushes, Freezes, Fuses, Pends, Poises, Sticks, Swaps, Tries}
 use Rattle.hay_history.specs.Histories.{History, begun_by, begun_in, behind, first_of, own, steps_of, volume_then}
 use Rattle.hay_history.specs.Commands.{CameInLanes, Ran}
 use Rattle.hay_history.proofs.Changes.{Becomes, leads_becomes}

@@ -19,8 +19,8 @@ use Rattle.hay_legal.specs.declared.turn.Item.TheVariants as asks
 use Rattle.hay_legal.specs.declared.turn.LaneItem.{LaneItem}
 use Rattle.hay_legal.specs.Known.{all_tries, drained_of, room_refusal_of}
 use Rattle.hay_legal.specs.Blocks.{GotRow, MayRefuse, PassedFrozen, tag_of}
-use Rattle.hay_history.specs.Steps.{RowDid, RowStep}
-use Rattle.hay_history.specs.Steps.RowDid.{AddsRow, Drains, FusesRow, PendsRow, TriesRow}
+use Rattle.hay_history.specs.LaneSteps.{RowDid, RowStep}
+use Rattle.hay_history.specs.LaneSteps.RowDid.{AddsRow, Drains, FusesRow, PendsRow, TriesRow}
 use Rattle.hay_history.specs.Histories.{Course, History, SeesRefusal, SeesTaker, closing_then, first_rows, row_line, row_note, volume_then}
 use Rattle.hay_history.specs.Commands.{CameInLanes}
 use Rattle.hay_history.proofs.Lists.{each_in, first_or_rest, none_in}

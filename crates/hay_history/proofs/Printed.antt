@@ -11,7 +11,7 @@ use Rattle.hay_legal.specs.declared.known.Known.{Known}
 use Rattle.hay_legal.specs.declared.turn.LaneItem.{LaneItem}
 use Rattle.hay_legal.specs.Known.{machine_of, replica_at, replica_on}
 use Rattle.hay_legal.specs.Blocks.{flushed_on, made_on}
-use Rattle.hay_history.specs.Steps.{Did, Standing, Step}
+use Rattle.hay_history.specs.LaneSteps.{Did, Standing, Step}
 use Rattle.hay_history.proofs.Trying.{sum_changed}
 use Rattle.hay_history.specs.Histories.{Course, History, changes, first_of, own, standing, steps_of}
 use Rattle.hay_history.specs.Commands.{CameInLanes, IsOfLine}

@@ -14,7 +14,7 @@ use Rattle.hay_legal.specs.Known.{all_tries}
 use Rattle.hay_legal.specs.Plain.{as_closed, put_entry}
 use Rattle.hay_legal.specs.Blocks.{HomeRefuses as legal_home, IsLeftPending, MayHaveAdded, MayRefuse, PutIsLegal, RefusesPut, TriesRefuse, tag_of}
 use Rattle.hay_legal.proofs.Subject.Effects.{each_try}
-use Rattle.hay_history.specs.Steps.Did.{Pends}
+use Rattle.hay_history.specs.LaneSteps.Did.{Pends}
 use Rattle.hay_history.specs.Histories.{History, OneStep, SeesRefusal}
 use Rattle.hay_history.specs.Commands.{CameInLanes, HomeRefuses, PutDid, PutRefused, SeesRefusals}
 use Rattle.hay_history.proofs.Lists.{zip_weaker}

@@ -16,7 +16,7 @@ use Rattle.hay_legal.specs.declared.known.ReplicaKnown.{ReplicaKnown}
 use Rattle.hay_legal.specs.declared.turn.LaneItem.{LaneItem}
 use Rattle.hay_legal.specs.Known.{at_front, closed, closed_by, drained_of, empty_replica, lacks_room, machine_of, now, refusal_by, replica_at, replica_on, room_refusal_of, volume_at}
 use Rattle.hay_legal.specs.Blocks.{LacksRoom, MayEnd, MayEndAt, MayRefuse, WasSwapped, entries_until, new_entries, put_total}
-use Rattle.hay_history.specs.Steps.{Did, Standing}
+use Rattle.hay_history.specs.LaneSteps.{Did, Standing}
 use Rattle.hay_history.specs.Histories.{History, first_of}
 use Rattle.hay_history.specs.Commands.{CameInLanes}
 use Rattle.hay_history.proofs.Histories.{Found, along, along_or_found}

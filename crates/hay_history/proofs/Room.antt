@@ -19,8 +19,8 @@ use Rattle.hay_legal.specs.declared.turn.Item.TheVariants as asks
 use Rattle.hay_legal.specs.declared.turn.LaneItem.{LaneItem}
 use Rattle.hay_legal.specs.Known.{replica_at, volume_at}
 use Rattle.hay_legal.specs.Blocks.{entry_of_item, is_put, new_entries, put_total}
-use Rattle.hay_history.specs.Steps.{Did, Leads, Standing, Step}
-use Rattle.hay_history.specs.Steps.Did.{Entered}
+use Rattle.hay_history.specs.LaneSteps.{Did, Leads, Standing, Step}
+use Rattle.hay_history.specs.LaneSteps.Did.{Entered}
 use Rattle.hay_history.specs.Histories.{Course, History, behind, first_of, refusal_then}
 use Rattle.hay_history.specs.Commands.{CameInLanes}
 use Rattle.hay_history.proofs.Changes.{leads_extends, log_by}

@@ -28,8 +28,8 @@ use Rattle.hay_legal.specs.Plain.{as_closed, start_of}
 use Rattle.hay_legal.specs.Blocks.{HomeAt, MayHaveFrozen, tag_of}
 use Rattle.hay_legal.proofs.Subject.Effects.{each_append, each_try, home_stays}
 use Rattle.hay_legal.proofs.Subject.Entries.{home_bounded}
-use Rattle.hay_history.specs.Steps.{FollowsRows, LeadsRows, RowDid, RowsStanding, RowStep}
-use Rattle.hay_history.specs.Steps.RowDid.{AddsRow, Drains, FusesRow, PendsRow, TriesRow}
+use Rattle.hay_history.specs.LaneSteps.{FollowsRows, LeadsRows, RowDid, RowsStanding, RowStep}
+use Rattle.hay_history.specs.LaneSteps.RowDid.{AddsRow, Drains, FusesRow, PendsRow, TriesRow}
 use Rattle.hay_history.proofs.Trying.{tried_or_changed_row}
 use Rattle.hay_history.specs.Histories.{row_changes, Course, History, NoRows, OneRowStep, SeesHome, first_rows, own_rows, rows_behind}
 use Rattle.hay_history.specs.Commands.{AddedRow, CameInLanes, CommandDid, CompactDid, CompactFailed, CompactRefused, CompactWanting, DelDid, FlushDid, GetDid, HomeRefuses}

@@ -19,7 +19,7 @@ use Rattle.hay_legal.specs.declared.turn.LaneItem.{LaneItem}
 use Rattle.hay_legal.specs.Known.{empty_replica, fault_count, replica_at, slot_of, volume_at}
 use Rattle.hay_legal.specs.Plain.{ended_where, first_machine, frozen_by, grown, poised, run_grown, stepped, swapped, with_bare, with_run, with_stuck, without_run}
 use Rattle.hay_legal.specs.Blocks.{DeletesOn, MayEndInDelete, RunIsLegal, is_put, new_entries, run_longer, tag_of}
-use Rattle.hay_history.specs.Steps.{Did, IsThawed, Leads, NoneFall, Standing, Step, change_at}
+use Rattle.hay_history.specs.LaneSteps.{Did, IsThawed, Leads, NoneFall, Standing, Step, change_at}
 use Rattle.hay_history.proofs.Trying.{changed}
 use Rattle.hay_history.specs.Histories.{Course, History, behind, first_of, own}
 use Rattle.hay_history.specs.Commands.{CameInLanes}

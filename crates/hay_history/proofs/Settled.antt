@@ -12,8 +12,8 @@ use Rattle.hay_legal.specs.declared.known.VolumeKnown.{VolumeKnown}
 use Rattle.hay_legal.specs.declared.turn.LaneItem.{LaneItem}
 use Rattle.hay_legal.specs.Known.{EachPair, volume_at}
 use Rattle.hay_legal.specs.Blocks.{IsAt, MetFrozen, MetRowsFrozen, Printed, row_print, tag_of, volume_print}
-use Rattle.hay_history.specs.Steps.{Leads, Standing, IsThawed}
-use Rattle.hay_history.specs.Steps.Did.{Entered}
+use Rattle.hay_history.specs.LaneSteps.{Leads, Standing, IsThawed}
+use Rattle.hay_history.specs.LaneSteps.Did.{Entered}
 use Rattle.hay_history.specs.Histories.{History, IsLater, first_rows, row_note, standing}
 use Rattle.hay_history.specs.Commands.{CameInLanes, RowPends}
 use Rattle.hay_history.proofs.Fronts.{Prints, PrintsRows, item_prints, one_within}

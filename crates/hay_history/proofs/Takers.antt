@@ -14,8 +14,8 @@ use Rattle.hay_legal.specs.declared.turn.LaneItem.{LaneItem}
 use Rattle.hay_legal.specs.Known.{all_tries, home_in, home_of}
 use Rattle.hay_legal.specs.Blocks.{MayGetRow, MayRefuse, RowIsPending, tag_of}
 use Rattle.hay_legal.proofs.Subject.Effects.{each_try}
-use Rattle.hay_history.specs.Steps.{FollowsRows, LeadsRows, RowDid, RowsStanding, RowStep}
-use Rattle.hay_history.specs.Steps.RowDid.{AddsRow, Drains, FusesRow, PendsRow, TriesRow}
+use Rattle.hay_history.specs.LaneSteps.{FollowsRows, LeadsRows, RowDid, RowsStanding, RowStep}
+use Rattle.hay_history.specs.LaneSteps.RowDid.{AddsRow, Drains, FusesRow, PendsRow, TriesRow}
 use Rattle.hay_history.specs.Histories.{History, SeesHome, SeesRefusal, SeesTaker, first_rows, own_rows, rows_behind, rows_standing}
 use Rattle.hay_history.specs.Commands.{CameInLanes, RowPends}
 use Rattle.hay_history.proofs.Histories.{along_rows}

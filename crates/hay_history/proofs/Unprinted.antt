@@ -23,7 +23,7 @@ use Rattle.hay_legal.specs.Known.{EachPair, all_lanes, all_tries, drained_of, ma
 use Rattle.hay_legal.specs.Plain.{with_bare}
 use Rattle.hay_legal.specs.Blocks.{FlushedSince, InOrder, LackedRoom, MeetingsAreLegal, RecordsAreLegal, SwappedBefore, flushed_on, fronts_told, is_put, made_on, new_entries}
 use Rattle.hay_legal.specs.Blocks.{printed, puts_until, refusals_of, tag_of, tells_unprinted, volume_print}
-use Rattle.hay_history.specs.Steps.{Did, Leads, Step}
+use Rattle.hay_history.specs.LaneSteps.{Did, Leads, Step}
 use Rattle.hay_history.specs.Histories.{Course, History, IsLater, IsMoment, SeesRefusal, first_of, own, refusal_then, standing}
 use Rattle.hay_history.specs.Commands.{CameInLanes, CompactDid, FlushDid, GetDid, HomeRefuses, ItemDid, PutRefused}
 use Rattle.hay_history.proofs.Charges.{one_line}

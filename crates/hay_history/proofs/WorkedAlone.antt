@@ -16,8 +16,8 @@ use Rattle.hay_legal.specs.Known.{empty_replica, empty_volume, fresh_unharmed, r
 use Rattle.hay_legal.specs.Plain.{LegalPlain}
 use Rattle.hay_legal.specs.Subject.{IsOf}
 use Rattle.hay_legal.proofs.Steps.{none_falls, one}
-use Rattle.hay_history.specs.Steps.{Follows, Step}
-use Rattle.hay_history.specs.Steps.Did.{Begins, Examines, Swaps}
+use Rattle.hay_history.specs.LaneSteps.{Follows, Step}
+use Rattle.hay_history.specs.LaneSteps.Did.{Begins, Examines, Swaps}
 use Rattle.hay_history.specs.Histories.{History, Seen, behind, first_of, steps_of}
 use Rattle.hay_history.specs.Commands.{Came, EndsAt, IsOfLine, IsRegular, LineDid, course}
 use Rattle.hay_history.proofs.Lists.{each_weaker}

@@ -18,9 +18,9 @@ use Rattle.hay_legal.specs.Known.{empty_replica, arm_count, empty_volume, fault_
 use Rattle.hay_legal.specs.Plain.{frozen_with, put_entry}
 use Rattle.hay_legal.specs.Subject.{IsOf}
 use Rattle.hay_legal.proofs.Steps.{none_falls, one, own, pair}
-use Rattle.hay_history.specs.Steps.{Follows, RowStep, Standing, Step}
-use Rattle.hay_history.specs.Steps.Did.{Begins, Entered, Examines, Pends}
-use Rattle.hay_history.specs.Steps.RowDid.{AddsRow}
+use Rattle.hay_history.specs.LaneSteps.{Follows, RowStep, Standing, Step}
+use Rattle.hay_history.specs.LaneSteps.Did.{Begins, Entered, Examines, Pends}
+use Rattle.hay_history.specs.LaneSteps.RowDid.{AddsRow}
 use Rattle.hay_history.specs.Histories.{History, IsLater, Seen, behind, first_of}
 use Rattle.hay_history.specs.Commands.{Answered, Came, EndsAt, IsOfLine, IsRegular, at_first, at_last, course}
 use Rattle.hay_history.proofs.Law.{blocks_are_legal}

@@ -35,9 +35,9 @@ use Rattle.hay_legal.specs.Known.{slot_of, stands, volume_at}
 use Rattle.hay_legal.specs.Plain.{ArmRises, GetShows, Names, as_closed, first_machine, wants_room, order_from, put_entry, start_of}
 use Rattle.hay_legal.specs.Blocks.{tag_of}
 use Rattle.hay_legal.specs.Subject.{IsOf}
-use Rattle.hay_history.specs.Steps.{Did, Follows, FollowsRows, RowDid, RowsStanding, Standing, Step}
-use Rattle.hay_history.specs.Steps.Did.{Begins, Ends, Entered, Examines, Flushes, Freezes, Fuses, Pends, Poises, Sticks, Swaps, Tries}
-use Rattle.hay_history.specs.Steps.RowDid.{AddsRow, Drains, FusesRow, PendsRow}
+use Rattle.hay_history.specs.LaneSteps.{Did, Follows, FollowsRows, RowDid, RowsStanding, Standing, Step}
+use Rattle.hay_history.specs.LaneSteps.Did.{Begins, Ends, Entered, Examines, Flushes, Freezes, Fuses, Pends, Poises, Sticks, Swaps, Tries}
+use Rattle.hay_history.specs.LaneSteps.RowDid.{AddsRow, Drains, FusesRow, PendsRow}
 use Rattle.hay_history.specs.Histories.{Course, HasRunOf, History, IsLater, IsMoment, IsRowMoment, NoRows, NoSteps, OneRowStep, OneStep, OneTry, OnlyOn, Seen, SeesClosed}
 use Rattle.hay_history.specs.Histories.{SeesFrozen, SeesHome, SeesOpen, SeesRefusal, SeesTaker, behind, changes, closing_then, first_of, first_rows, own, own_rows, refusal_then}
 use Rattle.hay_history.specs.Histories.{rows_behind, rows_standing, standing, volume_then}

@@ -11,9 +11,9 @@ use Rattle.hay_legal.specs.declared.known.Run.{Run}
 use Rattle.hay_legal.specs.declared.known.VolumeKnown.{VolumeKnown}
 use Rattle.hay_legal.specs.declared.turn.RowNote.{RowNote}
 use Rattle.hay_legal.specs.Known.{all_tries, closed_by, drained_of, fault_count, fuse_count, home_in, refusal_by, replica_at, room_refusal_of, slot_of, volume_at}
-use Rattle.hay_history.specs.Steps.{Did, RowDid, RowsStanding, RowStep, Standing, Step}
-use Rattle.hay_history.specs.Steps.Did.{Begins, Tries}
-use Rattle.hay_history.specs.Steps.RowDid.{AddsRow, TriesRow}
+use Rattle.hay_history.specs.LaneSteps.{Did, RowDid, RowsStanding, RowStep, Standing, Step}
+use Rattle.hay_history.specs.LaneSteps.Did.{Begins, Tries}
+use Rattle.hay_history.specs.LaneSteps.RowDid.{AddsRow, TriesRow}
 
 -- THE HISTORY
 

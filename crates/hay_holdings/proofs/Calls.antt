@@ -3,8 +3,8 @@ use Rattle.std.proofs.Common.{◌≡◌, ℕ, Bool, true, cond, List, [], ◌∷
 use Rattle.std.specs.List.{AllByRecursion as Each}
 use mathlib.Core.List.{IsPrefix}
 use Rattle.hay_core.specs.declared.entry.CoreTag.{CoreTag}
-use Rattle.hay_history.specs.Steps.{Did, RowDid}
-use Rattle.hay_history.specs.Steps.Did.{Tries}
+use Rattle.hay_history.specs.LaneSteps.{Did, RowDid}
+use Rattle.hay_history.specs.LaneSteps.Did.{Tries}
 use Rattle.hay_history.specs.Histories.{changes_it, changes_rows}
 use Rattle.hay_turn.specs.Seats.{Holds, SeatState, after_free}
 use Rattle.hay_turn.specs.Slots.{acts_in}

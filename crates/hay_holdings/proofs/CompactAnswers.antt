@@ -20,8 +20,8 @@ use Rattle.hay_legal.specs.declared.turn.Item.TheVariants as asks
 use Rattle.hay_legal.specs.Known.{empty_replica, now, replica_at, replica_on}
 use Rattle.hay_legal.specs.Plain.{frozen_by, poised, swapped, without_run}
 use Rattle.hay_legal.proofs.Subject.Effects.{each_append}
-use Rattle.hay_history.specs.Steps.{Did, Standing, change_at}
-use Rattle.hay_history.specs.Steps.Did.{Ends, Examines, Poises, Swaps}
+use Rattle.hay_history.specs.LaneSteps.{Did, Standing, change_at}
+use Rattle.hay_history.specs.LaneSteps.Did.{Ends, Examines, Poises, Swaps}
 use Rattle.hay_history.proofs.Changes.{changed_at, rested_at}
 use Rattle.hay_history.specs.Histories.{begun_in, changes_it}
 use Rattle.hay_history.proofs.Lists.{each_both, each_kept, each_weaker}

@@ -12,7 +12,7 @@ use Rattle.hay_core.specs.declared.entry.Entry.TheVariants as entry
 use Rattle.hay_legal.specs.declared.turn.LaneItem.{LaneItem}
 use Rattle.hay_legal.specs.Known.{closed_by, machine_of}
 use Rattle.hay_legal.specs.Plain.{first_machine, start_of}
-use Rattle.hay_history.specs.Steps.Did.{Freezes, Pends, Tries}
+use Rattle.hay_history.specs.LaneSteps.Did.{Freezes, Pends, Tries}
 use Rattle.hay_meeting.specs.declared.act.VolumeAct.{VolumeAct}
 use Rattle.hay_meeting.specs.Acts.{Start, did_of, volume_lock}
 use Rattle.hay_meeting.specs.Facts.{FailedAt, Found, OneDoing, OneTryAt, SawHome, drained_in, stood_at, volume_stood}

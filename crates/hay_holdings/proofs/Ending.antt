@@ -7,8 +7,8 @@ use Rattle.hay_needle.specs.declared.settings.Settings.{Settings}
 use Rattle.hay_needle.specs.Tables.{live_end}
 use Rattle.hay_core.specs.declared.entry.CoreTag.{CoreTag}
 use Rattle.hay_legal.specs.Known.{now, replica_at}
-use Rattle.hay_history.specs.Steps.{Follows, Standing}
-use Rattle.hay_history.specs.Steps.Did.{Begins}
+use Rattle.hay_history.specs.LaneSteps.{Follows, Standing}
+use Rattle.hay_history.specs.LaneSteps.Did.{Begins}
 use Rattle.hay_turn.proofs.Prefixes.{prefix_self, prefix_trans}
 use Rattle.hay_meeting.specs.declared.act.VolumeAct.{VolumeAct}
 use Rattle.hay_meeting.specs.Acts.{Start, did_of, volume_lock}

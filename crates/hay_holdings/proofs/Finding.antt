@@ -4,8 +4,8 @@ use Rattle.hay_needle.specs.declared.needle.Pair.{Pair}
 use Rattle.hay_needle.specs.declared.settings.Settings.{Settings}
 use Rattle.hay_core.specs.declared.entry.CoreTag.{CoreTag}
 use Rattle.hay_legal.specs.Known.{closed_by, refusal_by, room_refusal_of}
-use Rattle.hay_history.specs.Steps.{Did, RowDid}
-use Rattle.hay_history.specs.Steps.Did.{Tries}
+use Rattle.hay_history.specs.LaneSteps.{Did, RowDid}
+use Rattle.hay_history.specs.LaneSteps.Did.{Tries}
 use Rattle.hay_history.specs.Histories.{changes_it, changes_rows}
 use Rattle.hay_history.proofs.Lists.{is_first}
 use Rattle.hay_meeting.specs.declared.act.DirAct.{DirAct}

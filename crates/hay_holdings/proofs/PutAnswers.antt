@@ -20,9 +20,9 @@ use Rattle.hay_legal.specs.declared.turn.LaneItem.{LaneItem}
 use Rattle.hay_legal.specs.Known.{all_tries, closed_by, home_in, refusal_by, room_refusal_of}
 use Rattle.hay_legal.specs.Plain.{as_closed, first_machine, put_entry, wants_room}
 use Rattle.hay_legal.proofs.Subject.Effects.{home_added}
-use Rattle.hay_history.specs.Steps.{RowsStanding}
-use Rattle.hay_history.specs.Steps.Did.{Pends}
-use Rattle.hay_history.specs.Steps.RowDid.{AddsRow, PendsRow}
+use Rattle.hay_history.specs.LaneSteps.{RowsStanding}
+use Rattle.hay_history.specs.LaneSteps.Did.{Pends}
+use Rattle.hay_history.specs.LaneSteps.RowDid.{AddsRow, PendsRow}
 use Rattle.hay_history.proofs.Lists.{zip_weaker}
 use Rattle.hay_meeting.specs.declared.act.DirAct.{DirAct}
 use Rattle.hay_meeting.specs.declared.act.VolumeAct.{VolumeAct}

@@ -25,7 +25,7 @@ use Rattle.hay_legal.specs.declared.turn.LaneItem.{LaneItem}
 use Rattle.hay_legal.specs.Known.{CameUp, EachPair, machine_of, replica_on}
 use Rattle.hay_legal.specs.Plain.{ArmRises, first_machine, order_from, start_of}
 use Rattle.hay_legal.proofs.Subject.Effects.{each_append}
-use Rattle.hay_history.specs.Steps.Did.{Freezes, Tries}
+use Rattle.hay_history.specs.LaneSteps.Did.{Freezes, Tries}
 use Rattle.hay_history.specs.Histories.{changes_it}
 use Rattle.hay_history.proofs.Lists.{each_both, each_from, each_weaker, is_first, pair_append, zip_weaker}
 use Rattle.hay_meeting.specs.declared.act.VolumeAct.{VolumeAct}

@@ -10,7 +10,7 @@ use Rattle.hay_legal.specs.declared.known.Run.{Run}
 use Rattle.hay_legal.specs.declared.turn.Item.TheVariants as asks
 use Rattle.hay_legal.specs.declared.turn.LaneItem.{LaneItem}
 use Rattle.hay_legal.specs.Known.{replica_at, replica_on}
-use Rattle.hay_history.specs.Steps.{Did}
+use Rattle.hay_history.specs.LaneSteps.{Did}
 use Rattle.hay_history.specs.Histories.{changes_it}
 use Rattle.hay_meeting.specs.declared.act.VolumeAct.{VolumeAct}
 use Rattle.hay_meeting.specs.Acts.{Start, did_of}

@@ -19,8 +19,8 @@ use Rattle.hay_legal.specs.declared.turn.Item.TheVariants as asks
 use Rattle.hay_legal.specs.declared.turn.LaneItem.{LaneItem}
 use Rattle.hay_legal.specs.Known.{CameUp, EachPair, closed_by, refusal_by, room_refusal_of}
 use Rattle.hay_legal.specs.Plain.{ArmRises}
-use Rattle.hay_history.specs.Steps.Did.{Begins, Examines, Tries}
-use Rattle.hay_history.specs.Steps.RowDid.{AddsRow}
+use Rattle.hay_history.specs.LaneSteps.Did.{Begins, Examines, Tries}
+use Rattle.hay_history.specs.LaneSteps.RowDid.{AddsRow}
 use Rattle.hay_meeting.specs.declared.act.DirAct.{DirAct}
 use Rattle.hay_meeting.specs.declared.act.VolumeAct.{VolumeAct}
 use Rattle.hay_meeting.specs.Acts.{Start, did_of}

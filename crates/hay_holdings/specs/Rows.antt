@@ -5,8 +5,8 @@ use Rattle.hay_disk.specs.Counts.{Rose}
 use Rattle.hay_core.specs.declared.entry.CoreTag.{CoreTag}
 use Rattle.hay_legal.specs.declared.known.HomeRow.{HomeRow}
 use Rattle.hay_legal.specs.Known.{home_in}
-use Rattle.hay_history.specs.Steps.{RowDid}
-use Rattle.hay_history.specs.Steps.RowDid.{AddsRow, Drains, FusesRow, PendsRow, TriesRow}
+use Rattle.hay_history.specs.LaneSteps.{RowDid}
+use Rattle.hay_history.specs.LaneSteps.RowDid.{AddsRow, Drains, FusesRow, PendsRow, TriesRow}
 use Rattle.hay_meeting.specs.declared.act.DirAct.{DirAct}
 use Rattle.hay_meeting.specs.Acts.{Start, row_did_of, row_lock}
 use Rattle.hay_meeting.specs.Facts.{rows_shown}

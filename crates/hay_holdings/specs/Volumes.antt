@@ -16,8 +16,8 @@ use Rattle.hay_legal.specs.declared.known.Run.{Run}
 use Rattle.hay_legal.specs.declared.known.ReplicaKnown.{ReplicaKnown}
 use Rattle.hay_legal.specs.Known.{now, replica_at, replica_on, replicas_of, room_refusal_of, stands}
 use Rattle.hay_legal.specs.Plain.{first_machine}
-use Rattle.hay_history.specs.Steps.{Did}
-use Rattle.hay_history.specs.Steps.Did.{Begins, Ends, Entered, Examines, Flushes, Freezes, Fuses, Pends, Poises, Sticks, Swaps, Tries}
+use Rattle.hay_history.specs.LaneSteps.{Did}
+use Rattle.hay_history.specs.LaneSteps.Did.{Begins, Ends, Entered, Examines, Flushes, Freezes, Fuses, Pends, Poises, Sticks, Swaps, Tries}
 use Rattle.hay_meeting.specs.declared.act.VolumeAct.{VolumeAct}
 use Rattle.hay_meeting.specs.Acts.{Start, begun_of, did_of, nobody, volume_lock}
 use Rattle.hay_meeting.specs.Facts.{front_shown, table_shown, volume_stood}

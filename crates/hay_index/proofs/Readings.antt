@@ -52,12 +52,12 @@ one_block bytes block other fits begins again =
 
 -- BLOCKS FROM A PLACE ON
 
-record LeadsFrom (at : ℕ) (file : List ℕ) (blocks : List (List Record)) (end : ℕ) : Type 0 where
-  stand : HasBytesAt at (flat_map block_bytes blocks) file
-  ends : at + length (flat_map block_bytes blocks) ≡ end
-  whole : All IsBlock blocks
+pub record LeadsFrom (at : ℕ) (file : List ℕ) (blocks : List (List Record)) (end : ℕ) : Type 0 where
+  pub stand : HasBytesAt at (flat_map block_bytes blocks) file
+  pub ends : at + length (flat_map block_bytes blocks) ≡ end
+  pub whole : All IsBlock blocks
 
-all_lead : (superblock file : List ℕ) (records : List Record) (end : ℕ) (has : HasRecords superblock file records end) → LeadsFrom 64 file has.blocks end
+pub all_lead : (superblock file : List ℕ) (records : List Record) (end : ℕ) (has : HasRecords superblock file records end) → LeadsFrom 64 file has.blocks end
 all_lead superblock file records end has =
     let bytes = flat_map block_bytes has.blocks in
     let ends : 64 + length bytes ≡ end = omega (arith, has.ends, length-append superblock bytes, has.sized) in
@@ -65,7 +65,7 @@ all_lead superblock file records end has =
     sym (drop-take 64 (length bytes) file) ∙ ap (λ n. drop 64 (take n file)) ends ∙ ap (λ (l : List ℕ). drop 64 l) has.begins ∙ drop_at superblock bytes 64 has.sized in
     record { stand = stand; ends = ends; whole = has.whole }
 
-first_begins : (at end : ℕ) (file : List ℕ) (block : List Record) (blocks : List (List Record)) → LeadsFrom at file (block ∷ blocks) end → BeginsWithBlock (drop at file) block
+pub first_begins : (at end : ℕ) (file : List ℕ) (block : List Record) (blocks : List (List Record)) → LeadsFrom at file (block ∷ blocks) end → BeginsWithBlock (drop at file) block
 first_begins at end file block blocks leads =
     let bytes = flat_map block_bytes (block ∷ blocks) in
     record {
@@ -76,7 +76,8 @@ first_begins at end file block blocks leads =
       is = all_first IsBlock block blocks leads.whole;
     }
 
-others_lead : (at end : ℕ) (file : List ℕ) (block : List Record) (blocks : List (List Record)) → LeadsFrom at file (block ∷ blocks) end → LeadsFrom (at + length (block_bytes block)) file blocks end
+pub others_lead : (at end : ℕ) (file : List ℕ) (block : List Record) (blocks : List (List Record)) → LeadsFrom at file (block ∷ blocks) end
+    → LeadsFrom (at + length (block_bytes block)) file blocks end
 others_lead at end file block blocks leads =
     let first = block_bytes block in
     let rest = flat_map block_bytes blocks in

@@ -1,7 +1,6 @@
 pub mod Arms
 pub mod Lists
 pub mod Stepping
-pub mod Finds
 pub mod Maintained
 pub mod Changed
 pub mod Putting

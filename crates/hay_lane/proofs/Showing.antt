@@ -31,7 +31,7 @@ use Rattle.hay_shared_volume.specs.declared.answers.Looked.{Looked}
 use Rattle.hay_lane.specs.declared.reads.Found.{Found}
 use Rattle.hay_lane.specs.declared.reads.Found.TheVariants as found
 use Rattle.hay_lane.specs.Reads.{AllPassed, FoundTells, HasFound, HasRead, IsFoundAs, IsFoundReply, IsOther, ReadTells, ShowTells, ShownBy, causes_in, passed_at, replicas_in}
-use Rattle.hay_lane.proofs.Finds.{replica_hit}
+use Rattle.hay_legal.proofs.Machines.{replica_hit}
 use Rattle.hay_lane.proofs.Putting.{range_parts}
 
 -- a replica is found by its machine

@@ -25,7 +25,7 @@ use Rattle.hay_reader.specs.declared.seat.ReadReply.TheVariants as read
 use Rattle.hay_directory.specs.declared.fault.DirFault.{DirFault}
 use Rattle.hay_directory.specs.declared.fault.DirFault.TheVariants as settling
 use Rattle.hay_logical.specs.Volumes.{IsMachineOf}
-use Rattle.hay_logical.proofs.Machines.{replica_found}
+use Rattle.hay_legal.proofs.Machines.{replica_found}
 use Rattle.hay_shared_volume.specs.declared.answers.Room.{Room}
 use Rattle.hay_shared_volume.specs.declared.answers.Room.TheVariants as room
 use Rattle.hay_shared_volume.specs.declared.answers.Put.{Put}
@@ -48,7 +48,7 @@ use Rattle.hay_lane.specs.declared.reads.Found.TheVariants as found
 use Rattle.hay_lane.specs.Puts.{IsPutReply, IsRefusal, room_refusal, settle_reply}
 use Rattle.hay_lane.specs.Reads.{FoundWithin, IsFoundAs, IsFoundReply, ShownWithin, passed_at}
 use Rattle.hay_lane.specs.Replies.{IsBeginReply, IsCompactionReply, IsDeleteReply, IsFinishReply, IsFlushReply, IsReadOnly, IsStepReply}
-use Rattle.hay_lane.proofs.Finds.{map_found}
+use Rattle.hay_legal.proofs.Finds.{map_found}
 use Rattle.hay_lane.proofs.Lists.{all_both}
 use Rattle.hay_lane.proofs.Putting.{first_tries, tries_parts}
 

@@ -17,11 +17,11 @@ use Rattle.hay_legal.specs.declared.known.Known.{Known}
 use Rattle.hay_legal.specs.declared.turn.Item.TheVariants as item
 use Rattle.hay_legal.specs.declared.turn.Turn.{Turn}
 use Rattle.hay_legal.specs.declared.turn.Turn.TheVariants.{Restart}
-use Rattle.hay_legal.specs.Known.{Leaves, closed, disk_count, fault_count, home_of, slot_of, volume_at}
+use Rattle.hay_legal.specs.Known.{Leaves, closed, disk_count, fault_count, fuse_count, home_of, slot_of, volume_at}
 use Rattle.hay_legal.specs.Plain.{IsIdle, LegalDel, LegalFinish, LegalCompact, LegalShow, has_pair, replica_of}
 use Rattle.hay_legal.specs.Stands.{Contents, Found, Outside, StandsOn}
 use Rattle.hay_legal.specs.Restarts.{LegalRestart}
-use Rattle.hay_legal.specs.Statuses.{Ending, IsFront, IsVoidStill, Interrupted, RestartRefused, TellsFailure, WantsLast}
+use Rattle.hay_legal.specs.Statuses.{Ending, IsFront, IsUnopened, IsVoidStill, Interrupted, RestartRefused, TellsFailure, WantsLast}
 use Rattle.hay_legal.specs.Statuses.Ending.{ReadAll}
 use Rattle.hay_legal.specs.Subject.{NothingFailed}
 use Rattle.hay_legal.proofs.Complete.{unreadable_blames}
@@ -133,6 +133,12 @@ pub stranger_in_a_void_disk : (replica : Settings → ℕ → ℕ → Contents �
 stranger_in_a_void_disk replica rows void settings other taken image v j contents found first others below within still finds is =
     let none : found.table ≡ [] = ap (λ (f : Found). f.table) ((still.nothing other).replicas v j below within refl found finds) in
     let clash = sym none ∙ is in absurd cc
+
+-- no refused opening sets a fuse
+pub fuse_at_a_refused_opening : (replica : Settings → ℕ → ℕ → Contents → Found → Type 0) (rows : Settings → Contents → List HomeRow → Type 0) (void : Contents → Type 0)
+    (settings : Settings) (k : Known) (taken given : Outside) (slot : ℕ) → slot < disk_count settings → fuse_count k slot < given.fuses slot
+    → IsUnopened replica rows void settings k taken given → ⊥
+fuse_at_a_refused_opening replica rows void settings k taken given slot below set never = omega (arith, set, never.fuses slot below)
 
 -- ARMS
 

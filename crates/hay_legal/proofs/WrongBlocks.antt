@@ -88,6 +88,10 @@ module _ {settings : Settings} {k : Known} {items : List LaneItem} {logs : List 
   volume : (v : ℕ) → v < settings.volumes → VolumeIsLegal settings k items rows t v
   volume v below = each_in_range (VolumeIsLegal settings k items rows t) 0 settings.volumes v b.volumes (omega arith) (omega (arith, below))
 
+  -- a volume loses a replica
+  pub replica_lost : (v : ℕ) → v < settings.volumes → length (volume_at t v).replicas < length (volume_at k v).replicas → ⊥
+  replica_lost v below fewer = omega (arith, fewer, (volume v below).many)
+
   replica : (v j : ℕ) → (below : v < settings.volumes) → j < settings.replicas
       → ReplicaIsLegal settings k items t v (volume v below).froze j (replica_at (volume_at k v) j) (replica_at (volume_at t v) j)
   replica v j below within =

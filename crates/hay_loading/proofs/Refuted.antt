@@ -32,7 +32,7 @@ use Rattle.hay_load.specs.Answers.{FitsIn, IsTryIn, Remembered, SuitAll, SuitsBa
 use Rattle.hay_load.specs.Gathering.{Bad, Batch, Group, key_of, line_step}
 use Rattle.hay_load.specs.Replies.{full_reply, refused_of}
 use Rattle.hay_loading.specs.Endings.{Begins, Breaks, CutsShort, IsFront, IsRefusal, ReadsTo, Refuses, Wants, WroteBoth, ended_from, groups_before, says, script_groups}
-use Rattle.hay_loading.proofs.Reading.{lines_of-fed}
+use Rattle.hay_lines.proofs.Feeding.{lines_of-fed}
 use Rattle.hay_loading.proofs.Whole.{fed-feed, fed-none}
 
 -- ROOM

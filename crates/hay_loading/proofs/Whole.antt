@@ -17,7 +17,8 @@ use Rattle.hay_loading.specs.declared.stops.Stop.{Stop}
 use Rattle.hay_loading.specs.declared.stops.Stop.TheVariants as stop
 use Rattle.hay_loading.specs.Endings.{IsFront, ReadsTo, ended_from, groups_before, says, script_groups}
 use Rattle.hay_loading.specs.Lines.{BreaksIn, BreaksOff, EndsWithin, TookWhole, ended_groups}
-use Rattle.hay_loading.proofs.Reading.{last_of_none, lines_of-fed}
+use Rattle.hay_lines.proofs.Feeding.{lines_of-fed}
+use Rattle.hay_loading.proofs.Reading.{last_of_none}
 
 -- THE PART OF BYTES THAT A LINE FEED ENDS
 

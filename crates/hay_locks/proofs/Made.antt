@@ -2,7 +2,7 @@
 use Rattle.std.proofs.Common.{◌≡◌, ℕ, ◌<◌, List, sym, subst, ◌∙◌, Some, slice_get}
 use Rattle.hay_needle.specs.declared.settings.Settings.{Settings}
 use Rattle.hay_disk.specs.Disk.{Files}
-use Rattle.hay_history.specs.Steps.{RowsStanding}
+use Rattle.hay_history.specs.LaneSteps.{RowsStanding}
 use Rattle.hay_directory.specs.State.{State}
 use Rattle.hay_directory_lock.specs.Begun.{BegunAt}
 use Rattle.hay_directory_lock.specs.Opening.{AreNewSeats}

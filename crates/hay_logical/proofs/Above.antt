@@ -5,17 +5,17 @@ use Rattle.hay_disk.specs.Disk.{Files}
 use Rattle.hay_legal.specs.Known.{machine_of}
 use Rattle.hay_physical.specs.declared.fault.ReplicaFault.{ReplicaFault}
 use Rattle.hay_physical.specs.declared.fault.ReplicaFault.TheVariants as fault
-use Rattle.hay_physical.specs.Copies.{Copy}
+use Rattle.hay_physical.specs.OpenCopies.{Copy}
 use Rattle.hay_logical.specs.declared.fault.LogicalFault.TheVariants as logical
 use Rattle.hay_logical.specs.declared.refusals.Refusal.{Refusal}
 use Rattle.hay_logical.specs.Fits.{At}
 use Rattle.hay_logical.specs.Refusals.{RefusalBy}
-use Rattle.hay_logical.specs.Steps.{KeepsAbove, KeepsBytes, KeepsFiles, LosesRun}
+use Rattle.hay_logical.specs.ReplicaCalls.{KeepsAbove, KeepsBytes, KeepsFiles, LosesRun}
 use Rattle.hay_logical.specs.Volumes.{IsOfSettings}
 use Rattle.hay_logical.proofs.Bytes.{bytes_more}
 use Rattle.hay_logical.proofs.Lists.{at_below, at_there}
 use Rattle.hay_logical.proofs.Looking.{bytes_same}
-use Rattle.hay_logical.proofs.Machines.{same_machine}
+use Rattle.hay_legal.proofs.Machines.{same_machine}
 
 module _ {D : Type 0} (DiskTells : Type 0) (files : D → Files) (settings : Settings) (number : ℕ) where
   pub above_lost : (old new : List (Copy D)) (at m : ℕ) → IsOfSettings settings number → at < settings.replicas → m ≡ machine_of settings number at

@@ -8,7 +8,7 @@ use Rattle.hay_volume.proofs.Readings.{one_reading}
 use Rattle.hay_open.specs.Stored.{Stored, volume_file}
 use Rattle.hay_physical.specs.declared.state.OpenFiles.{OpenFiles}
 use Rattle.hay_physical.specs.declared.state.Phase.TheVariants.{Open}
-use Rattle.hay_physical.specs.Copies.{Copy}
+use Rattle.hay_physical.specs.OpenCopies.{Copy}
 use Rattle.hay_physical.specs.Replicas as physical
 
 pub one_standing : {D : Type 0} (files : D → Files) (r : Copy D) (s t : Stored) → physical.Stands files r s → physical.Stands files r t → (s.end ≡ t.end) × (s.cells ≡ t.cells)

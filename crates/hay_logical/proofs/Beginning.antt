@@ -6,13 +6,13 @@ use Rattle.hay_disk.specs.Disk.{Files}
 use Rattle.hay_open.specs.Stored.{Stored}
 use Rattle.hay_physical.specs.declared.fault.ReplicaFault.{ReplicaFault}
 use Rattle.hay_physical.specs.declared.fault.ReplicaFault.TheVariants as fault
-use Rattle.hay_physical.specs.Copies.{Copy, IsFrozen, IsOpenCopy, IsUp, generation_of, goal_of, is_frozen, is_stuck, next_of, phase_goal}
+use Rattle.hay_physical.specs.OpenCopies.{Copy, IsFrozen, IsOpenCopy, IsUp, generation_of, goal_of, is_frozen, is_stuck, next_of, phase_goal}
 use Rattle.hay_physical.specs.Faults as physical_faults
 use Rattle.hay_physical.specs.Replicas as physical
-use Rattle.hay_physical.specs.Runs.{HasRun, Run}
+use Rattle.hay_physical.specs.CompactionRuns.{HasRun, Run}
 use Rattle.hay_logical.specs.declared.runs.Unswapped.TheVariants.{Refused}
-use Rattle.hay_logical.specs.Steps.{BeginsAt, HoldsUnswapped, IsBeginFault, IsLeftBy, StaysInReach}
-use Rattle.hay_logical.specs.Steps.Start.{Fresh}
+use Rattle.hay_logical.specs.ReplicaCalls.{BeginsAt, HoldsUnswapped, IsBeginFault, IsLeftBy, StaysInReach}
+use Rattle.hay_logical.specs.ReplicaCalls.Start.{Fresh}
 use Rattle.hay_logical.specs.Seen.{BeginsTo, ChangesRun, replica_seen}
 use Rattle.hay_logical.proofs.Calls.{not_both, still_up}
 use Rattle.hay_logical.proofs.Seen.{run_begun}

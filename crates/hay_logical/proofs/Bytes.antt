@@ -3,8 +3,8 @@ use Rattle.std.proofs.Common.{◌≡◌, ℕ, ◌<◌, List, length, sym, ap, su
 use Rattle.std.specs.Prelude.{map}
 use Rattle.hay_disk.specs.Disk.{Files}
 use Rattle.hay_open.specs.Stored.{volume_file}
-use Rattle.hay_physical.specs.Copies.{Copy, generation_of, volume_bytes}
-use Rattle.hay_logical.specs.Steps.{CallsOne, KeepsBytes, KeepsFiles}
+use Rattle.hay_physical.specs.OpenCopies.{Copy, generation_of, volume_bytes}
+use Rattle.hay_logical.specs.ReplicaCalls.{CallsOne, KeepsBytes, KeepsFiles}
 use Rattle.hay_logical.proofs.Lists.{at_below, at_map, at_same, at_there}
 use Rattle.hay_logical.specs.Fits.{At}
 use Rattle.hay_logical.specs.Seen.{ReplicaSeen, replica_seen}

@@ -24,13 +24,13 @@ use Rattle.hay_physical.specs.declared.state.Phase.{Phase}
 use Rattle.hay_physical.specs.declared.state.Phase.TheVariants as phase
 use Rattle.hay_physical.specs.declared.fault.ReplicaFault.{ReplicaFault}
 use Rattle.hay_physical.specs.declared.fault.ReplicaFault.TheVariants as fault
-use Rattle.hay_physical.specs.Copies.{Copy, EndedAt, HasFrozen, IsFrozen, IsOpenCopy, IsOpenPhase, IsUp, capacity_of, contents_of, end_of, goal_of, is_frozen, is_stuck, phase_frozen, phase_stuck}
+use Rattle.hay_physical.specs.OpenCopies.{Copy, EndedAt, HasFrozen, IsFrozen, IsOpenCopy, IsOpenPhase, IsUp, capacity_of, contents_of, end_of, goal_of, is_frozen, is_stuck, phase_frozen, phase_stuck}
 use Rattle.hay_physical.specs.Replicas as physical
 use Rattle.hay_physical.proofs.Laws.{stands_hold}
 use Rattle.hay_physical.specs.Faults as physical_faults
 use Rattle.hay_logical.specs.Fits.{At, PhotoAt}
 use Rattle.hay_logical.specs.Volumes.{CanReach, KeepsCounts, ReachesPlaces}
-use Rattle.hay_logical.specs.Steps.{DeletesAt, FollowsAt, IsFlushFault, IsOpenFault, IsPutFault, KeepsDisk, KeepsReach, KeepsRun, LeftAt, LosesRun, OpensAt, PutsAt, RoomFor, StaysBeside}
+use Rattle.hay_logical.specs.ReplicaCalls.{DeletesAt, FollowsAt, IsFlushFault, IsOpenFault, IsPutFault, KeepsDisk, KeepsReach, KeepsRun, LeftAt, LosesRun, OpensAt, PutsAt, RoomFor, StaysBeside}
 use Rattle.hay_logical.specs.Sights.{LiesWithin, sight}
 use Rattle.hay_logical.proofs.Lists.{Went, at_below, at_same, at_set_other, at_set_same, at_there, length-slice_set}
 

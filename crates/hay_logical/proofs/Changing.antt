@@ -27,7 +27,7 @@ use Rattle.hay_map.specs.declared.place.Place.TheVariants as place
 use Rattle.hay_compact.specs.Finishing.{IsSeen}
 use Rattle.hay_physical.specs.declared.fault.ReplicaFault.{ReplicaFault}
 use Rattle.hay_physical.specs.declared.fault.ReplicaFault.TheVariants as fault
-use Rattle.hay_physical.specs.Copies.{Copy, IsOpenCopy, IsUp, goal_of, is_stuck}
+use Rattle.hay_physical.specs.OpenCopies.{Copy, IsOpenCopy, IsUp, goal_of, is_stuck}
 use Rattle.hay_physical.specs.Replicas as physical
 use Rattle.hay_logical.specs.declared.fault.LogicalFault.TheVariants as logical
 use Rattle.hay_logical.specs.declared.replicas.Broken.{Broken}
@@ -40,7 +40,7 @@ use Rattle.hay_logical.specs.Fits.{At, Fits, RunsAs, copier_run}
 use Rattle.hay_logical.specs.Notes.{is_live}
 use Rattle.hay_logical.specs.Refusals.{answer_at}
 use Rattle.hay_logical.specs.Stands.{ReplicaStands, Stands, StandsFor}
-use Rattle.hay_logical.specs.Steps.{AllIdle, CallsOne, DeleteLeaves, DeletesAt, FlushesAt, FollowsAt, LosesRun, PutLeaves, StaysBeside}
+use Rattle.hay_logical.specs.ReplicaCalls.{AllIdle, CallsOne, DeleteLeaves, DeletesAt, FlushesAt, FollowsAt, LosesRun, PutLeaves, StaysBeside}
 use Rattle.hay_logical.specs.Volumes.{CanReach, Volume}
 use Rattle.hay_logical.proofs.Calls.{up_open, frozen_open}
 use Rattle.hay_logical.proofs.Holding.{delete_part, stands_broken, stands_changed}

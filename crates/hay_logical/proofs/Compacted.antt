@@ -12,10 +12,10 @@ use Rattle.hay_legal.specs.Known.{machine_of, replica_at}
 use Rattle.hay_map.specs.MapRows.{MapRows}
 use Rattle.hay_physical.specs.declared.fault.ReplicaFault.TheVariants as fault
 use Rattle.hay_open.specs.Stored.{Stored, index_file, volume_file}
-use Rattle.hay_physical.specs.Copies.{Copy, IsUp, generation_of, goal_of}
+use Rattle.hay_physical.specs.OpenCopies.{Copy, IsUp, generation_of, goal_of}
 use Rattle.hay_physical.specs.Replicas as physical
-use Rattle.hay_physical.specs.Runs as runs
-use Rattle.hay_physical.specs.Runs.{HasRun, RemovedBoth}
+use Rattle.hay_physical.specs.CompactionRuns as runs
+use Rattle.hay_physical.specs.CompactionRuns.{HasRun, RemovedBoth}
 use Rattle.hay_physical.proofs.Laws.{goal_none, stands_generation}
 use Rattle.hay_logical.specs.declared.runs.NewFiles.{NewFiles}
 use Rattle.hay_logical.specs.declared.runs.Unswapped.{Unswapped}
@@ -26,8 +26,8 @@ use Rattle.hay_logical.specs.Answers as answers
 use Rattle.hay_logical.specs.Fits.{At, RunsAs, copier_run}
 use Rattle.hay_logical.specs.Refusals.{unfinished_by}
 use Rattle.hay_logical.specs.Stands.{ReplicaStands, Stands, StandsFor}
-use Rattle.hay_logical.specs.Steps.{KeepsPlaces, Start, StaysInReach, SwapsAt, SwapsOne}
-use Rattle.hay_logical.specs.Steps.Start.{Fresh, Going}
+use Rattle.hay_logical.specs.ReplicaCalls.{KeepsPlaces, Start, StaysInReach, SwapsAt, SwapsOne}
+use Rattle.hay_logical.specs.ReplicaCalls.Start.{Fresh, Going}
 use Rattle.hay_logical.proofs.Alike.{one_standing}
 use Rattle.hay_logical.proofs.Compacting.{known_goal, known_none}
 use Rattle.hay_logical.proofs.Finishing.{loose_sizes, stands_dropped, stands_poised, stands_same, stands_swap, tight_sizes, was_there}

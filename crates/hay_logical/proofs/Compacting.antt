@@ -10,8 +10,8 @@ use Rattle.hay_legal.specs.Plain.{ended_where, run_grown, without_run}
 use Rattle.hay_map.specs.declared.place.Place.{Place}
 use Rattle.hay_map.specs.declared.place.Place.TheVariants as place
 use Rattle.hay_open.specs.Stored.{PlaceOf, Stored}
-use Rattle.hay_physical.specs.Copies.{Copy, goal_of}
-use Rattle.hay_physical.specs.Runs as runs
+use Rattle.hay_physical.specs.OpenCopies.{Copy, goal_of}
+use Rattle.hay_physical.specs.CompactionRuns as runs
 use Rattle.hay_physical.proofs.Laws.{goal_none, none_goal, run_goal}
 use Rattle.hay_logical.specs.Fits.{At, PhotoAt, RunsAs, copier_run}
 

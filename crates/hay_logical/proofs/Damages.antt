@@ -20,7 +20,7 @@ use Rattle.hay_compact.specs.Copying.{HeadStands, IsPassedOrStands}
 use Rattle.hay_compact.proofs.Copyings.{read_head}
 use Rattle.hay_logical.specs.Needles.{HeadsLead, HeadsLeadOn, LacksCell, LacksCellLeft}
 use Rattle.hay_logical.specs.Sights.{Sights, latest_sight, sight, sights_of}
-use Rattle.hay_logical.specs.Steps.{latest_of}
+use Rattle.hay_logical.specs.ReplicaCalls.{latest_of}
 use Rattle.hay_logical.specs.Seen.{MeetsDamage, MeetsDamageLeft, ReplicaSeen, StepsTo, begun}
 
 -- WHATEVER THE DISK TELLS

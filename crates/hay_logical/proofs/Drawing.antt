@@ -13,11 +13,11 @@ use Rattle.hay_map.specs.declared.place.Place.TheVariants as place
 use Rattle.hay_open.specs.Damage.{HasOrphans, IsRecorded}
 use Rattle.hay_open.specs.Stored.{volume_file}
 use Rattle.hay_physical.specs.declared.fault.ReplicaFault.{ReplicaFault}
-use Rattle.hay_physical.specs.Copies.{Copy, contents_of}
+use Rattle.hay_physical.specs.OpenCopies.{Copy, contents_of}
 use Rattle.hay_physical.specs.Draws.{HasRecordOf, LooksAtMost}
 use Rattle.hay_logical.specs.Draws.{DrawsAtMost, DrewAt, DrewRecordedAt, look_total, looked_total}
 use Rattle.hay_logical.specs.Fits.{At}
-use Rattle.hay_logical.specs.Steps.{CallsOne, LooksAt, SeesRow}
+use Rattle.hay_logical.specs.ReplicaCalls.{CallsOne, LooksAt, SeesRow}
 use Rattle.hay_logical.specs.Volumes.{KeepsCounts}
 use Rattle.hay_logical.proofs.Lists.{Went, at_below, at_there, went_each, went_step}
 use Rattle.hay_logical.proofs.Sighting.{other_places}

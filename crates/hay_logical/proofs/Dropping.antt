@@ -10,12 +10,12 @@ use Rattle.hay_map.specs.declared.place.Place.{Place}
 use Rattle.hay_map.specs.declared.place.Place.TheVariants as place
 use Rattle.hay_physical.specs.declared.fault.ReplicaFault.{ReplicaFault}
 use Rattle.hay_physical.specs.declared.fault.ReplicaFault.TheVariants as fault
-use Rattle.hay_physical.specs.Copies.{Copy, end_of, goal_of, is_frozen}
+use Rattle.hay_physical.specs.OpenCopies.{Copy, end_of, goal_of, is_frozen}
 use Rattle.hay_logical.specs.declared.replicas.Broken.{Broken}
 use Rattle.hay_logical.specs.declared.replicas.DiskFailed.{DiskFailed}
 use Rattle.hay_logical.specs.Fits.{At}
 use Rattle.hay_logical.specs.Refusals.{IsUntouched}
-use Rattle.hay_logical.specs.Steps.{AllIdle, DeleteLeaves, DeletesAt, EndsRuns, IsPutFault, KeepsReach, Lengthens, LosesRun, PutLeaves, StillRuns}
+use Rattle.hay_logical.specs.ReplicaCalls.{AllIdle, DeleteLeaves, DeletesAt, EndsRuns, IsPutFault, KeepsReach, Lengthens, LosesRun, PutLeaves, StillRuns}
 use Rattle.hay_logical.specs.Volumes.{KeepsCounts}
 use Rattle.hay_logical.proofs.Calls.{reach_behind, reach_through}
 use Rattle.hay_logical.proofs.Lists.{at_below, at_there}

@@ -5,12 +5,12 @@ use Rattle.std.proofs.lemmas.Bool.{cases_Bool}
 use Rattle.hay_disk.specs.Disk.{Files}
 use Rattle.hay_map.specs.MapRows.{MapRows}
 use Rattle.hay_physical.specs.declared.fault.ReplicaFault.TheVariants as fault
-use Rattle.hay_physical.specs.Copies.{Copy, IsFrozen, IsUp, goal_of, is_frozen}
+use Rattle.hay_physical.specs.OpenCopies.{Copy, IsFrozen, IsUp, goal_of, is_frozen}
 use Rattle.hay_logical.specs.declared.runs.NewFiles.{NewFiles}
 use Rattle.hay_logical.specs.declared.runs.Unswapped.{Unswapped}
 use Rattle.hay_logical.specs.declared.runs.Unswapped.TheVariants.{Refused, Unsure}
 use Rattle.hay_logical.specs.Fits.{At}
-use Rattle.hay_logical.specs.Steps.{AllIdle, LosesRun, Start, StaysInReach, SwapsAt, SwapsOne}
+use Rattle.hay_logical.specs.ReplicaCalls.{AllIdle, LosesRun, Start, StaysInReach, SwapsAt, SwapsOne}
 use Rattle.hay_logical.proofs.Calls.{frozen_is, not_both, open_frozen, up_thawed}
 use Rattle.hay_logical.proofs.Lists.{at_below, at_same, at_set_other, at_set_same, at_there, length-slice_set}
 

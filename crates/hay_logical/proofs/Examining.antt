@@ -10,7 +10,7 @@ use Rattle.hay_open.specs.Stored.{Stored, last_cell}
 use Rattle.hay_compact.specs.Copying.{IsLatest, IsNextWithin}
 use Rattle.hay_physical.specs.declared.fault.ReplicaFault.{ReplicaFault}
 use Rattle.hay_physical.specs.declared.fault.ReplicaFault.TheVariants as fault
-use Rattle.hay_physical.specs.Copies.{Copy, IsFrozen, IsUp, copier_goal, copier_next, end_of, goal_of, next_of, phase_end, phase_goal, phase_next}
+use Rattle.hay_physical.specs.OpenCopies.{Copy, IsFrozen, IsUp, copier_goal, copier_next, end_of, goal_of, next_of, phase_end, phase_goal, phase_next}
 use Rattle.hay_physical.specs.declared.state.Copier.{Copier}
 use Rattle.hay_physical.specs.declared.state.Copier.TheVariants.{Ended, Standing}
 use Rattle.hay_physical.specs.declared.state.Phase.{Phase}
@@ -19,10 +19,10 @@ use Rattle.hay_needle.specs.Sizes.{max_photo, needle_total}
 use Rattle.hay_needle.specs.declared.needle.Version.TheVariants.{Two}
 use Rattle.hay_needle.specs.declared.needle.CellHead.{CellHead}
 use Rattle.hay_physical.specs.Faults as physical_faults
-use Rattle.hay_physical.specs.Runs.{CopierPeeked, EndsRun, HasRun, IsPeeked, PhasePeeked, Run}
+use Rattle.hay_physical.specs.CompactionRuns.{CopierPeeked, EndsRun, HasRun, IsPeeked, PhasePeeked, Run}
 use Rattle.hay_logical.specs.Fits.{PhotoAt}
 use Rattle.hay_logical.specs.Seen.{MeetsDamage, replica_seen}
-use Rattle.hay_logical.specs.Steps.{GoesOn, IsStepFault, StepLeaves, latest_of, stepped_by}
+use Rattle.hay_logical.specs.ReplicaCalls.{GoesOn, IsStepFault, StepLeaves, latest_of, stepped_by}
 use Rattle.hay_logical.proofs.Calls.{not_both, reach_still, reach_through}
 
 -- COUNTS

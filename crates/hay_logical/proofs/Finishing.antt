@@ -19,14 +19,14 @@ use Rattle.hay_map.specs.MapRows.{MapRows}
 use Rattle.hay_map.specs.Places.{place_in}
 use Rattle.hay_map.specs.Rows.{row_at}
 use Rattle.hay_open.specs.Stored.{Stored, last_cell}
-use Rattle.hay_physical.specs.Copies.{Copy, IsFrozen, IsUp, goal_of, is_stuck}
+use Rattle.hay_physical.specs.OpenCopies.{Copy, IsFrozen, IsUp, goal_of, is_stuck}
 use Rattle.hay_physical.specs.Replicas as physical
-use Rattle.hay_physical.specs.Runs as runs
+use Rattle.hay_physical.specs.CompactionRuns as runs
 use Rattle.hay_logical.specs.declared.unsure.Unsure.{Unsure}
 use Rattle.hay_logical.specs.Answers.{IsLoose, IsTight, change_at}
 use Rattle.hay_logical.specs.Fits.{At, Fits, HoldsSwap, PhotoAt, PlaceStands, RunsAs}
 use Rattle.hay_logical.specs.Stands.{ReplicaStands, StandsFor}
-use Rattle.hay_logical.specs.Steps.{AllIdle, LosesRun, PlacesAre, StaysInReach, Swapped, SwapsOne, SwapsTo}
+use Rattle.hay_logical.specs.ReplicaCalls.{AllIdle, LosesRun, PlacesAre, StaysInReach, Swapped, SwapsOne, SwapsTo}
 use Rattle.hay_logical.proofs.Compacting.{no_run}
 use Rattle.hay_logical.proofs.Holding.{broken_none, hold_stuck, pending_none, swap_settled}
 use Rattle.hay_logical.proofs.Knowing.{changed_here, changed_other, fits_same, replica_mapped}

@@ -3,9 +3,9 @@ use Rattle.std.proofs.Common.{◌≡◌, inl, ℕ, List, [], ◌∷◌, length, 
 use Rattle.hay_needle.specs.declared.settings.Super.{Super}
 use Rattle.hay_disk.specs.Disk.{Files}
 use Rattle.hay_open.specs.Stored.{OpensAs, Stored, fresh_stored}
-use Rattle.hay_physical.specs.Copies.{Copy, contents_of}
+use Rattle.hay_physical.specs.OpenCopies.{Copy, contents_of}
 use Rattle.hay_physical.specs.Replicas.{Stands}
-use Rattle.hay_logical.specs.Steps.{KeepsDisk}
+use Rattle.hay_logical.specs.ReplicaCalls.{KeepsDisk}
 
 stands_formatted : {D : Type 0} (files : D → Files) (r : Copy D) (s : Stored) → Stands files r s → contents_of files r.disk 0 ≡ [] → ⊥
 unfolding Stands

@@ -31,8 +31,8 @@ use Rattle.hay_map.specs.declared.place.Place.{Place}
 use Rattle.hay_map.specs.declared.place.Place.TheVariants as place
 use Rattle.hay_map.specs.declared.view.MapOp.TheVariants as op
 use Rattle.hay_open.specs.Stored.{IsSealedCell, Stored, last_cell}
-use Rattle.hay_physical.specs.Copies.{Copy, goal_of, is_stuck}
-use Rattle.hay_physical.specs.Runs.{HasRun, Run, loosened}
+use Rattle.hay_physical.specs.OpenCopies.{Copy, goal_of, is_stuck}
+use Rattle.hay_physical.specs.CompactionRuns.{HasRun, Run, loosened}
 use Rattle.hay_physical.specs.Replicas as physical
 use Rattle.hay_physical.proofs.Laws.{goal_none, sealed_live, stands_hold}
 use Rattle.hay_compact.specs.Finishing.{IsSeen}
@@ -44,7 +44,7 @@ use Rattle.hay_logical.specs.Fits.{At, Fits, HoldsPart, HoldsSwap, Makes, Part, 
 use Rattle.hay_logical.specs.Fits.Part.{Kept, Unsure as Perhaps, Lost}
 use Rattle.hay_logical.specs.Stands.{HoldsFor, HoldsPending, BreaksOffAt, IsChange, IsPending, ReplicaHolds, ReplicaStands, StandsBy, StandsFor, TakesChanges}
 use Rattle.hay_logical.specs.Stands as stands
-use Rattle.hay_logical.specs.Steps.{AllIdle, DeleteLeaves, DeletesAt, FollowsAt, PutBroken, PutLeaves}
+use Rattle.hay_logical.specs.ReplicaCalls.{AllIdle, DeleteLeaves, DeletesAt, FollowsAt, PutBroken, PutLeaves}
 use Rattle.hay_logical.proofs.Compacting.{ended_by, known_none, loose_run, loosely, no_run}
 use Rattle.hay_logical.proofs.Knowing.{fits_frozen, frozen_base, frozen_replica, frozen_stuck}
 use Rattle.hay_logical.proofs.Lists.{at_below, at_same, at_there}

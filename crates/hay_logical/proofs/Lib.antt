@@ -18,7 +18,6 @@ pub mod Holding
 pub mod Knowing
 pub mod Lists
 pub mod Looking
-pub mod Machines
 pub mod Methods
 pub mod Opened
 pub mod Putting

@@ -23,13 +23,13 @@ use Rattle.hay_physical.specs.declared.fault.ReplicaFault.{ReplicaFault}
 use Rattle.hay_physical.specs.declared.fault.ReplicaFault.TheVariants as fault
 use Rattle.hay_physical.specs.declared.state.Phase.{Phase}
 use Rattle.hay_physical.specs.Faults.{IsSightFault}
-use Rattle.hay_physical.specs.Copies.{Copy, HasFrozen, IsOpenCopy, IsOpenPhase, IsUp}
+use Rattle.hay_physical.specs.OpenCopies.{Copy, HasFrozen, IsOpenCopy, IsOpenPhase, IsUp}
 use Rattle.hay_physical.specs.Replicas as physical
-use Rattle.hay_physical.specs.Runs.{HasRun, Run}
+use Rattle.hay_physical.specs.CompactionRuns.{HasRun, Run}
 use Rattle.hay_physical.proofs.Seeing.{last_shows}
 use Rattle.hay_logical.specs.Fits.{IsUnseen, PhotoAt, PlaceStands}
 use Rattle.hay_logical.specs.Sights.{LiesWithin, sight}
-use Rattle.hay_logical.specs.Steps.{KeepsBytes, LooksAt, PlacesAre, SetsPlaceAt, SightsAt}
+use Rattle.hay_logical.specs.ReplicaCalls.{KeepsBytes, LooksAt, PlacesAre, SetsPlaceAt, SightsAt}
 use Rattle.hay_logical.specs.Volumes.{ReachesPlaces}
 use Rattle.hay_logical.proofs.Calls.{reaches_same}
 use Rattle.hay_logical.proofs.Tables.{at_cells, cell_outcome, last_pair, last_placed, place_means, seen_means}

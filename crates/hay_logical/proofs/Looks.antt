@@ -16,7 +16,7 @@ use Rattle.hay_compact.specs.Finishing.{IsSeen}
 use Rattle.hay_physical.specs.declared.fault.ReplicaFault.{ReplicaFault}
 use Rattle.hay_physical.specs.declared.fault.ReplicaFault.TheVariants as fault
 use Rattle.hay_physical.specs.declared.state.Phase.{Phase}
-use Rattle.hay_physical.specs.Copies.{Copy, HasFrozen, IsOpenCopy, IsOpenPhase, bare_of, end_of, generation_of, goal_of, is_frozen, is_stuck, volume_bytes}
+use Rattle.hay_physical.specs.OpenCopies.{Copy, HasFrozen, IsOpenCopy, IsOpenPhase, bare_of, end_of, generation_of, goal_of, is_frozen, is_stuck, volume_bytes}
 use Rattle.hay_physical.specs.Replicas as physical
 use Rattle.hay_open.specs.declared.fault.OpenFault.{OpenFault}
 use Rattle.hay_open.specs.declared.fault.OpenFault.TheVariants as open_fault
@@ -27,7 +27,7 @@ use Rattle.hay_logical.specs.Notes.{IsToldPlace, ToldUnsure}
 use Rattle.hay_logical.specs.Sights.{LiesWithinAt, Sight, sight, sights_of}
 use Rattle.hay_logical.specs.Sights.Sight.{Gone, Live, Never, Unseen}
 use Rattle.hay_logical.specs.declared.unsure.Unsure.{Unsure}
-use Rattle.hay_logical.specs.Steps.{CallsOne, IsLookFault, IsOpenFault, IsRefusedAt, IsUnseenAt, KeepsBytes, KeepsDisk, LeftAt, LooksAt, OpensAt, PlacesAre, SeesRow, SightsAt}
+use Rattle.hay_logical.specs.ReplicaCalls.{CallsOne, IsLookFault, IsOpenFault, IsRefusedAt, IsUnseenAt, KeepsBytes, KeepsDisk, LeftAt, LooksAt, OpensAt, PlacesAre, SeesRow, SightsAt}
 use Rattle.hay_logical.specs.Volumes.{CanReach, KeepsCounts}
 use Rattle.hay_logical.proofs.Calls.{counted_same, keeps_counts, up_open, up_thawed}
 use Rattle.hay_logical.proofs.Examining.{rose_later}

@@ -12,13 +12,13 @@ use Rattle.hay_map.specs.MapRows.{MapRows}
 use Rattle.hay_map.specs.Places.{place_in}
 use Rattle.hay_map.specs.Rows.{row_at}
 use Rattle.hay_open.specs.Stored.{Stored}
-use Rattle.hay_physical.specs.Copies.{Copy, goal_of, is_frozen, is_stuck}
-use Rattle.hay_physical.specs.Runs.{HasRun, Run}
+use Rattle.hay_physical.specs.OpenCopies.{Copy, goal_of, is_frozen, is_stuck}
+use Rattle.hay_physical.specs.CompactionRuns.{HasRun, Run}
 use Rattle.hay_physical.specs.Replicas as physical
 use Rattle.hay_logical.specs.declared.unsure.Unsure.{Unsure}
 use Rattle.hay_logical.specs.Fits.{At, PlaceStands, copier_run, super_of}
 use Rattle.hay_logical.specs.Stands.{StandsFor, StoppedFor}
-use Rattle.hay_logical.specs.Steps.{CallsOne, Stops}
+use Rattle.hay_logical.specs.ReplicaCalls.{CallsOne, Stops}
 use Rattle.hay_logical.specs.Volumes.{HasSupers, IsFrozenBy, IsSame, IsShaped, Volume}
 use Rattle.hay_logical.proofs.Holding.{held, held_on, stands_changed}
 use Rattle.hay_logical.proofs.Lists.{at_below, at_first, at_same, at_set_other, at_set_same, at_there, length-slice_set, one_same}

@@ -35,7 +35,7 @@ use Rattle.hay_map.specs.declared.place.Place.TheVariants as place
 use Rattle.hay_open.specs.declared.fault.OpenFault.TheVariants as open_fault
 use Rattle.hay_open.specs.Stored.{OpensAs, Stored, last_cell}
 use Rattle.hay_compact.specs.Finishing.{IsSeen}
-use Rattle.hay_physical.specs.Copies.{Copy, contents_of, end_of, goal_of, is_stuck}
+use Rattle.hay_physical.specs.OpenCopies.{Copy, contents_of, end_of, goal_of, is_stuck}
 use Rattle.hay_physical.specs.Replicas as physical
 use Rattle.hay_physical.proofs.Laws.{stands_cells_end, stands_end}
 use Rattle.hay_logical.specs.declared.fault.Unopened.{Unopened}
@@ -49,7 +49,7 @@ use Rattle.hay_logical.specs.Notes.{NotesTell, SeesChange, SeesUnsure, keeps, ma
 use Rattle.hay_logical.specs.Seen.{ReplicaSeen, replica_seen}
 use Rattle.hay_logical.specs.Sights.{Sights, sight, sights_of}
 use Rattle.hay_logical.specs.Stands.{HoldsFor, HoldsPending, IsChange, IsFirst, IsPending, ReplicaStands, Stands, StandsFor}
-use Rattle.hay_logical.specs.Steps.{IsRefusedAt, OpensAt}
+use Rattle.hay_logical.specs.ReplicaCalls.{IsRefusedAt, OpensAt}
 use Rattle.hay_logical.specs.Volumes.{IsOfSettings}
 use Rattle.hay_logical.proofs.Compacting.{no_run}
 use Rattle.hay_logical.proofs.Lists.{at_below, at_map, at_or, at_same, at_there}

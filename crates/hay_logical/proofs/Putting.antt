@@ -23,7 +23,7 @@ use Rattle.hay_map.specs.Rows.{row_at}
 use Rattle.hay_open.specs.Stored.{last_cell}
 use Rattle.hay_physical.specs.declared.fault.ReplicaFault.{ReplicaFault}
 use Rattle.hay_physical.specs.declared.fault.ReplicaFault.TheVariants as fault
-use Rattle.hay_physical.specs.Copies.{Copy, IsUp, end_of, is_frozen, is_stuck}
+use Rattle.hay_physical.specs.OpenCopies.{Copy, IsUp, end_of, is_frozen, is_stuck}
 use Rattle.hay_physical.specs.Replicas as physical
 use Rattle.hay_physical.proofs.Laws.{stands_end}
 use Rattle.hay_logical.specs.declared.fault.LogicalFault.{LogicalFault}
@@ -37,7 +37,7 @@ use Rattle.hay_logical.specs.Answers as answers
 use Rattle.hay_logical.specs.Fits.{At, PhotoAt, RunsAs, copier_run}
 use Rattle.hay_logical.specs.Refusals.{IsRefusal, IsUntouched, RefusalBy}
 use Rattle.hay_logical.specs.Stands.{BreaksOffAt, IsChange, Stands, StandsFor}
-use Rattle.hay_logical.specs.Steps.{AllIdle, IsPutFault, PutLeaves, StaysInReach, StillRuns}
+use Rattle.hay_logical.specs.ReplicaCalls.{AllIdle, IsPutFault, PutLeaves, StaysInReach, StillRuns}
 use Rattle.hay_logical.specs.Volumes.{Volume}
 use Rattle.hay_logical.proofs.Calls.{frozen_is, open_up, up_thawed}
 use Rattle.hay_logical.proofs.Changing.{some_none}

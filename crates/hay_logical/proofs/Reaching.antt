@@ -12,10 +12,10 @@ use Rattle.hay_map.specs.declared.place.Place.{Place}
 use Rattle.hay_map.specs.declared.place.Place.TheVariants as place
 use Rattle.hay_compact.specs.Finishing.{IsSeen}
 use Rattle.hay_physical.specs.declared.state.Phase.TheVariants as phase
-use Rattle.hay_physical.specs.Copies.{Copy, IsOpenCopy, IsUp}
+use Rattle.hay_physical.specs.OpenCopies.{Copy, IsOpenCopy, IsUp}
 use Rattle.hay_physical.specs.Replicas as physical
 use Rattle.hay_logical.specs.Fits.{At}
-use Rattle.hay_logical.specs.Steps.{KeepsReach, StaysInReach}
+use Rattle.hay_logical.specs.ReplicaCalls.{KeepsReach, StaysInReach}
 use Rattle.hay_logical.specs.Volumes.{CanReach, ReachesPlaces, SeesPlaces}
 use Rattle.hay_logical.proofs.Calls.{reaches_closed}
 use Rattle.hay_logical.proofs.Holding.{gone_in}

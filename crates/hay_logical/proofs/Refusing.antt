@@ -3,11 +3,11 @@ use Rattle.std.proofs.Common.{ℕ, sym, subst}
 use Rattle.hay_needle.specs.declared.settings.Settings.{Settings}
 use Rattle.hay_physical.specs.declared.fault.ReplicaFault.{ReplicaFault}
 use Rattle.hay_physical.specs.declared.fault.ReplicaFault.TheVariants as fault
-use Rattle.hay_physical.specs.Copies.{Copy}
+use Rattle.hay_physical.specs.OpenCopies.{Copy}
 use Rattle.hay_logical.specs.declared.refusals.Refusal.{Refusal}
 use Rattle.hay_logical.specs.Answers.{BreaksPutOff}
 use Rattle.hay_logical.specs.Refusals.{RefusalBy, RefusesPut}
-use Rattle.hay_logical.specs.Steps.{IsPutFault}
+use Rattle.hay_logical.specs.ReplicaCalls.{IsPutFault}
 
 module _ {D : Type 0} (faults : D → ℕ) (r r' : Copy D) where
   pub refuses_put : (f : ReplicaFault) → IsPutFault faults r r' f → RefusesPut f

@@ -24,9 +24,9 @@ use Rattle.hay_legal.specs.Stands.{Contents, VolumeOutcome, found_of}
 use Rattle.hay_open.specs.Stored.{IsStored, OpensAs, Stored, volume_file}
 use Rattle.hay_compact.specs.Copying.{end_of}
 use Rattle.hay_compact.proofs.CellLists.{cells_end}
-use Rattle.hay_physical.specs.Runs.{Swaps}
+use Rattle.hay_physical.specs.CompactionRuns.{Swaps}
 use Rattle.hay_needle.specs.declared.settings.Super.{Super}
-use Rattle.hay_physical.specs.Copies.{Copy}
+use Rattle.hay_physical.specs.OpenCopies.{Copy}
 use Rattle.hay_physical.specs.Replicas.{IsLike}
 use Rattle.hay_physical.specs.Replicas as physical
 use Rattle.hay_physical.proofs.Holding.{finds_opens}
@@ -37,7 +37,7 @@ use Rattle.hay_logical.specs.Stands.{HoldsFor, HoldsPending, IsBroken, ReplicaHo
 use Rattle.hay_logical.specs.Volumes.{IsOfSettings, Volume}
 use Rattle.hay_logical.proofs.Holding.{part_kept, part_lost}
 use Rattle.hay_logical.proofs.Lists.{at_below, at_either, at_map, at_or, at_same, at_there}
-use Rattle.hay_logical.proofs.Machines.{replica_found}
+use Rattle.hay_legal.proofs.Machines.{replica_found}
 use Rattle.hay_logical.proofs.SwapSizes.{photos_end, photos_fewer}
 use Rattle.hay_logical.proofs.Tables.{makes_nothing}
 

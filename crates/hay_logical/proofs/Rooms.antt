@@ -13,14 +13,14 @@ use Rattle.hay_legal.specs.declared.known.ReplicaKnown.{ReplicaKnown}
 use Rattle.hay_legal.specs.declared.known.VolumeKnown.{VolumeKnown}
 use Rattle.hay_legal.specs.Known.{empty_replica, lacks_room, machine_of, replica_at, room_refusal_of}
 use Rattle.hay_map.specs.MapRows.{MapRows}
-use Rattle.hay_physical.specs.Copies.{Copy, HasCapacity, capacity_of, end_of}
+use Rattle.hay_physical.specs.OpenCopies.{Copy, HasCapacity, capacity_of, end_of}
 use Rattle.hay_physical.proofs.Laws.{stands_capacity, stands_end}
 use Rattle.hay_logical.specs.declared.replicas.Broken.{Broken}
 use Rattle.hay_logical.specs.declared.unsure.Unsure.{Unsure}
 use Rattle.hay_logical.specs.Answers.{room_answer}
 use Rattle.hay_logical.specs.Fits.{At, super_of}
 use Rattle.hay_logical.specs.Stands.{StandsFor}
-use Rattle.hay_logical.specs.Steps.{LacksRoom, RoomFor}
+use Rattle.hay_logical.specs.ReplicaCalls.{LacksRoom, RoomFor}
 use Rattle.hay_logical.proofs.Lists.{at_below, at_or, at_there}
 use Rattle.hay_logical.proofs.Standing.{volume_with}
 

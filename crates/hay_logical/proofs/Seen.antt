@@ -11,14 +11,14 @@ use Rattle.hay_legal.specs.Known.{machine_of}
 use Rattle.hay_physical.specs.declared.fault.ReplicaFault.{ReplicaFault}
 use Rattle.hay_physical.specs.declared.fault.ReplicaFault.TheVariants as fault
 use Rattle.hay_physical.specs.declared.state.Phase.{Phase}
-use Rattle.hay_physical.specs.Copies.{Copy, KeepsEnd, bare_of, end_of, generation_of, goal_of, is_stuck, next_of, phase_bare, phase_end, phase_generation, phase_goal, phase_next, phase_stuck}
+use Rattle.hay_physical.specs.OpenCopies.{Copy, KeepsEnd, bare_of, end_of, generation_of, goal_of, is_stuck, next_of, phase_bare, phase_end, phase_generation, phase_goal, phase_next, phase_stuck}
 use Rattle.hay_physical.proofs.Laws.{no_next}
 use Rattle.hay_logical.specs.declared.unsure.Unsure.{Unsure}
 use Rattle.hay_logical.specs.Fits.{At}
 use Rattle.hay_logical.specs.Refusals.{answer_at}
 use Rattle.hay_logical.specs.Seen.{AreLonger, BeginRefusedSeen, BreaksStep, ChangesAt, ChangesRun, DeleteSeen, EndsAlone, FlushRefusedSeen, FlushesTo, IsEnded}
 use Rattle.hay_logical.specs.Seen.{ReplicaSeen, StepRefusedSeen, StepsPartly, StepsTo, Sticks, SwapSeen, VolumeSeen, grown, replica_seen, volume_seen}
-use Rattle.hay_logical.specs.Steps.{CallsOne, IsBeginFault, IsFlushFault, IsStepFault, Lengthens}
+use Rattle.hay_logical.specs.ReplicaCalls.{CallsOne, IsBeginFault, IsFlushFault, IsStepFault, Lengthens}
 use Rattle.hay_logical.specs.Volumes.{Volume}
 use Rattle.hay_logical.proofs.Changing.{set_back}
 use Rattle.hay_logical.proofs.Lists.{at_map}

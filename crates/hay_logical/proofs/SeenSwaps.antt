@@ -7,15 +7,15 @@ use Rattle.hay_disk.specs.Disk.{Files}
 use Rattle.hay_map.specs.MapRows.{MapRows}
 use Rattle.hay_legal.specs.Known.{machine_of}
 use Rattle.hay_physical.specs.declared.fault.ReplicaFault.TheVariants as fault
-use Rattle.hay_physical.specs.Copies.{Copy, IsFrozen, IsUp, end_of, goal_of}
+use Rattle.hay_physical.specs.OpenCopies.{Copy, IsFrozen, IsUp, end_of, goal_of}
 use Rattle.hay_logical.specs.declared.runs.NewFiles.{NewFiles}
 use Rattle.hay_logical.specs.declared.runs.Unswapped.{Unswapped}
 use Rattle.hay_logical.specs.declared.runs.Unswapped.TheVariants.{Refused, Unsure as Perhaps}
 use Rattle.hay_logical.specs.Fits.{At}
 use Rattle.hay_logical.specs.Refusals.{unfinished_by}
 use Rattle.hay_logical.specs.Seen.{ChangesAt, ChangesRun, CompactRefusedSeen, EndsAlone, FinishRefusedSeen, FreezesSeen, ReplicaSeen, VolumeSeen, replica_seen}
-use Rattle.hay_logical.specs.Steps.{AllIdle, IsLeftBy, Lengthens, Start, SwapsOne}
-use Rattle.hay_logical.specs.Steps.Start.{Fresh, Going}
+use Rattle.hay_logical.specs.ReplicaCalls.{AllIdle, IsLeftBy, Lengthens, Start, SwapsOne}
+use Rattle.hay_logical.specs.ReplicaCalls.Start.{Fresh, Going}
 use Rattle.hay_logical.specs.declared.fault.LogicalFault.TheVariants as refusal
 use Rattle.hay_logical.proofs.Sighting.{damaged_answer}
 use Rattle.hay_logical.proofs.Lists.{at_below, at_same, at_set_other, at_set_same, length-slice_set}

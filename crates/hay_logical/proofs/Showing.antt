@@ -25,9 +25,9 @@ use Rattle.hay_map.specs.declared.view.MapOp.{MapOp}
 use Rattle.hay_map.specs.declared.view.MapOp.TheVariants as op
 use Rattle.hay_open.specs.Stored.{last_cell}
 use Rattle.hay_compact.specs.Finishing.{IsSeen}
-use Rattle.hay_physical.specs.Copies.{Copy, IsOpenCopy, end_of, goal_of}
+use Rattle.hay_physical.specs.OpenCopies.{Copy, IsOpenCopy, end_of, goal_of}
 use Rattle.hay_physical.specs.Replicas as physical
-use Rattle.hay_physical.specs.Runs.{HasRun, Run}
+use Rattle.hay_physical.specs.CompactionRuns.{HasRun, Run}
 use Rattle.hay_physical.proofs.Laws.{stands_end}
 use Rattle.hay_logical.specs.declared.unsure.Change.{Change}
 use Rattle.hay_logical.specs.declared.unsure.Change.TheVariants as change
@@ -38,7 +38,7 @@ use Rattle.hay_logical.specs.Answers.{HasRoom, IsDeleted, IsPut, ended_runs, has
 use Rattle.hay_logical.specs.Fits.{At, HoldsPart, PhotoAt, PlaceStands, RunsAs, copier_run, part_of}
 use Rattle.hay_logical.specs.Notes.{is_live}
 use Rattle.hay_logical.specs.Stands.{BreaksOffAt, IsChange, Stands, StandsFor}
-use Rattle.hay_logical.specs.Steps.{AllIdle, DeletesAt, FollowsAt, LosesRun, PutsAt, StaysBeside, StaysInReach}
+use Rattle.hay_logical.specs.ReplicaCalls.{AllIdle, DeletesAt, FollowsAt, LosesRun, PutsAt, StaysBeside, StaysInReach}
 use Rattle.hay_logical.specs.Unshown.{IsErased, IsUnshown, IsWritten}
 use Rattle.hay_logical.specs.Volumes.{CanReach, Volume}
 use Rattle.hay_logical.proofs.Changing.{apart_of, deletes_sup, goal_follows, is_held_at, some_none}

@@ -26,7 +26,7 @@ use Rattle.hay_logical.specs.Seen.{AreEnds, ReplicaSeen}
 use Rattle.hay_logical.specs.Sights.{AwaitsLook, AwaitsLookAt, BecomesSeen, DeleteRefusedSights, ErasesSights, FindsPhoto, IsLiveSight, KeepsSights, LookRefusedSights, Looks, LooksAtPair}
 use Rattle.hay_logical.specs.Sights.{SeeRefusedSights, SeesLive, SeesPair, Sight, Sights, StoresSights, gone_sight, sight, sights_of}
 use Rattle.hay_logical.specs.Sights.Sight.{Gone, Live, Never, Unseen}
-use Rattle.hay_logical.specs.Steps.{LookAwaited, SetsPlaceAt}
+use Rattle.hay_logical.specs.ReplicaCalls.{LookAwaited, SetsPlaceAt}
 use Rattle.hay_logical.proofs.Holding.{gone_in}
 use Rattle.hay_logical.proofs.Lists.{at_below}
 use Rattle.hay_logical.proofs.Looking.{set_here, set_others}

@@ -16,7 +16,7 @@ use Rattle.hay_open.specs.Stored.{Stored, last_cell}
 use Rattle.hay_compact.specs.Finishing.{IsSeen}
 use Rattle.hay_physical.specs.declared.fault.ReplicaFault.{ReplicaFault}
 use Rattle.hay_physical.specs.declared.fault.ReplicaFault.TheVariants as fault
-use Rattle.hay_physical.specs.Copies.{Copy, goal_of, is_stuck}
+use Rattle.hay_physical.specs.OpenCopies.{Copy, goal_of, is_stuck}
 use Rattle.hay_physical.specs.Faults as physical_faults
 use Rattle.hay_physical.specs.Replicas as physical
 use Rattle.hay_logical.specs.declared.fault.LogicalFault.TheVariants.{Damaged, Failed}
@@ -25,7 +25,7 @@ use Rattle.hay_logical.specs.Answers.{IsSightFault}
 use Rattle.hay_logical.specs.Fits.{At, PhotoAt, PlaceStands, copier_run}
 use Rattle.hay_logical.specs.Refusals.{answer_at}
 use Rattle.hay_logical.specs.Stands.{ReplicaStands, StandsFor}
-use Rattle.hay_logical.specs.Steps.{CallsOne, LooksAt, PlacesAre, SeesRow, SightsAt}
+use Rattle.hay_logical.specs.ReplicaCalls.{CallsOne, LooksAt, PlacesAre, SeesRow, SightsAt}
 use Rattle.hay_logical.specs.Volumes.{CanReach, ReachesPlaces}
 use Rattle.hay_logical.proofs.Calls.{reaches_same}
 use Rattle.hay_logical.proofs.Holding.{held_on}

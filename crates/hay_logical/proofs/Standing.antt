@@ -19,12 +19,12 @@ use Rattle.hay_map.specs.declared.place.Place.{Place}
 use Rattle.hay_map.specs.declared.place.Place.TheVariants as place
 use Rattle.hay_map.specs.declared.view.MapOp.TheVariants as op
 use Rattle.hay_open.specs.Stored.{Stored, last_cell}
-use Rattle.hay_physical.specs.Copies.{Copy}
+use Rattle.hay_physical.specs.OpenCopies.{Copy}
 use Rattle.hay_physical.specs.Replicas as physical
 use Rattle.hay_logical.specs.declared.unsure.Unsure.{Unsure}
 use Rattle.hay_logical.specs.Fits.{PhotoAt}
 use Rattle.hay_logical.specs.Stands.{IsPending, StandsBy, StandsFor, TakesChanges}
-use Rattle.hay_logical.specs.Steps.{IsPlaceOf}
+use Rattle.hay_logical.specs.ReplicaCalls.{IsPlaceOf}
 use Rattle.hay_logical.specs.Volumes.{Volume}
 use Rattle.hay_logical.proofs.Tables.{last_more, seen_means}
 

@@ -13,8 +13,8 @@ use Rattle.hay_map.specs.MapRows.{MapRows}
 use Rattle.hay_open.specs.Stored.{Stored}
 use Rattle.hay_physical.specs.declared.fault.ReplicaFault.{ReplicaFault}
 use Rattle.hay_physical.specs.declared.fault.ReplicaFault.TheVariants as fault
-use Rattle.hay_physical.specs.Copies.{Copy, generation_of, goal_of}
-use Rattle.hay_physical.specs.Runs as runs
+use Rattle.hay_physical.specs.OpenCopies.{Copy, generation_of, goal_of}
+use Rattle.hay_physical.specs.CompactionRuns as runs
 use Rattle.hay_physical.proofs.Laws.{stands_generation}
 use Rattle.hay_logical.specs.declared.unsure.Unsure.{Unsure}
 use Rattle.hay_logical.specs.Answers.{BeginRefused, IsAtRest, IsBegun, IsRunning, IsStepped, StepRefused, change_at}
@@ -22,7 +22,7 @@ use Rattle.hay_logical.specs.Answers as answers
 use Rattle.hay_logical.specs.Fits.{At, Fits, RunsAs, copier_run}
 use Rattle.hay_logical.specs.Refusals.{answer_at}
 use Rattle.hay_logical.specs.Stands.{ReplicaStands, Stands, StandsFor}
-use Rattle.hay_logical.specs.Steps.{BeginsAt, CallsOne, GoesOn, StepsAt}
+use Rattle.hay_logical.specs.ReplicaCalls.{BeginsAt, CallsOne, GoesOn, StepsAt}
 use Rattle.hay_logical.proofs.Changing.{one_failed, other_changed, set_back, stands_one}
 use Rattle.hay_logical.proofs.Compacting.{known_goal, known_none, loosely, no_run}
 use Rattle.hay_logical.proofs.Knowing.{changed_here, fits_same}

@@ -6,14 +6,14 @@ use Rattle.hay_needle.specs.declared.settings.Settings.{Settings}
 use Rattle.hay_disk.specs.Disk.{Files}
 use Rattle.hay_map.specs.MapRows.{MapRows}
 use Rattle.hay_physical.specs.declared.fault.ReplicaFault.TheVariants as fault
-use Rattle.hay_physical.specs.Copies.{Copy, IsOpenCopy, IsUp, is_frozen, is_stuck}
+use Rattle.hay_physical.specs.OpenCopies.{Copy, IsOpenCopy, IsUp, is_frozen, is_stuck}
 use Rattle.hay_logical.specs.declared.unsure.Unsure.{Unsure}
 use Rattle.hay_logical.specs.declared.runs.NewFiles.{NewFiles}
 use Rattle.hay_logical.specs.declared.runs.Unswapped.{Unswapped}
 use Rattle.hay_logical.specs.declared.runs.Unswapped.TheVariants.{Refused, Unsure as Perhaps}
 use Rattle.hay_logical.specs.Fits.{At}
 use Rattle.hay_logical.specs.Refusals.{unfinished_by}
-use Rattle.hay_logical.specs.Steps.{KeepsPlaces, KeepsStuck, LosesRun, Start, StaysInReach, SwapsAt, SwapsOne}
+use Rattle.hay_logical.specs.ReplicaCalls.{KeepsPlaces, KeepsStuck, LosesRun, Start, StaysInReach, SwapsAt, SwapsOne}
 use Rattle.hay_logical.specs.Volumes.{CanReach, IsFrozenBy, IsShaped, ReachesPlaces, Volume}
 use Rattle.hay_logical.specs.Volumes as volumes
 use Rattle.hay_logical.proofs.Calls.{up_open, up_thawed}

@@ -24,10 +24,10 @@ use Rattle.hay_open.specs.Stored.{Stored, index_file, last_cell, volume_file}
 use Rattle.hay_compact.specs.Finishing.{ArePhotos, AreThePlaces, IsLive, IsSeen}
 use Rattle.hay_physical.specs.declared.fault.ReplicaFault.{ReplicaFault}
 use Rattle.hay_physical.specs.declared.fault.ReplicaFault.TheVariants as fault
-use Rattle.hay_physical.specs.Copies.{Copy, IsFrozen, IsUp, end_of, goal_of, is_stuck}
+use Rattle.hay_physical.specs.OpenCopies.{Copy, IsFrozen, IsUp, end_of, goal_of, is_stuck}
 use Rattle.hay_physical.specs.Faults as physical_faults
 use Rattle.hay_physical.specs.Replicas as physical
-use Rattle.hay_physical.specs.Runs.{Run}
+use Rattle.hay_physical.specs.CompactionRuns.{Run}
 use Rattle.hay_physical.proofs.Removing.{removed_since}
 use Rattle.hay_logical.specs.declared.runs.NewFiles.{NewFiles}
 use Rattle.hay_logical.specs.declared.runs.Unswapped.{Unswapped}
@@ -36,9 +36,9 @@ use Rattle.hay_logical.specs.Fits.{At, PhotoAt}
 use Rattle.hay_logical.specs.Seen.{MeetsDamage, ReplicaSeen, replica_seen}
 use Rattle.hay_logical.specs.Sights.{AwaitsLook, LiesWithin, SwapsSights, sight, sights_of}
 use Rattle.hay_logical.specs.Sights.Sight.{Gone, Live, Never, Unseen}
-use Rattle.hay_logical.specs.Steps.{GoesOn, HoldsUnswapped, IsLeftBy, IsStepFault, KeepsPlaces, MeetsDamageBy, PlacesAre, Start}
-use Rattle.hay_logical.specs.Steps.{StartsRun, StaysInReach, StepLeaves, SwapsAt, SwapsTo, WasAtRest, still_gone, still_gone_cell}
-use Rattle.hay_logical.specs.Steps.Start.{Examined, Fresh, Going}
+use Rattle.hay_logical.specs.ReplicaCalls.{GoesOn, HoldsUnswapped, IsLeftBy, IsStepFault, KeepsPlaces, MeetsDamageBy, PlacesAre, Start}
+use Rattle.hay_logical.specs.ReplicaCalls.{StartsRun, StaysInReach, StepLeaves, SwapsAt, SwapsTo, WasAtRest, still_gone, still_gone_cell}
+use Rattle.hay_logical.specs.ReplicaCalls.Start.{Examined, Fresh, Going}
 use Rattle.hay_logical.specs.Volumes.{ReachesPlaces}
 use Rattle.hay_logical.proofs.Calls.{loaded, loaded_other, not_both, reach_through, up_open}
 use Rattle.hay_logical.proofs.Compacting.{photo_at}

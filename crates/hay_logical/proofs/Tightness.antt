@@ -15,9 +15,9 @@ use Rattle.hay_physical.specs.declared.fault.ReplicaFault.{ReplicaFault}
 use Rattle.hay_physical.specs.declared.fault.ReplicaFault.TheVariants as fault
 use Rattle.hay_physical.specs.declared.state.OpenFiles.{OpenFiles}
 use Rattle.hay_physical.specs.declared.state.Phase.TheVariants.{Open}
-use Rattle.hay_physical.specs.Copies.{Copy, IsUp}
+use Rattle.hay_physical.specs.OpenCopies.{Copy, IsUp}
 use Rattle.hay_physical.specs.Replicas as physical
-use Rattle.hay_physical.specs.Runs.{HasRun, Run}
+use Rattle.hay_physical.specs.CompactionRuns.{HasRun, Run}
 use Rattle.hay_physical.proofs.Laws.{run_goal, stands_generation}
 use Rattle.hay_logical.specs.declared.replicas.Broken.{Broken}
 use Rattle.hay_logical.specs.declared.runs.NewFiles.{NewFiles}
@@ -26,8 +26,8 @@ use Rattle.hay_logical.specs.Answers.{IsTightened}
 use Rattle.hay_logical.specs.Fits.{At}
 use Rattle.hay_logical.specs.Stands.{RunsTight, Stands, StandsFor}
 use Rattle.hay_logical.specs.Refusals.{IsUntouched}
-use Rattle.hay_logical.specs.Steps.{BeginsAt, CallsOne, FlushesAt, FusesAt, KeepsPlaces, PlacesAre, PutLeaves, SightsAt, StepsAt, StillRuns, SwapsAt, SwapsOne}
-use Rattle.hay_logical.specs.Steps.Start.{Going}
+use Rattle.hay_logical.specs.ReplicaCalls.{BeginsAt, CallsOne, FlushesAt, FusesAt, KeepsPlaces, PlacesAre, PutLeaves, SightsAt, StepsAt, StillRuns, SwapsAt, SwapsOne}
+use Rattle.hay_logical.specs.ReplicaCalls.Start.{Going}
 use Rattle.hay_logical.proofs.Alike.{one_standing}
 use Rattle.hay_logical.proofs.Calls.{frozen_is, open_up}
 use Rattle.hay_logical.proofs.Finishing.{stands_swap, tight_sizes, was_there}

@@ -7,14 +7,14 @@ use Rattle.hay_disk.specs.Disk.{Files}
 use Rattle.hay_map.specs.MapRows.{MapRows}
 use Rattle.hay_physical.specs.declared.fault.ReplicaFault.{ReplicaFault}
 use Rattle.hay_physical.specs.declared.fault.ReplicaFault.TheVariants as fault
-use Rattle.hay_physical.specs.Copies.{Copy, is_stuck}
+use Rattle.hay_physical.specs.OpenCopies.{Copy, is_stuck}
 use Rattle.hay_logical.specs.declared.fault.LogicalFault.TheVariants as logical
 use Rattle.hay_logical.specs.declared.runs.Unswapped.{Unswapped}
 use Rattle.hay_logical.specs.declared.runs.Unswapped.TheVariants.{Refused, Unsure as Perhaps}
 use Rattle.hay_logical.specs.declared.unsure.Unsure.{Unsure}
 use Rattle.hay_logical.specs.Fits.{At}
 use Rattle.hay_logical.specs.Refusals.{IsUntouchedBy, answer_at, unfinished_by}
-use Rattle.hay_logical.specs.Steps.{CallsOne, IsBeginFault, IsFlushFault, IsLeftBy, IsStepFault, KeepsStuck, Start}
+use Rattle.hay_logical.specs.ReplicaCalls.{CallsOne, IsBeginFault, IsFlushFault, IsLeftBy, IsStepFault, KeepsStuck, Start}
 use Rattle.hay_logical.proofs.Changing.{set_back}
 use Rattle.hay_logical.proofs.Lists.{at_below, at_same, at_there}
 use Rattle.hay_logical.proofs.Standing.{volume_with}

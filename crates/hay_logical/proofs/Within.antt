@@ -18,7 +18,7 @@ use Rattle.hay_logical.specs.Seen.{AreLonger, FreezesSeen, ReplicaSeen, VolumeSe
 use Rattle.hay_logical.specs.Sights.{BecomesSeen, ErasesSights, KeepsSights, LiesWithin, LiesWithinAt, LiesWithinEach, Looks, LooksAtPair, Sight, Sights, StoresSights}
 use Rattle.hay_logical.specs.Sights.{SwapsSights, gone_sight, sight, sights_of}
 use Rattle.hay_logical.specs.Sights.Sight.{Gone, Live, Never, Unseen}
-use Rattle.hay_logical.specs.Steps.{SeesRow}
+use Rattle.hay_logical.specs.ReplicaCalls.{SeesRow}
 use Rattle.hay_logical.proofs.Lists.{at_below, at_set_other, at_there}
 use Rattle.hay_logical.proofs.Seen.{map_at}
 use Rattle.hay_logical.proofs.SightChanges.{sights_kept}

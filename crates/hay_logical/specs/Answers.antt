@@ -19,9 +19,9 @@ use Rattle.hay_legal.specs.Known.{machine_of, now, replica_at, room_refusal_of, 
 use Rattle.hay_legal.specs.Plain.{as_it_is, frozen_by, frozen_with, has_pair, poised, stepped, swapped, with_bare, with_del, with_put, with_run, with_stuck, without_run}
 use Rattle.hay_legal.specs.Restarts.{ReopenedVolume, pending_notes}
 use Rattle.hay_open.specs.Stored.{Stored, index_file, volume_file}
-use Rattle.hay_physical.specs.Copies.{Copy, goal_of}
+use Rattle.hay_physical.specs.OpenCopies.{Copy, goal_of}
 use Rattle.hay_physical.specs.Replicas as physical
-use Rattle.hay_physical.specs.Runs.{RemovedBoth}
+use Rattle.hay_physical.specs.CompactionRuns.{RemovedBoth}
 use Rattle.hay_logical.specs.declared.fault.LogicalFault.{LogicalFault}
 use Rattle.hay_logical.specs.declared.fault.LogicalFault.TheVariants.{Busy, Damaged, Failed, Full, Gone, Idle, NoMemory, ReadOnly, Worn}
 use Rattle.hay_logical.specs.Fits.{At}

@@ -8,7 +8,7 @@ use Rattle.hay_map.specs.Places.{place_in}
 use Rattle.hay_map.specs.Rows.{row_at}
 use Rattle.hay_map.specs.declared.place.Place.{Place}
 use Rattle.hay_map.specs.declared.place.Place.TheVariants as place
-use Rattle.hay_physical.specs.Copies.{Copy, contents_of}
+use Rattle.hay_physical.specs.OpenCopies.{Copy, contents_of}
 use Rattle.hay_physical.specs.Draws.{DrewLittle, HasRecordOf}
 use Rattle.hay_logical.specs.declared.unsure.Change.{Change}
 use Rattle.hay_logical.specs.declared.unsure.Change.TheVariants as change

@@ -22,9 +22,9 @@ use Rattle.hay_map.specs.Places.{PlaceMeans}
 use Rattle.hay_map.specs.declared.place.Place.{Place}
 use Rattle.hay_map.specs.declared.place.Place.TheVariants as place
 use Rattle.hay_open.specs.Stored.{IsSealedCell, Stored, OpensAs}
-use Rattle.hay_physical.specs.Copies.{Copy}
+use Rattle.hay_physical.specs.OpenCopies.{Copy}
 use Rattle.hay_physical.specs.Replicas as physical
-use Rattle.hay_physical.specs.Runs as runs
+use Rattle.hay_physical.specs.CompactionRuns as runs
 
 -- the item at this place of a list
 abbrev pub At : {X : Type 0} → List X → ℕ → X → Type 0

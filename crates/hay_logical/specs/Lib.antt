@@ -2,7 +2,7 @@ pub mod Fits
 pub mod Volumes
 pub mod Stands
 pub mod Answers
-pub mod Steps
+pub mod ReplicaCalls
 pub mod Needles
 pub mod Notes
 pub mod Refusals

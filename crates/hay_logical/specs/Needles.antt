@@ -10,7 +10,7 @@ use Rattle.hay_volume.specs.Needles.{AreHeadsFrom, HasNeedleOf, LacksNeedleOf, L
 use Rattle.hay_compact.specs.Copying.{HeadStands, IsPassedOrStands}
 use Rattle.hay_physical.specs.declared.fault.ReplicaFault.{ReplicaFault}
 use Rattle.hay_physical.specs.declared.fault.ReplicaFault.TheVariants as fault
-use Rattle.hay_physical.specs.Copies.{Copy, volume_bytes}
+use Rattle.hay_physical.specs.OpenCopies.{Copy, volume_bytes}
 use Rattle.hay_map.specs.MapRows.{MapRows}
 use Rattle.hay_logical.specs.Fits.{At}
 use Rattle.hay_logical.specs.Seen.{ReplicaSeen, begun, replica_seen}

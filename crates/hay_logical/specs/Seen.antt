@@ -7,7 +7,7 @@ use Rattle.hay_needle.specs.Sizes.{max_photo, needle_total}
 use Rattle.hay_core.specs.declared.entry.CoreTag.{CoreTag}
 use Rattle.hay_legal.specs.Known.{machine_of}
 use Rattle.hay_open.specs.Stored.{Stored}
-use Rattle.hay_physical.specs.Copies.{Copy, bare_of, end_of, generation_of, goal_of, is_stuck, next_of}
+use Rattle.hay_physical.specs.OpenCopies.{Copy, bare_of, end_of, generation_of, goal_of, is_stuck, next_of}
 use Rattle.hay_logical.specs.declared.fault.LogicalFault.{LogicalFault}
 use Rattle.hay_logical.specs.declared.fault.LogicalFault.TheVariants.{Busy, Damaged, Failed, Full, Gone, Idle, NoMemory, ReadOnly, Worn}
 use Rattle.hay_logical.specs.declared.unsure.Change.TheVariants.{Delete, Put}

@@ -14,9 +14,9 @@ use Rattle.hay_legal.specs.Stands.{found_of}
 use Rattle.hay_map.specs.Places.{place_in}
 use Rattle.hay_map.specs.Rows.{row_at}
 use Rattle.hay_open.specs.Stored.{Stored, last_cell}
-use Rattle.hay_physical.specs.Copies.{Copy, contents_of, goal_of, is_stuck}
+use Rattle.hay_physical.specs.OpenCopies.{Copy, contents_of, goal_of, is_stuck}
 use Rattle.hay_physical.specs.Replicas as physical
-use Rattle.hay_physical.specs.Runs as runs
+use Rattle.hay_physical.specs.CompactionRuns as runs
 use Rattle.hay_logical.specs.declared.unsure.Change.{Change}
 use Rattle.hay_logical.specs.declared.unsure.Change.TheVariants as change
 use Rattle.hay_logical.specs.declared.unsure.Unsure.{Unsure}

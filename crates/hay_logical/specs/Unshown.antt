@@ -19,7 +19,7 @@ use Rattle.hay_map.specs.Rows.{ChangesRows, HasRoom as HasRowRoom, KeepsRows, ch
 use Rattle.hay_map.specs.declared.view.MapOp.{MapOp}
 use Rattle.hay_map.specs.declared.view.MapOp.TheVariants as op
 use Rattle.hay_open.specs.Stored.{Stored, last_cell}
-use Rattle.hay_physical.specs.Copies.{Copy, is_stuck}
+use Rattle.hay_physical.specs.OpenCopies.{Copy, is_stuck}
 use Rattle.hay_physical.specs.Replicas as physical
 use Rattle.hay_logical.specs.declared.unsure.Change.{Change}
 use Rattle.hay_logical.specs.declared.unsure.Change.TheVariants as change

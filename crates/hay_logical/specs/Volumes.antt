@@ -9,8 +9,8 @@ use Rattle.hay_map.specs.MapRows.{MapRows}
 use Rattle.hay_map.specs.Places.{place_in}
 use Rattle.hay_map.specs.Rows.{row_at}
 use Rattle.hay_physical.specs.declared.state.Phase.TheVariants.{Closed}
-use Rattle.hay_physical.specs.Copies.{Copy, is_frozen}
-use Rattle.hay_physical.specs.Copies as copies
+use Rattle.hay_physical.specs.OpenCopies.{Copy, is_frozen}
+use Rattle.hay_physical.specs.OpenCopies as copies
 use Rattle.hay_physical.specs.Replicas as physical
 use Rattle.hay_logical.specs.declared.unsure.Unsure.{Unsure}
 use Rattle.hay_logical.specs.Fits.{At, super_of}

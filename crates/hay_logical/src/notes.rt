@@ -4,7 +4,7 @@ ghost use Rattle.std.specs.List.{AllByRecursion};
 ghost use Rattle.hay_reply.specs.Fits.{FitsNote};
 ghost use Rattle.hay_legal.specs.Known.{machine_of};
 ghost use Rattle.hay_legal.specs.Restarts.{replica_notes};
-ghost use Rattle.hay_physical.specs.Copies.{Copy, IsOpenCopy};
+ghost use Rattle.hay_physical.specs.OpenCopies.{Copy, IsOpenCopy};
 ghost use Rattle.hay_logical.specs.Fits.{At};
 ghost use Rattle.hay_logical.specs.Volumes.{IsOfSettings};
 ghost use Rattle.hay_logical.specs.Notes.{KeptIn, NotesTell, keeps, may_be_live};

@@ -1,7 +1,7 @@
 //! What a volume goes by where a change is refused.
 ghost use Rattle.std.specs.Prelude.{◌≡◌, ◌<◌, ◌⊎◌, ℕ, List, true, false, length};
 ghost use Rattle.hay_map.specs.Places.{place_in};
-ghost use Rattle.hay_physical.specs.Copies.{Copy, is_frozen};
+ghost use Rattle.hay_physical.specs.OpenCopies.{Copy, is_frozen};
 ghost use Rattle.hay_logical.specs.Fits.{At};
 ghost use Rattle.hay_logical.specs.Notes.{is_live};
 ghost use Rattle.hay_logical.specs.Refusals.{IsRefusal, IsUntouched, RefusesPut, answer_at, unfinished_by};

@@ -1,13 +1,13 @@
 //! Compactions of replicas.
 ghost use Rattle.std.specs.Prelude.{◌≡◌, ◌≤◌, ◌<◌, ℕ, if◌then◌else◌, true, false, length, map, None, Err, IfOk, OnOk, OnErr};
 ghost use Rattle.hay_map.specs.Places.{place_in};
-ghost use Rattle.hay_physical.specs.Copies.{Copy, IsUp, goal_of, is_frozen, next_of, volume_bytes};
+ghost use Rattle.hay_physical.specs.OpenCopies.{Copy, IsUp, goal_of, is_frozen, next_of, volume_bytes};
 ghost use Rattle.hay_logical.specs.Fits.{At};
 ghost use Rattle.hay_logical.specs.Needles.{HeadsLead, HeadsLeadOn, HeadsLeadPart, IsDamagedCell, LacksCell, LacksCellAnew, LacksCellLeft};
 ghost use Rattle.hay_logical.specs.Sights.{sights_of};
 ghost use Rattle.hay_logical.specs.Seen.{BeginsTo, BreaksStep, ChangesRun, IsEnded, StepsTo, SwapSeen, begun, replica_seen};
-ghost use Rattle.hay_logical.specs.Steps.Start.{Examined, Fresh, Going};
-ghost use Rattle.hay_logical.specs.Steps.{AllIdle, BeginsAt, CallsOne, ExaminesAt, KeepsPlaces, LosesRun, StaysInReach, StepsAt, SwapsAt, SwapsOne, latest_of, still_gone, still_gone_cell};
+ghost use Rattle.hay_logical.specs.ReplicaCalls.Start.{Examined, Fresh, Going};
+ghost use Rattle.hay_logical.specs.ReplicaCalls.{AllIdle, BeginsAt, CallsOne, ExaminesAt, KeepsPlaces, LosesRun, StaysInReach, StepsAt, SwapsAt, SwapsOne, latest_of, still_gone, still_gone_cell};
 ghost use Rattle.hay_logical.specs.Volumes.{KeepsCounts};
 
 use hay_base::Listed;

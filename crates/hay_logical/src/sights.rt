@@ -6,7 +6,7 @@ ghost use Rattle.hay_map.specs.declared.place.Place.TheVariants as place;
 ghost use Rattle.hay_open.specs.Stored.{Stored};
 ghost use Rattle.hay_compact.specs.Finishing.{IsSeen};
 ghost use Rattle.hay_physical.specs.declared.state.Phase.TheVariants.{Closed};
-ghost use Rattle.hay_physical.specs.Copies.{Copy, IsOpenCopy, is_frozen, volume_bytes};
+ghost use Rattle.hay_physical.specs.OpenCopies.{Copy, IsOpenCopy, is_frozen, volume_bytes};
 ghost use Rattle.hay_physical.specs.Faults.{IsSightFault};
 ghost use Rattle.hay_physical.specs.Replicas as physical;
 ghost use Rattle.hay_logical.specs.Draws.{DrawsAtMost, DrewAt, look_total, looked_pair, looked_total};
@@ -14,7 +14,7 @@ ghost use Rattle.hay_logical.specs.Fits.{At};
 ghost use Rattle.hay_logical.specs.Needles.{TellsNeedle};
 ghost use Rattle.hay_logical.specs.Notes.{IsToldPlace, SeesUnsure, ToldUnsure};
 ghost use Rattle.hay_logical.specs.Sights.{sights_of};
-ghost use Rattle.hay_logical.specs.Steps.{CallsOne, IsLookFault, IsRefusedAt, IsSeenBy, IsUnseenAt, KeepsDisk, LeftAt, LooksAt, OpensAt, PlacesAre, SeesRow, SightsAt};
+ghost use Rattle.hay_logical.specs.ReplicaCalls.{CallsOne, IsLookFault, IsRefusedAt, IsSeenBy, IsUnseenAt, KeepsDisk, LeftAt, LooksAt, OpensAt, PlacesAre, SeesRow, SightsAt};
 ghost use Rattle.hay_logical.specs.Volumes.{CanReach, KeepsCounts};
 
 use crate::fault::Unopened;

@@ -17,7 +17,7 @@ use Rattle.hay_turn.specs.Acts.{acts_of, AllBelow}
 use Rattle.hay_turn.proofs.Prefixes.{prefix_self, prefix_trans}
 use Rattle.hay_core.specs.declared.entry.Entry.{Entry}
 use Rattle.hay_legal.specs.declared.known.HomeRow.{HomeRow}
-use Rattle.hay_history.specs.Steps.{RowsStanding, RowStep, Standing, Step}
+use Rattle.hay_history.specs.LaneSteps.{RowsStanding, RowStep, Standing, Step}
 use Rattle.hay_meeting.specs.declared.act.DirAct.{DirAct}
 use Rattle.hay_meeting.specs.declared.act.VolumeAct.{VolumeAct}
 use Rattle.hay_meeting.specs.Acts.{Start, row_lock, volume_lock}

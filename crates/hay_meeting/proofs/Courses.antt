@@ -7,7 +7,7 @@ use Rattle.hay_needle.specs.declared.settings.Settings.{Settings}
 use Rattle.hay_legal.specs.declared.known.Known.{Known}
 use Rattle.hay_legal.specs.declared.turn.LaneItem.{LaneItem}
 use Rattle.hay_legal.specs.Blocks.{tag_of}
-use Rattle.hay_history.specs.Steps.{RowsStanding, RowStep, Standing, Step}
+use Rattle.hay_history.specs.LaneSteps.{RowsStanding, RowStep, Standing, Step}
 use Rattle.hay_history.specs.Histories.{Course, IsLater, changes, changes_it, changes_rows, first_of, first_rows, own, own_rows, row_changes, rows_standing, standing}
 use Rattle.hay_history.specs.Commands.{Answered, LineDid}
 use Rattle.hay_turn.proofs.Prefixes.{prefix_trans}

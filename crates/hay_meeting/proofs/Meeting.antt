@@ -14,7 +14,7 @@ use Rattle.hay_legal.specs.Blocks.{log_notes, tag_of}
 use Rattle.hay_legal.specs.Subject.{IsOf}
 use Rattle.hay_legal.proofs.Subject.Entries.{block_is_of}
 use Rattle.hay_legal.proofs.Subject.Entries.{plain_is_of}
-use Rattle.hay_history.specs.Steps.{Follows, FollowsRows, NoneFall, RowsStanding, RowStep, Standing, Step}
+use Rattle.hay_history.specs.LaneSteps.{Follows, FollowsRows, NoneFall, RowsStanding, RowStep, Standing, Step}
 use Rattle.hay_history.specs.Histories.{History, IsLater, Seen, behind, begun_by, first_of, first_rows, row_note, rows_behind}
 use Rattle.hay_history.specs.Commands.{Answered, Came, IsOfLine, MayStandInLane, at_first, at_last, course}
 use Rattle.hay_history.specs.Law.{RunsOfPlain}

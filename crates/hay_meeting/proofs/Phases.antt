@@ -12,7 +12,7 @@ use Rattle.hay_core.specs.declared.entry.CoreTag.{CoreTag}
 use Rattle.hay_legal.specs.declared.turn.LaneItem.{LaneItem}
 use Rattle.hay_legal.specs.Known.{all_tries, home_in, now, replica_at}
 use Rattle.hay_legal.proofs.Subject.Effects.{each_append}
-use Rattle.hay_history.specs.Steps.{Follows, RowsStanding}
+use Rattle.hay_history.specs.LaneSteps.{Follows, RowsStanding}
 use Rattle.hay_history.specs.Histories.{changes_it, changes_rows}
 use Rattle.hay_history.proofs.Lists.{each_weaker}
 use Rattle.hay_turn.proofs.Prefixes.{prefix_trans}

@@ -13,7 +13,7 @@ use Rattle.hay_legal.specs.declared.known.Known.{Known}
 use Rattle.hay_legal.specs.declared.known.VolumeKnown.{VolumeKnown}
 use Rattle.hay_legal.specs.declared.turn.LaneItem.{LaneItem}
 use Rattle.hay_legal.specs.Known.{all_tries}
-use Rattle.hay_history.specs.Steps.{RowsStanding}
+use Rattle.hay_history.specs.LaneSteps.{RowsStanding}
 use Rattle.hay_history.specs.Histories.{Course, SeesRefusal, rows_standing}
 use Rattle.hay_history.specs.Commands.{HomeRefuses, LeftPending, MayAddRow, PutDid, PutFailed, PutRefused, PutRowFailed, PutStored, PutWanting, RowPends, SeesRefusals}
 use Rattle.hay_history.proofs.Lists.{each_weaker, zip_weaker}

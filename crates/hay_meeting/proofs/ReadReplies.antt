@@ -16,7 +16,7 @@ use Rattle.hay_legal.specs.declared.known.Known.{Known}
 use Rattle.hay_legal.specs.declared.turn.LaneItem.{LaneItem}
 use Rattle.hay_legal.specs.Known.{machine_of}
 use Rattle.hay_legal.specs.Plain.{first_machine, order_from}
-use Rattle.hay_history.specs.Steps.Did.{Freezes, Tries}
+use Rattle.hay_history.specs.LaneSteps.Did.{Freezes, Tries}
 use Rattle.hay_history.specs.Histories.{Course}
 use Rattle.hay_history.specs.Commands.{GetDid, LookFailed, LookFroze, LookWanting, OnlyLooks, PassedFor, PassedOver, ShowDid, Showed, ShowedNone, UrlDid}
 use Rattle.hay_history.proofs.Lists.{each_weaker, zip_weaker}

@@ -12,7 +12,7 @@ use Rattle.hay_legal.specs.declared.turn.LaneItem.{LaneItem}
 use Rattle.hay_legal.specs.Known.{replica_on}
 use Rattle.hay_legal.specs.Plain.{start_of}
 use Rattle.hay_legal.specs.Blocks.{tag_of}
-use Rattle.hay_history.specs.Steps.{RowDid}
+use Rattle.hay_history.specs.LaneSteps.{RowDid}
 use Rattle.hay_history.specs.Histories.{Course}
 use Rattle.hay_history.specs.Commands.{DrainDid, FuseDid, FuseDirDid, LineDid, OnlyDidRow, UndrainDid}
 use Rattle.hay_meeting.specs.Acts.{Happened, Start}

@@ -10,8 +10,8 @@ use Rattle.hay_legal.specs.declared.known.Known.{Known}
 use Rattle.hay_legal.specs.declared.known.VolumeKnown.{VolumeKnown}
 use Rattle.hay_legal.specs.declared.turn.LaneItem.{LaneItem}
 use Rattle.hay_legal.specs.Known.{now, replica_at}
-use Rattle.hay_history.specs.Steps.{Did}
-use Rattle.hay_history.specs.Steps.Did.{Examines}
+use Rattle.hay_history.specs.LaneSteps.{Did}
+use Rattle.hay_history.specs.LaneSteps.Did.{Examines}
 use Rattle.hay_history.specs.Histories.{Course, IsMoment, volume_then}
 use Rattle.hay_history.specs.Commands.{BeginDid, BeginFailed, CompactDid, CompactFailed, CompactRefused, CompactWanting, FinishDid, FinishFailed, FlushDid, FlushDone, FlushFailed}
 use Rattle.hay_history.specs.Commands.{IsFrozen, IsLast, IsStuck, IsTightAlone, MetBusy, MetIdle, MetWorn, OnlyDid, Ran, RanAs, RanFrozen, RanUntil, RoseIn, StepDid, WentOn}

@@ -11,8 +11,8 @@ use Rattle.hay_legal.specs.declared.known.Run.{Run}
 use Rattle.hay_legal.specs.declared.known.VolumeKnown.{VolumeKnown}
 use Rattle.hay_legal.specs.Known.{replica_at}
 use Rattle.hay_legal.specs.Plain.{grown, run_grown, swapped, with_bare, with_stuck, without_run}
-use Rattle.hay_history.specs.Steps.{Follows, Leads, Standing, change_at}
-use Rattle.hay_history.specs.Steps.Did.{Ends, Swaps}
+use Rattle.hay_history.specs.LaneSteps.{Follows, Leads, Standing, change_at}
+use Rattle.hay_history.specs.LaneSteps.Did.{Ends, Swaps}
 use Rattle.hay_history.specs.Histories.{begun_in}
 use Rattle.hay_turn.proofs.Prefixes.{prefix_trans}
 use Rattle.hay_history.proofs.Changes.{changed_at, ended_at, mapped_at}
@@ -22,11 +22,11 @@ use Rattle.hay_meeting.specs.declared.act.VolumeDid.TheVariants as act
 use Rattle.hay_meeting.specs.Acts.{Start, begun_at, begun_of, did_of, examined, examined_by, known_by, left_by, nobody, volume_lock}
 use Rattle.hay_meeting.specs.Facts.{HasRunAt, volume_stood}
 use Rattle.hay_meeting.specs.Locks.{Doing, Held, entries, left, past, replayed}
-use Rattle.hay_meeting.specs.Runs.{FoundEnded, HowEnded, RunEnded}
+use Rattle.hay_meeting.specs.CompactionEnds.{FoundEnded, HowEnded, RunEnded}
 use Rattle.hay_meeting.specs.Sights.{Sight, stood}
 use Rattle.hay_meeting.proofs.Replays.{entries_prefix, left_append}
 use Rattle.hay_meeting.proofs.Standings.{begun_append, follows_behind}
-use Rattle.hay_meeting.specs.Runs.HowEnded.{ByDelete, ByEnd, ByFreeze, BySwap}
+use Rattle.hay_meeting.specs.CompactionEnds.HowEnded.{ByDelete, ByEnd, ByFreeze, BySwap}
 
 -- where a change keeps runs, one that stood stands
 kept_run : (volume : VolumeKnown) (i j : ℕ) (change : ReplicaKnown → ReplicaKnown) (run : Run)

@@ -15,7 +15,7 @@ use Rattle.hay_legal.specs.declared.known.Known.{Known}
 use Rattle.hay_legal.specs.declared.known.VolumeKnown.{VolumeKnown}
 use Rattle.hay_legal.specs.declared.turn.LaneItem.{LaneItem}
 use Rattle.hay_legal.specs.Known.{all_tries, closed_by, drained_of, home_in, now, refusal_by, replica_at, room_refusal_of}
-use Rattle.hay_history.specs.Steps.{Did, Follows, RowDid, RowsStanding, Step}
+use Rattle.hay_history.specs.LaneSteps.{Did, Follows, RowDid, RowsStanding, Step}
 use Rattle.hay_history.specs.Histories.{Course, HasRunOf, IsMoment, IsRowMoment, NoRows, NoSteps, OneRowStep, OneStep, OnlyOn, SeesHome, SeesRefusal, SeesTaker, begun_by, changes}
 use Rattle.hay_history.specs.Histories.{changes_it, changes_rows, closing_then, first_of, own, refusal_then, rows_standing, standing, volume_then}
 use Rattle.hay_history.specs.Commands.{FailedIn, IsLast, RoseIn}

@@ -23,7 +23,7 @@ use Rattle.hay_legal.specs.declared.known.ReplicaKnown.{ReplicaKnown}
 use Rattle.hay_legal.specs.declared.known.VolumeKnown.{VolumeKnown}
 use Rattle.hay_legal.specs.Known.{now, replica_at}
 use Rattle.hay_legal.specs.Plain.{ended_where, with_del, without_run}
-use Rattle.hay_history.specs.Steps.{Follows, FollowsRows, Leads, LeadsFuses, NoneFall, RowsStanding, Standing}
+use Rattle.hay_history.specs.LaneSteps.{Follows, FollowsRows, Leads, LeadsFuses, NoneFall, RowsStanding, Standing}
 use Rattle.hay_history.specs.Histories.{begun_by, begun_in, behind, rows_behind}
 use Rattle.hay_history.proofs.Changes.{Extends, leads_extends, log_by}
 use Rattle.hay_meeting.specs.declared.act.DirAct.{DirAct}

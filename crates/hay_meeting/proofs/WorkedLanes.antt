@@ -23,7 +23,7 @@ use Rattle.hay_legal.specs.Known.{arm_count, empty_replica, empty_volume, fault_
 use Rattle.hay_legal.specs.Plain.{put_entry}
 use Rattle.hay_legal.specs.Subject.{IsOf}
 use Rattle.hay_legal.proofs.Steps.{one, own, pair}
-use Rattle.hay_history.specs.Steps.{Follows}
+use Rattle.hay_history.specs.LaneSteps.{Follows}
 use Rattle.hay_history.specs.Histories.{first_of}
 use Rattle.hay_history.specs.Commands.{IsRegular}
 use Rattle.hay_history.proofs.Worked.{line_of, of_first, tag}

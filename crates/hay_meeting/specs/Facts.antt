@@ -13,8 +13,8 @@ use Rattle.hay_legal.specs.declared.known.HomeRow.{HomeRow}
 use Rattle.hay_legal.specs.declared.known.Run.{Run}
 use Rattle.hay_legal.specs.declared.known.VolumeKnown.{VolumeKnown}
 use Rattle.hay_legal.specs.Known.{all_tries, closed_by, home_in, machine_of, now, refusal_by, replica_at, replica_on, replicas_of, room_refusal_of, stands}
-use Rattle.hay_history.specs.Steps.{Did, RowDid, RowsStanding}
-use Rattle.hay_history.specs.Steps.Did.{Tries}
+use Rattle.hay_history.specs.LaneSteps.{Did, RowDid, RowsStanding}
+use Rattle.hay_history.specs.LaneSteps.Did.{Tries}
 use Rattle.hay_history.specs.Histories.{changes_it, changes_rows}
 use Rattle.hay_meeting.specs.declared.act.DirAct.{DirAct}
 use Rattle.hay_meeting.specs.declared.act.VolumeAct.{VolumeAct}

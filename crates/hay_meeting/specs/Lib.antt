@@ -6,4 +6,4 @@ pub mod Replies
 pub mod Chains
 pub mod Law
 pub mod Rounds
-pub mod Runs
+pub mod CompactionEnds

@@ -33,9 +33,9 @@ use Rattle.hay_legal.specs.declared.turn.LaneItem.{LaneItem}
 use Rattle.hay_legal.specs.Known.{CameUp, EachPair, all_tries, machine_of, now, replica_at, replica_on}
 use Rattle.hay_legal.specs.Plain.{ArmRises, GetShows, Names, as_closed, first_machine, order_from, put_entry, start_of, wants_room}
 use Rattle.hay_legal.specs.Blocks.{tag_of}
-use Rattle.hay_history.specs.Steps.{Did, RowDid}
-use Rattle.hay_history.specs.Steps.Did.{Begins, Ends, Entered, Examines, Flushes, Freezes, Fuses, Pends, Poises, Sticks, Swaps, Tries}
-use Rattle.hay_history.specs.Steps.RowDid.{AddsRow, Drains, FusesRow, PendsRow}
+use Rattle.hay_history.specs.LaneSteps.{Did, RowDid}
+use Rattle.hay_history.specs.LaneSteps.Did.{Begins, Ends, Entered, Examines, Flushes, Freezes, Fuses, Pends, Poises, Sticks, Swaps, Tries}
+use Rattle.hay_history.specs.LaneSteps.RowDid.{AddsRow, Drains, FusesRow, PendsRow}
 use Rattle.hay_meeting.specs.declared.act.VolumeAct.{VolumeAct}
 use Rattle.hay_meeting.specs.Acts.{Start, did_of}
 use Rattle.hay_meeting.specs.Facts.{FailedAt, Found, FoundRefusal, FoundRows, FoundTaker, HasRunAt, IsLastDoing, NoNewRows, NothingDone, NothingOn, OneDoing, OneRowDoing}

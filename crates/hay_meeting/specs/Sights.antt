@@ -7,7 +7,7 @@ use Rattle.hay_legal.specs.declared.known.HomeRow.{HomeRow}
 use Rattle.hay_legal.specs.declared.known.Known.{Known}
 use Rattle.hay_legal.specs.declared.turn.LaneItem.{LaneItem}
 use Rattle.hay_legal.specs.Blocks.{tag_of}
-use Rattle.hay_history.specs.Steps.{RowsStanding, Standing}
+use Rattle.hay_history.specs.LaneSteps.{RowsStanding, Standing}
 use Rattle.hay_history.specs.Histories.{Course, History, Seen, first_of, first_rows}
 use Rattle.hay_history.specs.Commands.{Answered}
 use Rattle.hay_meeting.specs.declared.act.DirAct.{DirAct}

@@ -23,7 +23,7 @@ use Rattle.hay_open.specs.Stored.{IsVoid, OpensAs, PlaceOf, fresh_stored}
 use Rattle.hay_physical.specs.declared.state.Phase.{Phase}
 use Rattle.hay_physical.specs.declared.state.OpenFiles.{OpenFiles}
 use Rattle.hay_physical.specs.declared.state.Phase.TheVariants.{Open}
-use Rattle.hay_physical.specs.Copies.{Copy}
+use Rattle.hay_physical.specs.OpenCopies.{Copy}
 use Rattle.hay_physical.specs.Replicas.{ArePlacesApart, IsApart, MaySee}
 use Rattle.hay_physical.proofs.Seeing.{files_look}
 

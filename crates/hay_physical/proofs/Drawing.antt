@@ -26,7 +26,7 @@ use Rattle.hay_open.specs.Damage.{HasOrphans, IsRecorded}
 use Rattle.hay_open.specs.Finds.{IsOrphanOf, OpenedAs, ReadsWhole, StandsAt, drawn_most, unseen_cell}
 use Rattle.hay_open.specs.Stored.{IndexRests, IsStored, IsVoid, OpensAs, PlaceOf, Stored, cell_record, fresh_stored, head_super, index_file, index_super, unrecorded, volume_file, volume_super}
 use Rattle.hay_open.proofs.Listings.{stored_behind, stored_same}
-use Rattle.hay_physical.specs.Copies.{Copy, contents_of, is_stuck, phase_stuck}
+use Rattle.hay_physical.specs.OpenCopies.{Copy, contents_of, is_stuck, phase_stuck}
 use Rattle.hay_physical.specs.Replicas.{IndexStands, Stands}
 use Rattle.hay_physical.specs.Draws.{DrewLittle, DrewRecorded, HasRecordOf}
 

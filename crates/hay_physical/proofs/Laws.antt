@@ -4,7 +4,7 @@ use Rattle.std.proofs.lemmas.List.{length-drop}
 use Rattle.hay_needle.specs.declared.needle.CellHead.{CellHead}
 use Rattle.hay_compact.specs.Copying.{end_of as cells_end_of}
 use Rattle.hay_compact.proofs.CellLists.{cells_end}
-use Rattle.hay_physical.specs.Runs.{HasNext, HasRun, Run}
+use Rattle.hay_physical.specs.CompactionRuns.{HasNext, HasRun, Run}
 use Rattle.std.specs.Prelude.{Option, Some, None}
 use Rattle.std.specs.Option.{option_or}
 use Rattle.hay_needle.specs.declared.needle.Cell.{Cell}
@@ -17,8 +17,8 @@ use Rattle.hay_map.specs.declared.place.Place.TheVariants as place
 use Rattle.hay_open.specs.Stored.{IsSealedCell, PlaceOf, Stored, last_cell, volume_file}
 use Rattle.hay_physical.specs.declared.state.Phase.{Phase}
 use Rattle.hay_physical.specs.declared.state.Phase.TheVariants.{Closed, Open}
-use Rattle.hay_physical.specs.Copies.{Copy, HasFrozen, IsUp, capacity_of, copier_goal, end_of, generation_of, goal_of, is_stuck, next_of, phase_capacity, phase_goal, phase_end}
-use Rattle.hay_physical.specs.Copies.{phase_generation, phase_next, phase_stuck}
+use Rattle.hay_physical.specs.OpenCopies.{Copy, HasFrozen, IsUp, capacity_of, copier_goal, end_of, generation_of, goal_of, is_stuck, next_of, phase_capacity, phase_goal, phase_end}
+use Rattle.hay_physical.specs.OpenCopies.{phase_generation, phase_next, phase_stuck}
 use Rattle.hay_physical.specs.Replicas.{Finds, HasLive, Holds, MayDelete, MayFind, PhaseMayDelete, Stands}
 use Rattle.hay_physical.proofs.Holding.{stand_finds}
 use Rattle.hay_physical.proofs.RunLaws.{none_next}

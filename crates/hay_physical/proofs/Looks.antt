@@ -11,7 +11,7 @@ use Rattle.hay_volume.proofs.Readings.{same_cell}
 use Rattle.hay_map.specs.declared.place.Place.{Place}
 use Rattle.hay_map.specs.declared.place.Place.TheVariants as place
 use Rattle.hay_physical.specs.declared.fault.ReplicaFault.{ReplicaFault}
-use Rattle.hay_physical.specs.Copies.{Copy}
+use Rattle.hay_physical.specs.OpenCopies.{Copy}
 use Rattle.hay_physical.specs.Replicas.{IsSightOf, IsToldBy, IsUnsealed, MayDelete, MayDeletePlace, MayFlag, MayLook}
 
 -- the bytes that were read are a cell, which stands where they stand

@@ -9,7 +9,7 @@ use Rattle.hay_open.specs.Finds as found
 use Rattle.hay_open.specs.Finds.{OpenedAs}
 use Rattle.hay_open.specs.Stored.{IsVoid, OpensAs, Stored, index_file}
 use Rattle.hay_physical.specs.declared.state.Copier.TheVariants.{Ended}
-use Rattle.hay_physical.specs.Copies.{Copy}
+use Rattle.hay_physical.specs.OpenCopies.{Copy}
 use Rattle.hay_physical.specs.Replicas.{FilesReady, FilesStand, Holds, IndexStands, MayFind}
 use Rattle.hay_physical.proofs.Holding.{finds_left, finds_now, not_void}
 

@@ -4,7 +4,7 @@ use Rattle.std.specs.Prelude.{Result, Ok, Err, OnOk, IsErr}
 use Rattle.std.proofs.lemmas.Bool.{cases_eq}
 use Rattle.hay_disk.specs.Counts.{IsCounted, Rose}
 use Rattle.hay_disk.specs.Disk.{Files, FileState, KeepsOthers, Removes}
-use Rattle.hay_physical.specs.Runs.{IsRemoved, RemovedBoth}
+use Rattle.hay_physical.specs.CompactionRuns.{IsRemoved, RemovedBoth}
 
 -- what a removal makes of a file
 pub is_removed : {T E : Type 0} (r : Result T E) (old new : FileState) (before after : ℕ) → OnOk r (Removes old new) → IsCounted before after (IsErr r) → IsRemoved new before after

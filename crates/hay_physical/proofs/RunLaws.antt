@@ -26,9 +26,9 @@ use Rattle.hay_compact.proofs.Meanwhile.{copies_deleted, copies_none, copies_put
 use Rattle.hay_physical.specs.declared.state.Copier.{Copier}
 use Rattle.hay_physical.specs.declared.state.Copier.TheVariants.{Ended, Standing}
 use Rattle.hay_physical.specs.declared.state.OpenFiles.{OpenFiles}
-use Rattle.hay_physical.specs.Copies.{copier_capacity, copier_goal, copier_next}
+use Rattle.hay_physical.specs.OpenCopies.{copier_capacity, copier_goal, copier_next}
 use Rattle.hay_physical.specs.Replicas.{FilesReady, FilesStand, IndexStands, IsBounded, IsCopierReady, IsSettled, MayFlag, with_cell, without_cell}
-use Rattle.hay_physical.specs.Runs.{FilesPeek, FilesRun, HasLastAt, KeepsCopier, KeepsFiles, Run, loosened, longer, stepped}
+use Rattle.hay_physical.specs.CompactionRuns.{FilesPeek, FilesRun, HasLastAt, KeepsCopier, KeepsFiles, Run, loosened, longer, stepped}
 use Rattle.hay_disk.specs.Gate.{IsGate}
 use Rattle.hay_head.specs.Head.{head_magic, row_place}
 

@@ -10,16 +10,16 @@ use Rattle.hay_compact.specs.Copying.{KeepsOtherFiles}
 use Rattle.hay_physical.specs.declared.state.OpenFiles.{OpenFiles}
 use Rattle.hay_physical.specs.declared.state.Phase.{Phase}
 use Rattle.hay_physical.specs.declared.state.Phase.TheVariants.{Open}
-use Rattle.hay_physical.specs.Copies.{CanBegin, Copy, copier_goal, goal_of, phase_generation, phase_goal, volume_bytes}
+use Rattle.hay_physical.specs.OpenCopies.{CanBegin, Copy, copier_goal, goal_of, phase_generation, phase_goal, volume_bytes}
 use Rattle.hay_physical.specs.Replicas.{FilesReady, IsBounded, IsBoundedPhase, IsCopierReady, IsSettled, IsSettledPhase, MayDelete, MayFlag, PhaseReady, Stands}
-use Rattle.hay_physical.specs.Runs.{FilesPeek, FilesRun, HasNext, HasRun, KeepsFiles, PeekStands, Run, RunStands}
+use Rattle.hay_physical.specs.CompactionRuns.{FilesPeek, FilesRun, HasNext, HasRun, KeepsFiles, PeekStands, Run, RunStands}
 use Rattle.hay_physical.proofs.RunLaws.{flag_beside, next_besides_volume, not_ended, run_deleted, stand_beside}
 use Rattle.hay_compact.specs.Copying.{Stage}
 use Rattle.hay_disk.specs.Disk.{KeepsOthers}
 use Rattle.hay_physical.specs.declared.state.Copier.{Copier}
 use Rattle.hay_physical.specs.declared.state.Copier.TheVariants.{Ended, Standing}
 use Rattle.hay_physical.specs.Replicas.{FilesStand, without_cell}
-use Rattle.hay_physical.specs.Runs.{EndsInDelete, HasLastAt, RepeatsIn, loosened}
+use Rattle.hay_physical.specs.CompactionRuns.{EndsInDelete, HasLastAt, RepeatsIn, loosened}
 use Rattle.hay_compact.proofs.CellLists.{lacks_none, lacks_parts}
 use Rattle.hay_compact.proofs.Copyings.{current_parts}
 use Rattle.hay_needle.proofs.TableLaws.{pair_refl}
@@ -29,11 +29,11 @@ use Rattle.hay_open.specs.Stored.{last_cell}
 use Rattle.hay_needle.specs.declared.needle.Cell.{Cell}
 use Rattle.hay_needle.specs.declared.needle.Pair.{Pair}
 use Rattle.std.proofs.Common.{◌∷◌, drop, take, not}
-use Rattle.hay_physical.specs.Runs.{HasPair}
+use Rattle.hay_physical.specs.CompactionRuns.{HasPair}
 use Rattle.hay_physical.specs.declared.fault.ReplicaFault.{ReplicaFault}
 use Rattle.hay_physical.specs.declared.fault.ReplicaFault.TheVariants as fault
-use Rattle.hay_physical.specs.Copies.{copier_faults}
-use Rattle.hay_physical.specs.Runs.{EndsBy, EndsRun}
+use Rattle.hay_physical.specs.OpenCopies.{copier_faults}
+use Rattle.hay_physical.specs.CompactionRuns.{EndsBy, EndsRun}
 use Rattle.hay_map.specs.declared.place.Place.{Place}
 use Rattle.hay_map.specs.declared.place.Place.TheVariants as place
 use Rattle.hay_physical.specs.Replicas.{MayDeletePlace, MayFlagPlace}

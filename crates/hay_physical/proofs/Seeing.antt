@@ -31,9 +31,9 @@ use Rattle.hay_compact.specs.Copying.{KeepsOtherFiles}
 use Rattle.hay_physical.specs.declared.state.OpenFiles.{OpenFiles}
 use Rattle.hay_physical.specs.declared.state.Phase.{Phase}
 use Rattle.hay_physical.specs.declared.state.Phase.TheVariants.{Open}
-use Rattle.hay_physical.specs.Copies.{Copy}
+use Rattle.hay_physical.specs.OpenCopies.{Copy}
 use Rattle.hay_physical.specs.Replicas.{FilesReady, FilesStand, IndexStands, KeepsSight, MayFind, MayLook, MaySee, MaySeePlace, PhaseHasCell, PhaseMaySee, PhaseReady, ShowsCell, Stands, StandsIn}
-use Rattle.hay_physical.specs.Runs.{KeepsFiles}
+use Rattle.hay_physical.specs.CompactionRuns.{KeepsFiles}
 use Rattle.hay_physical.proofs.Deleting.{last_may}
 use Rattle.hay_physical.proofs.RunViews.{files_ready}
 use Rattle.hay_physical.proofs.Sights.{KeepsRange, LooksAt, all_look, all_so, cell_kept, flags_beside, look_kept, range_same}

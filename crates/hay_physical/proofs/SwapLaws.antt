@@ -26,7 +26,7 @@ use Rattle.hay_compact.specs.Finishing.{IsFinished}
 use Rattle.hay_compact.proofs.CellLists.{cells_end, last_place_of}
 use Rattle.hay_physical.specs.declared.state.OpenFiles.{OpenFiles}
 use Rattle.hay_physical.specs.Replicas.{FilesReady, FilesStand, IndexStands, MayFind, MayFlag, MayFlagPlace}
-use Rattle.hay_physical.specs.Runs.{FilesRun, IsTight, KeepsBut, MaySwitch, Run, Swaps, Switches}
+use Rattle.hay_physical.specs.CompactionRuns.{FilesRun, IsTight, KeepsBut, MaySwitch, Run, Swaps, Switches}
 use Rattle.hay_physical.proofs.CellRows.{flag_free}
 use Rattle.hay_physical.proofs.Holding.{image_index}
 use Rattle.hay_physical.proofs.RunLaws.{copying_at, ready_beside, stage_at, stand_beside}

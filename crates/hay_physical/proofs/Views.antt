@@ -7,7 +7,7 @@ use Rattle.hay_open.specs.Stored.{Stored}
 use Rattle.hay_physical.specs.declared.state.OpenFiles.{OpenFiles}
 use Rattle.hay_physical.specs.declared.state.Phase.{Phase}
 use Rattle.hay_physical.specs.declared.state.Phase.TheVariants.{Open}
-use Rattle.hay_physical.specs.Copies.{Copy, HasFrozen, IsUp, is_stuck, phase_stuck}
+use Rattle.hay_physical.specs.OpenCopies.{Copy, HasFrozen, IsUp, is_stuck, phase_stuck}
 use Rattle.hay_physical.specs.Replicas.{FilesStand, MayDelete, MayFlag, PhaseMayDelete, Stands}
 
 -- the same open files

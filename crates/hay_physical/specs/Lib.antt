@@ -1,5 +1,5 @@
-pub mod Copies
+pub mod OpenCopies
 pub mod Faults
 pub mod Replicas
-pub mod Runs
+pub mod CompactionRuns
 pub mod Draws

@@ -23,7 +23,7 @@ use Rattle.hay_physical.specs.declared.state.Phase.{Phase}
 use Rattle.hay_physical.specs.declared.state.Phase.TheVariants.{Closed, Open}
 use Rattle.hay_physical.specs.declared.state.Copier.TheVariants.{Standing}
 use Rattle.hay_compact.specs.Copying.{IsMaking, Stage}
-use Rattle.hay_physical.specs.Copies.{Copy, copier_capacity, copier_goal, copier_next}
+use Rattle.hay_physical.specs.OpenCopies.{Copy, copier_capacity, copier_goal, copier_next}
 
 -- A closed replica, all of whose disk is solid, with no pieces given out.
 pub record IsIdleCopy {D : Type 0} (files : D → Files) (r : Copy D) : Type 0 where

@@ -10,7 +10,7 @@ ghost use Rattle.hay_volume.specs.Cells.{StandsCell, live_cell};
 ghost use Rattle.hay_open.specs.Stored.{IsSealedCell, Stored};
 ghost use Rattle.hay_physical.specs.Faults.{IsDeleteFault, IsFlushFault, IsPutFault};
 ghost use Rattle.hay_physical.specs.Replicas.{FilesReady, FilesStand, HasLive, IsLastCell, IsWholeNeedle, KeepsBefore, MayFind, MayFlag, all_recorded, with_cell, without_cell};
-ghost use Rattle.hay_physical.specs.Runs.{KeepsCopier};
+ghost use Rattle.hay_physical.specs.CompactionRuns.{KeepsCopier};
 ghost use Rattle.hay_physical.specs.declared.state.Copier.TheVariants.{Ended};
 ghost use Rattle.hay_disk.specs.Disk.{Changes, KeepsOthers, Seals};
 

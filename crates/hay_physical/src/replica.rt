@@ -14,11 +14,11 @@ ghost use Rattle.hay_open.specs.Damage.{IsOpeningDamage};
 ghost use Rattle.hay_open.specs.Finds.{ArePlacesWithin};
 ghost use Rattle.hay_open.specs.Stored.{IsReplicaFile, IsSealedCell, IsVoid, OpensAs, PlaceOf, Stored, fresh_stored, last_cell};
 ghost use Rattle.hay_physical.specs.declared.state.Phase.TheVariants.{Closed};
-ghost use Rattle.hay_physical.specs.Runs.{HasLastAt, HasRun, Run, longer, loosened};
+ghost use Rattle.hay_physical.specs.CompactionRuns.{HasLastAt, HasRun, Run, longer, loosened};
 ghost use Rattle.std.specs.List.{AllByRecursion};
 ghost use Rattle.std.specs.Option.{option_map};
-ghost use Rattle.hay_physical.specs.Copies.{EndedAt, HasCapacity, IsFrozen, IsOpenCopy, IsUp, KeepsEnd, bare_of, capacity_of, contents_of, end_of, generation_of};
-ghost use Rattle.hay_physical.specs.Copies.{goal_of, is_frozen, is_stuck, next_of};
+ghost use Rattle.hay_physical.specs.OpenCopies.{EndedAt, HasCapacity, IsFrozen, IsOpenCopy, IsUp, KeepsEnd, bare_of, capacity_of, contents_of, end_of, generation_of};
+ghost use Rattle.hay_physical.specs.OpenCopies.{goal_of, is_frozen, is_stuck, next_of};
 ghost use Rattle.hay_physical.specs.Draws.{DrewRecorded};
 ghost use Rattle.hay_physical.specs.Faults.{IsDeleteFault, IsFlushFault, IsPutFault};
 ghost use Rattle.hay_needle.specs.Tables.{pair_eq};
@@ -43,7 +43,7 @@ pub struct Replica<D: Disk> {
 }
 
 impl<D: Disk> Model for Replica<D> {
-    ghost use Rattle.hay_physical.specs.Copies.{Copy};
+    ghost use Rattle.hay_physical.specs.OpenCopies.{Copy};
     ghost use Rattle.hay_physical.specs.Replicas.{IsBoundedPhase, IsReady, IsSettledPhase};
 
     ghost Value = { Copy D };

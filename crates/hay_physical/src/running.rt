@@ -11,11 +11,11 @@ ghost use Rattle.hay_open.specs.Finds.{ArePlacesWithin};
 ghost use Rattle.hay_open.specs.Stored.{Stored, index_file, volume_file};
 ghost use Rattle.hay_compact.specs.Copying.{HeadStands, IsLatest, IsNextWithin, IsPassedOrStands};
 ghost use Rattle.hay_compact.specs.Finishing.{ArePhotos, AreThePlaces, IsSeen};
-ghost use Rattle.hay_physical.specs.Copies.{CanBegin, IsFrozen, IsOpenCopy, IsUp, KeepsEnd, bare_of, copied_of, end_of, faults_at_end, generation_of, goal_of, is_frozen, is_stuck};
-ghost use Rattle.hay_physical.specs.Copies.{next_of, volume_bytes};
+ghost use Rattle.hay_physical.specs.OpenCopies.{CanBegin, IsFrozen, IsOpenCopy, IsUp, KeepsEnd, bare_of, copied_of, end_of, faults_at_end, generation_of, goal_of, is_frozen, is_stuck};
+ghost use Rattle.hay_physical.specs.OpenCopies.{next_of, volume_bytes};
 ghost use Rattle.hay_physical.specs.Faults.{IsBeginFault, IsPeekFault, IsRunFault};
 ghost use Rattle.hay_physical.specs.Replicas.{Anywhere, HasWholeNeedle, Holds, KeepsSight, MayDelete, MayDeletePlace, ShowsCell, Stands};
-ghost use Rattle.hay_physical.specs.Runs.{EndsRun, HasNext, HasPair, HasRun, IsPeeked, IsTight, RemovedBoth, Run, Swaps, stepped};
+ghost use Rattle.hay_physical.specs.CompactionRuns.{EndsRun, HasNext, HasPair, HasRun, IsPeeked, IsTight, RemovedBoth, Run, Swaps, stepped};
 
 use crate::fault::ReplicaFault;
 use crate::replica::Replica;

@@ -11,10 +11,10 @@ ghost use Rattle.hay_open.specs.Finds.{ArePlacesWithin};
 ghost use Rattle.hay_open.specs.Stored.{Stored};
 ghost use Rattle.hay_compact.specs.Copying.{HeadStands, IsLatest, IsNextWithin, IsPassedOrStands, KeepsOtherFiles, Stage};
 ghost use Rattle.hay_compact.specs.Finishing.{ArePhotos, AreThePlaces, IsSeen};
-ghost use Rattle.hay_physical.specs.Copies.{copier_copied, copier_faults, copier_goal, copier_next};
+ghost use Rattle.hay_physical.specs.OpenCopies.{copier_copied, copier_faults, copier_goal, copier_next};
 ghost use Rattle.hay_physical.specs.Faults.{IsBeginFault, IsPeekFault, IsRunFault};
 ghost use Rattle.hay_physical.specs.Replicas.{FilesReady, FilesStand, HasWholeNeedle, IsBounded, IsCopierReady, IsSettled, MayFind, MayFlagPlace};
-ghost use Rattle.hay_physical.specs.Runs.{CopierPeeked, EndsBy, EndsInDelete, FilesPeek, FilesRun, IsTight, KeepsFiles, RemovedBoth, RepeatsIn, Run, Swaps, stepped};
+ghost use Rattle.hay_physical.specs.CompactionRuns.{CopierPeeked, EndsBy, EndsInDelete, FilesPeek, FilesRun, IsTight, KeepsFiles, RemovedBoth, RepeatsIn, Run, Swaps, stepped};
 ghost use Rattle.hay_physical.specs.declared.state.Copier.TheVariants.{Ended, Standing};
 
 use crate::fault::ReplicaFault;

@@ -11,10 +11,10 @@ ghost use Rattle.hay_volume.specs.Cells.{HasPlace, IsCellAt, StandsCell, cell_he
 ghost use Rattle.hay_compact.specs.Finishing.{IsSeen};
 ghost use Rattle.hay_open.specs.Stored.{PlaceOf, Stored};
 ghost use Rattle.hay_volume.specs.Needles.{LacksNeedleOf};
-ghost use Rattle.hay_physical.specs.Copies.{IsOpenCopy, volume_bytes};
+ghost use Rattle.hay_physical.specs.OpenCopies.{IsOpenCopy, volume_bytes};
 ghost use Rattle.hay_physical.specs.Faults.{IsSightFault};
 ghost use Rattle.hay_physical.specs.Replicas.{Holds, IsSightOf, IsToldBy, IsUnsealed, KeepsSight, MayDelete, MayDeletePlace, MayLook, MaySee, Stands, StandsIn, UnsealedBy};
-ghost use Rattle.hay_physical.specs.Runs.{HasRun, Run};
+ghost use Rattle.hay_physical.specs.CompactionRuns.{HasRun, Run};
 
 use crate::fault::ReplicaFault;
 use crate::files::FLAGS_AT;

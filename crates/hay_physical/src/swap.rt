@@ -15,7 +15,7 @@ ghost use Rattle.hay_compact.specs.Copying.{IsMaking, Making, stored_of};
 ghost use Rattle.hay_compact.specs.Finishing.{ArePhotos, AreThePlaces, IsSeen};
 ghost use Rattle.hay_physical.specs.Faults.{IsRunFault};
 ghost use Rattle.hay_physical.specs.Replicas.{FilesReady, FilesStand, HasWholeNeedle, MayFind, MayFlagPlace};
-ghost use Rattle.hay_physical.specs.Runs.{KeepsBut, MaySwitch, RemovedBoth, Switches};
+ghost use Rattle.hay_physical.specs.CompactionRuns.{KeepsBut, MaySwitch, RemovedBoth, Switches};
 
 use crate::fault::ReplicaFault;
 use crate::state::OpenFiles;

@@ -9,7 +9,7 @@ use Rattle.hay_physical.specs.Replicas.{MaySee, ShowsCell, Stands}
 use Rattle.hay_physical.proofs.Seeing.{stands_shows}
 use Rattle.hay_physical.specs.declared.state.Phase.{Phase}
 use Rattle.hay_physical.specs.declared.state.Phase.TheVariants.{Closed, Open}
-use Rattle.hay_physical.specs.Copies.{Copy, HasFrozen, IsOpenCopy, IsOpenPhase, IsUp}
+use Rattle.hay_physical.specs.OpenCopies.{Copy, HasFrozen, IsOpenCopy, IsOpenPhase, IsUp}
 
 phase_open : (p : Phase) → HasFrozen false p → IsOpenPhase p
 phase_open Closed up = absurd up

@@ -2,7 +2,7 @@
 #![tactic(auto, using(crate::proofs::Opens::up_open))]
 
 ghost use Rattle.std.specs.Prelude.{IfOk};
-ghost use Rattle.hay_physical.specs.Copies.{IsOpenCopy};
+ghost use Rattle.hay_physical.specs.OpenCopies.{IsOpenCopy};
 
 use crate::common::{FIRST, SECOND, SUP, clear};
 use hay_disk::{Disk, Shelf};

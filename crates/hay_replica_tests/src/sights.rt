@@ -3,7 +3,7 @@
 
 ghost use Rattle.std.specs.Prelude.{IfOk};
 ghost use Rattle.hay_memdisk.specs.MemDisk.{mem_files};
-ghost use Rattle.hay_physical.specs.Copies.{IsOpenCopy};
+ghost use Rattle.hay_physical.specs.OpenCopies.{IsOpenCopy};
 ghost use Rattle.hay_physical.specs.Replicas.{MaySee};
 
 use crate::common::{FIRST, SECOND, SUP, clear};

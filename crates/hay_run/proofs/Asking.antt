@@ -1,23 +1,22 @@
 -- What one line after another asks for.
 use Rattle.std.proofs.Common.{◌≡◌, ◌≢◌, ◌⊎◌, inl, inr, ℕ, suc, ◌+◌, ◌<◌, ◌≤◌, Bool, true, false, List, [], ◌∷◌, ◌++◌, length, Option, Some, None, refl, sym, ap, subst, ◌∙◌}
 use Rattle.std.proofs.Common.{append_assoc, length-append, arith}
-use Rattle.std.specs.List.{onto_first}
 use Rattle.std.proofs.lemmas.Bool.{false≢true}
-use Rattle.std.proofs.lemmas.Grind.{common_steps}
 use Rattle.std.proofs.lemmas.List.{append-nil}
 use Rattle.hay_script.specs.declared.Command.{Command}
 use Rattle.hay_script.specs.declared.Line.{Line}
 use Rattle.hay_script.specs.declared.Line.TheVariants as line
 use Rattle.hay_legal.specs.declared.turn.Item.TheVariants as item
-use Rattle.hay_script.specs.Script.{line_of, lines_of, seen_byte}
+use Rattle.hay_script.specs.Script.{line_of, lines_of}
 use Rattle.hay_legal.specs.Items.{Asked, OpenBlock, InBlock, empty_block, added, inside, outside, lanes_open, at_end, items_from, whole_items_from}
 use Rattle.hay_legal.specs.Items.Asked.{Alone, Block}
 use Rattle.hay_lines.specs.Stream.{IsReadToEnd, TookAtMost, Held, rest_of, Accounts, IsTooLong, TookAll}
-use Rattle.hay_lines.specs.Lines.{NoFeed, fed_text, TookFed, TookLine, TookFeds, TookToEnd, TookLines, TookSome}
+use Rattle.hay_lines.specs.Lines.{TookFed, TookLine, TookFeds, TookToEnd, TookLines, TookSome}
 use Rattle.hay_run.specs.Items.{block_behind, Asks, TookItems, TookOpen, AsksAll}
 use Rattle.hay_lines.specs.Said.{SaysNext}
 use Rattle.hay_disk.specs.Streams.{Took}
-use Rattle.hay_lines.proofs.Taking.{took_nothing, took_more, took_fed_more, took_last_more, took_end, feeds_append, feeds_end, seen-inner, accounts_more, long_before}
+use Rattle.hay_lines.proofs.Feeding.{lines_of-some, fed_next}
+use Rattle.hay_lines.proofs.Taking.{took_nothing, took_more, took_fed_more, took_last_more, took_end, feeds_append, feeds_end, accounts_more, long_before}
 
 abbrev by_line : ℕ → Option OpenBlock → List ℕ → List Asked × Option OpenBlock
 by_line number held text = added number held (line_of (lanes_open held) text)
@@ -270,44 +269,6 @@ open_line Rest number before after rest = record {
 }
 
 -- ALL OF A SCRIPT
-
-seen-fed : (b : ℕ) (given rest : List ℕ) → seen_byte b (given ++ 10 ∷ rest) ≡ seen_byte b (given ++ 10 ∷ [])
-seen-fed b [] rest = refl
-seen-fed b (c ∷ given) rest = refl
-
-step_other : (b : ℕ) (bytes : List ℕ) → b ≢ 10 → lines_of (b ∷ bytes) ≡ onto_first (seen_byte b bytes) (lines_of bytes)
-step_other b bytes h = grind (arith, common_steps)
-
-pub lines_of-fed : (given rest : List ℕ) → NoFeed given → lines_of (given ++ 10 ∷ rest) ≡ fed_text given ∷ lines_of rest
-lines_of-fed [] rest free = refl
-lines_of-fed (b ∷ given) rest free =
-    step_other b (given ++ 10 ∷ rest) free.0
-    ∙ ap (λ (lines : List (List ℕ)). onto_first (seen_byte b (given ++ 10 ∷ rest)) lines) (lines_of-fed given rest free.1)
-    ∙ ap (λ (c : ℕ). (c ∷ fed_text given) ∷ lines_of rest) (seen-fed b given rest)
-
-seen-last : (b : ℕ) (bytes : List ℕ) → NoFeed bytes → seen_byte b bytes ≡ b
-seen-last b [] free = grind (arith, common_steps)
-seen-last b (c ∷ bytes) free = seen-inner b c bytes free.0
-
-lines_of-last : (b : ℕ) (given : List ℕ) → NoFeed (b ∷ given) → lines_of (b ∷ given) ≡ (b ∷ given) ∷ []
-lines_of-last b [] free = step_other b [] free.0 ∙ ap (λ (c : ℕ). (c ∷ []) ∷ []) (seen-last b [] tt)
-lines_of-last b (c ∷ given) free =
-    step_other b (c ∷ given) free.0
-    ∙ ap (λ (lines : List (List ℕ)). onto_first (seen_byte b (c ∷ given)) lines) (lines_of-last c given free.1)
-    ∙ ap (λ (d : ℕ). (d ∷ c ∷ given) ∷ []) (seen-last b (c ∷ given) free.1)
-
-lines_of-some : (given : List ℕ) → NoFeed given → 0 < length given → lines_of given ≡ given ∷ []
-lines_of-some [] free some = absurd (omega arith)
-lines_of-some (b ∷ given) free some = lines_of-last b given free
-
-fed_next : (all : List ℕ) (text : List ℕ) (mid : Option (List ℕ)) → TookFed (Some all) text mid → (rest : List ℕ) × (mid ≡ Some rest) × (lines_of all ≡ text ∷ lines_of rest)
-fed_next all text mid h =
-    let took = h.took in (
-      took.0,
-      took.1,
-      ap lines_of (took.2 ∙ append_assoc h.bytes (10 ∷ []) took.0) ∙ lines_of-fed h.bytes took.0 h.free
-          ∙ ap (λ (t : List ℕ). t ∷ lines_of took.0) (sym h.text_is),
-    )
 
 lines_feeds : (texts : List (List ℕ)) (all : List ℕ) (after : Option (List ℕ)) → TookFeds (Some all) texts after
     → (rest : List ℕ) × (after ≡ Some rest) × (lines_of all ≡ texts ++ lines_of rest)

@@ -10,7 +10,8 @@ use Rattle.hay_lines.specs.Stream.{Held, rest_of, TookOne}
 use Rattle.hay_lines.specs.Lines.{NoFeed, TookFeds, TookPart, TookOver, TookSome}
 use Rattle.hay_run.specs.Items.{block_behind, TookItems, TookOpen}
 use Rattle.hay_lines.proofs.Taking.{feeds_append}
-use Rattle.hay_run.proofs.Asking.{lines_of-fed, items_from-append, whole_items_from-append, asks_whole, fed_lines, asks_all, at_end_turn}
+use Rattle.hay_lines.proofs.Feeding.{lines_of-fed}
+use Rattle.hay_run.proofs.Asking.{items_from-append, whole_items_from-append, asks_whole, fed_lines, asks_all, at_end_turn}
 
 -- lines that end with their feeds, and whatever follows them
 pub record FedBytes (texts : List (List ℕ)) (all : List ℕ) (after : Option (List ℕ)) : Type 0 where

@@ -64,7 +64,7 @@ use Rattle.hay_cluster.specs.Seen.{Answers, AnswersPut, Closes, GetsHome, IsFroz
 use Rattle.hay_cluster.specs.Seen.{TakesPhotoAt, VolumeAt, home_seen, is_drained}
 use Rattle.hay_cluster.specs.Sights.{ChangesPhotos, IsAbsent, LeavesSights, SeesOn}
 use Rattle.hay_cluster.specs.Store.{IsBuilt}
-use Rattle.hay_cluster.proofs.Machines.{replica_found, same_machine}
+use Rattle.hay_legal.proofs.Machines.{replica_found, same_machine}
 use Rattle.hay_cluster.proofs.OpeningStore.{slot_below}
 use Rattle.hay_run.specs.Causing.{BeginsAt, HasSureArm, IsNoteCaused, IsReplyText, IsRestartText, Tally, plain_tag}
 use Rattle.hay_run.specs.Runs.{IsFirstRefusal}

@@ -5,7 +5,7 @@ use Rattle.hay_needle.specs.declared.needle.Outcome.{Outcome}
 use Rattle.hay_needle.specs.declared.needle.Pair.{Pair}
 use Rattle.hay_needle.specs.Needle.{NeedleBytes, needle_of_cell}
 use Rattle.hay_compact.specs.Finishing.{IsSeen}
-use Rattle.hay_logical.specs.Steps.{IsSeenBy}
+use Rattle.hay_logical.specs.ReplicaCalls.{IsSeenBy}
 use Rattle.hay_map.specs.declared.place.Place.{Place}
 use Rattle.hay_map.specs.declared.place.Place.TheVariants as place
 use Rattle.hay_reader.specs.Shown.{MayMean}

@@ -21,10 +21,10 @@ use Rattle.hay_volume.specs.Cells.{needles_of}
 use Rattle.hay_open.specs.Stored.{IsStored, Stored, volume_file}
 use Rattle.hay_compact.specs.Copying.{end_of}
 use Rattle.hay_compact.proofs.CellLists.{cells_end}
-use Rattle.hay_physical.specs.Copies.{Copy}
+use Rattle.hay_physical.specs.OpenCopies.{Copy}
 use Rattle.hay_physical.specs.Replicas as physical
 use Rattle.hay_physical.specs.Replicas.{Holds, IsLike}
-use Rattle.hay_physical.specs.Runs as runs
+use Rattle.hay_physical.specs.CompactionRuns as runs
 use Rattle.hay_logical.specs.Fits.{At, HoldsPart, HoldsSwap, Kept, Lost, Makes, Part, RunsAs, Unsure, copier_run, part_of}
 use Rattle.hay_logical.specs.Stands.{HoldsPending, Stands, StandsBy}
 use Rattle.hay_logical.specs.Volumes.{HasAll, Volume}

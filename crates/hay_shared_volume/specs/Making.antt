@@ -10,7 +10,7 @@ use Rattle.hay_legal.specs.declared.known.VolumeKnown.{VolumeKnown}
 use Rattle.hay_legal.specs.Known.{replica_at}
 use Rattle.hay_logical.specs.Stands.{Stands}
 use Rattle.hay_logical.specs.Volumes.{HasSupers, IsOfSettings, IsOpenVolume, Volume}
-use Rattle.hay_history.specs.Steps.{Follows, Standing}
+use Rattle.hay_history.specs.LaneSteps.{Follows, Standing}
 use Rattle.hay_meeting.specs.declared.act.VolumeAct.{VolumeAct}
 use Rattle.hay_meeting.specs.Acts.{IsSized, Start, volume_lock}
 use Rattle.hay_meeting.specs.Locks.{LockSight, left, replayed}

@@ -12,14 +12,14 @@ use Rattle.hay_disk.specs.Disk.{Files}
 use Rattle.hay_legal.specs.declared.known.VolumeKnown.{VolumeKnown}
 use Rattle.hay_legal.specs.Known.{empty_replica, machine_of, now, replica_at, replicas_of, stands}
 use Rattle.hay_legal.specs.Plain.{frozen_with, has_pair}
-use Rattle.hay_history.specs.Steps.{Standing}
+use Rattle.hay_history.specs.LaneSteps.{Standing}
 use Rattle.hay_holdings.specs.Volumes.{stood_there}
 use Rattle.hay_logical.specs.Answers as logical
 use Rattle.hay_logical.specs.Stands.{IsTightAt, Stands}
 use Rattle.hay_needle.specs.declared.needle.Pair.{Pair}
 use Rattle.hay_needle.specs.declared.settings.Settings.{Settings}
 use Rattle.hay_needle.specs.Tables.{outcome_at}
-use Rattle.hay_history.specs.Steps.Did.{Freezes, Pends}
+use Rattle.hay_history.specs.LaneSteps.Did.{Freezes, Pends}
 use Rattle.hay_front.specs.declared.front.Tag.{Tag}
 use Rattle.hay_front.specs.Fronts.{Holds, MayPublish, Witness, with_deed}
 use Rattle.hay_legal.specs.declared.known.Run.{Run}
@@ -36,7 +36,7 @@ use Rattle.hay_meeting.specs.declared.act.VolumeAct.{VolumeAct}
 use Rattle.hay_meeting.specs.Acts.{left_by, nobody}
 use Rattle.hay_meeting.specs.Locks.{add_shown}
 use Rattle.hay_meeting.specs.Facts.{volume_stood}
-use Rattle.hay_physical.specs.Copies.{Copy, goal_of}
+use Rattle.hay_physical.specs.OpenCopies.{Copy, goal_of}
 use Rattle.hay_views.specs.declared.places.Published.{Published}
 use Rattle.hay_views.specs.MapPasts.{MapPast, entered_by}
 use Rattle.hay_volume_lock.specs.Acts.{act_of, counts}

@@ -16,7 +16,7 @@ use Rattle.hay_legal.specs.declared.known.ReplicaKnown.{ReplicaKnown}
 use Rattle.hay_legal.specs.declared.known.VolumeKnown.{VolumeKnown}
 use Rattle.hay_legal.specs.Known.{machine_of}
 use Rattle.hay_legal.specs.Plain.{ended_where, frozen_by, with_del}
-use Rattle.hay_history.specs.Steps.{Standing}
+use Rattle.hay_history.specs.LaneSteps.{Standing}
 use Rattle.hay_logical.specs.Answers as logical
 use Rattle.hay_logical.specs.declared.fault.LogicalFault.{LogicalFault}
 use Rattle.hay_logical.specs.declared.fault.LogicalFault.TheVariants.{Busy, Damaged, Failed, Full, Gone, Idle, NoMemory, ReadOnly, Worn}
@@ -24,7 +24,7 @@ use Rattle.hay_logical.specs.declared.unsure.Change.TheVariants as unsure
 use Rattle.hay_logical.specs.declared.written.Erased.{Erased}
 use Rattle.hay_logical.specs.Seen.{DeleteRefusedSeen, VolumeSeen, volume_seen}
 use Rattle.hay_logical.specs.Stands.{Stands}
-use Rattle.hay_logical.specs.Steps.{SetsPlaceAt}
+use Rattle.hay_logical.specs.ReplicaCalls.{SetsPlaceAt}
 use Rattle.hay_logical.specs.Unshown.{GivesUp, IsErased}
 use Rattle.hay_logical.specs.Volumes.{IsOpenVolume, IsSame, KeepsCounts, Volume}
 use Rattle.hay_map.specs.MapRows.{MapRows}
@@ -38,7 +38,7 @@ use Rattle.hay_needle.specs.declared.needle.Pair.{Pair}
 use Rattle.hay_needle.specs.declared.settings.Settings.{Settings}
 use Rattle.hay_needle.specs.Tables.{pair_eq}
 use Rattle.hay_needle.proofs.TableLaws.{pair_refl}
-use Rattle.hay_physical.specs.Copies.{goal_of}
+use Rattle.hay_physical.specs.OpenCopies.{goal_of}
 use Rattle.hay_views.specs.declared.places.Published.{Published}
 use Rattle.hay_views.specs.MapPasts.{Enters, begun_at, is_entry}
 use Rattle.hay_volume_lock.specs.Acts.{act_of, counts}

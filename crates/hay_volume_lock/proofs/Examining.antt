@@ -19,7 +19,7 @@ use Rattle.hay_logical.proofs.Changing.{set_back}
 use Rattle.hay_logical.proofs.Examining.{rose_later}
 use Rattle.hay_logical.proofs.Knowing.{changed_here}
 use Rattle.hay_logical.proofs.Lists.{at_below, at_read, at_same, at_there}
-use Rattle.hay_physical.specs.Copies.{Copy}
+use Rattle.hay_physical.specs.OpenCopies.{Copy}
 use Rattle.hay_volume_lock.specs.Compactions.{Examines, StillGoes}
 
 some_is : {A : Type 0} {a b : A} → Some a ≡ Some b → a ≡ b

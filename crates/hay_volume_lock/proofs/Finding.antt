@@ -15,8 +15,8 @@ use Rattle.hay_legal.specs.declared.known.VolumeKnown.{VolumeKnown}
 use Rattle.hay_legal.specs.Known.{empty_replica, lacks_room, machine_of, replica_at, room_refusal_of}
 use Rattle.hay_legal.specs.Plain.{with_run}
 use Rattle.hay_history.specs.Histories.{begun_in}
-use Rattle.hay_history.specs.Steps.{Standing}
-use Rattle.hay_history.specs.Steps.Did.{Begins, Fuses, Tries}
+use Rattle.hay_history.specs.LaneSteps.{Standing}
+use Rattle.hay_history.specs.LaneSteps.Did.{Begins, Fuses, Tries}
 use Rattle.hay_logical.specs.Answers as logical
 use Rattle.hay_logical.specs.declared.fault.LogicalFault.{LogicalFault}
 use Rattle.hay_logical.specs.declared.fault.LogicalFault.TheVariants.{Busy, Damaged, Failed, Full, Gone, Idle, NoMemory, ReadOnly, Worn}
@@ -24,7 +24,7 @@ use Rattle.hay_logical.specs.Fits.{At}
 use Rattle.hay_logical.specs.Stands.{IsTightAt, Stands}
 use Rattle.hay_logical.specs.Volumes.{IsOfSettings, IsOpenVolume, IsSame, KeepsCounts, Volume}
 use Rattle.hay_logical.proofs.Lists.{at_there}
-use Rattle.hay_logical.proofs.Machines.{same_machine}
+use Rattle.hay_legal.proofs.Machines.{same_machine}
 use Rattle.hay_map.specs.Rows.{row_at}
 use Rattle.hay_meeting.specs.declared.act.VolumeAct.{VolumeAct}
 use Rattle.hay_meeting.specs.Acts.{begun_at, begun_of, did_of, entry_of, known_by, nobody, volume_lock}
@@ -35,7 +35,7 @@ use Rattle.hay_meeting.proofs.Replays.{left_append}
 use Rattle.hay_holdings.specs.Holdings.{Holding}
 use Rattle.hay_holdings.specs.Volumes.{FailedAct, Fused, HasRunOf, MadeNothing, VolumeCall}
 use Rattle.hay_needle.specs.declared.settings.Settings.{Settings}
-use Rattle.hay_physical.specs.Copies.{Copy}
+use Rattle.hay_physical.specs.OpenCopies.{Copy}
 use Rattle.hay_reply.specs.declared.Refused.{Refused}
 use Rattle.hay_reply.specs.declared.Refused.TheVariants.{Closed, NoRoom}
 use Rattle.hay_volume_lock.specs.Acts.{act_of, counts, did_by}

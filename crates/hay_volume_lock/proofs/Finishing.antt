@@ -8,8 +8,8 @@ use Rattle.hay_disk.specs.Disk.{Files}
 use Rattle.hay_legal.specs.declared.known.VolumeKnown.{VolumeKnown}
 use Rattle.hay_legal.specs.Known.{machine_of, replica_at}
 use Rattle.hay_legal.specs.Plain.{without_run}
-use Rattle.hay_history.specs.Steps.{Standing}
-use Rattle.hay_history.specs.Steps.Did.{Tries}
+use Rattle.hay_history.specs.LaneSteps.{Standing}
+use Rattle.hay_history.specs.LaneSteps.Did.{Tries}
 use Rattle.hay_logical.specs.Answers as logical
 use Rattle.hay_logical.specs.declared.fault.LogicalFault.{LogicalFault}
 use Rattle.hay_logical.specs.declared.fault.LogicalFault.TheVariants.{Busy, Damaged, Failed, Full, Gone, Idle, NoMemory, ReadOnly, Worn}
@@ -22,7 +22,7 @@ use Rattle.hay_meeting.specs.Locks.{LockSight}
 use Rattle.hay_meeting.specs.Sights.{stood}
 use Rattle.hay_holdings.specs.Holdings.{Holding}
 use Rattle.hay_holdings.specs.Volumes.{FailedAct, HasRunOf}
-use Rattle.hay_physical.specs.Copies.{Copy}
+use Rattle.hay_physical.specs.OpenCopies.{Copy}
 use Rattle.hay_volume_lock.specs.Acts.{act_of}
 use Rattle.hay_volume_lock.specs.Answers.{Found, FoundAlways, IsAt, StoreVolume}
 use Rattle.hay_volume_lock.specs.Compactions.{FailedHere, MayGoOn, Unswapped, unswapped_made}

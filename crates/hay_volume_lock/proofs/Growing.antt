@@ -13,8 +13,8 @@ use Rattle.hay_front.specs.declared.front.Tag.{Tag}
 use Rattle.hay_legal.specs.declared.known.Run.{Run}
 use Rattle.hay_legal.specs.declared.known.VolumeKnown.{VolumeKnown}
 use Rattle.hay_legal.specs.Known.{replica_at}
-use Rattle.hay_history.specs.Steps.{Did, Follows, HasRun, Leads, LeadsFuses, NoneFall, Standing}
-use Rattle.hay_history.specs.Steps.Did.{Begins}
+use Rattle.hay_history.specs.LaneSteps.{Did, Follows, HasRun, Leads, LeadsFuses, NoneFall, Standing}
+use Rattle.hay_history.specs.LaneSteps.Did.{Begins}
 use Rattle.hay_history.specs.Histories.{begun_in}
 use Rattle.hay_logical.specs.Fits.{At}
 use Rattle.hay_logical.specs.Stands.{IsTightAt, RunsTight, Stands}
@@ -30,7 +30,7 @@ use Rattle.hay_meeting.proofs.Replays.{entries_append, left_append}
 use Rattle.hay_map.specs.Rows.{row_at}
 use Rattle.hay_needle.specs.declared.needle.Pair.{Pair}
 use Rattle.hay_needle.specs.declared.settings.Settings.{Settings}
-use Rattle.hay_physical.specs.Copies.{Copy}
+use Rattle.hay_physical.specs.OpenCopies.{Copy}
 use Rattle.hay_views.specs.MapPasts.{entered_by}
 use Rattle.hay_volume_lock.specs.Acts.{act_of, counts, did_by}
 use Rattle.hay_volume_lock.specs.Ended.{ended_at}

@@ -5,7 +5,7 @@ use Rattle.hay_core.specs.declared.entry.CoreTag.{CoreTag}
 use Rattle.hay_core.specs.declared.entry.Entry.{Entry}
 use Rattle.hay_disk.specs.Disk.{Files}
 use Rattle.hay_legal.specs.declared.known.VolumeKnown.{VolumeKnown}
-use Rattle.hay_history.specs.Steps.{Standing}
+use Rattle.hay_history.specs.LaneSteps.{Standing}
 use Rattle.hay_meeting.specs.declared.act.VolumeAct.{VolumeAct}
 use Rattle.hay_meeting.specs.Acts.{volume_lock}
 use Rattle.hay_meeting.specs.Locks.{LockSight, entries, left}

@@ -16,8 +16,8 @@ use Rattle.hay_legal.specs.declared.known.VolumeKnown.{VolumeKnown}
 use Rattle.hay_legal.specs.Known.{replica_at}
 use Rattle.hay_legal.specs.Plain.{run_grown}
 use Rattle.hay_history.specs.Histories.{begun_in}
-use Rattle.hay_history.specs.Steps.{Did, Follows, Leads, Standing}
-use Rattle.hay_history.specs.Steps.Did.{Begins, Ends, Entered, Examines, Flushes, Freezes, Fuses, Pends, Poises, Sticks, Swaps, Tries}
+use Rattle.hay_history.specs.LaneSteps.{Did, Follows, Leads, Standing}
+use Rattle.hay_history.specs.LaneSteps.Did.{Begins, Ends, Entered, Examines, Flushes, Freezes, Fuses, Pends, Poises, Sticks, Swaps, Tries}
 use Rattle.hay_history.proofs.Changes.{Becomes, leads_becomes}
 use Rattle.hay_history.proofs.Changes as changes
 use Rattle.hay_history.proofs.Changes.Becomes.{Goes, Grows, IsFlushed, IsPoised, IsStuck, IsSwapped, Rests, Starts, Stays}
@@ -29,8 +29,8 @@ use Rattle.hay_meeting.specs.declared.act.VolumeDid.TheVariants as act_did
 use Rattle.hay_meeting.specs.Acts.{Start, begun_of, did_of, known_by, left_by, nobody, volume_lock}
 use Rattle.hay_meeting.specs.Facts.{volume_stood}
 use Rattle.hay_meeting.specs.Locks.{left, past, replayed}
-use Rattle.hay_meeting.specs.Runs.{HowEnded}
-use Rattle.hay_meeting.specs.Runs.HowEnded.{ByDelete, ByEnd, ByFreeze, BySwap}
+use Rattle.hay_meeting.specs.CompactionEnds.{HowEnded}
+use Rattle.hay_meeting.specs.CompactionEnds.HowEnded.{ByDelete, ByEnd, ByFreeze, BySwap}
 use Rattle.hay_meeting.specs.Sights.{stood}
 use Rattle.hay_meeting.proofs.Replays.{left_append, prefix_length}
 use Rattle.hay_meeting.proofs.RunsEnd.{run_ended}

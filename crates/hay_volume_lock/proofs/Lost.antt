@@ -11,7 +11,7 @@ use Rattle.hay_disk.specs.Disk.{Files}
 use Rattle.hay_needle.specs.declared.settings.Settings.{Settings}
 use Rattle.hay_legal.specs.declared.known.VolumeKnown.{VolumeKnown}
 use Rattle.hay_legal.specs.Known.{replica_at}
-use Rattle.hay_history.specs.Steps.{Follows, Standing}
+use Rattle.hay_history.specs.LaneSteps.{Follows, Standing}
 use Rattle.hay_logical.specs.Stands.{Stands}
 use Rattle.hay_meeting.specs.declared.act.VolumeAct.{VolumeAct}
 use Rattle.hay_meeting.specs.Acts.{IsSized, nobody, volume_lock}

@@ -11,7 +11,7 @@ use Rattle.hay_front.specs.Entries.{LogEntry}
 use Rattle.hay_front.specs.Fronts.{IsBehind, Witness, with_deed}
 use Rattle.hay_legal.specs.declared.known.Run.{Run}
 use Rattle.hay_legal.specs.declared.known.VolumeKnown.{VolumeKnown}
-use Rattle.hay_history.specs.Steps.{Follows, HasRun, Leads, NoneFall, Standing}
+use Rattle.hay_history.specs.LaneSteps.{Follows, HasRun, Leads, NoneFall, Standing}
 use Rattle.hay_history.specs.Histories.{begun_in}
 use Rattle.hay_holdings.specs.Holdings.{Holding}
 use Rattle.hay_holdings.specs.Volumes.{VolumeCall}
@@ -26,7 +26,7 @@ use Rattle.hay_meeting.specs.Locks.{add_shown, replayed}
 use Rattle.hay_meeting.proofs.Replays.{entries_append, left_append}
 use Rattle.hay_needle.specs.declared.needle.Pair.{Pair}
 use Rattle.hay_needle.specs.declared.settings.Settings.{Settings}
-use Rattle.hay_physical.specs.Copies.{Copy}
+use Rattle.hay_physical.specs.OpenCopies.{Copy}
 use Rattle.hay_turn.specs.Acts.{AllOf}
 use Rattle.hay_turn.specs.Seats.{Holds, SeatState, after_free}
 use Rattle.hay_turn.specs.Slots.{acts_in}

@@ -14,8 +14,8 @@ use Rattle.hay_front.specs.declared.front.Tag.{Tag}
 use Rattle.hay_front.specs.Entries.{LogEntry}
 use Rattle.hay_front.specs.Fronts.{Holds, MayPublish, logged, with_deed}
 use Rattle.hay_legal.specs.Plain.{frozen_with, grown}
-use Rattle.hay_history.specs.Steps.{Standing}
-use Rattle.hay_history.specs.Steps.Did.{Pends}
+use Rattle.hay_history.specs.LaneSteps.{Standing}
+use Rattle.hay_history.specs.LaneSteps.Did.{Pends}
 use Rattle.hay_holdings.specs.Volumes.{FailedOn, MadeNothing, Takes}
 use Rattle.hay_logical.specs.Answers as logical
 use Rattle.hay_logical.specs.declared.fault.LogicalFault.{LogicalFault}
@@ -27,7 +27,7 @@ use Rattle.hay_logical.specs.Stands.{IsChange, Stands}
 use Rattle.hay_logical.specs.Unshown.{GivesUp, IsWritten, ShowsSame}
 use Rattle.hay_logical.specs.Volumes.{IsOfSettings, IsOpenVolume, IsSame, KeepsCounts, Volume}
 use Rattle.hay_logical.proofs.Lists.{at_below, at_there}
-use Rattle.hay_logical.proofs.Machines.{replica_found}
+use Rattle.hay_legal.proofs.Machines.{replica_found}
 use Rattle.hay_meeting.specs.declared.act.VolumeAct.{VolumeAct}
 use Rattle.hay_meeting.specs.Acts.{did_of, nobody}
 use Rattle.hay_meeting.specs.Facts.{volume_stood}
@@ -39,7 +39,7 @@ use Rattle.hay_map.specs.Rows.{ChangesRows, FitsRows, changed_row, row_at}
 use Rattle.hay_map.specs.declared.place.Place.{Place}
 use Rattle.hay_map.specs.declared.view.MapOp.{MapOp}
 use Rattle.hay_map.specs.declared.view.MapOp.TheVariants as op
-use Rattle.hay_physical.specs.Copies.{Copy}
+use Rattle.hay_physical.specs.OpenCopies.{Copy}
 use Rattle.hay_reply.specs.declared.Refused.TheVariants.{NoRoom}
 use Rattle.hay_views.specs.declared.places.Published.{Published}
 use Rattle.hay_views.specs.MapPasts.{Enters, begun_at, is_entry}

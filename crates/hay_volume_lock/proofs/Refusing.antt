@@ -8,7 +8,7 @@ use Rattle.hay_logical.specs.declared.fault.LogicalFault.TheVariants.{Busy, Dama
 use Rattle.hay_logical.specs.Volumes.{IsSame, Volume}
 use Rattle.hay_meeting.specs.declared.act.VolumeAct.{VolumeAct}
 use Rattle.hay_needle.specs.declared.settings.Settings.{Settings}
-use Rattle.hay_physical.specs.Copies.{Copy}
+use Rattle.hay_physical.specs.OpenCopies.{Copy}
 use Rattle.hay_turn.specs.Seats.{Holds, SeatState}
 use Rattle.hay_volume_lock.specs.Keeping.{IsKept}
 use Rattle.hay_volume_lock.specs.Refusing.{OfOpened, RefusesBegin, RefusesDelete, RefusesFlush, RefusesPut, RefusesRun, RefusesSight}

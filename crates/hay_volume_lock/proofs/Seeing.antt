@@ -14,8 +14,8 @@ use Rattle.hay_front.specs.declared.front.Tag.{Tag}
 use Rattle.hay_legal.specs.declared.known.VolumeKnown.{VolumeKnown}
 use Rattle.hay_legal.specs.Known.{machine_of, now, replica_at}
 use Rattle.hay_legal.specs.Plain.{frozen_by}
-use Rattle.hay_history.specs.Steps.{Standing}
-use Rattle.hay_history.specs.Steps.Did.{Freezes}
+use Rattle.hay_history.specs.LaneSteps.{Standing}
+use Rattle.hay_history.specs.LaneSteps.Did.{Freezes}
 use Rattle.hay_holdings.specs.Volumes.{MadeNothing}
 use Rattle.hay_logical.specs.Answers as logical
 use Rattle.hay_logical.specs.declared.fault.LogicalFault.{LogicalFault}
@@ -23,7 +23,7 @@ use Rattle.hay_logical.specs.declared.fault.LogicalFault.TheVariants.{Busy, Dama
 use Rattle.hay_logical.specs.declared.logical.Looked.{Looked}
 use Rattle.hay_logical.specs.Fits.{At, PlaceStands}
 use Rattle.hay_logical.specs.Stands.{Stands}
-use Rattle.hay_logical.specs.Steps.{SetsPlaceAt}
+use Rattle.hay_logical.specs.ReplicaCalls.{SetsPlaceAt}
 use Rattle.hay_logical.specs.Volumes.{IsOpenVolume, IsSame, KeepsCounts, Volume}
 use Rattle.hay_logical.proofs.Lists.{at_below, at_same, at_there, length-slice_set}
 use Rattle.hay_logical.proofs.Methods.{shown}
@@ -43,7 +43,7 @@ use Rattle.hay_needle.specs.declared.needle.Pair.{Pair}
 use Rattle.hay_needle.specs.declared.settings.Settings.{Settings}
 use Rattle.hay_needle.specs.Tables.{Table, outcome_at, pair_eq}
 use Rattle.hay_needle.proofs.TableLaws.{pair_refl}
-use Rattle.hay_physical.specs.Copies.{Copy}
+use Rattle.hay_physical.specs.OpenCopies.{Copy}
 use Rattle.hay_turn.specs.Slots.{acts_in}
 use Rattle.hay_views.specs.declared.places.Published.{Published}
 use Rattle.hay_views.specs.MapPasts.{Enters, MapPast, begun_at, entered_by, is_entry}

@@ -9,8 +9,8 @@ use Rattle.hay_legal.specs.declared.known.Run.{Run}
 use Rattle.hay_legal.specs.declared.known.VolumeKnown.{VolumeKnown}
 use Rattle.hay_legal.specs.Known.{machine_of, replica_at, with_replica}
 use Rattle.hay_legal.specs.Plain.{stepped, with_run, without_run}
-use Rattle.hay_history.specs.Steps.{Standing}
-use Rattle.hay_history.specs.Steps.Did.{Examines, Tries}
+use Rattle.hay_history.specs.LaneSteps.{Standing}
+use Rattle.hay_history.specs.LaneSteps.Did.{Examines, Tries}
 use Rattle.hay_logical.specs.Answers as logical
 use Rattle.hay_logical.specs.declared.fault.LogicalFault.{LogicalFault}
 use Rattle.hay_logical.specs.declared.fault.LogicalFault.TheVariants.{Busy, Damaged, Failed, Full, Gone, Idle, NoMemory, ReadOnly, Worn}
@@ -23,7 +23,7 @@ use Rattle.hay_meeting.specs.Sights.{stood}
 use Rattle.hay_holdings.specs.Holdings.{Holding}
 use Rattle.hay_holdings.specs.Volumes.{FailedAct, HasRunOf}
 use Rattle.hay_holdings.specs.Volumes as calls
-use Rattle.hay_physical.specs.Copies.{Copy}
+use Rattle.hay_physical.specs.OpenCopies.{Copy}
 use Rattle.hay_volume_lock.specs.Acts.{act_of, did_by}
 use Rattle.hay_volume_lock.specs.Answers.{Found, FoundAlways, IsAt, StoreVolume}
 use Rattle.hay_volume_lock.specs.Compactions.{FailedHere, IsBarred, MayGoOn, OfLane, StepAnswer, StepHalted, StepStops, StillGoes, halted_made, step_made, stopped_made}

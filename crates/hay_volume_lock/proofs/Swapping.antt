@@ -6,14 +6,14 @@ use Rattle.hay_legal.specs.declared.known.Run.{Run}
 use Rattle.hay_legal.specs.declared.known.VolumeKnown.{VolumeKnown}
 use Rattle.hay_legal.specs.Known.{replica_at}
 use Rattle.hay_legal.specs.Plain.{first_machine, frozen_by, swapped}
-use Rattle.hay_history.specs.Steps.{MayHaveSizes, Standing}
+use Rattle.hay_history.specs.LaneSteps.{MayHaveSizes, Standing}
 use Rattle.hay_logical.specs.Answers.{HasSizes, IsFinished, IsLoose, IsTight, IsTightened, change_at}
 use Rattle.hay_logical.specs.Fits.{At, RunsAs, copier_run}
 use Rattle.hay_logical.specs.Stands.{ReplicaStands, Stands, StandsBy, TakesChanges}
 use Rattle.hay_logical.specs.Volumes.{Volume}
 use Rattle.hay_logical.proofs.Lists.{at_there}
-use Rattle.hay_physical.specs.Copies.{Copy}
-use Rattle.hay_physical.specs.Runs as runs
+use Rattle.hay_physical.specs.OpenCopies.{Copy}
+use Rattle.hay_physical.specs.CompactionRuns as runs
 use Rattle.hay_physical.proofs.Laws.{run_next}
 use Rattle.hay_volume_lock.specs.declared.act.Made.TheVariants as made_is
 use Rattle.hay_volume_lock.specs.declared.guarded.Guarded.{Guarded}

@@ -6,7 +6,7 @@ use Rattle.hay_core.specs.declared.entry.Entry.{Entry}
 use Rattle.hay_core.specs.Entries.{apply_entry}
 use Rattle.hay_disk.specs.Disk.{Files}
 use Rattle.hay_front.specs.Fronts.{Holds, IsBehind, RowOf, Witness}
-use Rattle.hay_history.specs.Steps.{Standing}
+use Rattle.hay_history.specs.LaneSteps.{Standing}
 use Rattle.hay_legal.specs.declared.known.VolumeKnown.{VolumeKnown}
 use Rattle.hay_legal.specs.Known.{now, replica_at}
 use Rattle.hay_logical.specs.Fits.{PlaceStands}
@@ -23,7 +23,7 @@ use Rattle.hay_meeting.specs.Facts.{front_shown, table_shown}
 use Rattle.hay_needle.specs.declared.needle.Outcome.{Outcome}
 use Rattle.hay_needle.specs.declared.needle.Pair.{Pair}
 use Rattle.hay_needle.specs.Tables.{outcome_at}
-use Rattle.hay_physical.specs.Copies.{Copy}
+use Rattle.hay_physical.specs.OpenCopies.{Copy}
 use Rattle.hay_views.specs.declared.places.Published.{Published}
 use Rattle.hay_views.specs.MapPasts.{AllFit, IsRowOf, MapPast, begun_at, entered_by, is_entry, row_of, with_published}
 use Rattle.hay_views.proofs.PlaceLaw.{counts_entries}

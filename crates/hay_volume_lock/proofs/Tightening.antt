@@ -8,8 +8,8 @@ use Rattle.hay_needle.specs.declared.settings.Settings.{Settings}
 use Rattle.hay_needle.specs.Tables.{live_end}
 use Rattle.hay_legal.specs.declared.known.Run.{Run}
 use Rattle.hay_legal.specs.Known.{now, replica_at}
-use Rattle.hay_history.specs.Steps.{Follows, HasRun, Leads, Standing}
-use Rattle.hay_history.specs.Steps.Did.{Begins}
+use Rattle.hay_history.specs.LaneSteps.{Follows, HasRun, Leads, Standing}
+use Rattle.hay_history.specs.LaneSteps.Did.{Begins}
 use Rattle.hay_history.proofs.Changes.{leads_becomes, leads_extends, log_by}
 use Rattle.hay_history.proofs.Own.{is_begin}
 use Rattle.hay_meeting.specs.declared.act.VolumeAct.{VolumeAct}

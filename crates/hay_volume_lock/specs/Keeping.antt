@@ -8,8 +8,8 @@ use Rattle.hay_disk.specs.Disk.{Files}
 use Rattle.hay_front.specs.declared.front.Tag.{Tag}
 use Rattle.hay_legal.specs.declared.known.Run.{Run}
 use Rattle.hay_legal.specs.declared.known.VolumeKnown.{VolumeKnown}
-use Rattle.hay_history.specs.Steps.{Did, Follows, HasRun, Standing}
-use Rattle.hay_history.specs.Steps.Did.{Begins, Ends, Entered, Examines, Flushes, Freezes, Fuses, Pends, Poises, Sticks, Swaps, Tries}
+use Rattle.hay_history.specs.LaneSteps.{Did, Follows, HasRun, Standing}
+use Rattle.hay_history.specs.LaneSteps.Did.{Begins, Ends, Entered, Examines, Flushes, Freezes, Fuses, Pends, Poises, Sticks, Swaps, Tries}
 use Rattle.hay_history.specs.Histories.{begun_in}
 use Rattle.hay_logical.specs.Stands.{IsTightAt, Stands}
 use Rattle.hay_logical.specs.Volumes.{IsOfSettings, IsOpenVolume, Volume}
@@ -22,7 +22,7 @@ use Rattle.hay_meeting.specs.declared.act.VolumeDid.TheVariants as did
 use Rattle.hay_meeting.specs.Acts.{IsSized, begun_of, did_of, entry_of, nobody, volume_lock}
 use Rattle.hay_meeting.specs.Locks.{Doing, entries, left, past, replayed}
 use Rattle.hay_needle.specs.declared.needle.Pair.{Pair}
-use Rattle.hay_physical.specs.Copies.{Copy}
+use Rattle.hay_physical.specs.OpenCopies.{Copy}
 use Rattle.hay_turn.specs.Slots.{acts_in}
 use Rattle.hay_views.specs.declared.places.Published.{Published}
 use Rattle.hay_views.specs.MapPasts.{begun_at, entered_by, row_of, with_published}

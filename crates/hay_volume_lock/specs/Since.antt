@@ -2,8 +2,8 @@
 use Rattle.std.specs.Prelude.{◌≡◌, ℕ, List}
 use mathlib.Core.List.{IsPrefix}
 use Rattle.hay_legal.specs.declared.known.Run.{Run}
-use Rattle.hay_history.specs.Steps.{HasRun, Standing}
-use Rattle.hay_history.specs.Steps.Did.{Begins}
+use Rattle.hay_history.specs.LaneSteps.{HasRun, Standing}
+use Rattle.hay_history.specs.LaneSteps.Did.{Begins}
 use Rattle.hay_meeting.specs.declared.act.VolumeAct.{VolumeAct}
 use Rattle.hay_meeting.specs.Acts.{did_of, volume_lock}
 use Rattle.hay_meeting.specs.Locks.{Doing, left, past}

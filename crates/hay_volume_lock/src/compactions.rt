@@ -7,7 +7,7 @@ ghost use Rattle.hay_logical.specs.Answers.{IsRunFault};
 ghost use Rattle.hay_logical.specs.Fits.{At};
 ghost use Rattle.hay_logical.specs.Stands.{IsTightAt, Stands};
 ghost use Rattle.hay_logical.specs.Volumes.{IsOpenVolume, IsSame, KeepsCounts};
-ghost use Rattle.hay_physical.specs.Copies.{Copy};
+ghost use Rattle.hay_physical.specs.OpenCopies.{Copy};
 ghost use Rattle.hay_volume_lock.specs.Acts.{act_of};
 ghost use Rattle.hay_volume_lock.specs.Answers.{IsAlways, IsTold, OneHolding};
 ghost use Rattle.hay_volume_lock.specs.Compactions.{Examines, FailedHere, IsBarred, MayGoOn, StepAnswer, StillGoes, step_made};

@@ -2,7 +2,7 @@
 ghost use Rattle.std.specs.Prelude.{◌≡◌, ◌≤◌, ◌<◌, ◌∷◌, [], ℕ, length, map, IfErr, Err};
 ghost use Rattle.hay_core.specs.declared.entry.Entry.TheVariants as change;
 ghost use Rattle.hay_logical.specs.Answers.{has_ended};
-ghost use Rattle.hay_physical.specs.Copies.{goal_of};
+ghost use Rattle.hay_physical.specs.OpenCopies.{goal_of};
 ghost use Rattle.hay_volume_lock.specs.Answers.{IsAlways, IsTold, OneHolding};
 ghost use Rattle.hay_volume_lock.specs.Acts.{counts};
 ghost use Rattle.hay_volume_lock.specs.Changes.{DiskFailed};

@@ -1,7 +1,7 @@
 //! Places that are seen at a seat.
 ghost use Rattle.std.specs.Prelude.{◌≡◌, ◌<◌, ◌↔◌, ◌⊎◌, [], ℕ, length, IsTrue, IfOk, IfErr, Some, Err};
 ghost use Rattle.hay_compact.specs.Finishing.{IsSeen};
-ghost use Rattle.hay_logical.specs.Steps.{IsSeenBy};
+ghost use Rattle.hay_logical.specs.ReplicaCalls.{IsSeenBy};
 ghost use Rattle.hay_map.specs.Places.{place_in};
 ghost use Rattle.hay_volume_lock.specs.Answers.{FailedLook, IsAlways, IsTold, OneHolding};
 ghost use Rattle.hay_volume_lock.specs.Changes.{SeeAnswer, freezes_by};

@@ -1,5 +1,5 @@
 use Rattle.std.proofs.Common.{drop}
-use Rattle.hay_audit_steps.specs.Steps.{AnyOf}
+use Rattle.hay_audit_steps.specs.CheckerSteps.{AnyOf}
 use Rattle.hay_audit.specs.Joined.{StandsFor}
 use Rattle.hay_audit.proofs.joins.is_covered.Given as goal
 

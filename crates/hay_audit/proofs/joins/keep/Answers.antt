@@ -1,5 +1,5 @@
 use Rattle.std.proofs.Common.{List, ◌∷◌, ◌++◌, [], refl, sym, subst}
-use Rattle.hay_audit_steps.specs.Steps.{AnyOf}
+use Rattle.hay_audit_steps.specs.CheckerSteps.{AnyOf}
 use Rattle.hay_audit.specs.declared.judge.Candidate.{Candidate}
 use Rattle.hay_audit.specs.Joined.{Joined, StandsFor}
 use Rattle.hay_audit.proofs.Joining.{joined_less, joined_more}

@@ -2,7 +2,7 @@ use Rattle.std.proofs.Common.{sym, ◌∙◌, arith}
 use Rattle.std.specs.Prelude.{◌==◌}
 use Rattle.std.proofs.lemmas.Bool.{ne_eqb}
 use Rattle.hay_legal.specs.Known.{machine_of}
-use Rattle.hay_cluster.proofs.Machines.{below_next, replica_hit, replica_none}
+use Rattle.hay_legal.proofs.Machines.{below_next, replica_hit, replica_none}
 use Rattle.hay_cluster.proofs.closed.replica_on.Goals as goal
 
 pub returns-then-machine_of-machine-clause-is : goal.returns-then-machine_of-machine-clause-is

@@ -1,7 +1,7 @@
 use Rattle.std.proofs.Common.{◌≡◌, ◌+◌, ◌-◌, ◌<◌, ℕ, List, [], ◌∷◌, ◌++◌, length, map, refl, ap, subst, ◌∙◌, arith}
 use Rattle.hay_disk.specs.Shelf.{HeldDisk}
 use Rattle.hay_mount.specs.Mounts.{IsGivenDisk}
-use Rattle.hay_physical.specs.Copies.{Copy}
+use Rattle.hay_physical.specs.OpenCopies.{Copy}
 use Rattle.hay_cluster.specs.Store.{disk_of, volume_disks}
 use Rattle.hay_cluster.proofs.ClosingSlots.{disks-long, from-all, from-more, from-none, one_longer, rest_shorter, take_split}
 use Rattle.hay_cluster.proofs.closing.give_volume.Goals as goal

@@ -1,7 +1,7 @@
 use Rattle.std.proofs.Common.{◌≡◌, ℕ, List, None, Some, refl, sym, ap, subst, ◌∙◌, arith}
 use Rattle.std.specs.Prelude.{Err, IfErr, Ok, OnErr, OnOk, Result}
 use Rattle.std.proofs.lemmas.Result.{IfErr-at_err}
-use Rattle.hay_physical.specs.Copies.{Copy}
+use Rattle.hay_physical.specs.OpenCopies.{Copy}
 use Rattle.hay_logical.specs.Volumes.{Volume}
 use Rattle.hay_cluster.specs.declared.maintenance.Maintenance.{Maintenance}
 use Rattle.std.specs.Prelude.{IfOk}
@@ -10,7 +10,7 @@ use Rattle.hay_cluster.specs.Seen.{WorkRefusedSeen, WorkSeen}
 use Rattle.hay_cluster.proofs.SeenWork.{frozen_cause, frozen_refused, frozen_refused_seen}
 use Rattle.hay_logical.specs.Sights.{Sights, sights_of}
 use Rattle.hay_cluster.specs.Sights.{DoneSights}
-use Rattle.hay_physical.specs.Copies.{volume_bytes}
+use Rattle.hay_physical.specs.OpenCopies.{volume_bytes}
 use Rattle.hay_logical.proofs.Damages.{heads_none}
 use Rattle.hay_logical.specs.Needles.{HeadsLeadOn, HeadsLeadPart, IsDamagedCell}
 use Rattle.hay_logical.specs.Seen.{ReplicaSeen, begun, replica_seen}

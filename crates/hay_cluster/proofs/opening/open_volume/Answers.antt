@@ -5,7 +5,7 @@ use Rattle.hay_reply.specs.declared.Note.{Note}
 use Rattle.hay_open.specs.declared.fault.OpenFault.{OpenFault}
 use Rattle.hay_open.specs.declared.fault.OpenFault.TheVariants as opening
 use Rattle.hay_logical.specs.declared.fault.Unopened.{Unopened}
-use Rattle.hay_logical.specs.Steps.{IsRefusedAt}
+use Rattle.hay_logical.specs.ReplicaCalls.{IsRefusedAt}
 use Rattle.hay_cluster.specs.Faults.{not_opened}
 use Rattle.hay_legal.specs.Known.{slot_of}
 use Rattle.hay_cluster.proofs.OpeningVolumes.{damage_told, moves_opened, moves_refused}

@@ -4,7 +4,7 @@ use Rattle.hay_core.specs.declared.machine.Side.{Side}
 use Rattle.hay_core.specs.declared.calls.Harm.{Harm}
 use Rattle.hay_core.specs.declared.calls.DeviceCall.{DeviceCall}
 use Rattle.hay_core.specs.Sides.{after_ok, after_failed}
-use Rattle.hay_core.specs.Steps.{at_first, first_call}
+use Rattle.hay_core.specs.Transitions.{at_first, first_call}
 use Rattle.hay_core.proofs.HoldCode.{left, harm_or, sides_met, harm_met, sides_on, harm_on, none_met, none_or}
 use Rattle.hay_core.proofs.holds.all_called.Goals as goal
 use Rattle.hay_core.proofs.holds.all_called.Goals.{then-is_some+in_ok-duplicate+in_ok-push, else-is_some+in_ok-called+in_ok-push-2}

@@ -1,7 +1,7 @@
 use Rattle.std.proofs.Common.{◌≡◌, ◌++◌, drop}
 use Rattle.std.specs.Prelude.{option_map, if◌then◌else◌}
 use Rattle.hay_core.specs.Sides.{after_ok, after_failed}
-use Rattle.hay_core.specs.Steps.{at_first, first_call}
+use Rattle.hay_core.specs.Transitions.{at_first, first_call}
 use Rattle.hay_core.proofs.HoldCode.{left, harm_or}
 use Rattle.hay_core.proofs.holds.all_called.Given as goal
 

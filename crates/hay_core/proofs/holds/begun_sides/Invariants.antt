@@ -1,5 +1,5 @@
 use Rattle.std.proofs.Common.{◌≡◌, ◌++◌, drop}
-use Rattle.hay_core.specs.Steps.{begun_sides}
+use Rattle.hay_core.specs.Transitions.{begun_sides}
 use Rattle.hay_core.proofs.holds.begun_sides.Given as goal
 
 abbrev pub invariant-loop-i : goal.invariant-loop-i

@@ -1,5 +1,5 @@
 use Rattle.std.proofs.Common.{◌≡◌, drop}
-use Rattle.hay_core.specs.Steps.{first_passes, before_head}
+use Rattle.hay_core.specs.Transitions.{first_passes, before_head}
 use Rattle.hay_core.proofs.holds.first_is_before_head.Given as goal
 
 abbrev pub invariant-loop-side : goal.invariant-loop-side

@@ -1,6 +1,6 @@
 use Rattle.std.proofs.Common.{◌≡◌, drop}
 use Rattle.std.specs.Prelude.{is_some}
-use Rattle.hay_core.specs.Steps.{first_call}
+use Rattle.hay_core.specs.Transitions.{first_call}
 use Rattle.hay_core.proofs.holds.has_call_left.Given as goal
 
 abbrev pub invariant-loop-side : goal.invariant-loop-side

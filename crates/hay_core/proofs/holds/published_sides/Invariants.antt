@@ -1,5 +1,5 @@
 use Rattle.std.proofs.Common.{◌≡◌, map, take}
-use Rattle.hay_core.specs.Steps.{publish_pair}
+use Rattle.hay_core.specs.Transitions.{publish_pair}
 use Rattle.hay_core.proofs.holds.published_sides.Given as goal
 
 abbrev pub invariant-loop-side : goal.invariant-loop-side

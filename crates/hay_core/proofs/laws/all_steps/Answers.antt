@@ -1,5 +1,5 @@
 use Rattle.std.proofs.Common.{◌<◌, ◌+◌, ◌++◌, List, drop, length, ap, ◌∙◌, arith}
-use Rattle.hay_core.specs.Steps.{replies_to}
+use Rattle.hay_core.specs.Transitions.{replies_to}
 use Rattle.hay_core.specs.declared.machine.CoreReply.{CoreReply}
 use Rattle.hay_core.proofs.RunLaws.{going_on, replied, so_far, on_err}
 use Rattle.hay_core.proofs.laws.all_steps.Goals as goal

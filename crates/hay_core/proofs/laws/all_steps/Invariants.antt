@@ -1,5 +1,5 @@
 use Rattle.std.proofs.Common.{◌≡◌, ◌++◌, drop, take}
-use Rattle.hay_core.specs.Steps.{after_events, replies_to}
+use Rattle.hay_core.specs.Transitions.{after_events, replies_to}
 use Rattle.hay_core.proofs.laws.all_steps.Given as goal
 
 abbrev pub invariant-loop-event : goal.invariant-loop-event

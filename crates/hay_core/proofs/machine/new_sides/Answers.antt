@@ -1,6 +1,6 @@
 use Rattle.std.proofs.Common.{◌++◌, ◌∷◌, [], List, ap, ◌∙◌}
 use Rattle.hay_core.specs.declared.machine.Side.{Side}
-use Rattle.hay_core.specs.Steps.{new_side}
+use Rattle.hay_core.specs.Transitions.{new_side}
 use Rattle.std.specs.Prelude.{replicate}
 use Rattle.hay_core.proofs.Lists.{replicate_more}
 use Rattle.hay_core.proofs.machine.new_sides.Goals as goal

@@ -1,5 +1,5 @@
 use Rattle.std.proofs.Common.{◌≡◌, drop}
-use Rattle.hay_core.specs.Steps.{reader_by}
+use Rattle.hay_core.specs.Transitions.{reader_by}
 use Rattle.hay_core.proofs.readers.reader_by.Given as goal
 
 abbrev pub invariant-loop-reader : goal.invariant-loop-reader

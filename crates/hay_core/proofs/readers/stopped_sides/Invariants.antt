@@ -1,5 +1,5 @@
 use Rattle.std.proofs.Common.{◌≡◌, ◌++◌, drop}
-use Rattle.hay_core.specs.Steps.{stopped_sides}
+use Rattle.hay_core.specs.Transitions.{stopped_sides}
 use Rattle.hay_core.proofs.readers.stopped_sides.Given as goal
 
 abbrev pub invariant-loop-i : goal.invariant-loop-i

@@ -1,6 +1,6 @@
 use Rattle.std.proofs.Common.{◌≡◌, ◌++◌, drop}
 use Rattle.std.specs.Prelude.{if◌then◌else◌}
-use Rattle.hay_core.specs.Steps.{with_reader}
+use Rattle.hay_core.specs.Transitions.{with_reader}
 use Rattle.hay_core.proofs.readers.with_reader.Given as goal
 
 abbrev pub invariant-loop-other : goal.invariant-loop-other

@@ -1,7 +1,7 @@
 use Rattle.std.proofs.Common.{ℕ, Bool, false, Some, sym, ap, ◌∙◌, arith}
 use Rattle.std.specs.Prelude.{slice_index_or}
 use Rattle.hay_legal.specs.Known.{machine_of}
-use Rattle.hay_lane.proofs.Finds.{map_hit, map_none}
+use Rattle.hay_legal.proofs.Finds.{map_hit, map_none}
 use Rattle.hay_lane.proofs.places.drained_by.Goals as goal
 
 pub returns-then-drained-machine : goal.returns-then-drained-machine

@@ -1,7 +1,7 @@
 use Rattle.std.proofs.Common.{◌≡◌, ◌<◌, ◌+◌, ◌++◌, ◌∷◌, [], Some, inl, inr, length, length-append, sym, ap, subst, ◌∙◌, arith}
 use Rattle.std.specs.Prelude.{slice_get}
 use Rattle.std.proofs.lemmas.Bool.{cases_lt}
-use Rattle.hay_physical.specs.Copies.{Copy, end_of}
+use Rattle.hay_physical.specs.OpenCopies.{Copy, end_of}
 use Rattle.hay_logical.specs.Fits.{At}
 use Rattle.hay_logical.specs.Notes.{keeps}
 use Rattle.hay_logical.proofs.Lists.{at_below, at_first, at_last, at_read, at_same}

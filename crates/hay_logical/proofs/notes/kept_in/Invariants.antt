@@ -1,6 +1,6 @@
 use Rattle.std.proofs.Common.{◌≡◌, ℕ, ◌<◌, Some, length}
 use Rattle.std.specs.Prelude.{slice_get}
-use Rattle.hay_physical.specs.Copies.{Copy, end_of}
+use Rattle.hay_physical.specs.OpenCopies.{Copy, end_of}
 use Rattle.hay_logical.specs.Fits.{At}
 use Rattle.hay_logical.specs.Notes.{keeps}
 use Rattle.hay_logical.specs.Sights.{sights_of}

@@ -1,5 +1,5 @@
 use Rattle.std.proofs.Common.{◌≡◌, ◌<◌, Bool, true, false, not, length, refl, sym, subst, ◌∙◌, arith}
-use Rattle.hay_physical.specs.Copies.{Copy}
+use Rattle.hay_physical.specs.OpenCopies.{Copy}
 use Rattle.hay_logical.specs.Fits.{At}
 use Rattle.hay_logical.proofs.Lists.{at_read}
 use Rattle.hay_logical.proofs.refusals.is_untouched.Goals as goal

@@ -2,11 +2,11 @@ use Rattle.std.proofs.Common.{Err, None, option_map, ◌≡◌, ◌⊎◌, ◌�
 use Rattle.std.specs.Prelude.{slice_index_or}
 use Rattle.hay_map.specs.Places.{place_in}
 use Rattle.hay_map.specs.declared.place.Place.TheVariants as place
-use Rattle.hay_physical.specs.Copies.{Copy, end_of, goal_of, is_stuck}
-use Rattle.hay_physical.specs.Runs.{HasLastAt, HasRun, loosened}
+use Rattle.hay_physical.specs.OpenCopies.{Copy, end_of, goal_of, is_stuck}
+use Rattle.hay_physical.specs.CompactionRuns.{HasLastAt, HasRun, loosened}
 use Rattle.hay_physical.specs.Replicas as physical
 use Rattle.hay_logical.specs.Fits.{At}
-use Rattle.hay_logical.specs.Steps.{DeletesAt, FollowsAt, LosesRun, StaysBeside}
+use Rattle.hay_logical.specs.ReplicaCalls.{DeletesAt, FollowsAt, LosesRun, StaysBeside}
 use Rattle.hay_logical.proofs.Calls.{Counted, beside_on, counted_same, delete_rose, deletes_on, ended_or, follows_on, follows_where, loses_none, reach_still, stays_where, up_open, went_counts}
 use Rattle.hay_logical.proofs.Lists.{Went, at_read, broken_above, broken_below, broken_is, broken_was, went_all, went_each, went_every, went_next, went_start, went_step}
 use Rattle.std.proofs.Common.{inl}

@@ -1,6 +1,6 @@
 use Rattle.hay_map.specs.Places.{place_in}
 use Rattle.hay_logical.specs.Seen.{DeleteSeen, replica_seen}
-use Rattle.hay_logical.specs.Steps.{DeletesAt, FollowsAt, StaysBeside}
+use Rattle.hay_logical.specs.ReplicaCalls.{DeletesAt, FollowsAt, StaysBeside}
 use Rattle.hay_logical.proofs.Calls.{Counted}
 use Rattle.hay_logical.proofs.Lists.{Went}
 use Rattle.hay_logical.proofs.replicas.delete_in_order.Given as goal

@@ -1,6 +1,6 @@
 use Rattle.std.proofs.Common.{◌≡◌, ℕ, ◌<◌, length}
 use Rattle.std.specs.Prelude.{slice_index}
-use Rattle.hay_physical.specs.Copies.{Copy, end_of}
+use Rattle.hay_physical.specs.OpenCopies.{Copy, end_of}
 use Rattle.hay_logical.specs.Fits.{At}
 use Rattle.hay_logical.proofs.replicas.ends_of.Given as goal
 

@@ -1,13 +1,13 @@
 use Rattle.std.proofs.Common.{refl, sym, subst}
 use Rattle.std.specs.Prelude.{slice_index_or}
-use Rattle.hay_physical.specs.Copies.{Copy}
+use Rattle.hay_physical.specs.OpenCopies.{Copy}
 use Rattle.hay_logical.specs.Fits.{At}
-use Rattle.hay_logical.specs.Steps.{FlushesAt}
+use Rattle.hay_logical.specs.ReplicaCalls.{FlushesAt}
 use Rattle.hay_logical.proofs.Calls.{flush_if, not_stuck_before, one_counts, still_up, went_on}
 use Rattle.hay_logical.proofs.Lists.{at_read, one_same}
 use Rattle.std.proofs.Common.{◌≡◌}
 use Rattle.std.specs.Prelude.{IfOk, OnErr}
-use Rattle.hay_physical.specs.Copies.{is_stuck}
+use Rattle.hay_physical.specs.OpenCopies.{is_stuck}
 use Rattle.hay_physical.proofs.Views.{on_err_so}
 use Rattle.hay_logical.specs.Seen.{FlushesTo, replica_seen}
 use Rattle.hay_logical.proofs.Seen.{flush_seen, seen_stuck}

@@ -1,8 +1,8 @@
 use Rattle.std.proofs.Common.{refl, sym, subst}
 use Rattle.std.specs.Prelude.{slice_index_or}
-use Rattle.hay_physical.specs.Copies.{Copy}
+use Rattle.hay_physical.specs.OpenCopies.{Copy}
 use Rattle.hay_logical.specs.Fits.{At}
-use Rattle.hay_logical.specs.Steps.{FusesAt}
+use Rattle.hay_logical.specs.ReplicaCalls.{FusesAt}
 use Rattle.hay_logical.proofs.Lists.{at_read, one_same}
 use Rattle.hay_logical.proofs.replicas.fuse_at.Goals as goal
 

@@ -3,9 +3,9 @@ use Rattle.std.specs.Prelude.{slice_index_or, slice_set}
 use Rattle.std.proofs.lemmas.Bool.{cases_lt}
 use Rattle.std.proofs.lemmas.List.{length-replicate}
 use Rattle.hay_map.specs.Places.{place_in}
-use Rattle.hay_physical.specs.Copies.{Copy, is_frozen, phase_frozen}
+use Rattle.hay_physical.specs.OpenCopies.{Copy, is_frozen, phase_frozen}
 use Rattle.hay_logical.specs.Fits.{At}
-use Rattle.hay_logical.specs.Steps.{KeepsDisk, LeftAt}
+use Rattle.hay_logical.specs.ReplicaCalls.{KeepsDisk, LeftAt}
 use Rattle.hay_logical.specs.Volumes.{ReachesPlaces}
 use Rattle.hay_logical.proofs.Calls.{Counted, disk_same, left_same, none_in, opens_on, reach_from, reaches_same, up_thawed, went_counts}
 use Rattle.hay_logical.proofs.Drawing.{drew_on}

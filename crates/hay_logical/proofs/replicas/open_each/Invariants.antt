@@ -4,7 +4,7 @@ use Rattle.hay_map.specs.Places.{place_in}
 use Rattle.hay_map.specs.Rows.{row_at}
 use Rattle.hay_map.specs.declared.place.Place.TheVariants as place
 use Rattle.hay_logical.specs.Draws.{DrewRecordedAt}
-use Rattle.hay_logical.specs.Steps.{KeepsDisk, LeftAt, OpensAt}
+use Rattle.hay_logical.specs.ReplicaCalls.{KeepsDisk, LeftAt, OpensAt}
 use Rattle.hay_logical.proofs.Calls.{Counted}
 use Rattle.hay_logical.proofs.Lists.{Went}
 use Rattle.hay_logical.proofs.replicas.open_each.Given as goal

@@ -4,7 +4,7 @@ use Rattle.hay_map.specs.Places.{place_in}
 use Rattle.hay_map.specs.Rows.{last_place, row_at}
 use Rattle.hay_map.specs.declared.place.Place.TheVariants as place
 use Rattle.hay_open.specs.Stored.{PlaceOf, last_cell}
-use Rattle.hay_physical.specs.Copies.{contents_of, end_of, phase_frozen}
+use Rattle.hay_physical.specs.OpenCopies.{contents_of, end_of, phase_frozen}
 use Rattle.hay_logical.specs.Sights.{LiesWithin, sight}
 use Rattle.hay_logical.proofs.Within.{last_lies}
 use Rattle.hay_logical.proofs.Calls.{loaded, loaded_other, open_cause, opened_holds, reaches_loaded, reaches_none, up_thawed}

@@ -1,13 +1,13 @@
 use Rattle.hay_physical.specs.Replicas as physical
 use Rattle.std.proofs.Common.{inl, inr, sym, subst}
-use Rattle.hay_logical.specs.Steps.{EndsRuns, KeepsFiles, PutLeaves}
+use Rattle.hay_logical.specs.ReplicaCalls.{EndsRuns, KeepsFiles, PutLeaves}
 use Rattle.hay_logical.specs.Refusals.{IsUntouched}
 use Rattle.hay_logical.specs.Volumes.{KeepsCounts}
 use Rattle.hay_logical.specs.Fits.{At}
 use Rattle.hay_logical.proofs.Dropping.{counts_on, ends_on, reach_on, not_untouched, put_leaves_on, untouched_back}
 use Rattle.hay_logical.proofs.Lists.{at_below}
 use Rattle.std.proofs.Common.{◌≡◌, ℕ}
-use Rattle.hay_physical.specs.Copies.{Copy}
+use Rattle.hay_physical.specs.OpenCopies.{Copy}
 use Rattle.hay_logical.specs.Seen.{replica_seen}
 use Rattle.hay_logical.proofs.replicas.put_each.Goals as goal
 use Rattle.hay_logical.proofs.replicas.put_each.Goals.{then-not-is_untouched, else-not-is_untouched}

@@ -3,11 +3,11 @@ use Rattle.std.specs.Prelude.{slice_index_or, slice_set}
 use Rattle.hay_map.specs.Places.{place_in}
 use Rattle.hay_map.specs.declared.place.Place.TheVariants as place
 use Rattle.hay_open.specs.Stored.{Stored}
-use Rattle.hay_physical.specs.Copies.{Copy, IsUp, end_of, is_frozen}
+use Rattle.hay_physical.specs.OpenCopies.{Copy, IsUp, end_of, is_frozen}
 use Rattle.hay_physical.specs.Replicas as physical
-use Rattle.hay_physical.specs.Runs.{HasRun, Run}
+use Rattle.hay_physical.specs.CompactionRuns.{HasRun, Run}
 use Rattle.hay_logical.specs.Fits.{At}
-use Rattle.hay_logical.specs.Steps.{KeepsBytes, StaysInReach, LosesRun}
+use Rattle.hay_logical.specs.ReplicaCalls.{KeepsBytes, StaysInReach, LosesRun}
 use Rattle.hay_logical.proofs.Calls.{Counted, loses_none, place_before, place_last, open_up, put_cause, puts_on, reach_still, up_open, went_counts}
 use Rattle.hay_logical.proofs.Lists.{at_read, at_same, broken_above, broken_below, broken_is, broken_was, went_all, went_every, went_next, went_start, went_step}
 use Rattle.hay_logical.proofs.Looking.{bytes_same}

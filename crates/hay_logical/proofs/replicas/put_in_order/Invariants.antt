@@ -1,7 +1,7 @@
 use Rattle.std.proofs.Common.{◌≡◌, ◌≤◌, length}
 use Rattle.hay_map.specs.Places.{place_in}
 use Rattle.hay_logical.specs.Seen.{grown, replica_seen}
-use Rattle.hay_logical.specs.Steps.{StaysInReach, PutsAt}
+use Rattle.hay_logical.specs.ReplicaCalls.{StaysInReach, PutsAt}
 use Rattle.hay_logical.proofs.Lists.{Went}
 use Rattle.hay_logical.proofs.replicas.put_in_order.Given as goal
 

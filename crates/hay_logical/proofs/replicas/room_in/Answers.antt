@@ -1,8 +1,8 @@
 use Rattle.std.proofs.Common.{◌≡◌, ◌<◌, inl, inr, length, sym, subst, arith}
 use Rattle.std.proofs.lemmas.Bool.{cases_lt}
-use Rattle.hay_physical.specs.Copies.{Copy, HasCapacity}
+use Rattle.hay_physical.specs.OpenCopies.{Copy, HasCapacity}
 use Rattle.hay_logical.specs.Fits.{At}
-use Rattle.hay_logical.specs.Steps.{RoomFor}
+use Rattle.hay_logical.specs.ReplicaCalls.{RoomFor}
 use Rattle.hay_logical.proofs.Calls.{fault_is, not_both_ways, room_fits}
 use Rattle.hay_logical.proofs.Lists.{at_below, at_read, at_same}
 use Rattle.hay_logical.proofs.replicas.room_in.Goals as goal

@@ -1,7 +1,7 @@
 use Rattle.std.proofs.Common.{ℕ, ◌<◌}
-use Rattle.hay_physical.specs.Copies.{Copy, HasCapacity}
+use Rattle.hay_physical.specs.OpenCopies.{Copy, HasCapacity}
 use Rattle.hay_logical.specs.Fits.{At}
-use Rattle.hay_logical.specs.Steps.{RoomFor}
+use Rattle.hay_logical.specs.ReplicaCalls.{RoomFor}
 use Rattle.hay_logical.proofs.replicas.room_in.Given as goal
 
 abbrev pub invariant-loop-j : goal.invariant-loop-j

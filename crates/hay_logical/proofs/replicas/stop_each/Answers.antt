@@ -1,6 +1,6 @@
 use Rattle.std.proofs.Common.{◌≤◌, ◌<◌, length, arith}
 use Rattle.std.specs.Prelude.{slice_index_or}
-use Rattle.hay_physical.specs.Copies.{Copy}
+use Rattle.hay_physical.specs.OpenCopies.{Copy}
 use Rattle.hay_logical.specs.Fits.{At}
 use Rattle.hay_logical.proofs.Lists.{at_read, went_all, went_step}
 use Rattle.hay_logical.proofs.replicas.stop_each.Goals as goal

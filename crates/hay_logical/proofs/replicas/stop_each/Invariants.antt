@@ -1,5 +1,5 @@
 use Rattle.hay_logical.specs.Draws.{HasDrawnNothing}
-use Rattle.hay_logical.specs.Steps.{Stops}
+use Rattle.hay_logical.specs.ReplicaCalls.{Stops}
 use Rattle.hay_logical.proofs.Lists.{Went}
 use Rattle.hay_logical.proofs.replicas.stop_each.Given as goal
 

@@ -1,9 +1,9 @@
 use Rattle.std.proofs.Common.{◌≡◌, Err, Ok, true, length, refl, sym, ap, subst}
-use Rattle.hay_physical.specs.Copies.{Copy, volume_bytes}
+use Rattle.hay_physical.specs.OpenCopies.{Copy, volume_bytes}
 use Rattle.hay_physical.specs.Faults as physical_faults
 use Rattle.hay_physical.specs.declared.fault.ReplicaFault.{ReplicaFault}
-use Rattle.hay_logical.specs.Steps.{BeginsAt}
-use Rattle.hay_logical.specs.Steps.Start.{Fresh, Going}
+use Rattle.hay_logical.specs.ReplicaCalls.{BeginsAt}
+use Rattle.hay_logical.specs.ReplicaCalls.Start.{Fresh, Going}
 use Rattle.hay_logical.proofs.Beginning.{begin_holds, begin_left, begins}
 use Rattle.hay_logical.proofs.Calls.{up_open}
 use Rattle.hay_logical.proofs.Reaching.{reaches_on}

@@ -1,11 +1,11 @@
 use Rattle.std.proofs.Common.{◌<◌, arith, subst}
 use Rattle.std.specs.Prelude.{slice_index_or, slice_set}
-use Rattle.hay_physical.specs.Copies.{Copy, volume_bytes}
+use Rattle.hay_physical.specs.OpenCopies.{Copy, volume_bytes}
 use Rattle.hay_logical.specs.Fits.{At}
 use Rattle.hay_logical.specs.Needles.{HeadsLeadOn, LacksCellAnew}
 use Rattle.hay_logical.specs.Sights.{sights_of}
 use Rattle.hay_physical.proofs.Views.{on_ok_one}
-use Rattle.hay_logical.specs.Steps.Start.{Fresh}
+use Rattle.hay_logical.specs.ReplicaCalls.Start.{Fresh}
 use Rattle.hay_logical.proofs.Calls.{one_counts}
 use Rattle.hay_logical.proofs.Dropping.{counts_on}
 use Rattle.hay_logical.proofs.Ends.{called_there, stays_there, swaps_one, swaps_there}

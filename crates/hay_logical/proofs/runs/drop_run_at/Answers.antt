@@ -1,8 +1,8 @@
 use Rattle.std.proofs.Common.{◌≡◌, ◌∙◌, refl, sym, subst, None}
 use Rattle.std.specs.Prelude.{slice_index_or}
-use Rattle.hay_physical.specs.Copies.{Copy, goal_of}
+use Rattle.hay_physical.specs.OpenCopies.{Copy, goal_of}
 use Rattle.hay_logical.specs.Fits.{At}
-use Rattle.hay_logical.specs.Steps.{LosesRun}
+use Rattle.hay_logical.specs.ReplicaCalls.{LosesRun}
 use Rattle.hay_logical.proofs.Calls.{frozen_is, frozen_open, open_frozen}
 use Rattle.hay_logical.proofs.Lists.{at_read, one_same}
 use Rattle.hay_logical.specs.Seen.{IsEnded, replica_seen}

@@ -1,6 +1,6 @@
 use Rattle.std.proofs.Common.{◌≤◌, ◌<◌, ◌∙◌, length, arith}
 use Rattle.std.specs.Prelude.{slice_index_or}
-use Rattle.hay_physical.specs.Copies.{Copy}
+use Rattle.hay_physical.specs.OpenCopies.{Copy}
 use Rattle.hay_logical.specs.Fits.{At}
 use Rattle.hay_logical.proofs.Calls.{frozen_open, frozen_is, open_frozen}
 use Rattle.hay_logical.proofs.Lists.{at_below, at_read, at_there, went_all, went_step}

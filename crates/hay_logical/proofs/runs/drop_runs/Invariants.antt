@@ -1,6 +1,6 @@
 use Rattle.std.proofs.Common.{◌≡◌, None}
-use Rattle.hay_physical.specs.Copies.{goal_of}
-use Rattle.hay_logical.specs.Steps.{LosesRun}
+use Rattle.hay_physical.specs.OpenCopies.{goal_of}
+use Rattle.hay_logical.specs.ReplicaCalls.{LosesRun}
 use Rattle.hay_logical.proofs.Lists.{Went}
 use Rattle.hay_logical.proofs.runs.drop_runs.Given as goal
 

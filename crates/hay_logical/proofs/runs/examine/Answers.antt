@@ -6,16 +6,16 @@ use Rattle.hay_map.specs.Places.{place_in}
 use Rattle.hay_logical.specs.Sights.{latest_sight, sights_of}
 use Rattle.hay_open.specs.Stored.{last_cell}
 use Rattle.hay_compact.specs.Copying.{IsLatest, IsPassedOrStands}
-use Rattle.hay_physical.specs.Copies.{Copy, end_of, goal_of, next_of, volume_bytes}
+use Rattle.hay_physical.specs.OpenCopies.{Copy, end_of, goal_of, next_of, volume_bytes}
 use Rattle.hay_physical.proofs.Laws.{next_left}
 use Rattle.hay_logical.specs.Fits.{PhotoAt}
-use Rattle.hay_logical.specs.Steps.{GoesOn, IsStepFault, latest_of}
+use Rattle.hay_logical.specs.ReplicaCalls.{GoesOn, IsStepFault, latest_of}
 use Rattle.std.proofs.lemmas.Bool.{true≢false}
 use Rattle.hay_logical.proofs.Calls.{still_up}
 use Rattle.hay_logical.proofs.Examining.{examine_cause, goes_after, latest_is, leaves_none, peeked_fits, peeked_small, step_ends, step_later}
 use Rattle.hay_logical.proofs.runs.examine.Given as given
 use Rattle.std.proofs.Common.{arith}
-use Rattle.hay_physical.specs.Runs.{EndsRun, IsPeeked}
+use Rattle.hay_physical.specs.CompactionRuns.{EndsRun, IsPeeked}
 use Rattle.hay_logical.specs.Seen.{ChangesRun, replica_seen}
 use Rattle.hay_logical.proofs.Damages.{heads_none, heads_one, lacks_next, latest_seen, lacks_there, meets_later}
 use Rattle.hay_logical.proofs.Seen.{changes_through, run_changed, steps_end, steps_one}

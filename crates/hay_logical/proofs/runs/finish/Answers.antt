@@ -1,9 +1,9 @@
 use Rattle.hay_physical.specs.declared.fault.ReplicaFault.{ReplicaFault}
 use Rattle.std.proofs.Common.{◌≡◌, ◌-◌, Err, refl, subst, ◌∙◌, arith}
-use Rattle.hay_physical.specs.Copies.{Copy, IsUp}
+use Rattle.hay_physical.specs.OpenCopies.{Copy, IsUp}
 use Rattle.hay_physical.proofs.Laws.{run_within, stands_cells_end}
-use Rattle.hay_logical.specs.Steps.{GoesOn, StaysInReach, stepped_by}
-use Rattle.hay_logical.specs.Steps.Start.{Examined, Fresh, Going}
+use Rattle.hay_logical.specs.ReplicaCalls.{GoesOn, StaysInReach, stepped_by}
+use Rattle.hay_logical.specs.ReplicaCalls.Start.{Examined, Fresh, Going}
 use Rattle.hay_logical.proofs.Calls.{reach_through, up_open}
 use Rattle.hay_logical.proofs.Reaching.{reaches_on}
 use Rattle.hay_logical.proofs.SwapSizes.{cells_within}
@@ -15,7 +15,7 @@ use Rattle.hay_logical.specs.Needles.{LacksCell}
 use Rattle.hay_logical.specs.Sights.{sights_of}
 use Rattle.hay_logical.proofs.Damages.{heads_all}
 use Rattle.hay_physical.proofs.Looks.{always_ok}
-use Rattle.hay_physical.specs.Copies.{volume_bytes}
+use Rattle.hay_physical.specs.OpenCopies.{volume_bytes}
 use Rattle.hay_logical.specs.Seen.{ReplicaSeen, StepsTo, replica_seen}
 use Rattle.std.proofs.Common.{ap}
 use Rattle.hay_logical.proofs.runs.finish.Goals as goal

@@ -4,7 +4,7 @@ use Rattle.hay_map.specs.Places.{place_in}
 use Rattle.hay_map.specs.declared.place.Place.{Place}
 use Rattle.hay_map.specs.declared.view.OpenCell.{OpenCell}
 use Rattle.hay_logical.specs.Fits.{At}
-use Rattle.hay_logical.specs.Steps.{still_gone, still_gone_cell}
+use Rattle.hay_logical.specs.ReplicaCalls.{still_gone, still_gone_cell}
 use Rattle.hay_logical.proofs.Lists.{at_read, went_map, went_start, went_step}
 use Rattle.hay_logical.proofs.runs.keep_gone.Goals as goal
 

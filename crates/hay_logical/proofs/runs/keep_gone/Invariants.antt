@@ -1,5 +1,5 @@
 use Rattle.std.proofs.Common.{◌≡◌}
-use Rattle.hay_logical.specs.Steps.{still_gone_cell}
+use Rattle.hay_logical.specs.ReplicaCalls.{still_gone_cell}
 use Rattle.hay_logical.proofs.Lists.{Went}
 use Rattle.hay_logical.proofs.runs.keep_gone.Given as goal
 

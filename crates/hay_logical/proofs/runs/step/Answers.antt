@@ -2,15 +2,15 @@ use Rattle.std.proofs.Common.{◌≡◌, ◌≤◌, ℕ, List, Err, ◌<◌, ◌
 use Rattle.hay_physical.specs.declared.fault.ReplicaFault.{ReplicaFault}
 use Rattle.hay_physical.specs.declared.fault.ReplicaFault.TheVariants as fault
 use Rattle.std.specs.Prelude.{if◌then◌else◌, min}
-use Rattle.hay_physical.specs.Runs.{HasRun, Run}
-use Rattle.hay_logical.specs.Steps.{stepped_by}
+use Rattle.hay_physical.specs.CompactionRuns.{HasRun, Run}
+use Rattle.hay_logical.specs.ReplicaCalls.{stepped_by}
 use Rattle.hay_logical.proofs.Examining.{goes_after, goes_none, leaves_some, step_later, step_more, step_none}
 use Rattle.hay_logical.proofs.Seen.{steps_break, steps_more, steps_none, steps_stop}
 use Rattle.hay_logical.specs.Seen.{ReplicaSeen, StepsTo, replica_seen}
 use Rattle.hay_logical.proofs.Damages.{heads_more, heads_none, lacks_behind, meets_behind}
 use Rattle.hay_logical.specs.Needles.{HeadsLead}
 use Rattle.hay_logical.specs.Sights.{sights_of}
-use Rattle.hay_physical.specs.Copies.{next_of, volume_bytes}
+use Rattle.hay_physical.specs.OpenCopies.{next_of, volume_bytes}
 use Rattle.hay_logical.proofs.runs.step.Goals as goal
 
 pub loop-examined-init : goal.loop-examined-init

@@ -1,12 +1,12 @@
 use Rattle.std.proofs.Common.{◌≡◌, ◌≤◌, Some}
 use Rattle.hay_open.specs.Stored.{Stored}
-use Rattle.hay_physical.specs.Copies.{goal_of, next_of, volume_bytes}
+use Rattle.hay_physical.specs.OpenCopies.{goal_of, next_of, volume_bytes}
 use Rattle.hay_physical.specs.Replicas as physical
-use Rattle.hay_physical.specs.Runs.{HasRun, Run}
+use Rattle.hay_physical.specs.CompactionRuns.{HasRun, Run}
 use Rattle.hay_logical.specs.Needles.{HeadsLead}
 use Rattle.hay_logical.specs.Seen.{StepsTo, replica_seen}
 use Rattle.hay_logical.specs.Sights.{sights_of}
-use Rattle.hay_logical.specs.Steps.{GoesOn, PlacesAre, stepped_by}
+use Rattle.hay_logical.specs.ReplicaCalls.{GoesOn, PlacesAre, stepped_by}
 use Rattle.hay_logical.proofs.runs.step.Given as goal
 
 abbrev pub invariant-loop-examined : goal.invariant-loop-examined

@@ -1,10 +1,10 @@
 use Rattle.std.proofs.Common.{◌<◌, refl, sym, subst, arith}
 use Rattle.std.specs.Prelude.{slice_index_or}
-use Rattle.hay_physical.specs.Copies.{Copy, next_of, volume_bytes}
+use Rattle.hay_physical.specs.OpenCopies.{Copy, next_of, volume_bytes}
 use Rattle.hay_logical.specs.Fits.{At}
 use Rattle.hay_logical.specs.Needles.{HeadsLead, HeadsLeadPart, LacksCell}
 use Rattle.hay_logical.specs.Sights.{sights_of}
-use Rattle.hay_logical.specs.Steps.{StepsAt}
+use Rattle.hay_logical.specs.ReplicaCalls.{StepsAt}
 use Rattle.hay_logical.proofs.Calls.{one_counts}
 use Rattle.hay_logical.proofs.Lists.{at_read, at_same, one_same}
 use Rattle.std.specs.Prelude.{IfOk, OnErr}

@@ -9,13 +9,13 @@ use Rattle.hay_map.specs.declared.view.MapOp.TheVariants as op
 use Rattle.hay_map.specs.declared.view.OpenCell.{OpenCell}
 use Rattle.hay_open.specs.Finds.{ArePlacesWithin}
 use Rattle.hay_open.specs.Stored.{index_file, volume_file}
-use Rattle.hay_physical.specs.Copies.{Copy, is_frozen}
+use Rattle.hay_physical.specs.OpenCopies.{Copy, is_frozen}
 use Rattle.hay_physical.specs.Faults as physical_faults
 use Rattle.hay_physical.specs.declared.fault.ReplicaFault.{ReplicaFault}
-use Rattle.hay_physical.specs.Runs.{RemovedBoth}
+use Rattle.hay_physical.specs.CompactionRuns.{RemovedBoth}
 use Rattle.hay_physical.proofs.Laws.{stands_cells_end, stands_generation, stands_up}
-use Rattle.hay_logical.specs.Steps.{HoldsUnswapped, IsLeftBy, StaysInReach, still_gone_cell}
-use Rattle.hay_logical.specs.Steps.Start.{Examined}
+use Rattle.hay_logical.specs.ReplicaCalls.{HoldsUnswapped, IsLeftBy, StaysInReach, still_gone_cell}
+use Rattle.hay_logical.specs.ReplicaCalls.Start.{Examined}
 use Rattle.hay_logical.specs.Volumes.{ReachesPlaces}
 use Rattle.hay_logical.proofs.Calls.{loaded_other, not_both, open_frozen, open_up, up_open}
 use Rattle.hay_logical.proofs.Reaching.{reaches_on}

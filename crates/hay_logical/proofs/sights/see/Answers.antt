@@ -5,9 +5,9 @@ use Rattle.hay_map.specs.declared.place.Place.TheVariants as place
 use Rattle.hay_compact.specs.Finishing.{IsSeen}
 use Rattle.hay_physical.specs.declared.fault.ReplicaFault.{ReplicaFault}
 use Rattle.hay_logical.specs.Draws.{DrawsAtMost, look_total}
-use Rattle.hay_logical.specs.Steps.{IsSeenBy, LookAwaited}
+use Rattle.hay_logical.specs.ReplicaCalls.{IsSeenBy, LookAwaited}
 use Rattle.hay_logical.proofs.Looking.{Looked, becomes_same, becomes_seen, same_places, same_sets, set_here, set_places, sets_this, sight_seen, sights_looked, sights_none}
-use Rattle.hay_physical.specs.Copies.{volume_bytes}
+use Rattle.hay_physical.specs.OpenCopies.{volume_bytes}
 use Rattle.hay_physical.proofs.Whole.{whole_of}
 use Rattle.hay_logical.specs.Needles.{IsToldBy, LacksSeen}
 use Rattle.hay_logical.specs.Sights.{AwaitsLook, sight, sights_of}

@@ -1,12 +1,12 @@
 use Rattle.std.proofs.Common.{◌<◌, ℕ, refl, sym, subst, arith}
 use Rattle.std.specs.Prelude.{slice_index_or}
-use Rattle.hay_physical.specs.Copies.{Copy, volume_bytes}
+use Rattle.hay_physical.specs.OpenCopies.{Copy, volume_bytes}
 use Rattle.hay_logical.specs.Needles.{TellsNeedle}
 use Rattle.hay_map.specs.Places.{place_in}
 use Rattle.hay_map.specs.Rows.{row_at}
 use Rattle.hay_logical.specs.Draws.{DrawsAtMost, look_total}
 use Rattle.hay_logical.specs.Fits.{At}
-use Rattle.hay_logical.specs.Steps.{SightsAt}
+use Rattle.hay_logical.specs.ReplicaCalls.{SightsAt}
 use Rattle.hay_logical.proofs.Calls.{one_counts}
 use Rattle.hay_logical.proofs.Lists.{at_read, at_same, one_same}
 use Rattle.hay_logical.proofs.sights.see_at.Goals as goal

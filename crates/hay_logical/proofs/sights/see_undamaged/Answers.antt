@@ -2,7 +2,7 @@ use Rattle.std.proofs.Common.{◌≡◌, ◌≤◌, ◌<◌, ℕ, length, Err, r
 use Rattle.std.specs.Prelude.{IfErr, MatchOption}
 use Rattle.hay_physical.specs.declared.fault.ReplicaFault.{ReplicaFault}
 use Rattle.hay_physical.specs.Faults.{IsSightFault}
-use Rattle.hay_logical.specs.Steps.{IsLookFault}
+use Rattle.hay_logical.specs.ReplicaCalls.{IsLookFault}
 use Rattle.hay_logical.proofs.Drawing.{draws_each, draws_one}
 use Rattle.hay_logical.proofs.Looks.{looks_none, looks_on, seen_on, still_open, still_reached, told_on, unseen}
 use Rattle.hay_logical.proofs.Lists.{at_below, went_start}

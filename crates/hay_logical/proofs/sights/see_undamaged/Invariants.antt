@@ -3,12 +3,12 @@ use Rattle.hay_map.specs.Places.{place_in}
 use Rattle.hay_map.specs.Rows.{row_at}
 use Rattle.hay_open.specs.Stored.{Stored}
 use Rattle.hay_compact.specs.Finishing.{IsSeen}
-use Rattle.hay_physical.specs.Copies.{Copy, volume_bytes}
+use Rattle.hay_physical.specs.OpenCopies.{Copy, volume_bytes}
 use Rattle.hay_physical.specs.Replicas as physical
 use Rattle.hay_logical.specs.Fits.{At}
 use Rattle.hay_logical.specs.Notes.{IsToldPlace}
 use Rattle.hay_logical.specs.Sights.{sights_of}
-use Rattle.hay_logical.specs.Steps.{PlacesAre}
+use Rattle.hay_logical.specs.ReplicaCalls.{PlacesAre}
 use Rattle.hay_logical.proofs.Drawing.{DrawsLooks}
 use Rattle.hay_logical.proofs.Looks.{Looks}
 use Rattle.hay_logical.proofs.sights.see_undamaged.Given as goal

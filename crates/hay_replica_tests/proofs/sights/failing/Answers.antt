@@ -2,7 +2,7 @@ use Rattle.std.proofs.Common.{◌∙◌, ap, refl}
 use Rattle.hay_disk.specs.Disk.{FileState, Files}
 use Rattle.hay_memdisk.specs.MemDisk.{mem_files}
 use Rattle.hay_open.specs.Stored.{fresh_stored}
-use Rattle.hay_physical.specs.Copies.{Copy}
+use Rattle.hay_physical.specs.OpenCopies.{Copy}
 use Rattle.hay_replica_tests.proofs.Opens.{first_seen, void_opens}
 use Rattle.hay_replica_tests.proofs.sights.failing.Goals as goal
 

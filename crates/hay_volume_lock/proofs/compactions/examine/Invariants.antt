@@ -6,7 +6,7 @@ use Rattle.hay_logical.specs.Answers.{StandsStepped}
 use Rattle.hay_logical.specs.Fits.{At}
 use Rattle.hay_logical.specs.Stands.{IsTightAt, Stands}
 use Rattle.hay_logical.specs.Volumes.{IsOpenVolume, IsSame, KeepsCounts}
-use Rattle.hay_physical.specs.Copies.{Copy}
+use Rattle.hay_physical.specs.OpenCopies.{Copy}
 use Rattle.hay_volume_lock.proofs.compactions.examine.Given as goal
 
 abbrev pub invariant-loop-examined : goal.invariant-loop-examined

@@ -2,7 +2,7 @@ use Rattle.std.proofs.Common.{◌<◌, ◌+◌, [], ◌∷◌, None, length, ap,
 use Rattle.std.specs.Prelude.{slice_index_or}
 use Rattle.hay_logical.specs.Answers.{has_ended}
 use Rattle.hay_logical.proofs.Lists.{at_or, at_there}
-use Rattle.hay_physical.specs.Copies.{goal_of}
+use Rattle.hay_physical.specs.OpenCopies.{goal_of}
 use Rattle.hay_volume_lock.specs.Deletes.{over_since}
 use Rattle.hay_volume_lock.proofs.Counting.{take_whole}
 use Rattle.hay_volume_lock.proofs.Deleting.{next_taken, over_long, over_next}

@@ -2,7 +2,7 @@ use Rattle.std.proofs.Common.{◌<◌, ◌+◌, [], ◌∷◌, length, ap, ◌�
 use Rattle.std.specs.Prelude.{map}
 use Rattle.std.proofs.lemmas.List.{length-map}
 use Rattle.hay_logical.proofs.Lists.{at_there}
-use Rattle.hay_physical.specs.Copies.{Copy, goal_of}
+use Rattle.hay_physical.specs.OpenCopies.{Copy, goal_of}
 use Rattle.hay_volume_lock.proofs.Counting.{take_whole}
 use Rattle.hay_volume_lock.proofs.Deleting.{map_next, next_taken}
 use Rattle.hay_volume_lock.proofs.deletes.runs_of.Goals as goal

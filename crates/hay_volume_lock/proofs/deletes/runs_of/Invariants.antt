@@ -1,6 +1,6 @@
 use Rattle.std.proofs.Common.{◌≡◌, length, take}
 use Rattle.std.specs.Prelude.{map}
-use Rattle.hay_physical.specs.Copies.{goal_of}
+use Rattle.hay_physical.specs.OpenCopies.{goal_of}
 use Rattle.hay_volume_lock.proofs.deletes.runs_of.Given as goal
 
 abbrev pub invariant-loop-replica : goal.invariant-loop-replica

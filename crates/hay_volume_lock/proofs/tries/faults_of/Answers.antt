@@ -1,6 +1,6 @@
 use Rattle.std.proofs.Common.{◌<◌, ◌+◌, [], ◌∷◌, length, ap, ◌∙◌, arith, length-append}
 use Rattle.std.proofs.lemmas.List.{length-map}
-use Rattle.hay_physical.specs.Copies.{Copy}
+use Rattle.hay_physical.specs.OpenCopies.{Copy}
 use Rattle.hay_volume_lock.specs.Acts.{counts}
 use Rattle.hay_volume_lock.proofs.Counting.{take_whole, taken_next}
 use Rattle.hay_volume_lock.proofs.tries.faults_of.Goals as goal

@@ -2,8 +2,8 @@ use Rattle.std.proofs.Common.{◌≡◌, ℕ, Bool, false, Option, Some, None, m
 use Rattle.std.specs.Prelude.{find, slice_index_or}
 use Rattle.hay_legal.specs.Known.{machine_of, replicas_of}
 use Rattle.hay_cluster.specs.Store.{Open}
-use Rattle.hay_cluster.proofs.Finds.{map_hit, map_none}
-use Rattle.hay_cluster.proofs.Machines.{below_next}
+use Rattle.hay_legal.proofs.Finds.{map_hit, map_none}
+use Rattle.hay_legal.proofs.Machines.{below_next}
 use Rattle.hay_cluster.proofs.cluster.Cluster.drained_by.Goals as goal
 
 pub returns-then-drained : goal.returns-then-drained

@@ -20,7 +20,7 @@ use Rattle.hay_cluster.proofs.Moves.{Called, called_fuses, called_later, called_
 use Rattle.hay_cluster.specs.Leaving.{IsApart, LeavesIn, WorkKeeps}
 use Rattle.hay_cluster.proofs.Leaving.{called_others, called_same, work_keeps}
 use Rattle.hay_logical.specs.declared.fault.LogicalFault.{LogicalFault}
-use Rattle.hay_physical.specs.Copies.{volume_bytes}
+use Rattle.hay_physical.specs.OpenCopies.{volume_bytes}
 use Rattle.hay_logical.specs.Seen.{SeesAt, VolumeSeen, replica_seen, volume_seen}
 use Rattle.hay_cluster.specs.Seen.{VolumeAt, WorkRefusedSeen, WorkSeen, store_seen}
 use Rattle.hay_cluster.proofs.Seeing.{seen_at, volume_moves}

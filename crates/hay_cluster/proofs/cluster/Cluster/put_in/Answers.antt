@@ -18,7 +18,7 @@ use Rattle.hay_legal.specs.Stands.{Contents}
 use Rattle.hay_logical.specs.declared.fault.LogicalFault.{LogicalFault}
 use Rattle.hay_logical.specs.declared.fault.LogicalFault.TheVariants as refusal
 use Rattle.hay_logical.specs.declared.unsure.Unsure.{Unsure}
-use Rattle.hay_logical.specs.Steps.{KeepsFiles}
+use Rattle.hay_logical.specs.ReplicaCalls.{KeepsFiles}
 use Rattle.hay_logical.specs.Seen.{FreezesSeen, PutRefusedSeen, PutSeen, volume_seen, VolumeSeen}
 use Rattle.hay_cluster.proofs.Moves.{volume_of}
 use Rattle.hay_cluster.proofs.Seeing.{seen_at, volume_moves}

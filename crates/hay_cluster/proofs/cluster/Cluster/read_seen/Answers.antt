@@ -5,7 +5,7 @@ use Rattle.hay_legal.specs.Known.{volume_at}
 use Rattle.hay_map.specs.Places.{place_in}
 use Rattle.hay_map.specs.declared.place.Place.{Place}
 use Rattle.hay_logical.specs.Fits.{At}
-use Rattle.hay_logical.specs.Steps.{IsSeenBy}
+use Rattle.hay_logical.specs.ReplicaCalls.{IsSeenBy}
 use Rattle.hay_logical.specs.Volumes.{Volume}
 use Rattle.hay_logical.proofs.Lists.{at_read}
 use Rattle.hay_reader.specs.Causes.{ArmUse, ComeFirst}

@@ -6,9 +6,9 @@ use Rattle.hay_legal.specs.Known.{closed, refusal_of, room_refusal_of, volume_at
 use Rattle.hay_legal.specs.Suiting.{Refuses}
 use Rattle.hay_reply.specs.declared.Refused.{Refused}
 use Rattle.hay_logical.specs.Answers.{IsRoomFault, room_answer}
-use Rattle.hay_physical.specs.Copies.{Copy}
+use Rattle.hay_physical.specs.OpenCopies.{Copy}
 use Rattle.hay_logical.specs.Fits.{At}
-use Rattle.hay_logical.specs.Steps.{RoomFor}
+use Rattle.hay_logical.specs.ReplicaCalls.{RoomFor}
 use Rattle.hay_logical.specs.Volumes.{Volume}
 use Rattle.hay_logical.proofs.Lists.{at_read}
 use Rattle.hay_cluster.specs.Lacks.{lack_of}

@@ -9,7 +9,7 @@ use Rattle.hay_compact.specs.Finishing.{IsSeen}
 use Rattle.hay_logical.specs.declared.fault.LogicalFault.{LogicalFault}
 use Rattle.hay_logical.specs.declared.fault.LogicalFault.TheVariants as refusal
 use Rattle.hay_logical.specs.Fits.{At}
-use Rattle.hay_logical.specs.Steps.{IsSeenBy}
+use Rattle.hay_logical.specs.ReplicaCalls.{IsSeenBy}
 use Rattle.hay_logical.specs.Volumes.{Volume}
 use Rattle.hay_logical.proofs.Lists.{at_read}
 use Rattle.hay_needle.specs.declared.needle.Pair.{Pair}

@@ -1,5 +1,5 @@
 use Rattle.std.proofs.Common.{◌<◌, ◌≤◌, ◌∷◌, [], inl, inr, length, length-append, sym, ap, subst, ◌∙◌, arith}
-use Rattle.hay_physical.specs.Copies.{Copy, is_frozen}
+use Rattle.hay_physical.specs.OpenCopies.{Copy, is_frozen}
 use Rattle.hay_logical.specs.Fits.{At}
 use Rattle.hay_logical.specs.Volumes.{Volume}
 use Rattle.hay_logical.proofs.Calls.{reaches_closed}

@@ -2,13 +2,13 @@ use Rattle.std.proofs.Common.{◌≡◌, ◌<◌, ℕ, length, Ok, Err, refl, sy
 use Rattle.std.specs.Prelude.{IfErr, IfOk}
 use Rattle.std.specs.Vec.{with_items}
 use Rattle.std.proofs.lemmas.List.{with_items_is}
-use Rattle.hay_physical.specs.Copies.{Copy, IsUp}
+use Rattle.hay_physical.specs.OpenCopies.{Copy, IsUp}
 use Rattle.hay_logical.specs.Answers.{BeginRefused, IsBegun}
 use Rattle.hay_logical.specs.Answers as answers
 use Rattle.hay_logical.specs.Fits.{At}
 use Rattle.hay_logical.specs.Refusals.{answer_at}
 use Rattle.hay_logical.specs.Stands.{Stands, StandsFor}
-use Rattle.hay_logical.specs.Steps.{CallsOne, StaysInReach, BeginsAt}
+use Rattle.hay_logical.specs.ReplicaCalls.{CallsOne, StaysInReach, BeginsAt}
 use Rattle.hay_logical.specs.Volumes.{CanReach, IsShaped, KeepsCounts, IsMachineOf, Volume}
 use Rattle.hay_logical.proofs.Calls.{open_up, reach_still, up_open, up_thawed}
 use Rattle.hay_logical.proofs.Lists.{at_below, at_same, at_there}
@@ -20,7 +20,7 @@ use Rattle.hay_logical.proofs.Reaching.{same_rows}
 use Rattle.hay_logical.specs.declared.fault.LogicalFault.{LogicalFault}
 use Rattle.hay_logical.specs.Refusals.{IsUntouchedBy}
 use Rattle.hay_logical.proofs.Untouched.{begin_thawed, begin_untouched, one_untouched, stuck_same}
-use Rattle.hay_physical.specs.Copies.{is_stuck}
+use Rattle.hay_physical.specs.OpenCopies.{is_stuck}
 use Rattle.hay_logical.proofs.Tightness.{tight_begun}
 use Rattle.hay_logical.specs.Stands.{RunsTight}
 use Rattle.std.specs.Prelude.{OnOk}

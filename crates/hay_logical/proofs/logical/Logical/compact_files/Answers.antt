@@ -3,14 +3,14 @@ use Rattle.std.specs.Vec.{with_items}
 use Rattle.std.proofs.lemmas.List.{with_items_is}
 use Rattle.hay_map.specs.Rows.{ChangesRows, row_at}
 use Rattle.hay_map.specs.declared.view.MapOp.TheVariants as op
-use Rattle.hay_physical.specs.Copies.{Copy, IsUp, end_of, is_stuck, volume_bytes}
+use Rattle.hay_physical.specs.OpenCopies.{Copy, IsUp, end_of, is_stuck, volume_bytes}
 use Rattle.hay_logical.specs.Answers.{CompactRefused, HasSizes, IsCompacted}
 use Rattle.hay_logical.specs.Answers as answers
 use Rattle.hay_logical.specs.Fits.{At}
 use Rattle.hay_logical.specs.Refusals.{IsUntouchedBy, unfinished_by}
 use Rattle.hay_logical.specs.Stands.{Stands, StandsFor}
-use Rattle.hay_logical.specs.Steps.{CallsOne, LosesRun, SwapsOne}
-use Rattle.hay_logical.specs.Steps.Start.{Fresh}
+use Rattle.hay_logical.specs.ReplicaCalls.{CallsOne, LosesRun, SwapsOne}
+use Rattle.hay_logical.specs.ReplicaCalls.Start.{Fresh}
 use Rattle.hay_logical.proofs.Calls.{loses_none, open_up}
 use Rattle.hay_logical.proofs.Changing.{not_some}
 use Rattle.hay_logical.proofs.Compacted.{compact_fault, compact_refused, compacted, removes_old}
@@ -25,7 +25,7 @@ use Rattle.hay_logical.proofs.Untouched.{called_thawed, called_untouched}
 use Rattle.hay_logical.proofs.Freezing.{frozen_unfinished}
 use Rattle.std.proofs.Common.{◌≡◌, ℕ, Option, None, refl}
 use Rattle.std.specs.Prelude.{map, IfOk, OnErr}
-use Rattle.hay_physical.specs.Copies.{goal_of}
+use Rattle.hay_physical.specs.OpenCopies.{goal_of}
 use Rattle.hay_logical.proofs.Lists.{at_map}
 use Rattle.hay_logical.specs.Refusals.{unfinished_by}
 use Rattle.hay_logical.specs.Seen.{ChangesRun, CompactRefusedSeen, CompactsTo, ReplicaSeen, SwapSeen, VolumeSeen, begun, replica_seen, volume_seen}

@@ -3,7 +3,7 @@ use Rattle.std.proofs.lemmas.Result.{err_from_is_err_and}
 use Rattle.hay_logical.specs.declared.fault.LogicalFault.{LogicalFault}
 use Rattle.hay_logical.specs.declared.fault.LogicalFault.TheVariants.{Failed, ReadOnly}
 use Rattle.hay_logical.specs.Volumes.{IsOpenVolume, IsSame, KeepsCounts}
-use Rattle.hay_logical.specs.Steps.{KeepsStuck}
+use Rattle.hay_logical.specs.ReplicaCalls.{KeepsStuck}
 use Rattle.std.specs.Prelude.{IfErr}
 use Rattle.hay_logical.specs.Seen.{DeleteRefusedSeen, VolumeSeen, volume_seen}
 use Rattle.std.proofs.Common.{length}

@@ -2,11 +2,11 @@ use Rattle.std.proofs.Common.{◌≡◌, ◌≤◌, ◌<◌, ℕ, length, refl, 
 use Rattle.std.specs.Vec.{with_items}
 use Rattle.std.proofs.lemmas.List.{with_items_is}
 use Rattle.hay_legal.specs.Plain.{without_run}
-use Rattle.hay_physical.specs.Copies.{Copy, IsOpenCopy}
+use Rattle.hay_physical.specs.OpenCopies.{Copy, IsOpenCopy}
 use Rattle.hay_logical.specs.Answers.{change_at}
 use Rattle.hay_logical.specs.Fits.{At}
 use Rattle.hay_logical.specs.Stands.{Stands, StandsFor}
-use Rattle.hay_logical.specs.Steps.{CallsOne, LosesRun}
+use Rattle.hay_logical.specs.ReplicaCalls.{CallsOne, LosesRun}
 use Rattle.hay_logical.specs.Volumes.{CanReach, IsShaped, KeepsCounts, Volume}
 use Rattle.hay_logical.proofs.Calls.{keeps_counts, loses_none, open_up, up_thawed}
 use Rattle.hay_logical.proofs.Changing.{run_ended}

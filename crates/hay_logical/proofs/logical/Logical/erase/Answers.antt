@@ -10,7 +10,7 @@ use Rattle.hay_logical.proofs.Bytes.{files_more}
 use Rattle.hay_logical.proofs.Changing.{not_some}
 use Rattle.hay_logical.proofs.Through.{counts_through, delete_later, erased_later, look_refused, same_through}
 use Rattle.hay_logical.specs.Volumes.{IsMachineOf, Volume}
-use Rattle.hay_logical.specs.Steps.{KeepsAbove}
+use Rattle.hay_logical.specs.ReplicaCalls.{KeepsAbove}
 use Rattle.hay_logical.proofs.Above.{above_files, above_looked}
 use Rattle.hay_logical.proofs.Untouched.{stuck_more, stuck_same}
 use Rattle.std.specs.Prelude.{OnErr}
@@ -25,7 +25,7 @@ use Rattle.hay_logical.specs.Sights.{DeleteRefusedSights, FindsPhoto, Sights, si
 use Rattle.hay_logical.proofs.SightChanges.{delete_refused_behind, delete_unlooked, finds_behind}
 use Rattle.hay_logical.proofs.Looks.{if_err_at}
 use Rattle.hay_logical.proofs.Through.{runs_later}
-use Rattle.hay_physical.specs.Copies.{volume_bytes}
+use Rattle.hay_physical.specs.OpenCopies.{volume_bytes}
 use Rattle.hay_logical.specs.Needles.{IsToldBy}
 use Rattle.hay_logical.specs.Sights.{Sight}
 use Rattle.hay_logical.proofs.Needles.{told_none}

@@ -4,8 +4,8 @@ use Rattle.std.proofs.lemmas.List.{with_items_is}
 use Rattle.hay_map.specs.Places.{place_in}
 use Rattle.hay_map.specs.Rows.{row_at}
 use Rattle.hay_compact.specs.Finishing.{IsSeen}
-use Rattle.hay_physical.specs.Copies.{Copy, IsUp, is_frozen}
-use Rattle.hay_physical.specs.Copies as copies
+use Rattle.hay_physical.specs.OpenCopies.{Copy, IsUp, is_frozen}
+use Rattle.hay_physical.specs.OpenCopies as copies
 use Rattle.hay_physical.specs.Replicas as physical
 use Rattle.hay_logical.specs.declared.fault.LogicalFault.TheVariants as fault
 use Rattle.hay_logical.specs.declared.unsure.Change.TheVariants as change
@@ -13,7 +13,7 @@ use Rattle.hay_logical.specs.declared.written.Erased.{Erased}
 use Rattle.hay_logical.specs.Answers.{DeleteRefused, HasFailed}
 use Rattle.hay_logical.specs.Fits.{At}
 use Rattle.hay_logical.specs.Stands.{Stands, StandsFor}
-use Rattle.hay_logical.specs.Steps.{DeleteLeaves, DeletesAt, KeepsAbove, KeepsReach, Lengthens}
+use Rattle.hay_logical.specs.ReplicaCalls.{DeleteLeaves, DeletesAt, KeepsAbove, KeepsReach, Lengthens}
 use Rattle.hay_logical.specs.Unshown.{IsErased}
 use Rattle.hay_logical.specs.Volumes.{CanReach, IsShaped, KeepsCounts, Volume}
 use Rattle.hay_logical.proofs.Calls.{open_up, up_open, up_thawed}

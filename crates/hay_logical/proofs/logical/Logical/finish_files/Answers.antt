@@ -4,14 +4,14 @@ use Rattle.std.specs.Vec.{with_items}
 use Rattle.std.proofs.lemmas.List.{with_items_is}
 use Rattle.hay_map.specs.Rows.{ChangesRows, row_at}
 use Rattle.hay_map.specs.declared.view.MapOp.TheVariants as op
-use Rattle.hay_physical.specs.Copies.{Copy, IsUp, end_of, goal_of, is_stuck, volume_bytes}
+use Rattle.hay_physical.specs.OpenCopies.{Copy, IsUp, end_of, goal_of, is_stuck, volume_bytes}
 use Rattle.hay_logical.specs.Answers.{FinishRefused, HasSizes, IsFinished}
 use Rattle.hay_logical.specs.Answers as answers
 use Rattle.hay_logical.specs.Fits.{At}
 use Rattle.hay_logical.specs.Refusals.{IsUntouchedBy, unfinished_by}
 use Rattle.hay_logical.specs.Stands.{Stands, StandsFor}
-use Rattle.hay_logical.specs.Steps.{CallsOne, LosesRun, SwapsOne}
-use Rattle.hay_logical.specs.Steps.Start.{Going}
+use Rattle.hay_logical.specs.ReplicaCalls.{CallsOne, LosesRun, SwapsOne}
+use Rattle.hay_logical.specs.ReplicaCalls.Start.{Going}
 use Rattle.hay_logical.proofs.Calls.{loses_none, open_up}
 use Rattle.hay_logical.proofs.Changing.{not_some}
 use Rattle.hay_logical.proofs.Compacted.{finish_fault, finish_refused, finished, removes_old}
@@ -29,7 +29,7 @@ use Rattle.hay_logical.proofs.Tightness.{tightened}
 use Rattle.hay_logical.specs.Answers.{IsTightened}
 use Rattle.std.proofs.Common.{◌≡◌, ◌+◌, ℕ, Option, None, Some, refl}
 use Rattle.std.specs.Prelude.{map, IfOk, OnErr}
-use Rattle.hay_physical.specs.Copies.{generation_of, goal_of}
+use Rattle.hay_physical.specs.OpenCopies.{generation_of, goal_of}
 use Rattle.hay_logical.proofs.Lists.{at_map}
 use Rattle.hay_logical.proofs.Lists.{at_there}
 use Rattle.hay_logical.specs.Seen.{ChangesAt, ChangesRun, EndsAlone, FinishRefusedSeen, FinishesTo, ReplicaSeen, SwapSeen, VolumeSeen, replica_seen, volume_seen}

@@ -3,12 +3,12 @@ use Rattle.std.specs.Prelude.{IfErr, IfOk, OnErr, OnOk, false}
 use Rattle.std.specs.Vec.{with_items}
 use Rattle.std.proofs.lemmas.List.{with_items_is}
 use Rattle.hay_legal.specs.Known.{machine_of}
-use Rattle.hay_physical.specs.Copies.{Copy, IsUp, is_stuck}
+use Rattle.hay_physical.specs.OpenCopies.{Copy, IsUp, is_stuck}
 use Rattle.hay_logical.specs.Answers.{DeleteRefused, FlushRefused, HasFailed, IsDeleted, IsFlushed, IsPut, PutRefused}
 use Rattle.hay_logical.specs.Answers as answers
 use Rattle.hay_logical.specs.Fits.{At}
 use Rattle.hay_logical.specs.Stands.{Stands, StandsFor}
-use Rattle.hay_logical.specs.Steps.{CallsOne, FlushesAt, StaysInReach}
+use Rattle.hay_logical.specs.ReplicaCalls.{CallsOne, FlushesAt, StaysInReach}
 use Rattle.hay_logical.specs.Volumes.{CanReach, IsShaped, KeepsCounts, IsMachineOf, Volume}
 use Rattle.hay_logical.proofs.Calls.{open_up, reach_still, up_open, up_thawed}
 use Rattle.hay_logical.proofs.Lists.{at_below, at_same, at_there}

@@ -1,20 +1,20 @@
 use Rattle.std.proofs.Common.{◌≡◌, ◌<◌, ℕ, false, length, refl, sym, ap, subst, ◌∙◌}
 use Rattle.std.specs.Vec.{with_items}
 use Rattle.std.proofs.lemmas.List.{with_items_is}
-use Rattle.hay_physical.specs.Copies.{Copy, phase_frozen, phase_goal, phase_stuck}
+use Rattle.hay_physical.specs.OpenCopies.{Copy, phase_frozen, phase_goal, phase_stuck}
 use Rattle.hay_logical.specs.Fits.{At}
 use Rattle.hay_logical.specs.Stands.{Stands, StandsFor}
-use Rattle.hay_logical.specs.Steps.{StaysInReach}
+use Rattle.hay_logical.specs.ReplicaCalls.{StaysInReach}
 use Rattle.hay_logical.proofs.Calls.{reach_still}
 use Rattle.hay_logical.proofs.Lists.{at_below, at_there}
 use Rattle.hay_logical.proofs.Methods.{Quiet, one_after, other_same, one_count, one_each, quiet, same_by, shaped_on}
 use Rattle.hay_logical.specs.Volumes.{CanReach, IsShaped, Volume}
 use Rattle.hay_logical.proofs.Reaching.{same_rows}
-use Rattle.hay_physical.specs.Copies as copies
+use Rattle.hay_physical.specs.OpenCopies as copies
 use Rattle.hay_logical.proofs.Standing.{volume_with}
 use Rattle.hay_logical.proofs.Tightness.{tight_fused, tight_one}
 use Rattle.hay_logical.specs.Seen.{replica_seen}
-use Rattle.hay_logical.specs.Steps.{CallsOne}
+use Rattle.hay_logical.specs.ReplicaCalls.{CallsOne}
 use Rattle.hay_logical.proofs.Seen.{same_one}
 use Rattle.hay_logical.proofs.logical.Logical.fuse.Goals as goal
 

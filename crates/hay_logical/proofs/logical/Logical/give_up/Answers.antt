@@ -1,7 +1,7 @@
 use Rattle.std.proofs.Common.{arith, false, List, Some, refl, sym, ap, subst, ◌∙◌}
 use Rattle.hay_legal.specs.Known.{machine_of}
 use Rattle.hay_legal.specs.Plain.{frozen_with}
-use Rattle.hay_physical.specs.Copies.{Copy}
+use Rattle.hay_physical.specs.OpenCopies.{Copy}
 use Rattle.hay_logical.specs.declared.unsure.Unsure.{Unsure}
 use Rattle.hay_logical.specs.Stands.{Stands, StandsFor}
 use Rattle.hay_logical.specs.Volumes.{IsOpenVolume, IsSame, Volume}

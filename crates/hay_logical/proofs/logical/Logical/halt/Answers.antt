@@ -2,9 +2,9 @@ use Rattle.std.proofs.Common.{◌≡◌, ◌≤◌, ◌<◌, ℕ, length, Some, 
 use Rattle.std.specs.Vec.{with_items}
 use Rattle.std.proofs.lemmas.List.{with_items_is}
 use Rattle.hay_legal.specs.Known.{machine_of}
-use Rattle.hay_physical.specs.Copies.{Copy, IsOpenCopy}
+use Rattle.hay_physical.specs.OpenCopies.{Copy, IsOpenCopy}
 use Rattle.hay_logical.specs.Fits.{At}
-use Rattle.hay_logical.specs.Steps.{AllIdle, LosesRun}
+use Rattle.hay_logical.specs.ReplicaCalls.{AllIdle, LosesRun}
 use Rattle.hay_logical.specs.Volumes.{CanReach, IsShaped, KeepsCounts, Volume}
 use Rattle.hay_logical.proofs.Calls.{keeps_counts, open_up, up_thawed}
 use Rattle.hay_logical.proofs.Changing.{some_none}

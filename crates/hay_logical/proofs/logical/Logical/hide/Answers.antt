@@ -2,9 +2,9 @@ use Rattle.std.proofs.Common.{refl, sym, ap, subst}
 use Rattle.hay_map.specs.Places.{place_in}
 use Rattle.hay_map.specs.Rows.{ChangesRows, row_at}
 use Rattle.hay_map.specs.declared.view.MapOp.TheVariants as op
-use Rattle.hay_physical.specs.Copies.{Copy, IsOpenCopy, IsUp}
+use Rattle.hay_physical.specs.OpenCopies.{Copy, IsOpenCopy, IsUp}
 use Rattle.hay_physical.specs.Replicas as physical
-use Rattle.hay_logical.specs.Steps.{KeepsReach}
+use Rattle.hay_logical.specs.ReplicaCalls.{KeepsReach}
 use Rattle.hay_logical.specs.Unshown.{IsErased}
 use Rattle.hay_logical.specs.Volumes.{Volume}
 use Rattle.hay_logical.proofs.Calls.{reach_still}

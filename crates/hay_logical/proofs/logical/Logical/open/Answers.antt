@@ -2,12 +2,12 @@ use Rattle.std.proofs.Common.{◌≡◌, ◌≤◌, ◌<◌, ℕ, None, length, 
 use Rattle.std.proofs.lemmas.List.{with_items_is}
 use Rattle.hay_map.specs.declared.place.Place.TheVariants as place
 use Rattle.hay_open.specs.declared.fault.OpenFault.TheVariants as open_fault
-use Rattle.hay_physical.specs.Copies.{Copy, volume_bytes}
+use Rattle.hay_physical.specs.OpenCopies.{Copy, volume_bytes}
 use Rattle.hay_logical.specs.Draws.{DrewAt, looked_pair}
 use Rattle.hay_logical.specs.Fits.{At}
 use Rattle.hay_logical.specs.Notes.{NotesTell, ToldUnsure}
 use Rattle.hay_logical.specs.Stands.{Holds, HoldsFor, IsFirst, Stands, StandsFor, Stopped, StoppedFor}
-use Rattle.hay_logical.specs.Steps.{IsRefusedAt, OpensAt}
+use Rattle.hay_logical.specs.ReplicaCalls.{IsRefusedAt, OpensAt}
 use Rattle.hay_logical.specs.Volumes.{CanReach, IsShaped, KeepsCounts, Volume}
 use Rattle.hay_logical.proofs.Calls.{up_open, up_thawed}
 use Rattle.hay_logical.proofs.Holding.{held_on}

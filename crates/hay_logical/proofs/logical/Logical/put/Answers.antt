@@ -3,7 +3,7 @@ use Rattle.std.proofs.lemmas.Result.{err_from_is_err_and}
 use Rattle.hay_logical.specs.declared.fault.LogicalFault.{LogicalFault}
 use Rattle.hay_logical.specs.declared.fault.LogicalFault.TheVariants.{Failed}
 use Rattle.hay_logical.specs.Volumes.{IsOpenVolume, IsSame, KeepsCounts}
-use Rattle.hay_logical.specs.Steps.{KeepsStuck}
+use Rattle.hay_logical.specs.ReplicaCalls.{KeepsStuck}
 use Rattle.std.proofs.Common.{ℕ, List, length}
 use Rattle.std.specs.Prelude.{map, IfErr}
 use Rattle.hay_logical.specs.Seen.{PutRefusedSeen, ReplicaSeen, VolumeSeen, grown, replica_seen, volume_seen}

@@ -2,14 +2,14 @@ use Rattle.std.proofs.Common.{◌≡◌, ◌<◌, ℕ, Some, None, Ok, Err, leng
 use Rattle.hay_needle.specs.Sizes.{needle_total}
 use Rattle.hay_legal.specs.Known.{machine_of, room_refusal_of}
 use Rattle.hay_reply.specs.declared.Refused.TheVariants.{NoRoom}
-use Rattle.hay_physical.specs.Copies.{Copy, capacity_of, end_of}
+use Rattle.hay_physical.specs.OpenCopies.{Copy, capacity_of, end_of}
 use Rattle.hay_logical.specs.declared.fault.LogicalFault.TheVariants.{Full}
 use Rattle.hay_logical.specs.declared.fault.LogicalFault.{LogicalFault}
 use Rattle.hay_logical.specs.Answers.{IsRoomFault, room_answer}
 use Rattle.hay_logical.specs.Fits.{At}
 use Rattle.hay_logical.specs.Refusals.{answer_at}
 use Rattle.hay_logical.specs.Stands.{Stands, StandsFor}
-use Rattle.hay_logical.specs.Steps.{LacksRoom}
+use Rattle.hay_logical.specs.ReplicaCalls.{LacksRoom}
 use Rattle.hay_logical.specs.Volumes.{Volume, IsMachineOf}
 use Rattle.hay_logical.proofs.Lists.{at_below}
 use Rattle.hay_logical.proofs.Rooms.{capacity_by, known_capacity, room_by, room_none, room_some}

@@ -8,7 +8,7 @@ use Rattle.hay_map.specs.Places.{PlaceMeans, place_in}
 use Rattle.hay_map.specs.Rows.{row_at}
 use Rattle.hay_compact.specs.Finishing.{IsSeen}
 use Rattle.hay_logical.specs.Answers.{IsSightFault}
-use Rattle.hay_logical.specs.Steps.{IsSeenBy, SetsPlaceAt}
+use Rattle.hay_logical.specs.ReplicaCalls.{IsSeenBy, SetsPlaceAt}
 use Rattle.hay_logical.specs.Sights.{SeeRefusedSights, SeesPair, sights_of}
 use Rattle.hay_logical.proofs.logical.Logical.see.Goals as goal
 use Rattle.hay_logical.proofs.logical.Logical.see.Goals.{in-Ok, in-Err}

@@ -7,7 +7,7 @@ use Rattle.hay_logical.specs.Needles.{AreToldBy}
 use Rattle.hay_logical.specs.Seen.{volume_seen}
 use Rattle.hay_logical.specs.Sights.{LooksAtPair, sights_of}
 use Rattle.hay_logical.specs.Stands.{IsTightAt, Stands}
-use Rattle.hay_logical.specs.Steps.{KeepsStuck}
+use Rattle.hay_logical.specs.ReplicaCalls.{KeepsStuck}
 use Rattle.hay_logical.proofs.Through.{Kept}
 use Rattle.hay_logical.proofs.logical.Logical.see_each.Given as goal
 

@@ -10,30 +10,30 @@ use Rattle.hay_map.specs.Rows.{row_at}
 use Rattle.hay_compact.specs.Finishing.{IsSeen}
 use Rattle.hay_needle.specs.declared.needle.Pair.{Pair}
 use Rattle.hay_physical.specs.Faults as physical_faults
-use Rattle.hay_physical.specs.Copies.{Copy, IsOpenCopy, goal_of, is_frozen}
+use Rattle.hay_physical.specs.OpenCopies.{Copy, IsOpenCopy, goal_of, is_frozen}
 use Rattle.hay_physical.specs.declared.fault.ReplicaFault.{ReplicaFault}
 use Rattle.hay_logical.specs.Answers as answers
 use Rattle.hay_logical.specs.Fits.{At}
 use Rattle.hay_logical.specs.Stands.{Stands, StandsFor}
-use Rattle.hay_logical.specs.Steps.{CallsOne, IsSeenBy, KeepsFiles, SetsPlaceAt, SightsAt}
+use Rattle.hay_logical.specs.ReplicaCalls.{CallsOne, IsSeenBy, KeepsFiles, SetsPlaceAt, SightsAt}
 use Rattle.hay_logical.specs.Volumes.{CanReach, IsShaped, KeepsCounts, Volume}
 use Rattle.hay_logical.proofs.Lists.{at_below, at_there}
 use Rattle.hay_logical.proofs.Bytes.{files_one}
 use Rattle.hay_logical.proofs.Methods.{one_after, one_count, one_each, other_same, same_by, shaped_on}
 use Rattle.hay_logical.proofs.Sighting.{damaged_answer, failed_machine, known_seen, reach_seen, saw, seen_whole, sight_cause}
 use Rattle.hay_logical.proofs.Standing.{volume_with}
-use Rattle.hay_physical.specs.Copies.{is_stuck}
+use Rattle.hay_physical.specs.OpenCopies.{is_stuck}
 use Rattle.hay_logical.proofs.Tightness.{tight_one, tight_seen}
 use Rattle.std.proofs.Common.{◌≡◌, ap, ◌∙◌}
 use Rattle.hay_logical.specs.Seen.{replica_seen}
 use Rattle.hay_logical.proofs.Seen.{same_one}
 use Rattle.std.proofs.Common.{inl, inr}
 use Rattle.std.proofs.lemmas.Bool.{cases_eq}
-use Rattle.hay_physical.specs.Copies.{volume_bytes}
+use Rattle.hay_physical.specs.OpenCopies.{volume_bytes}
 use Rattle.hay_logical.specs.declared.fault.LogicalFault.TheVariants as refusal
 use Rattle.hay_logical.specs.Needles.{IsDamagedLook, IsToldBy, LacksSeenOn}
 use Rattle.hay_logical.specs.Sights.{LookRefusedSights, SeeRefusedSights, SeesPair, sight, sights_of}
-use Rattle.hay_logical.specs.Steps.{LookAwaited}
+use Rattle.hay_logical.specs.ReplicaCalls.{LookAwaited}
 use Rattle.hay_logical.proofs.Needles.{damaged_machine, told_same}
 use Rattle.hay_logical.proofs.Sighting.{other_places}
 use Rattle.hay_logical.proofs.SightChanges.{look_refused_at, see_refused_at, sights_kept}

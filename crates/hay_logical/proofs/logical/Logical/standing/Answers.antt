@@ -1,11 +1,11 @@
 use Rattle.std.proofs.Common.{◌≡◌, ◌<◌, length, sym, ap, subst, ◌∙◌, arith}
-use Rattle.hay_physical.specs.Copies.{Copy, goal_of}
+use Rattle.hay_physical.specs.OpenCopies.{Copy, goal_of}
 use Rattle.hay_logical.specs.Fits.{At}
 use Rattle.hay_logical.specs.Stands.{Stands, StandsFor}
 use Rattle.hay_logical.proofs.Lists.{at_read, at_same}
 use Rattle.hay_logical.proofs.Stepping.{standing_known}
 use Rattle.hay_logical.proofs.logical.Logical.standing.Given as given
-use Rattle.hay_physical.specs.Copies.{generation_of}
+use Rattle.hay_physical.specs.OpenCopies.{generation_of}
 use Rattle.std.proofs.Common.{◌+◌}
 use Rattle.hay_logical.proofs.SeenSwaps.{if_some_so}
 use Rattle.hay_logical.proofs.logical.Logical.standing.Goals as goal

@@ -2,13 +2,13 @@ use Rattle.std.proofs.Common.{◌≤◌, None, ◌≡◌, ◌<◌, ℕ, length, 
 use Rattle.std.specs.Prelude.{IfErr, IfOk}
 use Rattle.std.specs.Vec.{with_items}
 use Rattle.std.proofs.lemmas.List.{with_items_is}
-use Rattle.hay_physical.specs.Copies.{Copy, IsUp, goal_of}
+use Rattle.hay_physical.specs.OpenCopies.{Copy, IsUp, goal_of}
 use Rattle.hay_logical.specs.Answers.{StepRefused, IsStepped}
 use Rattle.hay_logical.specs.Answers as answers
 use Rattle.hay_logical.specs.Fits.{At}
 use Rattle.hay_logical.specs.Refusals.{IsUntouchedBy, answer_at}
 use Rattle.hay_logical.specs.Stands.{Stands, StandsFor}
-use Rattle.hay_logical.specs.Steps.{CallsOne, StaysInReach, StepsAt}
+use Rattle.hay_logical.specs.ReplicaCalls.{CallsOne, StaysInReach, StepsAt}
 use Rattle.hay_logical.specs.Volumes.{CanReach, IsShaped, KeepsCounts, IsMachineOf, Volume}
 use Rattle.hay_logical.proofs.Calls.{open_up, reach_still, up_open, up_thawed}
 use Rattle.hay_logical.proofs.Lists.{at_below, at_same, at_there}
@@ -19,7 +19,7 @@ use Rattle.hay_logical.proofs.Stepping.{none_there, stands_there, step_fault, st
 use Rattle.hay_logical.proofs.Reaching.{same_rows}
 use Rattle.hay_logical.specs.declared.fault.LogicalFault.{LogicalFault}
 use Rattle.hay_logical.proofs.Untouched.{answered_memory, one_untouched, step_thawed, step_untouched, stuck_same}
-use Rattle.hay_physical.specs.Copies.{is_stuck, next_of, volume_bytes}
+use Rattle.hay_physical.specs.OpenCopies.{is_stuck, next_of, volume_bytes}
 use Rattle.hay_logical.proofs.Tightness.{tight_one, tight_partly, tight_stepped}
 use Rattle.hay_logical.specs.Stands.{RunsTight}
 use Rattle.std.specs.Prelude.{OnErr, OnOk}

@@ -1,9 +1,9 @@
 use Rattle.std.proofs.Common.{◌<◌, ℕ, length, refl, sym, ap, subst, ◌∙◌}
 use Rattle.std.proofs.lemmas.List.{with_items_is}
-use Rattle.hay_physical.specs.Copies.{Copy, phase_frozen}
+use Rattle.hay_physical.specs.OpenCopies.{Copy, phase_frozen}
 use Rattle.hay_logical.specs.Fits.{At}
 use Rattle.hay_logical.specs.Stands.{Stands, StandsFor, Stopped, StoppedFor}
-use Rattle.hay_logical.specs.Steps.{Stops}
+use Rattle.hay_logical.specs.ReplicaCalls.{Stops}
 use Rattle.hay_logical.specs.Volumes.{CanReach, IsShaped}
 use Rattle.hay_logical.proofs.Reaching.{none_open}
 use Rattle.hay_logical.proofs.Lists.{at_below, at_there}

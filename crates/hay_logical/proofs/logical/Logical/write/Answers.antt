@@ -6,14 +6,14 @@ use Rattle.std.specs.Vec.{with_items}
 use Rattle.std.proofs.lemmas.List.{with_items_is}
 use Rattle.hay_map.specs.Places.{place_in}
 use Rattle.hay_map.specs.Rows.{KeepsRows}
-use Rattle.hay_physical.specs.Copies.{Copy, IsOpenCopy, IsUp, end_of}
+use Rattle.hay_physical.specs.OpenCopies.{Copy, IsOpenCopy, IsUp, end_of}
 use Rattle.hay_logical.specs.declared.unsure.Change.TheVariants as change
 use Rattle.hay_logical.specs.declared.written.Written.{Written}
 use Rattle.hay_logical.specs.Answers.{HasRoom, IsRoomFault, PutRefused}
 use Rattle.hay_logical.specs.Answers as answers
 use Rattle.hay_logical.specs.Fits.{At}
 use Rattle.hay_logical.specs.Stands.{Stands, StandsFor}
-use Rattle.hay_logical.specs.Steps.{AllIdle, EndsRuns, KeepsAbove, Lengthens, PutLeaves, PutsAt, StaysInReach}
+use Rattle.hay_logical.specs.ReplicaCalls.{AllIdle, EndsRuns, KeepsAbove, Lengthens, PutLeaves, PutsAt, StaysInReach}
 use Rattle.hay_logical.specs.Unshown.{IsWritten}
 use Rattle.hay_logical.specs.Volumes.{CanReach, IsShaped, KeepsCounts}
 use Rattle.hay_logical.proofs.Calls.{counted_same, keeps_counts, open_up, reach_still, up_open, up_thawed}

@@ -5,7 +5,7 @@ use Rattle.hay_physical.specs.Replicas.{Anywhere}
 use Rattle.hay_physical.proofs.Seeing.{beside_sight}
 use Rattle.hay_open.specs.Stored.{volume_file}
 use Rattle.std.proofs.Common.{sym}
-use Rattle.hay_physical.specs.Copies.{phase_generation}
+use Rattle.hay_physical.specs.OpenCopies.{phase_generation}
 use Rattle.hay_physical.proofs.Views.{if_ok_so}
 use Rattle.hay_physical.proofs.RunViews.{bytes_beside, files_begin, files_bounded, files_goal, files_say}
 use Rattle.hay_physical.proofs.replica.Replica.begin.Goals as goal

@@ -7,9 +7,9 @@ use Rattle.hay_volume.specs.Cells.{StandsCell}
 use Rattle.hay_volume.specs.Needles.{LacksNeedleOf}
 use Rattle.hay_volume.proofs.Readings.{cell_begins}
 use Rattle.hay_physical.specs.declared.state.Phase.{Phase}
-use Rattle.hay_physical.specs.Copies.{Copy}
+use Rattle.hay_physical.specs.OpenCopies.{Copy}
 use Rattle.hay_physical.specs.Replicas.{FilesStand, Holds, IsToldBy, KeepsSight, MayDelete, PhaseReady, Stands, UnsealedBy}
-use Rattle.hay_physical.specs.Runs.{HasRun}
+use Rattle.hay_physical.specs.CompactionRuns.{HasRun}
 use Rattle.hay_physical.proofs.Looks.{other_flag, own_flag, sight_deletes, stands_there, told, told_by}
 use Rattle.hay_physical.proofs.RunLaws.{copier_ready_volume, next_besides_volume, run_kept}
 use Rattle.hay_physical.proofs.RunViews.{files_bounded, files_bytes, files_ready, files_settled, run_still}

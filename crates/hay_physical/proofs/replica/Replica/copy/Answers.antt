@@ -1,13 +1,13 @@
 use Rattle.hay_physical.proofs.Views.{if_err_so, on_ok_one}
 use Rattle.hay_physical.proofs.RunViews.{beside_deletes, beside_stands, ends_run, files_run, files_peek, open_run}
-use Rattle.hay_physical.specs.Runs.{stepped}
+use Rattle.hay_physical.specs.CompactionRuns.{stepped}
 use Rattle.hay_physical.specs.Replicas.{Anywhere}
 use Rattle.hay_physical.proofs.Seeing.{beside_sight}
 use Rattle.hay_open.specs.Stored.{volume_file}
 use Rattle.std.proofs.Common.{ℕ, ◌∙◌, ◌+◌, arith, List, ap, subst, sym}
 use Rattle.hay_volume.specs.Needles.{LacksNeedleWithin}
 use Rattle.hay_needle.specs.Sizes.{needle_total}
-use Rattle.hay_physical.specs.Copies.{copier_next, next_of, phase_end, phase_next, volume_bytes}
+use Rattle.hay_physical.specs.OpenCopies.{copier_next, next_of, phase_end, phase_next, volume_bytes}
 use Rattle.hay_physical.proofs.Views.{on_err_so}
 use Rattle.hay_physical.proofs.RunViews.{bytes_beside, files_bounded, files_bytes, files_goal, files_say}
 use Rattle.hay_compact.specs.Copying.{HeadStands, IsNextWithin, IsPassedOrStands}

@@ -14,7 +14,7 @@ use Rattle.hay_physical.specs.Replicas.{ApartFrom}
 use Rattle.hay_physical.proofs.Seeing.{sight_kept, sight_same, sight_sight}
 use Rattle.hay_physical.proofs.Sights.{range_apart}
 use Rattle.std.proofs.Common.{length, sym}
-use Rattle.hay_physical.specs.Copies.{copier_goal, copier_next, phase_bare, phase_next}
+use Rattle.hay_physical.specs.OpenCopies.{copier_goal, copier_next, phase_bare, phase_next}
 use Rattle.hay_physical.proofs.RunLaws.{place_kept}
 use Rattle.hay_physical.proofs.RunViews.{files_goal, files_say}
 use Rattle.hay_physical.proofs.replica.Replica.delete.Goals as goal

@@ -1,5 +1,5 @@
 use Rattle.std.proofs.Common.{refl, sym, subst}
-use Rattle.hay_physical.specs.Copies.{Copy}
+use Rattle.hay_physical.specs.OpenCopies.{Copy}
 use Rattle.hay_physical.specs.Replicas.{MayDelete, Stands}
 use Rattle.hay_physical.proofs.Views.{files_flag, open_deletes}
 use Rattle.hay_physical.proofs.RunViews.{beside_stands, ended_flag}

@@ -7,8 +7,8 @@ use Rattle.hay_physical.specs.declared.state.OpenFiles.{OpenFiles}
 use Rattle.hay_physical.specs.declared.state.Phase.TheVariants.{Open}
 use Rattle.hay_physical.specs.Replicas.{MayFind, MayFlag}
 use Rattle.hay_open.specs.Stored.{index_file, volume_file}
-use Rattle.hay_physical.specs.Copies.{Copy, copied_of, copier_goal, generation_of, phase_copied, phase_generation}
-use Rattle.hay_physical.specs.Runs.{RemovedBoth}
+use Rattle.hay_physical.specs.OpenCopies.{Copy, copied_of, copier_goal, generation_of, phase_copied, phase_generation}
+use Rattle.hay_physical.specs.CompactionRuns.{RemovedBoth}
 use Rattle.hay_physical.proofs.Openings.{on_any}
 use Rattle.hay_physical.proofs.RunLaws.{settled_none}
 use Rattle.hay_physical.proofs.Standing.{on_err}
@@ -18,7 +18,7 @@ use Rattle.hay_physical.specs.Replicas.{Anywhere}
 use Rattle.hay_physical.proofs.Looks.{always_ok}
 use Rattle.hay_physical.proofs.Seeing.{sight_same, stands_shows}
 use Rattle.std.proofs.Common.{◌≤◌, length}
-use Rattle.hay_physical.specs.Copies.{phase_bare, phase_end}
+use Rattle.hay_physical.specs.OpenCopies.{phase_bare, phase_end}
 use Rattle.hay_physical.proofs.RunViews.{files_goal, files_say}
 use Rattle.hay_physical.proofs.replica.Replica.finish.Goals as goal
 

@@ -6,7 +6,7 @@ use Rattle.hay_physical.proofs.RunViews.{files_bounded, files_ready, files_settl
 use Rattle.hay_physical.proofs.Views.{files_flag, files_going, files_stand, if_err_so, if_ok_so, if_ok_unit, on_err_so, open_deletes, open_stands}
 use Rattle.hay_physical.specs.Replicas.{Anywhere}
 use Rattle.hay_physical.proofs.Seeing.{sight_same}
-use Rattle.hay_physical.specs.Copies.{copier_next, phase_bare, phase_next}
+use Rattle.hay_physical.specs.OpenCopies.{copier_next, phase_bare, phase_next}
 use Rattle.hay_physical.proofs.Views.{on_ok_one}
 use Rattle.hay_physical.proofs.RunViews.{files_say}
 use Rattle.hay_physical.proofs.replica.Replica.flush.Goals as goal

@@ -1,5 +1,5 @@
 use Rattle.std.proofs.Common.{sym, subst}
-use Rattle.hay_physical.specs.Copies.{Copy, is_stuck}
+use Rattle.hay_physical.specs.OpenCopies.{Copy, is_stuck}
 use Rattle.hay_physical.specs.Replicas.{MayFind}
 use Rattle.hay_physical.proofs.Laws.{stands_hold}
 use Rattle.std.proofs.Common.{ap, refl}

@@ -2,7 +2,7 @@ use Rattle.std.proofs.Common.{◌≡◌, ap, arith, refl, subst, Err, sym}
 use Rattle.std.proofs.lemmas.Result.{err_from_is_err_and}
 use Rattle.hay_open.specs.Damage.{IsOpeningDamage}
 use Rattle.hay_open.specs.Stored.{IsVoid, fresh_stored}
-use Rattle.hay_physical.specs.Copies.{Copy}
+use Rattle.hay_physical.specs.OpenCopies.{Copy}
 use Rattle.hay_physical.proofs.Apartness.{found_apart}
 use Rattle.hay_physical.proofs.Whole.{found_whole}
 use Rattle.hay_physical.specs.Draws.{DrewRecorded}

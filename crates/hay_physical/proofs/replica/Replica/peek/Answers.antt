@@ -10,7 +10,7 @@ use Rattle.hay_physical.proofs.RunViews.{beside_deletes, beside_stands, ends_run
 use Rattle.hay_physical.specs.Replicas.{Anywhere}
 use Rattle.hay_physical.proofs.Seeing.{beside_sight}
 use Rattle.std.proofs.Common.{◌∙◌, subst, sym}
-use Rattle.hay_physical.specs.Copies.{copier_next, phase_end, phase_next, volume_bytes}
+use Rattle.hay_physical.specs.OpenCopies.{copier_next, phase_end, phase_next, volume_bytes}
 use Rattle.hay_physical.proofs.RunViews.{bytes_beside, files_bounded, files_bytes, files_goal, files_ready, files_say}
 use Rattle.hay_compact.specs.Copying.{HeadStands, IsNextWithin}
 use Rattle.hay_physical.proofs.replica.Replica.peek.Goals as goal

@@ -1,12 +1,12 @@
 use Rattle.std.proofs.Common.{◌≤◌, inl, inr, subst, Bool, ⊎_elim}
-use Rattle.hay_physical.specs.Copies.{Copy}
+use Rattle.hay_physical.specs.OpenCopies.{Copy}
 use Rattle.hay_physical.specs.Replicas.{MayFind, with_cell}
 use Rattle.hay_physical.proofs.Views.{files_flag, files_going, files_stand, files_stuck, if_ok, if_ok_on, if_ok_so, on_err_so, open_deletes, open_stands}
 use Rattle.std.proofs.Common.{◌≡◌, ◌∙◌, true≢false, inl, inr, sym, ap}
 use Rattle.hay_volume.specs.declared.volume.VolumeFile.{VolumeFile}
 use Rattle.hay_physical.specs.declared.state.OpenFiles.{OpenFiles}
 use Rattle.hay_physical.specs.Replicas.{FilesStand}
-use Rattle.hay_physical.specs.Runs.{longer}
+use Rattle.hay_physical.specs.CompactionRuns.{longer}
 use Rattle.hay_physical.proofs.Standing.{on_err}
 use Rattle.hay_physical.proofs.RunLaws.{bounded_kept, copier_ready_volume, next_besides_volume, run_kept, run_put, settled_kept}
 use Rattle.hay_physical.proofs.RunViews.{files_bounded, files_ready, files_settled, run_still, run_through}
@@ -17,7 +17,7 @@ use Rattle.hay_physical.proofs.Apartness.{put_apart}
 use Rattle.hay_physical.proofs.Seeing.{sight_kept}
 use Rattle.hay_physical.proofs.Sights.{range_before}
 use Rattle.std.proofs.Common.{◌+◌}
-use Rattle.hay_physical.specs.Copies.{copier_next, phase_bare, phase_end, phase_next}
+use Rattle.hay_physical.specs.OpenCopies.{copier_next, phase_bare, phase_end, phase_next}
 use Rattle.hay_physical.proofs.Views.{on_ok_one}
 use Rattle.hay_physical.proofs.RunViews.{files_say}
 use Rattle.hay_physical.proofs.replica.Replica.put.Goals as goal

@@ -1,4 +1,4 @@
-use Rattle.hay_physical.specs.Copies.{is_stuck}
+use Rattle.hay_physical.specs.OpenCopies.{is_stuck}
 use Rattle.hay_physical.proofs.Holding.{finds_left}
 use Rattle.hay_physical.proofs.Laws.{stands_hold}
 use Rattle.hay_physical.proofs.Openings.{disk_finds}

@@ -1,5 +1,5 @@
 use Rattle.std.proofs.Common.{subst}
-use Rattle.hay_physical.specs.Runs.{RemovedBoth}
+use Rattle.hay_physical.specs.CompactionRuns.{RemovedBoth}
 use Rattle.hay_physical.proofs.Removing.{both_removed, gone_or_same, is_removed}
 use Rattle.hay_physical.proofs.state.OpenFiles.adopt.Goals as goal
 

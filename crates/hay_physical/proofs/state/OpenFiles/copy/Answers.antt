@@ -3,8 +3,8 @@ use Rattle.hay_volume.specs.Needles.{LacksNeedleWithin}
 use Rattle.hay_physical.specs.declared.state.Copier.TheVariants.{Standing}
 use Rattle.hay_physical.proofs.RunLaws.{bounded_next, examined_within, gone}
 use Rattle.std.proofs.Common.{◌≡◌, ◌∙◌, arith, refl, ap, subst, sym, Err}
-use Rattle.hay_physical.specs.Copies.{copier_next}
-use Rattle.hay_physical.specs.Runs.{CopierPeeked}
+use Rattle.hay_physical.specs.OpenCopies.{copier_next}
+use Rattle.hay_physical.specs.CompactionRuns.{CopierPeeked}
 use Rattle.hay_physical.specs.declared.state.Copier.{Copier}
 use Rattle.hay_physical.specs.declared.fault.ReplicaFault.{ReplicaFault}
 use Rattle.hay_physical.specs.declared.state.OpenFiles.{OpenFiles}

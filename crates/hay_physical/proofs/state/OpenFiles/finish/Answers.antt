@@ -1,4 +1,4 @@
-use Rattle.hay_physical.specs.Copies.{copier_capacity}
+use Rattle.hay_physical.specs.OpenCopies.{copier_capacity}
 use Rattle.hay_physical.proofs.RunLaws.{bounded_dropped, bounded_ended, examined_within}
 use Rattle.std.proofs.Common.{◌≡◌, arith, refl, sym, ap, ◌∙◌}
 use Rattle.hay_compact.specs.Copying.{stored_of}
@@ -7,7 +7,7 @@ use Rattle.hay_physical.proofs.Views.{if_ok_so, on_err_so, on_ok_one}
 use Rattle.hay_physical.proofs.RunLaws.{copying_at, stand_with}
 use Rattle.hay_physical.proofs.SwapLaws.{run_swaps, run_tight}
 use Rattle.hay_compact.proofs.Copyings.{making_of}
-use Rattle.hay_physical.specs.Copies.{copier_copied}
+use Rattle.hay_physical.specs.OpenCopies.{copier_copied}
 use Rattle.hay_physical.proofs.state.OpenFiles.finish.Goals as goal
 
 pub returns-in-Standing-clause-swapped : goal.returns-in-Standing-clause-swapped

@@ -1,11 +1,11 @@
 use Rattle.std.specs.Prelude.{IfNone, IfSome}
-use Rattle.hay_physical.specs.Copies.{copier_next}
+use Rattle.hay_physical.specs.OpenCopies.{copier_next}
 use Rattle.std.proofs.Common.{◌≡◌, ◌≤◌, ◌<◌, ap, subst, sym, Err}
 use Rattle.hay_disk.specs.Disk.{Files}
 use Rattle.hay_volume.specs.Needles.{LacksNeedleWithin}
 use Rattle.hay_compact.specs.Copying.{HeadStands, IsMaking, IsNextWithin}
 use Rattle.hay_physical.specs.Replicas.{IsCopierReady}
-use Rattle.hay_physical.specs.Runs.{FilesRun}
+use Rattle.hay_physical.specs.CompactionRuns.{FilesRun}
 use Rattle.hay_physical.specs.declared.fault.ReplicaFault.{ReplicaFault}
 use Rattle.hay_physical.specs.declared.state.OpenFiles.{OpenFiles}
 use Rattle.hay_physical.proofs.RunLaws.{by_fault, copying_at, gone, none_left, not_ended, peek_next}

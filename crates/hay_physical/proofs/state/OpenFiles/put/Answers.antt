@@ -1,4 +1,4 @@
-use Rattle.hay_physical.specs.Runs.{KeepsCopier}
+use Rattle.hay_physical.specs.CompactionRuns.{KeepsCopier}
 use Rattle.hay_physical.proofs.RunLaws.{freeze_keeps}
 use Rattle.hay_physical.proofs.Views.{by_result, if_ok_from, on_err_so, refused}
 use Rattle.std.proofs.Common.{◌∙◌, refl, sym, ◌≡◌, Bool, inr, ap, subst}

@@ -2,7 +2,7 @@ use Rattle.std.proofs.Common.{◌≡◌, ◌⊎◌, ◌+◌, sym, subst}
 use Rattle.hay_disk.specs.Disk.{FileState, IsSolidIn}
 use Rattle.hay_disk.specs.Gate.{IsGate}
 use Rattle.hay_head.specs.Head.{IsHead, head_magic, row_place}
-use Rattle.hay_physical.specs.Runs.{Switches}
+use Rattle.hay_physical.specs.CompactionRuns.{Switches}
 use Rattle.hay_physical.proofs.Removing.{removed_since}
 use Rattle.hay_physical.proofs.state.OpenFiles.swap.Goals as goal
 

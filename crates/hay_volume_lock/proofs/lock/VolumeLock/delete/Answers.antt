@@ -11,7 +11,7 @@ use Rattle.hay_map.specs.declared.place.Place.{Place}
 use Rattle.hay_meeting.specs.declared.act.VolumeAct.{VolumeAct}
 use Rattle.hay_meeting.specs.Acts.{nobody}
 use Rattle.hay_needle.specs.declared.settings.Settings.{Settings}
-use Rattle.hay_physical.specs.Copies.{goal_of}
+use Rattle.hay_physical.specs.OpenCopies.{goal_of}
 use Rattle.hay_turn.specs.Seats.{Holds, SeatState, after_free}
 use Rattle.hay_volume_lock.specs.Acts.{act_of, counts}
 use Rattle.hay_volume_lock.specs.declared.act.Made.TheVariants as made_is

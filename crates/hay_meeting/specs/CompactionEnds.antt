@@ -8,8 +8,8 @@ use Rattle.hay_core.specs.declared.entry.Entry.TheVariants as entry
 use Rattle.hay_needle.specs.declared.needle.Pair.{Pair}
 use Rattle.hay_legal.specs.declared.known.Run.{Run}
 use Rattle.hay_legal.specs.Known.{replica_at}
-use Rattle.hay_history.specs.Steps.{HasRun, Standing}
-use Rattle.hay_history.specs.Steps.Did.{Ends, Entered, Swaps}
+use Rattle.hay_history.specs.LaneSteps.{HasRun, Standing}
+use Rattle.hay_history.specs.LaneSteps.Did.{Ends, Entered, Swaps}
 use Rattle.hay_meeting.specs.declared.act.VolumeAct.{VolumeAct}
 use Rattle.hay_meeting.specs.Acts.{Start, begun_of, did_of, left_by, volume_lock}
 use Rattle.hay_meeting.specs.Facts.{RanUntilAt}

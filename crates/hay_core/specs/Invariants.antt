@@ -13,7 +13,7 @@ use Rattle.hay_core.specs.declared.machine.CoreReply.TheVariants.{Done, Shown}
 use Rattle.hay_core.specs.declared.machine.Event.{Event}
 use Rattle.hay_core.specs.declared.machine.Event.TheVariants.{EndHold, Fetch, OpenCall}
 use Rattle.hay_core.specs.Entries.{rows_after}
-use Rattle.hay_core.specs.Steps.{after_events, replies_to, reader_by, change, change_of}
+use Rattle.hay_core.specs.Transitions.{after_events, replies_to, reader_by, change, change_of}
 use Rattle.hay_core.specs.Goodness.{CoreGood, with_change, settled_change}
 
 -- the volume after the first n events

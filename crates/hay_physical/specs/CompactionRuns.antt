@@ -19,7 +19,7 @@ use Rattle.hay_physical.specs.declared.state.Copier.TheVariants.{Ended, Standing
 use Rattle.hay_physical.specs.declared.state.OpenFiles.{OpenFiles}
 use Rattle.hay_physical.specs.declared.state.Phase.{Phase}
 use Rattle.hay_physical.specs.declared.state.Phase.TheVariants.{Closed, Open}
-use Rattle.hay_physical.specs.Copies.{Copy, EndedAt, copier_goal, goal_of}
+use Rattle.hay_physical.specs.OpenCopies.{Copy, EndedAt, copier_goal, goal_of}
 
 -- A compaction: the generation that it makes, how many cells are not examined yet, and whether nothing but it has changed the
 -- replica, so that it has copied the live photos alone.

@@ -29,12 +29,12 @@ use Rattle.hay_open.specs.Stored.{Stored, IsReplicaFile, IsSealedCell, PlaceOf, 
 use Rattle.hay_physical.specs.declared.fault.ReplicaFault.{ReplicaFault}
 use Rattle.hay_physical.specs.declared.fault.ReplicaFault.TheVariants as fault
 use Rattle.hay_physical.specs.declared.state.Phase.TheVariants.{Closed}
-use Rattle.hay_physical.specs.Copies.{Copy, IsFrozen, IsOpenCopy, IsUp, bare_of, capacity_of, contents_of, end_of, generation_of, goal_of, is_frozen, is_stuck}
+use Rattle.hay_physical.specs.OpenCopies.{Copy, IsFrozen, IsOpenCopy, IsUp, bare_of, capacity_of, contents_of, end_of, generation_of, goal_of, is_frozen, is_stuck}
 use Rattle.hay_physical.specs.Faults.{IsSightFault}
 use Rattle.hay_physical.specs.Replicas as physical
 use Rattle.hay_compact.specs.Finishing.{IsSeen}
 use Rattle.hay_compact.specs.Copying.{end_of as cells_end_of}
-use Rattle.hay_physical.specs.Runs.{HasLastAt, HasRun, IsTight, RemovedBoth, Run, Swaps, longer, loosened}
+use Rattle.hay_physical.specs.CompactionRuns.{HasLastAt, HasRun, IsTight, RemovedBoth, Run, Swaps, longer, loosened}
 use Rattle.hay_logical.specs.declared.fault.Unopened.{Unopened}
 use Rattle.hay_logical.specs.declared.replicas.Broken.{Broken}
 use Rattle.hay_logical.specs.declared.replicas.DiskFailed.{DiskFailed}

@@ -1,10 +1,8 @@
--- The first number of a range that passes a test: the replica on a machine.
-use Rattle.std.proofs.Common.{◌≡◌, ℕ, zero, suc, ◌+◌, ◌<◌, ◌≤◌, inl, inr, Bool, true, false, List, [], ◌∷◌, map, Option, Some, None, refl, sym, ap, subst, ◌∙◌, arith}
-use Rattle.std.specs.Prelude.{◌==◌, IfSome, find, nat_lt, option_map}
+-- The first number of a range that passes a test.
+use Rattle.std.proofs.Common.{◌≡◌, ℕ, zero, suc, ◌+◌, ◌<◌, ◌≤◌, inl, inr, Bool, true, false, List, [], ◌∷◌, ◌++◌, map, Some, None, refl, sym, ap, ◌∙◌, arith, Option, subst}
+use Rattle.std.specs.Prelude.{find, option_map, IfSome}
 use Rattle.std.specs.List.{range_with_len}
-use Rattle.std.proofs.lemmas.Bool.{cases_Bool, cases_order, cond-false, cond-true, eq-eqb, le-ltb, lt-ltb}
-use Rattle.hay_needle.specs.declared.settings.Settings.{Settings}
-use Rattle.hay_legal.specs.Known.{machine_of, replica_on}
+use Rattle.std.proofs.lemmas.Bool.{cases_Bool, cases_order, cond-true, cond-false}
 
 pub find-hit : (test : ℕ → Bool) (n at j : ℕ) → at ≤ j → j < at + n → test j ≡ true → ((i : ℕ) → at ≤ i → i < j → test i ≡ false) → find test (range_with_len at n) ≡ Some j
 find-hit test zero at j low high is others = absurd (omega arith)
@@ -51,28 +49,3 @@ map_found {X} test g top at (suc n) low =
       | inl passes ↦ let below : at < top = omega (arith, low) in subst (λ (o : Option X). IfSome o P) (sym (cond-true (test (g at)) (Some (g at)) rest passes)) (at, below, refl)
       | inr fails ↦ subst (λ (o : Option X). IfSome o P) (sym (cond-false (test (g at)) (Some (g at)) rest fails)) (map_found test g top (at + 1) n (omega (arith, low)))
     ]
-
--- one number more for which a test fails
-pub below_next : (test : ℕ → Bool) (j : ℕ) → ((i : ℕ) → i < j → test i ≡ false) → test j ≡ false → (i : ℕ) → i < j + 1 → test i ≡ false
-below_next test j below here i low =
-    elim (cases_order i j) [
-      | inl same ↦ ap test same ∙ here
-      | inr (inl less) ↦ below i less
-      | inr (inr more) ↦ absurd (omega arith)
-    ]
-
-pub replica_hit : (settings : Settings) (v m j : ℕ) → v < settings.volumes → j < settings.replicas → machine_of settings v j ≡ m → ((i : ℕ) → i < j → (machine_of settings v i == m) ≡ false)
-    → Some j ≡ replica_on settings v m
-replica_hit settings v m j volume within is others =
-    let test : ℕ → Bool = λ i. machine_of settings v i == m in
-    sym (cond-true (nat_lt v settings.volumes) (find test (range_with_len 0 settings.replicas)) None (lt-ltb v settings.volumes volume)
-    ∙ find-hit test settings.replicas 0 j (omega arith) (omega arith) (eq-eqb (machine_of settings v j) m is) (λ i from below. others i below))
-
-pub replica_none : (settings : Settings) (v m : ℕ) → v < settings.volumes → ((i : ℕ) → i < settings.replicas → (machine_of settings v i == m) ≡ false) → None ≡ replica_on settings v m
-replica_none settings v m volume others =
-    let test : ℕ → Bool = λ i. machine_of settings v i == m in
-    sym (cond-true (nat_lt v settings.volumes) (find test (range_with_len 0 settings.replicas)) None (lt-ltb v settings.volumes volume)
-    ∙ find-none test settings.replicas 0 (λ i from below. others i (omega arith)))
-
-pub no_volume : (settings : Settings) (v m : ℕ) → settings.volumes ≤ v → None ≡ replica_on settings v m
-no_volume settings v m beyond = sym (cond-false (nat_lt v settings.volumes) (find (λ i. machine_of settings v i == m) (range_with_len 0 settings.replicas)) None (le-ltb v settings.volumes beyond))
