@@ -1,15 +1,17 @@
 -- Which disks of a store a call of one of its parts leaves.
 use Rattle.std.proofs.Common.{◌≡◌, ◌≢◌, ◌⊎◌, ℕ, zero, suc, ◌+◌, ◌*◌, ◌<◌, List, [], ◌∷◌, ◌++◌, length, map, Option, Some, refl, sym, ap, subst, ◌∙◌, inl, inr, arith}
-use Rattle.std.specs.Prelude.{slice_get, slice_set}
+use Rattle.std.specs.Prelude.{None, Result, Ok, Err, slice_get, slice_set}
+use Rattle.std.proofs.lemmas.Option.{same_Some}
 use Rattle.std.specs.List.{AllByRecursion, flat_map}
 use Rattle.std.specs.Option.{option_map_or}
 use Rattle.hay_needle.specs.declared.needle.Pair.{Pair}
 use Rattle.hay_needle.specs.declared.settings.Settings.{Settings}
 use Rattle.hay_disk.specs.Disk.{Files}
 use Rattle.hay_reply.specs.declared.Reply.{Reply}
+use Rattle.hay_reply.specs.declared.Reply.TheVariants as reply
 use Rattle.hay_core.specs.declared.entry.CoreTag.{CoreTag}
 use Rattle.hay_legal.specs.declared.known.HomeRow.{HomeRow}
-use Rattle.hay_legal.specs.Known.{machine_of, slot_of}
+use Rattle.hay_legal.specs.Known.{machine_of, replica_on, slot_of}
 use Rattle.hay_legal.specs.Stands.{Contents}
 use Rattle.hay_physical.specs.OpenCopies.{Copy}
 use Rattle.hay_logical.specs.Answers.{BreaksPutOff}
@@ -28,9 +30,9 @@ use Rattle.hay_directory.specs.declared.fault.DirFault.TheVariants as settling
 use Rattle.hay_cluster.specs.Changes.{IsDeleteReply}
 use Rattle.hay_cluster.specs.declared.maintenance.Maintenance.{Maintenance}
 use Rattle.hay_cluster.specs.declared.maintenance.Maintenance.TheVariants.{Flush, Begin, Step, Finish, Compact}
-use Rattle.hay_cluster.specs.Leaving.{AddsRow, AnySlot, ComesToPend, DeleteKeeps, IsApart, IsApartOn, IsBeside, IsReplicaBeside, IsReplicaSlot, KeepsBehind, KeepsIn}
+use Rattle.hay_cluster.specs.Leaving.{AddsRow, AnySlot, ComesToPend, DeleteKeeps, IsApart, IsApartOn, IsBeside, IsReplicaBeside, IsReplicaSlot, KeepsBehind, KeepsHeadOn, KeepsIn}
 use Rattle.hay_cluster.specs.Leaving.{LeavesByDelete, LeavesByPut, LeavesByWork, LeavesIn, LeavesReplicas, MayAddRow, MayPut, MayWork, PutKeeps, WorkKeeps}
-use Rattle.hay_cluster.specs.Maintenance.{IsRefusedAs, done_as}
+use Rattle.hay_cluster.specs.Maintenance.{HasSwapped, IsRefusedAs, done_as}
 use Rattle.hay_cluster.specs.Seen.{store_seen}
 use Rattle.hay_logical.specs.Seen.{DeleteRefusedSeen, FreezesSeen, PutRefusedSeen, VolumeSeen, volume_seen}
 use Rattle.hay_cluster.specs.Puts.{IsPutReply, settle_reply}
@@ -364,20 +366,52 @@ module _ (settings : Settings) (v m : ℕ) (old new : ℕ → Contents) where
   work_may Finish n said is = inl (v, m, n, inr (inr (inr (inl is))))
   work_may Compact n said is = inl (v, m, n, inr (inr (inr (inl is))))
 
-  pub done_leaves : (work : Maintenance) (n : ℕ) (said : Reply) → said ≡ done_as v m work n → KeepsIn settings (IsApartOn settings v m) old new → LeavesByWork settings v m said old new
-  done_leaves work n said is apart = inl (work_may work n said is, apart)
+  -- the files were swapped, as it is answered
+  swapped_as : (work : Maintenance) (n : ℕ) (said : Reply) → said ≡ done_as v m work n → HasSwapped work (Ok n) → (generation : ℕ) × (said ≡ reply.Compacted v m generation)
+  swapped_as Flush n said is swapped = absurd swapped
+  swapped_as Begin n said is swapped = absurd swapped
+  swapped_as (Step cells) n said is swapped = absurd swapped
+  swapped_as Finish n said is swapped = (n, is)
+  swapped_as Compact n said is swapped = (n, is)
 
-  pub refused_leaves : (fault : LogicalFault) (said : Reply) → IsRefusedAs v m fault said → KeepsIn settings (IsApartOn settings v m) old new → WorkKeeps settings old new fault
-      → LeavesByWork settings v m said old new
-  refused_leaves (refusal.Failed m' f) said is apart keeps = inl (inl (v, m', f, inr (inr (inr (inr (inl is))))), apart)
-  refused_leaves (refusal.Damaged m' at) said is apart keeps = inl (inl (v, m', at, inr (inr (inr (inr (inr is))))), apart)
-  refused_leaves refusal.NoMemory said is apart keeps = inl (inr is, apart)
-  refused_leaves (refusal.ReadOnly m') said is apart keeps = inr keeps
-  refused_leaves (refusal.Busy m' generation) said is apart keeps = inr keeps
-  refused_leaves (refusal.Worn m') said is apart keeps = inr keeps
-  refused_leaves refusal.Idle said is apart keeps = inr keeps
-  refused_leaves (refusal.Full m' end need capacity) said is apart keeps = absurd is
-  refused_leaves (refusal.Gone front) said is apart keeps = absurd is
+  not_swapped : (work : Maintenance) (fault : LogicalFault) → HasSwapped work (Err fault) → ⊥
+  not_swapped Flush fault swapped = swapped
+  not_swapped Begin fault swapped = swapped
+  not_swapped (Step cells) fault swapped = swapped
+  not_swapped Finish fault swapped = swapped
+  not_swapped Compact fault swapped = swapped
+
+  -- or the head stays
+  pub head_leaves : (work : Maintenance) (result : Result ℕ LogicalFault) (said : Reply) (after : List VolumeSeen) (j : ℕ) → replica_on settings v m ≡ Some j
+      → ((n : ℕ) → result ≡ Ok n → said ≡ done_as v m work n)
+      → ((volume : VolumeSeen) → At after v volume → volume.frozen ≡ None → HasSwapped work result ⊎ (new (slot_of settings v j) 0 ≡ old (slot_of settings v j) 0))
+      → KeepsHeadOn settings v m said after old new
+  head_leaves work (Ok n) said after j on says head volume i there thawed found = elim (head volume there thawed) [
+    | inl swapped ↦ inl (swapped_as work n said (says n refl) swapped)
+    | inr same ↦ inr (subst (λ k. new (slot_of settings v k) 0 ≡ old (slot_of settings v k) 0) (same_Some j i (sym on ∙ found)) same)
+  ]
+  head_leaves work (Err fault) said after j on says head volume i there thawed found = elim (head volume there thawed) [
+    | inl swapped ↦ absurd (not_swapped work fault swapped)
+    | inr same ↦ inr (subst (λ k. new (slot_of settings v k) 0 ≡ old (slot_of settings v k) 0) (same_Some j i (sym on ∙ found)) same)
+  ]
+
+  pub done_leaves : (work : Maintenance) (n : ℕ) (said : Reply) (after : List VolumeSeen) → said ≡ done_as v m work n → KeepsIn settings (IsApartOn settings v m) old new
+      → KeepsHeadOn settings v m said after old new
+      → LeavesByWork settings v m said after old new
+  done_leaves work n said after is apart head = inl (work_may work n said is, apart, head)
+
+  pub refused_leaves : (fault : LogicalFault) (said : Reply) (after : List VolumeSeen) → IsRefusedAs v m fault said → KeepsIn settings (IsApartOn settings v m) old new
+      → KeepsHeadOn settings v m said after old new
+      → WorkKeeps settings old new fault → LeavesByWork settings v m said after old new
+  refused_leaves (refusal.Failed m' f) said after is apart head keeps = inl (inl (v, m', f, inr (inr (inr (inr (inl is))))), apart, head)
+  refused_leaves (refusal.Damaged m' at) said after is apart head keeps = inl (inl (v, m', at, inr (inr (inr (inr (inr is))))), apart, head)
+  refused_leaves refusal.NoMemory said after is apart head keeps = inl (inr is, apart, head)
+  refused_leaves (refusal.ReadOnly m') said after is apart head keeps = inr keeps
+  refused_leaves (refusal.Busy m' generation) said after is apart head keeps = inr keeps
+  refused_leaves (refusal.Worn m') said after is apart head keeps = inr keeps
+  refused_leaves refusal.Idle said after is apart head keeps = inr keeps
+  refused_leaves (refusal.Full m' end need capacity) said after is apart head keeps = absurd is
+  refused_leaves (refusal.Gone front) said after is apart head keeps = absurd is
 
 -- it was refused before anything was done
 pub work_keeps : (settings : Settings) (old new : ℕ → Contents) (fault : LogicalFault) → (IsUntouchedBy fault → KeepsIn settings AnySlot old new) → WorkKeeps settings old new fault

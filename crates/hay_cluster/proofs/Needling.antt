@@ -1,6 +1,6 @@
 -- Damage that is told, of disks that tell.
 use Rattle.std.specs.Option.{option_map_or}
-use Rattle.std.proofs.Common.{◌≡◌, ◌<◌, ℕ, List, [], ◌∷◌, Some, length, sym, ap, subst, ◌∙◌, inl, inr, arith}
+use Rattle.std.proofs.Common.{◌≡◌, ◌⊎◌, ◌<◌, ℕ, List, [], ◌∷◌, Some, length, refl, sym, ap, subst, ◌∙◌, inl, inr, arith}
 use Rattle.std.specs.Prelude.{slice_get}
 use Rattle.std.proofs.lemmas.Option.{same_Some}
 use Rattle.hay_needle.specs.declared.needle.Pair.{Pair}
@@ -11,7 +11,7 @@ use Rattle.hay_reply.specs.declared.Reply.TheVariants as reply
 use Rattle.hay_legal.specs.Known.{machine_of, replica_on, slot_of}
 use Rattle.hay_legal.specs.Stands.{Contents}
 use Rattle.hay_open.specs.Stored.{volume_file}
-use Rattle.hay_physical.specs.OpenCopies.{Copy, generation_of, volume_bytes}
+use Rattle.hay_physical.specs.OpenCopies.{Copy, KeepsHead, contents_of, generation_of, volume_bytes}
 use Rattle.hay_logical.specs.Fits.{At}
 use Rattle.hay_logical.specs.Needles.{AreToldBy, DeletesTold, IsDamagedLook, IsToldBy, LacksSeen, LacksSeenOn}
 use Rattle.hay_logical.specs.Seen.{ReplicaSeen, VolumeSeen, replica_seen, volume_seen}
@@ -30,9 +30,9 @@ use Rattle.hay_cluster.specs.Seen.{StoreSeen, home_seen, store_seen}
 use Rattle.hay_cluster.specs.Sights.{ChangesPhotos, KeepsPhotos, told_by}
 use Rattle.hay_cluster.specs.Store.{IsBuilt, IsShaped, Open, contents_in, disks_of}
 use Rattle.hay_cluster.proofs.ClosingStore.{contents_at, order_item, order_self}
-use Rattle.hay_cluster.proofs.Lists.{map-at}
+use Rattle.hay_cluster.proofs.Lists.{map-at, slice_get-set}
 use Rattle.hay_legal.proofs.Machines.{replica_found}
-use Rattle.hay_cluster.proofs.Moves.{volume_of}
+use Rattle.hay_cluster.proofs.Moves.{volume_of, with_one}
 use Rattle.hay_cluster.proofs.OpeningStore.{slot_below}
 use Rattle.hay_cluster.proofs.OpeningTaken.{in_volume}
 use Rattle.hay_cluster.proofs.Seeing.{seen_at}
@@ -99,12 +99,36 @@ told_kept settings contents old v pair behind behind' same told j within =
 
 -- OPEN VOLUMES
 
+-- what reads of a replica's slot give, its disk gives
+slot_reads : {D P A : Type 0} (files : D → Files) (old store : Open D P A) → store ≡ old → IsShaped store → (v : ℕ) (volume : Volume D P) → At store.volumes v volume
+    → (j : ℕ) (r : Copy D) (n : ℕ) → At volume.replicas j r → contents_in files old (slot_of old.settings v j) n ≡ contents_of files r.disk n
+slot_reads {D} {P} {A} files old store is shape v volume at j r n there =
+    subst (λ (st : Open D P A). contents_in files st (slot_of st.settings v j) n ≡ contents_of files r.disk n) is
+    (ap (λ (c : Contents). c n)
+    (contents_at files store (slot_of store.settings v j) r.disk (in_volume (λ k disk. slice_get (disks_of store) k ≡ Some disk) store v j volume r shape at there (order_self (disks_of store)))))
+
 module _ {D P A : Type 0} (files : D → Files) (old store : Open D P A) (is : store ≡ old) (shape : IsShaped store) (v : ℕ) (volume : Volume D P) (at : At store.volumes v volume) where
   file_reads : (j : ℕ) (r : Copy D) → At volume.replicas j r → contents_in files old (slot_of old.settings v j) (volume_file (generation_of r)) ≡ volume_bytes files r
-  file_reads j r there =
-      subst (λ (st : Open D P A). contents_in files st (slot_of st.settings v j) (volume_file (generation_of r)) ≡ volume_bytes files r) is
-      (ap (λ (c : Contents). c (volume_file (generation_of r)))
-      (contents_at files store (slot_of store.settings v j) r.disk (in_volume (λ n disk. slice_get (disks_of store) n ≡ Some disk) store v j volume r shape at there (order_self (disks_of store)))))
+  file_reads j r there = slot_reads files old store is shape v volume at j r (volume_file (generation_of r)) there
+
+  -- the head of a replica whose volume was called
+  pub head_on : (Q : Type 0) (after : Volume D P) (j : ℕ) → j < (old.settings).replicas → IsShaped (with_one store v after) → length after.replicas ≡ length volume.replicas
+      → ((r r' : Copy D) → At volume.replicas j r → At after.replicas j r' → Q ⊎ KeepsHead files r r')
+      → Q ⊎ (contents_in files (with_one store v after) (slot_of old.settings v j) 0 ≡ contents_in files old (slot_of old.settings v j) 0)
+  head_on Q after j within shaped count each =
+      let next : Open D P A = with_one store v after in
+      let was = volume_of store v volume shape at in
+      let same : (store.settings).replicas ≡ (old.settings).replicas = ap (λ (st : Open D P A). (st.settings).replicas) is in
+      let many : length volume.replicas ≡ (store.settings).replicas = was.all ∙ ap (λ (s : Settings). s.replicas) was.settings_are in
+      let r = order_item volume.replicas j (let low : j < length volume.replicas = omega (arith, within, many, same) in low) in
+      let r' = order_item after.replicas j (let low : j < length after.replicas = omega (arith, within, many, same, count) in low) in
+      let now : contents_in files next (slot_of store.settings v j) 0 ≡ contents_of files (r'.0).disk 0 =
+      slot_reads files next next refl shaped v after (slice_get-set store.volumes v volume after at) j r'.0 0 r'.1 in
+      elim (each r.0 r'.0 r.1 r'.1) [
+        | inl q ↦ inl q
+        | inr keeps ↦ inr (subst (λ (s : Settings). contents_in files next (slot_of s v j) 0 ≡ contents_of files (r'.0).disk 0) (ap (λ (st : Open D P A). st.settings) is) now
+            ∙ keeps ∙ sym (slot_reads files old store is shape v volume at j r.0 0 r.1))
+      ]
 
   file_is : (Is : ReplicaSeen → List ℕ → Type 0) (j : ℕ) (r : Copy D) → At volume.replicas j r → Is (replica_seen r) (volume_bytes files r)
       → FileAt old.settings (contents_in files old) (store_seen old) v j Is

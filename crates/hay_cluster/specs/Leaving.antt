@@ -152,19 +152,25 @@ MayWork said =
     ⊎ (said ≡ reply.Failed v m n) ⊎ (said ≡ reply.Damaged v m n)))
     ⊎ (said ≡ reply.NoMem)
 
-abbrev pub LeavesByWork : Settings → ℕ → ℕ → Reply → (ℕ → Contents) → (ℕ → Contents) → Type 0
-LeavesByWork settings v m said old new = (MayWork said × KeepsIn settings (IsApartOn settings v m) old new) ⊎ KeepsIn settings AnySlot old new
+-- Where the volume takes changes then, the files of the replica on this machine were swapped, as it is answered, or its head stays.
+abbrev pub KeepsHeadOn : Settings → ℕ → ℕ → Reply → List VolumeSeen → (ℕ → Contents) → (ℕ → Contents) → Type 0
+KeepsHeadOn settings v m said after old new = (volume : VolumeSeen) (j : ℕ) → At after v volume → volume.frozen ≡ None → replica_on settings v m ≡ Some j
+    → ((generation : ℕ) × (said ≡ reply.Compacted v m generation)) ⊎ (new (slot_of settings v j) 0 ≡ old (slot_of settings v j) 0)
+
+abbrev pub LeavesByWork : Settings → ℕ → ℕ → Reply → List VolumeSeen → (ℕ → Contents) → (ℕ → Contents) → Type 0
+LeavesByWork settings v m said after old new =
+    (MayWork said × KeepsIn settings (IsApartOn settings v m) old new × KeepsHeadOn settings v m said after old new) ⊎ KeepsIn settings AnySlot old new
 
 -- What reads give of the disks is changed by puts, deletes and work as their replies tell. Where there is no such replica, every disk
 -- stays; so it does with reads, drains and fuses.
 abbrev pub LeavesContents : Settings → Command → Reply → List VolumeSeen → List VolumeSeen → (ℕ → Contents) → (ℕ → Contents) → Type 0
 LeavesContents settings (asks.Put pair photo) said before after old new = LeavesByPut settings pair said before after old new
 LeavesContents settings (asks.Del pair) said before after old new = LeavesByDelete settings said before after old new
-LeavesContents settings (asks.Flush v m) said before after old new = LeavesByWork settings v m said old new
-LeavesContents settings (asks.Compact v m) said before after old new = LeavesByWork settings v m said old new
-LeavesContents settings (asks.Begin v m) said before after old new = LeavesByWork settings v m said old new
-LeavesContents settings (asks.Step v m cells) said before after old new = LeavesByWork settings v m said old new
-LeavesContents settings (asks.Finish v m) said before after old new = LeavesByWork settings v m said old new
+LeavesContents settings (asks.Flush v m) said before after old new = LeavesByWork settings v m said after old new
+LeavesContents settings (asks.Compact v m) said before after old new = LeavesByWork settings v m said after old new
+LeavesContents settings (asks.Begin v m) said before after old new = LeavesByWork settings v m said after old new
+LeavesContents settings (asks.Step v m cells) said before after old new = LeavesByWork settings v m said after old new
+LeavesContents settings (asks.Finish v m) said before after old new = LeavesByWork settings v m said after old new
 LeavesContents settings (asks.Read pair cookie) said before after old new = KeepsIn settings AnySlot old new
 LeavesContents settings (asks.Get url) said before after old new = KeepsIn settings AnySlot old new
 LeavesContents settings (asks.Url pair) said before after old new = KeepsIn settings AnySlot old new

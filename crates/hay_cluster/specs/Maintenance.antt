@@ -1,5 +1,5 @@
 -- Flushes and compactions: how they are asked for, what they do to a replica, and how they are answered.
-use Rattle.std.specs.Prelude.{◌≡◌, ℕ, List}
+use Rattle.std.specs.Prelude.{◌≡◌, ℕ, List, Result, Ok, Err}
 use Rattle.hay_needle.specs.declared.settings.Settings.{Settings}
 use Rattle.hay_disk.specs.Disk.{Files}
 use Rattle.hay_script.specs.declared.Command.{Command}
@@ -48,6 +48,15 @@ IsReplicaFault faults settings Begin v j old new fault = IsBeginFault faults set
 IsReplicaFault faults settings (Step cells) v j old new fault = IsRunFault faults settings v j old new fault
 IsReplicaFault faults settings Finish v j old new fault = IsRunFault faults settings v j old new fault
 IsReplicaFault faults settings Compact v j old new fault = IsCompactFault faults settings v j old new fault
+
+-- it was done, and swapped the files
+abbrev pub HasSwapped : Maintenance → Result ℕ LogicalFault → Type 0
+HasSwapped Finish (Ok n) = Unit {0}
+HasSwapped Compact (Ok n) = Unit {0}
+HasSwapped Flush (Ok n) = ⊥
+HasSwapped Begin (Ok n) = ⊥
+HasSwapped (Step cells) (Ok n) = ⊥
+HasSwapped work (Err fault) = ⊥
 
 -- how it is answered on volume v and machine m, done with this number
 abbrev pub done_as : ℕ → ℕ → Maintenance → ℕ → Reply

@@ -165,7 +165,8 @@ MeetsNeedles settings contents old new (asks.Restart pick) said = Unit {0}
 
 -- RESTARTS
 
--- Behind a restart a place of a deletion that was pending, and that the opening left not looked at, has no needle of its size.
+-- Behind a restart a place of a deletion that was pending, and that the opening left not looked at, has no needle of its size, and one that
+-- is a photo's has its needle, which is not deleted.
 abbrev pub PendingTold : Settings → (ℕ → Contents) → StoreSeen → StoreSeen → Type 0
 PendingTold settings contents before after = (v j : ℕ) (old : VolumeSeen) → At before.volumes v old → j < settings.replicas
     → FileAt settings contents after v j (λ r file. ToldUnsure old.unsure (after.places v) j file)

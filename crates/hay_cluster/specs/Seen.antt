@@ -360,7 +360,7 @@ pub record OpensSeen (settings : Settings) (seen : StoreSeen) : Type 0 where
   pub directory : directory.OpenSeen settings.machines rows seen.directory
 
 -- What is seen of a store that was opened on these contents: the homes are by the rows of the Directory's disk, and each replica whose disk
--- was void or whole has its generation, and ends where its cells do, whatever the others have.
+-- was void or whole has its generation, ends where its cells do, and has as many without a record, whatever the others have.
 pub record ReadsSeen (settings : Settings) (contents : ℕ → Contents) (seen : StoreSeen) : Type 0 where
   pub rows : List HomeRow
   pub reads : OpensRows settings (contents 0) rows

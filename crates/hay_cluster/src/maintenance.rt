@@ -1,12 +1,12 @@
 //! Flushes and compactions: work on one replica of a volume, which changes no photo.
-ghost use Rattle.std.specs.Prelude.{◌≡◌, ◌<◌, ℕ, None, Some, Err, map, IfOk, IfErr, OnErr, OnOk};
+ghost use Rattle.std.specs.Prelude.{◌≡◌, ◌⊎◌, ◌<◌, ℕ, None, Some, Err, map, IfOk, IfErr, OnErr, OnOk};
 ghost use Rattle.hay_core.specs.declared.entry.CoreTag.{CoreTag};
 ghost use Rattle.hay_reply.specs.Fits.{FitsReply};
 ghost use Rattle.hay_legal.specs.declared.known.Known.{Known};
 ghost use Rattle.hay_legal.specs.declared.known.VolumeKnown.{VolumeKnown};
 ghost use Rattle.hay_legal.specs.Known.{NoneFalls};
 ghost use Rattle.hay_legal.specs.Suiting.{Suits};
-ghost use Rattle.hay_physical.specs.OpenCopies.{Copy, volume_bytes};
+ghost use Rattle.hay_physical.specs.OpenCopies.{Copy, KeepsHead, volume_bytes};
 ghost use Rattle.hay_logical.specs.Fits.{At};
 ghost use Rattle.hay_logical.specs.Needles.{IsDamagedCell};
 ghost use Rattle.hay_logical.specs.Refusals.{IsUntouchedBy};
@@ -15,7 +15,7 @@ ghost use Rattle.hay_logical.specs.Stands as logical;
 ghost use Rattle.hay_logical.specs.Volumes.{IsOpenVolume, IsSame, KeepsCounts};
 ghost use Rattle.hay_cluster.specs.Causes.{IsCaused, RefusesWork};
 ghost use Rattle.hay_cluster.specs.Leaving.{LeavesByWork};
-ghost use Rattle.hay_cluster.specs.Maintenance.{IsDone, IsRefused, IsRefusedAs, IsReplicaFault, MayWantMemory, command_of, done_as};
+ghost use Rattle.hay_cluster.specs.Maintenance.{HasSwapped, IsDone, IsRefused, IsRefusedAs, IsReplicaFault, MayWantMemory, command_of, done_as};
 ghost use Rattle.hay_cluster.specs.Needles.{LacksWork, LeadsPart, LeadsSwap, LeadsWork, RunsIntoDamage, WorkTold};
 ghost use Rattle.hay_cluster.specs.Seen.{AnswersWork, WorkRefusedSeen, WorkSeen, store_seen};
 ghost use Rattle.hay_logical.specs.Sights.{KeepsSights, sights_of};
@@ -64,7 +64,7 @@ impl<D: Disk, A: Arm<D::Piece>> Cluster<D, A> {
         ensures fits { FitsReply result }
         ensures counts { NoneFalls (map D.fault_count (disks_of self.old)) (map D.fault_count (disks_of self.new)) }
         ensures fuses { map D.fuse_count (disks_of self.new) ≡ map D.fuse_count (disks_of self.old) }
-        ensures contents { D.Tells → LeavesByWork self.old.settings volume machine result (contents_in D.files self.old) (contents_in D.files self.new) }
+        ensures contents { D.Tells → LeavesByWork self.old.settings volume machine result (store_seen self.new).volumes (contents_in D.files self.old) (contents_in D.files self.new) }
         ensures arms { self.new.arms ≡ self.old.arms }
         ensures seen { AnswersWork self.old.settings work volume machine result (store_seen self.old) (store_seen self.new) }
         ensures sights { WorkSights self.old.settings (told_by result) (store_seen self.old) (store_seen self.new) }
@@ -112,6 +112,9 @@ pub(crate) fn maintain<D: Disk>(
         IfErr result (λ fault. MayWantMemory fault → LeadsPart (sights_of volume.old.rows) replica work (replica_seen r) (replica_seen r') (volume_bytes D.files r)) }
     ensures froze { D.Tells → volume.old.frozen ≡ None → (m : ℕ) → volume.new.frozen ≡ Some m → (r : Copy D) → At volume.old.replicas replica r →
         LeadsSwap (sights_of volume.old.rows) replica work (replica_seen r) (volume_bytes D.files r) }
+    // Where the volume takes changes then, the files were swapped, or the head stays.
+    ensures head_file { D.Tells → volume.new.frozen ≡ None → (r r' : Copy D) → At volume.old.replicas replica r → At volume.new.replicas replica r' →
+        HasSwapped work result ⊎ KeepsHead D.files r r' }
     // A volume that is frozen refuses, and of the others a flush alone, where the replica's index takes no records.
     ensures frozen { (m : ℕ) → volume.old.frozen ≡ Some m → result ≡ Err (LogicalFault.ReadOnly m) }
     ensures untouched { IfErr result (λ fault. IsUntouchedBy fault → volume.new ≡ volume.old) }

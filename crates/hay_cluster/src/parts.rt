@@ -1,7 +1,7 @@
 //! Calls of one part of a store: of a volume, of the Directory.
 //!
 //! A volume is reached by the slice of all, which tells how much room one takes at most.
-ghost use Rattle.std.specs.Prelude.{◌≡◌, ◌≤◌, ◌<◌, ℕ, true, false, None, length, map, Err, IfOk, IfErr, OnErr, OnOk, IsErrOf};
+ghost use Rattle.std.specs.Prelude.{◌≡◌, ◌⊎◌, ◌≤◌, ◌<◌, ℕ, true, false, None, length, map, Err, IfOk, IfErr, OnErr, OnOk, IsErrOf};
 ghost use Rattle.hay_disk.specs.Counts.{IsNext};
 ghost use Rattle.hay_legal.specs.declared.known.Known.{Known};
 ghost use Rattle.hay_legal.specs.Known.{NoneFalls, fuse_count, slot_of, volume_at, with_home};
@@ -12,7 +12,7 @@ ghost use Rattle.hay_directory.specs.Seen.{DrainSeen, SettleRefusedSeen, SettleS
 ghost use Rattle.hay_directory.specs.State as directory;
 ghost use Rattle.hay_cluster.specs.Causes.{EndsByFaults, IsDeleteCause, IsPutCause, IsReplicaCause, RoseIn, SetsFuse};
 ghost use Rattle.hay_cluster.specs.Leaving.{AddsRow, AnySlot, DeleteKeeps, IsApart, IsBeside, IsReplicaSlot, KeepsIn, LeavesIn, PutKeeps, WorkKeeps};
-ghost use Rattle.hay_cluster.specs.Maintenance.{IsDone, IsRefused, MayWantMemory};
+ghost use Rattle.hay_cluster.specs.Maintenance.{HasSwapped, IsDone, IsRefused, MayWantMemory};
 ghost use Rattle.hay_cluster.specs.Needles.{AreToldAs, DeletesAsTold, FileAt, FreezesAt, IsDamagedLookOn, LacksWork, LeadsPart, LeadsSwap, LeadsWork};
 ghost use Rattle.hay_cluster.specs.Parts.{Comes, InVolume};
 ghost use Rattle.hay_cluster.specs.Puts.{TakesPhoto};
@@ -139,6 +139,8 @@ impl<D: Disk, A: Arm<D::Piece>> Cluster<D, A> {
             (λ r file. VolumeAt volume (SeesAt replica (λ r'. LeadsPart ((store_seen self.old).places volume) replica work r r' file)) (store_seen self.new))) }
         ensures froze { D.Tells → FreezesAt volume (store_seen self.old) (store_seen self.new) →
             FileAt self.old.settings (contents_in D.files self.old) (store_seen self.old) volume replica (LeadsSwap ((store_seen self.old).places volume) replica work) }
+        ensures head_file { D.Tells → VolumeAt volume (λ seen. seen.frozen ≡ None) (store_seen self.new) → HasSwapped work result
+            ⊎ (contents_in D.files self.new (slot_of self.old.settings volume replica) 0 ≡ contents_in D.files self.old (slot_of self.old.settings volume replica) 0) }
         ensures sights { OnOk result (VolumeAt volume (λ seen. ChangesPhotos volume (DoneSights work replica seen) (store_seen self.old) (store_seen self.new)) (store_seen self.new)) }
         ensures refused_sights { OnErr result (KeepsPhotos (store_seen self.old) (store_seen self.new)) }
         ensures settings { self.new.settings ≡ self.old.settings }

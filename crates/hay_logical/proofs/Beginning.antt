@@ -6,7 +6,7 @@ use Rattle.hay_disk.specs.Disk.{Files}
 use Rattle.hay_open.specs.Stored.{Stored}
 use Rattle.hay_physical.specs.declared.fault.ReplicaFault.{ReplicaFault}
 use Rattle.hay_physical.specs.declared.fault.ReplicaFault.TheVariants as fault
-use Rattle.hay_physical.specs.OpenCopies.{Copy, IsFrozen, IsOpenCopy, IsUp, generation_of, goal_of, is_frozen, is_stuck, next_of, phase_goal}
+use Rattle.hay_physical.specs.OpenCopies.{Copy, IsFrozen, IsOpenCopy, IsUp, KeepsHead, generation_of, goal_of, is_frozen, is_stuck, next_of, phase_goal}
 use Rattle.hay_physical.specs.Faults as physical_faults
 use Rattle.hay_physical.specs.Replicas as physical
 use Rattle.hay_physical.specs.CompactionRuns.{HasRun, Run}
@@ -55,15 +55,15 @@ module _ {D : Type 0} (DiskTells : Type 0) (files : D → Files) (faults : D →
 
 module _ {D : Type 0} (DiskTells : Type 0) (files : D → Files) (faults : D → ℕ) (r x : Copy D) where
   pub begins : (result : Result ℕ ReplicaFault) (up : IsUp r) → IsOpenCopy x → is_frozen x ≡ is_frozen r → x.sup ≡ r.sup → is_stuck x ≡ is_stuck r
-      → (DiskTells → (s : Stored) → physical.Stands files r s → physical.Stands files x s) → StaysInReach DiskTells files r x
+      → (DiskTells → (s : Stored) → physical.Stands files r s → physical.Stands files x s) → StaysInReach DiskTells files r x → (DiskTells → KeepsHead files r x)
       → ((goal : ℕ) → IsUp r → goal_of r ≡ Some goal → (result ≡ Err (fault.Busy goal)) × (x ≡ r)) → (IsUp r → goal_of r ≡ None → 65535 ≤ generation_of r → (result ≡ Err fault.Worn) × (x ≡ r))
       → (result ≡ Err fault.Frozen → IsFrozen r) → ((goal : ℕ) → result ≡ Err (fault.Busy goal) → goal_of r ≡ Some goal) → (result ≡ Err fault.Worn → (goal_of r ≡ None) × (generation_of r ≡ 65535))
       → (DiskTells → (s : Stored) → physical.Stands files r s → result ≡ Err fault.Worn → s.generation ≡ 65535)
       → (DiskTells → (s : Stored) → physical.Stands files r s → IfOk result (λ goal. (goal ≡ s.generation + 1) × HasRun files x s (Some (record { goal = goal; left = length s.cells; tight = true }))))
       → IfOk result (λ goal. (goal ≡ generation_of r + 1) × (goal_of r ≡ None) × (goal_of x ≡ Some goal)) → OnErr result (x.phase ≡ r.phase)
       → IfErr result (physical_faults.IsBeginFault (faults r.disk) (faults x.disk)) → BeginsAt DiskTells files faults r x result
-  begins (Ok goal) up is same sup stuck stands deletes busy worn thawed idle most last begun goals kept causes = record {
-    on = record { up = still_up r x is same up; sup = sup; stuck = stuck; stands = stands; reach = deletes };
+  begins (Ok goal) up is same sup stuck stands deletes head busy worn thawed idle most last begun goals kept causes = record {
+    on = record { up = still_up r x is same up; sup = sup; stuck = stuck; stands = stands; reach = deletes; head = head };
     rest = rests DiskTells files faults r x (Ok goal) up busy worn (λ k e. cc) (λ e. cc);
     goal = goals.2;
     begun = begun;
@@ -71,8 +71,8 @@ module _ {D : Type 0} (DiskTells : Type 0) (files : D → Files) (faults : D →
     kept = tt;
     cause = tt;
   }
-  begins (Err f) up is same sup stuck stands deletes busy worn thawed idle most last begun goals kept causes = record {
-    on = record { up = still_up r x is same up; sup = sup; stuck = stuck; stands = stands; reach = deletes };
+  begins (Err f) up is same sup stuck stands deletes head busy worn thawed idle most last begun goals kept causes = record {
+    on = record { up = still_up r x is same up; sup = sup; stuck = stuck; stands = stands; reach = deletes; head = head };
     rest = tt;
     goal = tt;
     begun = begun;

@@ -41,7 +41,7 @@ step_more n m run = let e : run.left - n - m ≡ run.left - (n + m) = omega arit
 
 module _ {D : Type 0} (DiskTells : Type 0) (files : D → Files) where
   pub goes_none : (r : Copy D) → IsUp r → GoesOn DiskTells files r r
-  goes_none r up = record { up = up; sup = refl; stuck = refl; stands = λ tells s h. h; reach = λ tells. reach_still files r }
+  goes_none r up = record { up = up; sup = refl; stuck = refl; stands = λ tells s h. h; reach = λ tells. reach_still files r; head = λ tells. refl }
 
   pub goes_after : (r x y : Copy D) → GoesOn DiskTells files r x → GoesOn DiskTells files x y → GoesOn DiskTells files r y
   goes_after r x y a b = record {
@@ -50,6 +50,7 @@ module _ {D : Type 0} (DiskTells : Type 0) (files : D → Files) where
     stuck = b.stuck ∙ a.stuck;
     stands = λ tells s h. b.stands tells s (a.stands tells s h);
     reach = λ tells. reach_through files r x y (a.reach tells) (b.reach tells);
+    head = λ tells. b.head tells ∙ a.head tells;
   }
 
 module _ {D : Type 0} (faults : D → ℕ) where

@@ -22,9 +22,10 @@ use Rattle.hay_open.specs.declared.fault.OpenFault.{OpenFault}
 use Rattle.hay_open.specs.declared.fault.OpenFault.TheVariants as open_fault
 use Rattle.hay_logical.specs.Fits.{At}
 use Rattle.hay_logical.specs.declared.fault.Unopened.{Unopened}
-use Rattle.hay_logical.specs.Needles.{LacksSeen, TellsNeedle}
+use Rattle.hay_logical.specs.Needles.{HasLiveNeedle, HasLiveNeedles, IsToldBy, LacksSeen, TellsNeedle}
 use Rattle.hay_logical.specs.Notes.{IsToldPlace, ToldUnsure}
-use Rattle.hay_logical.specs.Sights.{LiesWithinAt, Sight, sight, sights_of}
+use Rattle.hay_logical.specs.Sights.{AwaitsLook, LiesWithinAt, SeesPair, Sight, sight, sights_of}
+use Rattle.hay_logical.specs.Sights as sighting
 use Rattle.hay_logical.specs.Sights.Sight.{Gone, Live, Never, Unseen}
 use Rattle.hay_logical.specs.declared.unsure.Unsure.{Unsure}
 use Rattle.hay_logical.specs.ReplicaCalls.{CallsOne, IsLookFault, IsOpenFault, IsRefusedAt, IsUnseenAt, KeepsBytes, KeepsDisk, LeftAt, LooksAt, OpensAt, PlacesAre, SeesRow, SightsAt}
@@ -38,18 +39,29 @@ use Rattle.hay_logical.proofs.Sighting.{looks_one, other_places, place_seen}
 use Rattle.hay_logical.proofs.Bytes.{bytes_more, looked_bytes}
 use Rattle.hay_logical.proofs.Through.{counts_through}
 
--- a place that was looked at
-seen_told : {P : Type 0} (p : Place P) (file : List ℕ) → IsSeen p → IsToldPlace (sight p) file
-seen_told place.None file seen = tt
-seen_told (place.Live needle) file seen = tt
-seen_told place.Gone file seen = tt
-seen_told (place.Unseen at size) file seen = absurd seen
+-- a place behind a look
+seen_told : (file : List ℕ) (s t : Sight) → sighting.Looks s t → IsToldBy file s t → HasLiveNeedle file s → (AwaitsLook t → ⊥) → IsToldPlace t file
+seen_told file s Never looks told live seen = tt
+seen_told file s Gone looks told live seen = tt
+seen_told file s (Unseen at size) looks told live seen = absurd (seen tt)
+seen_told file s (Live at) (inl same) told live seen = subst (λ (t : Sight). IsToldPlace t file) (sym same) (live_told s live (λ await. seen (subst AwaitsLook (sym same) await)))
+  where
+    live_told : (s : Sight) → HasLiveNeedle file s → (AwaitsLook s → ⊥) → IsToldPlace s file
+    live_told Never live seen = tt
+    live_told Gone live seen = tt
+    live_told (Live there) live seen = live
+    live_told (Unseen there size) live seen = absurd (seen tt)
+seen_told file Never (Live at) (inr becomes) told live seen = absurd becomes
+seen_told file Gone (Live at) (inr becomes) told live seen = absurd becomes
+seen_told file (Live there) (Live at) (inr becomes) told live seen = absurd becomes
+seen_told file (Unseen there size) (Live at) (inr (inl is)) told live seen = subst (λ (t : Sight). IsToldPlace t file) (sym is) (size, told)
+seen_told file (Unseen there size) (Live at) (inr (inr is)) told live seen = absurd cc
 
 -- one whose look met damage
 lacks_told : (file : List ℕ) (at : ℕ) (s : Sight) → LacksSeen file at s → IsToldPlace s file
 lacks_told file at (Unseen there size) lacks = lacks.1
 lacks_told file at Never lacks = tt
-lacks_told file at (Live there) lacks = tt
+lacks_told file at (Live there) lacks = absurd lacks
 lacks_told file at Gone lacks = tt
 
 module _ {D P : Type 0} (DiskTells : Type 0) (files : D → Files) (Tells : Type 0) where
@@ -126,23 +138,30 @@ module _ {D P : Type 0} (DiskTells : Type 0) (files : D → Files) (Tells : Type
 
         pub told_on : DiskTells → ((f : ReplicaFault) → result ≡ Err f → (k : ℕ) × (f ≡ fault.Damaged k))
             → ((x : Copy D) → At items at x → TellsNeedle (volume_bytes files x) pair at rows rows' result)
-            → ((j : ℕ) (r : Copy D) → j < at → At old j r → IsToldPlace (sights_of rows pair j) (volume_bytes files r))
-            → (j : ℕ) (r : Copy D) → j < at + 1 → At old j r → IsToldPlace (sights_of rows' pair j) (volume_bytes files r)
-        told_on tells only needle told j r within e = elim (cases_eq j at) [
+            → place_in (row_at rows pair) at ≡ place_in (row_at before pair) at
+            → ((j : ℕ) (r : Copy D) → j < at → At old j r → HasLiveNeedles (sights_of before) j (volume_bytes files r) → IsToldPlace (sights_of rows pair j) (volume_bytes files r))
+            → (j : ℕ) (r : Copy D) → j < at + 1 → At old j r → HasLiveNeedles (sights_of before) j (volume_bytes files r) → IsToldPlace (sights_of rows' pair j) (volume_bytes files r)
+        told_on tells only needle stayed told j r within e live = elim (cases_eq j at) [
           | inl same ↦
               let x = mid j r e in
               let there : At items at x.0 = subst (λ n. At items n x.0) same x.1 in
+              let file = file_looked before rows j r x.0 tells (looks.each j r x.0 e x.1) in
+              let stood : HasLiveNeedle (volume_bytes files r) (sights_of before pair at) = subst (λ n. HasLiveNeedle (volume_bytes files r) (sights_of before pair n)) same (live pair) in
+              let stands : HasLiveNeedle (volume_bytes files x.0) (sights_of rows pair at) =
+              subst (λ (p : Place P). HasLiveNeedle (volume_bytes files x.0) (sight p)) (sym stayed) (subst (λ (l : List ℕ). HasLiveNeedle l (sights_of before pair at)) (sym file) stood) in
               subst (λ n. IsToldPlace (sights_of rows' pair n) (volume_bytes files r)) (sym same)
-              (subst (λ (l : List ℕ). IsToldPlace (sights_of rows' pair at) l) (file_looked before rows j r x.0 tells (looks.each j r x.0 e x.1))
-              (by_answer (volume_bytes files x.0) (needle x.0 there) result refl))
+              (subst (λ (l : List ℕ). IsToldPlace (sights_of rows' pair at) l) file (by_answer (volume_bytes files x.0) (needle x.0 there) stands result refl))
           | inr apart ↦
               let less : j < at = omega (arith, within, apart) in
-              subst (λ (p : Place P). IsToldPlace (sight p) (volume_bytes files r)) (sym (other_places pair at rows rows' result row j apart pair)) (told j r less e)
+              subst (λ (p : Place P). IsToldPlace (sight p) (volume_bytes files r)) (sym (other_places pair at rows rows' result row j apart pair)) (told j r less e live)
         ]
           where
-            by_answer : (file : List ℕ) → TellsNeedle file pair at rows rows' result → (x : Result Unit ReplicaFault) → result ≡ x → IsToldPlace (sights_of rows' pair at) file
-            by_answer file tells_it (Ok value) is = seen_told (place_in (row_at rows' pair) at) file (subst (λ x. OnOk x (IsSeen (place_in (row_at rows' pair) at))) is sights.seen)
-            by_answer file tells_it (Err f) is =
+            by_answer : (file : List ℕ) → TellsNeedle file pair at rows rows' result → HasLiveNeedle file (sights_of rows pair at) → (x : Result Unit ReplicaFault) → result ≡ x
+                → IsToldPlace (sights_of rows' pair at) file
+            by_answer file tells_it stands (Ok value) is =
+                let sees : SeesPair pair at (sights_of rows) (sights_of rows') = subst (λ x. OnOk x (SeesPair pair at (sights_of rows) (sights_of rows'))) is row.sees in
+                seen_told file (sights_of rows pair at) (sights_of rows' pair at) (sees.looks.each at) tells_it.told stands sees.seen
+            by_answer file tells_it stands (Err f) is =
                 let damaged = only f is in
                 let still : (other : Pair) → row_at rows' other ≡ row_at rows other = subst (λ x. OnErr x ((other : Pair) → row_at rows' other ≡ row_at rows other)) is row.kept in
                 subst (λ l. IsToldPlace (sight (place_in l at)) file) (sym (still pair))
@@ -245,11 +264,12 @@ module _ {D P : Type 0} (DiskTells : Type 0) (files : D → Files) (Tells : Type
     pub kept_all : DiskTells → ((j : ℕ) (r x : Copy D) → At olds j r → At mids j x → KeepsDisk files r x) → (j : ℕ) (r y : Copy D) → At olds j r → At news j y → KeepsDisk files r y
     kept_all tells = through (λ j r x. KeepsDisk files r x) (λ j r y. KeepsDisk files r y) (λ j r x y was l. disk_looked files r x y was (l.keeps tells))
 
-    pub told_all : DiskTells → (unsure : Option Unsure) → ((j : ℕ) (x : Copy D) → At mids j x → ToldUnsure unsure (sights_of rows') j (volume_bytes files x))
+    pub told_all : DiskTells → (unsure : Option Unsure) → ((j : ℕ) (x : Copy D) → At mids j x → HasLiveNeedles (sights_of rows) j (volume_bytes files x))
+        → ((j : ℕ) (x : Copy D) → At mids j x → HasLiveNeedles (sights_of rows) j (volume_bytes files x) → ToldUnsure unsure (sights_of rows') j (volume_bytes files x))
         → (j : ℕ) (y : Copy D) → At news j y → ToldUnsure unsure (sights_of rows') j (volume_bytes files y)
-    told_all tells unsure told j y f =
+    told_all tells unsure live told j y f =
         let x = mid_at j y f in
-        subst (λ (l : List ℕ). ToldUnsure unsure (sights_of rows') j l) (sym (file_looked DiskTells files Tells rows rows' j x.0 y tells (looks j x.0 y x.1 f))) (told j x.0 x.1)
+        subst (λ (l : List ℕ). ToldUnsure unsure (sights_of rows') j l) (sym (file_looked DiskTells files Tells rows rows' j x.0 y tells (looks j x.0 y x.1 f))) (told j x.0 x.1 (live j x.0 x.1))
 
     pub reached_all : CanReach DiskTells files Tells mids rows → CanReach DiskTells files Tells news rows'
     reached_all can = λ tells j y f. let x = mid_at j y f in (looks j x.0 y x.1 f).reach tells (can tells j x.0 x.1)

@@ -11,7 +11,7 @@ use Rattle.hay_map.specs.declared.place.Place.{Place}
 use Rattle.hay_map.specs.declared.place.Place.TheVariants as place
 use Rattle.hay_logical.specs.declared.fault.LogicalFault.TheVariants.{Damaged}
 use Rattle.hay_logical.specs.Fits.{At}
-use Rattle.hay_logical.specs.Needles.{AreToldBy, IsDamagedLook, IsToldBy, LacksSeen}
+use Rattle.hay_logical.specs.Needles.{AreToldBy, HasLiveNeedle, IsDamagedLook, IsToldBy, LacksSeen}
 use Rattle.hay_logical.specs.Refusals.{answer_at}
 use Rattle.hay_logical.specs.Sights.{AwaitsLook, BecomesSeen, KeepsSights, Looks, LooksAtPair, Sight, Sights, sight}
 use Rattle.hay_logical.specs.Sights.Sight.{Gone, Live, Never, Unseen}
@@ -32,6 +32,13 @@ told_place file at size (place.Live needle) told = told.0
 told_place file at size place.Gone told = told
 told_place file at size place.None told = absurd told
 told_place file at size (place.Unseen there long) told = absurd told
+
+-- what an opening found of a place
+pub live_sight : {P : Type 0} (file : List ℕ) (p : Place P) → physical.HasLiveNeedle file p → HasLiveNeedle file (sight p)
+live_sight file (place.Live needle) live = live
+live_sight file place.None live = tt
+live_sight file place.Gone live = tt
+live_sight file (place.Unseen at size) live = tt
 
 pub told_more : (file : List ℕ) (a b c : Sight) → Looks a b → Looks b c → IsToldBy file a b → IsToldBy file b c → IsToldBy file a c
 told_more file a b c (inl same) second first next = subst (λ (s : Sight). IsToldBy file s c) same next

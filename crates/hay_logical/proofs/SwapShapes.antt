@@ -6,7 +6,7 @@ use Rattle.hay_needle.specs.declared.settings.Settings.{Settings}
 use Rattle.hay_disk.specs.Disk.{Files}
 use Rattle.hay_map.specs.MapRows.{MapRows}
 use Rattle.hay_physical.specs.declared.fault.ReplicaFault.TheVariants as fault
-use Rattle.hay_physical.specs.OpenCopies.{Copy, IsOpenCopy, IsUp, is_frozen, is_stuck}
+use Rattle.hay_physical.specs.OpenCopies.{Copy, IsOpenCopy, IsUp, KeepsHead, is_frozen, is_stuck}
 use Rattle.hay_logical.specs.declared.unsure.Unsure.{Unsure}
 use Rattle.hay_logical.specs.declared.runs.NewFiles.{NewFiles}
 use Rattle.hay_logical.specs.declared.runs.Unswapped.{Unswapped}
@@ -124,3 +124,11 @@ pub called_stuck : {D P : Type 0} {DiskTells : Type 0} {files : D → Files} {Te
     (call : SwapCall DiskTells files Tells faults start items new rows rows' at (Err u)) → KeepsStuck items new
 called_stuck {D} {P} {DiskTells} {files} {Tells} {faults} {start} {items} {new} {rows} {rows'} {at} u call =
     swaps_stuck DiskTells files Tells faults start items new rows rows' at call.one call.ups call.swaps.still
+
+-- and the head of the replica that was called, where that takes changes
+pub called_head : {D P : Type 0} {DiskTells : Type 0} {files : D → Files} {Tells : Type 0} {faults : D → ℕ} {start : Start} {items new : List (Copy D)} {rows rows' : MapRows P}
+    {at : ℕ} (u : Unswapped)
+    (call : SwapCall DiskTells files Tells faults start items new rows rows' at (Err u)) → DiskTells → IsUp call.one.after → (r r' : Copy D) → At items at r → At new at r' → KeepsHead files r r'
+called_head {D} {P} {DiskTells} {files} {Tells} {faults} {start} {items} {new} {rows} {rows'} {at} u call tells up r r' e f =
+    subst (λ (x : Copy D). KeepsHead files x r') (at_same items at call.one.before r call.one.was e)
+    (subst (λ (x : Copy D). KeepsHead files call.one.before x) (at_same new at call.one.after r' call.one.is f) (call.swaps.head tells up))

@@ -330,6 +330,7 @@ module _ {D P : Type 0} (DiskTells : Type 0) (files : D → Files) (faults : D �
         (swaps.removed tells s (on.stands tells s stands));
     refused = λ tells s run stands start places. tt;
     reach = λ tells reach. swaps.reach tells (reaches_on files rows rows at r x (λ u. up) (λ u. up_open r up) (on.reach tells) (λ pair. refl) reach);
+    head = λ tells. tt;
   }
   swaps_later (Err u) a b later up on rest low damage meets swaps = record {
     «open» = swaps.«open»;
@@ -344,4 +345,5 @@ module _ {D P : Type 0} (DiskTells : Type 0) (files : D → Files) (faults : D �
         let next = meets tells s run stands start places in
         holds_later files faults r x y s run next.0 u next.1 on.stuck (swaps.refused tells s next.0 (on.stands tells s stands) next.2 places);
     reach = λ tells reach. swaps.reach tells (reaches_on files rows rows at r x (λ u. up) (λ u. up_open r up) (on.reach tells) (λ pair. refl) reach);
+    head = λ tells still. swaps.head tells still ∙ on.head tells;
   }

@@ -38,6 +38,17 @@ pub record DeletesTold {D : Type 0} (files : D → Files) (replicas : List (Copy
   pub deletes : DeletesSights pair number old new
   pub told : AreToldBy files replicas pair old deletes.found
 
+-- the needle of a photo that was seen stands there, and is not deleted
+abbrev pub HasLiveNeedle : List ℕ → Sight → Type 0
+HasLiveNeedle file (Live at) = (size : ℕ) × HasNeedleOf size false at file
+HasLiveNeedle file Never = Unit {0}
+HasLiveNeedle file Gone = Unit {0}
+HasLiveNeedle file (Unseen at size) = Unit {0}
+
+-- so it is of each pair on one replica
+abbrev pub HasLiveNeedles : Sights → ℕ → List ℕ → Type 0
+HasLiveNeedles sights replica file = (pair : Pair) → HasLiveNeedle file (sights pair replica)
+
 -- No needle of the recorded size begins at the place of one that was not looked at yet.
 abbrev pub LacksSeen : List ℕ → ℕ → Sight → Type 0
 LacksSeen file place (Unseen at size) = (place ≡ at) × LacksNeedleOf size at file

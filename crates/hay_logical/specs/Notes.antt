@@ -3,7 +3,7 @@ use Rattle.std.specs.Prelude.{◌≡◌, ℕ, nat_lt, not, Bool, true, false, Li
 use Rattle.hay_needle.specs.declared.settings.Settings.{Settings}
 use Rattle.hay_reply.specs.declared.Note.{Note}
 use Rattle.hay_legal.specs.Restarts.{replica_notes}
-use Rattle.hay_volume.specs.Needles.{LacksNeedleOf}
+use Rattle.hay_volume.specs.Needles.{HasNeedleOf, LacksNeedleOf}
 use Rattle.hay_map.specs.MapRows.{MapRows}
 use Rattle.hay_map.specs.Places.{place_in}
 use Rattle.hay_map.specs.Rows.{row_at}
@@ -57,11 +57,12 @@ NotesTell settings v None sights replicas notes = notes ≡ []
 NotesTell settings v (Some unsure) sights replicas notes =
     (kept : List Bool) × KeptIn unsure.change sights replicas kept × (notes ≡ replica_notes settings v (unsure.tag).line 0 kept)
 
--- Where the disk tells, no needle of the recorded size begins at a place that the opening left not looked at.
+-- Where the disk tells, no needle of the recorded size begins at a place that the opening left not looked at, and that of a photo
+-- stands at its place, and is not deleted.
 abbrev pub IsToldPlace : Sight → List ℕ → Type 0
 IsToldPlace (Unseen at size) file = LacksNeedleOf size at file
+IsToldPlace (Live at) file = (size : ℕ) × HasNeedleOf size false at file
 IsToldPlace Never file = Unit {0}
-IsToldPlace (Live at) file = Unit {0}
 IsToldPlace Gone file = Unit {0}
 
 -- so it is on replica j at the pair of a deletion that was broken off

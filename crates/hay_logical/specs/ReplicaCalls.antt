@@ -29,7 +29,7 @@ use Rattle.hay_open.specs.Stored.{Stored, IsReplicaFile, IsSealedCell, PlaceOf, 
 use Rattle.hay_physical.specs.declared.fault.ReplicaFault.{ReplicaFault}
 use Rattle.hay_physical.specs.declared.fault.ReplicaFault.TheVariants as fault
 use Rattle.hay_physical.specs.declared.state.Phase.TheVariants.{Closed}
-use Rattle.hay_physical.specs.OpenCopies.{Copy, IsFrozen, IsOpenCopy, IsUp, bare_of, capacity_of, contents_of, end_of, generation_of, goal_of, is_frozen, is_stuck}
+use Rattle.hay_physical.specs.OpenCopies.{Copy, IsFrozen, IsOpenCopy, IsUp, KeepsHead, bare_of, capacity_of, contents_of, end_of, generation_of, goal_of, is_frozen, is_stuck}
 use Rattle.hay_physical.specs.Faults.{IsSightFault}
 use Rattle.hay_physical.specs.Replicas as physical
 use Rattle.hay_compact.specs.Finishing.{IsSeen}
@@ -310,6 +310,7 @@ pub record FlushesAt {D : Type 0} (DiskTells : Type 0) (files : D → Files) (fa
   pub not_stuck : (result ≡ Err fault.Frozen → ⊥) → is_stuck r ≡ false
   pub tried : IfErr result (λ refused. (printed : ℕ) → refused ≡ fault.Failed printed → 0 < bare_of r)
   pub reach : StaysInReach DiskTells files r r'
+  pub head : DiskTells → KeepsHead files r r'
 
 -- one replica was called, and the others are as they were
 pub record CallsOne {D : Type 0} (at : ℕ) (old new : List (Copy D)) : Type 0 where
@@ -351,6 +352,7 @@ pub record GoesOn {D : Type 0} (DiskTells : Type 0) (files : D → Files) (r r' 
   pub stuck : is_stuck r' ≡ is_stuck r
   pub stands : DiskTells → (s : Stored) → physical.Stands files r s → physical.Stands files r' s
   pub reach : StaysInReach DiskTells files r r'
+  pub head : DiskTells → KeepsHead files r r'
 
 -- the latest place of a pair, deleted or not, as a compaction asks for it
 abbrev pub latest_of : {P : Type 0} → Place P → Option ℕ
@@ -521,6 +523,7 @@ pub record SwapsAt {D P : Type 0} (DiskTells : Type 0) (files : D → Files) (fa
       IfErr result (HoldsUnswapped files r r' s run)
   pub still : OnErr result (is_stuck r' ≡ is_stuck r)
   pub reach : DiskTells → ReachesPlaces files Tells rows at r → ReachesPlaces files Tells rows' at r'
+  pub head : DiskTells → OnErr result (IsUp r' → KeepsHead files r r')
 
 -- the places of the replica moved to its new cells, those of the other replicas stay, and all rows behind a refusal
 pub record KeepsPlaces {P : Type 0} (rows rows' : MapRows P) (at : ℕ) (result : Result (NewFiles P) Unswapped) : Type 0 where

@@ -1,5 +1,5 @@
 -- What is seen of a volume in memory, whatever its disks tell, and how each call changes that.
-use Rattle.std.specs.Prelude.{◌≡◌, ◌⊎◌, ◌≤◌, ◌<◌, ◌+◌, ◌*◌, ℕ, Bool, true, false, List, length, map, slice_index, slice_set, Option, Some, None}
+use Rattle.std.specs.Prelude.{◌≡◌, ◌⊎◌, ◌≤◌, ◌<◌, ◌+◌, ◌-◌, ◌*◌, ℕ, Bool, true, false, List, length, map, slice_index, slice_set, Option, Some, None}
 use Rattle.hay_needle.specs.declared.settings.Settings.{Settings}
 use Rattle.hay_needle.specs.declared.needle.Pair.{Pair}
 use Rattle.hay_needle.specs.declared.needle.Version.TheVariants.{Two}
@@ -360,9 +360,9 @@ pub record IsFresh (r : ReplicaSeen) : Type 0 where
   pub most : r.generation ≤ 65535
   pub from : 64 + r.bare * needle_total 0 ≤ r.end
 
--- what stood on its disk was found: the generation, and where the cells end
+-- what stood on its disk was found: the generation, where the cells end, and how many of them have no record
 abbrev pub IsFoundAs : Stored → ReplicaSeen → Type 0
-IsFoundAs s r = (r.end ≡ s.end) × (r.generation ≡ s.generation)
+IsFoundAs s r = (r.end ≡ s.end) × (r.generation ≡ s.generation) × (r.bare ≡ length s.cells - s.records)
 
 pub record OpenSeen (seen : VolumeSeen) : Type 0 where
   pub front : seen.front ≡ 0

@@ -16,7 +16,7 @@ ghost use Rattle.hay_open.specs.Damage.{IsOpeningDamage};
 ghost use Rattle.hay_open.specs.Stored.{OpensAs, Stored};
 ghost use Rattle.hay_open.specs.declared.fault.OpenFault.TheVariants as open_fault;
 ghost use Rattle.hay_physical.specs.declared.state.Phase.TheVariants.{Closed};
-ghost use Rattle.hay_physical.specs.OpenCopies.{Copy, contents_of, generation_of, goal_of, is_stuck, next_of, volume_bytes};
+ghost use Rattle.hay_physical.specs.OpenCopies.{Copy, KeepsHead, contents_of, generation_of, goal_of, is_stuck, next_of, volume_bytes};
 ghost use Rattle.hay_physical.specs.OpenCopies as copies;
 ghost use Rattle.hay_physical.specs.Replicas.{HasWholeNeedle};
 ghost use Rattle.hay_compact.specs.Finishing.{IsSeen};
@@ -157,7 +157,8 @@ impl<D: Disk> Logical<D> {
         ensures reopened { D.Tells → (k : VolumeKnown) → Stopped D.files self.old k →
             IfOk result (λ notes. IsReopened D.files D.Piece.Tells k notes self.new) }
         ensures told { IfOk result (NotesTell self.old.settings self.old.number self.old.unsure (sights_of self.new.rows) (volume_seen self.new).replicas) }
-        // Where the disk tells, a place of a deletion that was broken off, and that was not looked at, has no needle of its size.
+        // Where the disk tells, a place of a deletion that was broken off, and that was not looked at, has no needle of its size,
+        // and one that is a photo's has its needle, which is not deleted.
         ensures told_places { D.Tells → OnOk result ((j : ℕ) (r : Copy D) → At self.new.replicas j r →
             ToldUnsure self.old.unsure (sights_of self.new.rows) j (volume_bytes D.files r)) }
         ensures fits { IfOk result (AllByRecursion FitsNote) }
@@ -775,6 +776,8 @@ impl<D: Disk> Logical<D> {
         ensures unsure { self.new.unsure ≡ self.old.unsure }
         ensures still { self.new ≡ record self.old { replicas = self.new.replicas } }
         ensures others { (j : ℕ) → (j ≡ replica → ⊥) → (r r' : Copy D) → At self.old.replicas j r → At self.new.replicas j r' → r' ≡ r }
+        // The head of the replica stays.
+        ensures head_file { D.Tells → (r r' : Copy D) → At self.old.replicas replica r → At self.new.replicas replica r' → KeepsHead D.files r r' }
         ensures loose { OnOk result ((r : Copy D) → At self.new.replicas replica r → is_stuck r ≡ false) }
         ensures tight { D.Tells → (j : ℕ) → IsTightAt D.files self.old j → IsTightAt D.files self.new j }
         ensures open { IsOpenVolume self.new }
@@ -809,6 +812,8 @@ impl<D: Disk> Logical<D> {
         ensures unsure { self.new.unsure ≡ self.old.unsure }
         ensures still { self.new ≡ record self.old { replicas = self.new.replicas } }
         ensures others { (j : ℕ) → (j ≡ replica → ⊥) → (r r' : Copy D) → At self.old.replicas j r → At self.new.replicas j r' → r' ≡ r }
+        // The head of the replica stays.
+        ensures head_file { D.Tells → (r r' : Copy D) → At self.old.replicas replica r → At self.new.replicas replica r' → KeepsHead D.files r r' }
         ensures stuck { KeepsStuck self.old.replicas self.new.replicas }
         ensures tight { D.Tells → (k : VolumeKnown) → Stands D.files D.Piece.Tells self.old k → OnOk result (IsTightAt D.files self.new replica) }
         ensures open { IsOpenVolume self.new }
@@ -843,6 +848,8 @@ impl<D: Disk> Logical<D> {
         ensures unsure { self.new.unsure ≡ self.old.unsure }
         ensures still { self.new ≡ record self.old { replicas = self.new.replicas } }
         ensures others { (j : ℕ) → (j ≡ replica → ⊥) → (r r' : Copy D) → At self.old.replicas j r → At self.new.replicas j r' → r' ≡ r }
+        // The head of the replica stays.
+        ensures head_file { D.Tells → (r r' : Copy D) → At self.old.replicas replica r → At self.new.replicas replica r' → KeepsHead D.files r r' }
         ensures stuck { KeepsStuck self.old.replicas self.new.replicas }
         // A compaction that was tight stays so, and so does every other one.
         ensures tight { D.Tells → (k : VolumeKnown) → Stands D.files D.Piece.Tells self.old k → (j : ℕ) → IsTightAt D.files self.old j → OnOk result (IsTightAt D.files self.new j) }
@@ -909,6 +916,8 @@ impl<D: Disk> Logical<D> {
         // Every other replica stays, unless the call froze the volume: then its compaction ended, and nothing but that.
         ensures others { self.new.frozen ≡ self.old.frozen → (j : ℕ) → (j ≡ replica → ⊥) → (r r' : Copy D) → At self.old.replicas j r → At self.new.replicas j r' → r' ≡ r }
         ensures beside { (j : ℕ) → (j ≡ replica → ⊥) → (r r' : Copy D) → At self.old.replicas j r → At self.new.replicas j r' → LosesRun D.Tells D.files r r' }
+        // Where it was refused, and takes changes still, the head of the replica stays.
+        ensures head_file { D.Tells → OnErr result (self.new.frozen ≡ None → (r r' : Copy D) → At self.old.replicas replica r → At self.new.replicas replica r' → KeepsHead D.files r r') }
         ensures loose { OnOk result ((r : Copy D) → At self.new.replicas replica r → is_stuck r ≡ false) }
         ensures stuck { OnErr result (KeepsStuck self.old.replicas self.new.replicas) }
         ensures open { IsOpenVolume self.new }
@@ -965,6 +974,8 @@ impl<D: Disk> Logical<D> {
         // Every other replica stays, unless the call froze the volume: then its compaction ended, and nothing but that.
         ensures others { self.new.frozen ≡ self.old.frozen → (j : ℕ) → (j ≡ replica → ⊥) → (r r' : Copy D) → At self.old.replicas j r → At self.new.replicas j r' → r' ≡ r }
         ensures beside { (j : ℕ) → (j ≡ replica → ⊥) → (r r' : Copy D) → At self.old.replicas j r → At self.new.replicas j r' → LosesRun D.Tells D.files r r' }
+        // Where it was refused, and takes changes still, the head of the replica stays.
+        ensures head_file { D.Tells → OnErr result (self.new.frozen ≡ None → (r r' : Copy D) → At self.old.replicas replica r → At self.new.replicas replica r' → KeepsHead D.files r r') }
         ensures loose { OnOk result ((r : Copy D) → At self.new.replicas replica r → is_stuck r ≡ false) }
         ensures stuck { OnErr result (KeepsStuck self.old.replicas self.new.replicas) }
         ensures open { IsOpenVolume self.new }
@@ -1012,6 +1023,8 @@ impl<D: Disk> Logical<D> {
         // Every other replica stays, unless the call froze the volume: then its compaction ended, and nothing but that.
         ensures others { self.new.frozen ≡ self.old.frozen → (j : ℕ) → (j ≡ replica → ⊥) → (r r' : Copy D) → At self.old.replicas j r → At self.new.replicas j r' → r' ≡ r }
         ensures beside { (j : ℕ) → (j ≡ replica → ⊥) → (r r' : Copy D) → At self.old.replicas j r → At self.new.replicas j r' → LosesRun D.Tells D.files r r' }
+        // Where it was refused, and takes changes still, the head of the replica stays.
+        ensures head_file { D.Tells → OnErr result (self.new.frozen ≡ None → (r r' : Copy D) → At self.old.replicas replica r → At self.new.replicas replica r' → KeepsHead D.files r r') }
         ensures loose { OnOk result ((r : Copy D) → At self.new.replicas replica r → is_stuck r ≡ false) }
         ensures stuck { OnErr result (KeepsStuck self.old.replicas self.new.replicas) }
         ensures open { IsOpenVolume self.new }
@@ -1064,6 +1077,8 @@ impl<D: Disk> Logical<D> {
         // Every other replica stays, unless the call froze the volume: then its compaction ended, and nothing but that.
         ensures others { self.new.frozen ≡ self.old.frozen → (j : ℕ) → (j ≡ replica → ⊥) → (r r' : Copy D) → At self.old.replicas j r → At self.new.replicas j r' → r' ≡ r }
         ensures beside { (j : ℕ) → (j ≡ replica → ⊥) → (r r' : Copy D) → At self.old.replicas j r → At self.new.replicas j r' → LosesRun D.Tells D.files r r' }
+        // Where it was refused, and takes changes still, the head of the replica stays.
+        ensures head_file { D.Tells → OnErr result (self.new.frozen ≡ None → (r r' : Copy D) → At self.old.replicas replica r → At self.new.replicas replica r' → KeepsHead D.files r r') }
         ensures loose { OnOk result ((r : Copy D) → At self.new.replicas replica r → is_stuck r ≡ false) }
         ensures stuck { OnErr result (KeepsStuck self.old.replicas self.new.replicas) }
         ensures open { IsOpenVolume self.new }

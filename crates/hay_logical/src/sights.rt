@@ -11,7 +11,7 @@ ghost use Rattle.hay_physical.specs.Faults.{IsSightFault};
 ghost use Rattle.hay_physical.specs.Replicas as physical;
 ghost use Rattle.hay_logical.specs.Draws.{DrawsAtMost, DrewAt, look_total, looked_pair, looked_total};
 ghost use Rattle.hay_logical.specs.Fits.{At};
-ghost use Rattle.hay_logical.specs.Needles.{TellsNeedle};
+ghost use Rattle.hay_logical.specs.Needles.{HasLiveNeedles, TellsNeedle};
 ghost use Rattle.hay_logical.specs.Notes.{IsToldPlace, SeesUnsure, ToldUnsure};
 ghost use Rattle.hay_logical.specs.Sights.{sights_of};
 ghost use Rattle.hay_logical.specs.ReplicaCalls.{CallsOne, IsLookFault, IsRefusedAt, IsSeenBy, IsUnseenAt, KeepsDisk, LeftAt, LooksAt, OpensAt, PlacesAre, SeesRow, SightsAt};
@@ -99,7 +99,8 @@ fn see_undamaged<D: Disk>(
     ensures looks { (j : ℕ) (r r' : Copy D) → At replicas.old j r → At replicas.new j r' → LooksAt D.Tells D.files D.Piece.Tells rows.old rows.new j r r' }
     ensures seen { D.Tells → OnOk result ((j : ℕ) (r : Copy D) (s : Stored) → At replicas.old j r →
         physical.Stands D.files r s → PlacesAre D.Piece.Tells rows.old j s → IsSeen (place_in (row_at rows.new pair) j)) }
-    ensures told { D.Tells → OnOk result ((j : ℕ) (r : Copy D) → At replicas.old j r → IsToldPlace (sights_of rows.new pair j) (volume_bytes D.files r)) }
+    ensures told { D.Tells → OnOk result ((j : ℕ) (r : Copy D) → At replicas.old j r → HasLiveNeedles (sights_of rows.old) j (volume_bytes D.files r) →
+        IsToldPlace (sights_of rows.new pair j) (volume_bytes D.files r)) }
     ensures drawn { D.Tells → (j : ℕ) (r r' : Copy D) → At replicas.old j r → At replicas.new j r' →
         DrawsAtMost D.drawn (look_total (place_in (row_at rows.old pair) j)) r r' }
     ensures refused { IfErr result (IsUnseenAt D.fault_count replicas.old replicas.new) }
@@ -151,7 +152,8 @@ fn see_broken_off<D: Disk>(
     ensures looks { (j : ℕ) (r r' : Copy D) → At replicas.old j r → At replicas.new j r' → LooksAt D.Tells D.files D.Piece.Tells rows.old rows.new j r r' }
     ensures seen { D.Tells → OnOk result ((j : ℕ) (r : Copy D) (s : Stored) → At replicas.old j r →
         physical.Stands D.files r s → PlacesAre D.Piece.Tells rows.old j s → SeesUnsure unsure.now rows.new j) }
-    ensures told { D.Tells → OnOk result ((j : ℕ) (r : Copy D) → At replicas.old j r → ToldUnsure unsure.now (sights_of rows.new) j (volume_bytes D.files r)) }
+    ensures told { D.Tells → OnOk result ((j : ℕ) (r : Copy D) → At replicas.old j r → HasLiveNeedles (sights_of rows.old) j (volume_bytes D.files r) →
+        ToldUnsure unsure.now (sights_of rows.new) j (volume_bytes D.files r)) }
     ensures drawn { D.Tells → (j : ℕ) (r r' : Copy D) → At replicas.old j r → At replicas.new j r' →
         DrawsAtMost D.drawn (looked_total (looked_pair unsure.now) rows.old j) r r' }
     ensures refused { IfErr result (IsUnseenAt D.fault_count replicas.old replicas.new) }
@@ -190,7 +192,7 @@ pub(crate) fn open_all<D: Disk>(
     // Behind a stop the place that tells of the change was seen.
     ensures seen { D.Tells → OnOk result ((j : ℕ) (r : Copy D) → At replicas.old j r → (stuck : Bool) (s t : Stored) →
         physical.Holds D.files r stuck s t → SeesUnsure unsure.now rows.new j) }
-    // Whatever the disk has, no needle of the recorded size is where it was not.
+    // Whatever the disk has, no needle of the recorded size is where it was not, and that of a photo is there, and not deleted.
     ensures told { D.Tells → OnOk result ((j : ℕ) (r : Copy D) → At replicas.new j r → ToldUnsure unsure.now (sights_of rows.new) j (volume_bytes D.files r)) }
     ensures left { (j : ℕ) (r r' : Copy D) → At replicas.old j r → At replicas.new j r' → LeftAt D.Tells D.files r r' }
     ensures kept { D.Tells → (j : ℕ) (r r' : Copy D) → At replicas.old j r → At replicas.new j r' → KeepsDisk D.files r r' }

@@ -72,7 +72,8 @@ module _ {P : Type 0} where
 
 -- WHAT WAS READ
 
-some_head : (superblock file : List ℕ) (generation : ℕ) → IsHead superblock file generation → file ≡ [] → ⊥
+-- where a head stands the file is not empty
+pub some_head : (superblock file : List ℕ) (generation : ℕ) → IsHead superblock file generation → file ≡ [] → ⊥
 some_head superblock file generation is void = omega (arith, is.closed.room, ap length void)
 
 module _ {P : Type 0} (Tells : Type 0) (sup : Super) (old new : Files) (opened : Opened P) (before after : ℕ → ℕ)

@@ -1,6 +1,6 @@
 -- What follows from the words on replicas.
-use Rattle.std.proofs.Common.{◌≡◌, inl, inr, ℕ, suc, ◌+◌, ◌≤◌, Bool, true, false, cond, List, [], ◌∷◌, length, drop, refl, sym, ◌∙◌, ap, subst, arith}
-use Rattle.std.proofs.lemmas.List.{length-drop}
+use Rattle.std.proofs.Common.{◌≡◌, inl, inr, ℕ, suc, ◌+◌, ◌-◌, ◌≤◌, Bool, true, false, cond, List, [], ◌∷◌, length, map, drop, refl, sym, ◌∙◌, ap, subst, arith}
+use Rattle.std.proofs.lemmas.List.{length-drop, length-map}
 use Rattle.hay_needle.specs.declared.needle.CellHead.{CellHead}
 use Rattle.hay_compact.specs.Copying.{end_of as cells_end_of}
 use Rattle.hay_compact.proofs.CellLists.{cells_end}
@@ -14,11 +14,11 @@ use Rattle.hay_disk.specs.Disk.{Files, MayLeave}
 use Rattle.hay_volume.specs.declared.volume.VolumeFile.{VolumeFile}
 use Rattle.hay_map.specs.Sealed.{SealedNeedle}
 use Rattle.hay_map.specs.declared.place.Place.TheVariants as place
-use Rattle.hay_open.specs.Stored.{IsSealedCell, PlaceOf, Stored, last_cell, volume_file}
+use Rattle.hay_open.specs.Stored.{IsSealedCell, PlaceOf, Stored, cell_record, last_cell, volume_file}
 use Rattle.hay_physical.specs.declared.state.Phase.{Phase}
 use Rattle.hay_physical.specs.declared.state.Phase.TheVariants.{Closed, Open}
-use Rattle.hay_physical.specs.OpenCopies.{Copy, HasFrozen, IsUp, capacity_of, copier_goal, end_of, generation_of, goal_of, is_stuck, next_of, phase_capacity, phase_goal, phase_end}
-use Rattle.hay_physical.specs.OpenCopies.{phase_generation, phase_next, phase_stuck}
+use Rattle.hay_physical.specs.OpenCopies.{Copy, HasFrozen, IsUp, bare_of, capacity_of, copier_goal, end_of, generation_of, goal_of, is_stuck, next_of, phase_bare, phase_capacity}
+use Rattle.hay_physical.specs.OpenCopies.{phase_goal, phase_end, phase_generation, phase_next, phase_stuck}
 use Rattle.hay_physical.specs.Replicas.{Finds, HasLive, Holds, MayDelete, MayFind, PhaseMayDelete, Stands}
 use Rattle.hay_physical.proofs.Holding.{stand_finds}
 use Rattle.hay_physical.proofs.RunLaws.{none_next}
@@ -58,6 +58,12 @@ stands_capacity files r s stands = ap phase_capacity stands.phase ∙ ap (λ (v 
 pub stands_generation : {D : Type 0} (files : D → Files) (r : Copy D) (s : Stored) → Stands files r s → generation_of r ≡ s.generation
 unfolding Stands
 stands_generation files r s stands = ap phase_generation stands.phase ∙ stands.stand.generation
+
+-- the index has no record of so many of its cells
+pub stands_bare : {D : Type 0} (files : D → Files) (r : Copy D) (s : Stored) → Stands files r s → bare_of r ≡ length s.cells - s.records
+unfolding Stands
+stands_bare files r s stands =
+    ap phase_bare stands.phase ∙ ap length stands.stand.noted ∙ length-drop s.records (map cell_record s.cells) ∙ ap (λ n. n - s.records) (length-map s.cells cell_record)
 
 -- its cells stand without gaps
 pub stands_cells_end : {D : Type 0} (files : D → Files) (r : Copy D) (s : Stored) → Stands files r s → s.end ≡ cells_end_of s.cells

@@ -10,7 +10,7 @@ use Rattle.hay_compact.specs.Copying.{KeepsOtherFiles}
 use Rattle.hay_physical.specs.declared.state.OpenFiles.{OpenFiles}
 use Rattle.hay_physical.specs.declared.state.Phase.{Phase}
 use Rattle.hay_physical.specs.declared.state.Phase.TheVariants.{Open}
-use Rattle.hay_physical.specs.OpenCopies.{CanBegin, Copy, copier_goal, goal_of, phase_generation, phase_goal, volume_bytes}
+use Rattle.hay_physical.specs.OpenCopies.{CanBegin, Copy, contents_of, copier_goal, goal_of, phase_generation, phase_goal, volume_bytes}
 use Rattle.hay_physical.specs.Replicas.{FilesReady, IsBounded, IsBoundedPhase, IsCopierReady, IsSettled, IsSettledPhase, MayDelete, MayFlag, PhaseReady, Stands}
 use Rattle.hay_physical.specs.CompactionRuns.{FilesPeek, FilesRun, HasNext, HasRun, KeepsFiles, PeekStands, Run, RunStands}
 use Rattle.hay_physical.proofs.RunLaws.{flag_beside, next_besides_volume, not_ended, run_deleted, stand_beside}
@@ -247,6 +247,11 @@ pub files_bytes : {D : Type 0} (files : D → Files) (r : Copy D) (sup : Super) 
     → IsBounded capacity opened → (files disk opened.volume.file).now ≡ volume_bytes files r
 files_bytes files r sup disk phase opened capacity view is bounded =
     ap (λ n. (files disk n).now) bounded.file ∙ ap (λ (p : Phase). (files disk (volume_file (phase_generation p))).now) (sym is) ∙ ap (λ (x : Copy _). volume_bytes files x) view
+
+-- the head stays where its file did
+pub head_beside : {D : Type 0} (files : D → Files) (r : Copy D) (sup : Super) (disk new : D) (phase : Phase) → record { sup = sup; disk = disk; phase = phase } ≡ r → files new 0 ≡ files disk 0
+    → contents_of files new 0 ≡ contents_of files r.disk 0
+head_beside files r sup disk new phase view same = ap (λ (f : FileState). f.now) same ∙ ap (λ (x : Copy _). contents_of files x.disk 0) view
 
 -- what changed no current file has left them
 pub bytes_beside : {D : Type 0} (files : D → Files) (r : Copy D) (sup : Super) (disk new : D) (phase : Phase) (opened next : OpenFiles)

@@ -154,6 +154,10 @@ KeepsEnd r r' = (generation_of r' ≡ generation_of r) × (end_of r' ≡ end_of 
 abbrev pub contents_of : {D : Type 0} → (D → Files) → D → ℕ → List ℕ
 contents_of files disk n = (files disk n).now
 
+-- what reads of its head give is what they gave
+abbrev pub KeepsHead : {D : Type 0} → (D → Files) → Copy D → Copy D → Type 0
+KeepsHead files r r' = contents_of files r'.disk 0 ≡ contents_of files r.disk 0
+
 -- what reads of its current volume file give
 abbrev pub volume_bytes : {D : Type 0} → (D → Files) → Copy D → List ℕ
 volume_bytes files r = contents_of files r.disk (volume_file (generation_of r))

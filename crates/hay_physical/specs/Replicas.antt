@@ -276,6 +276,13 @@ HasWholeNeedle Tells place.None = Unit {0}
 HasWholeNeedle Tells place.Gone = Unit {0}
 HasWholeNeedle Tells (place.Unseen at size) = Unit {0}
 
+-- the needle of a place that is a photo's stands in the volume file, and is not deleted
+abbrev pub HasLiveNeedle : {P : Type 0} → List ℕ → Place P → Type 0
+HasLiveNeedle file (place.Live needle) = (size : ℕ) × HasNeedleOf size false needle.at file
+HasLiveNeedle file place.None = Unit {0}
+HasLiveNeedle file place.Gone = Unit {0}
+HasLiveNeedle file (place.Unseen at size) = Unit {0}
+
 -- On any disk: a place was seen by the needle of this cell.
 abbrev pub IsSightOf : {P : Type 0} → Cell → Place P → Type 0
 IsSightOf cell (place.Live needle) = (cell.deleted ≡ false) × (needle.at ≡ cell.at) × (needle.size ≡ length cell.bytes)

@@ -17,13 +17,13 @@ ghost use Rattle.hay_physical.specs.declared.state.Phase.TheVariants.{Closed};
 ghost use Rattle.hay_physical.specs.CompactionRuns.{HasLastAt, HasRun, Run, longer, loosened};
 ghost use Rattle.std.specs.List.{AllByRecursion};
 ghost use Rattle.std.specs.Option.{option_map};
-ghost use Rattle.hay_physical.specs.OpenCopies.{EndedAt, HasCapacity, IsFrozen, IsOpenCopy, IsUp, KeepsEnd, bare_of, capacity_of, contents_of, end_of, generation_of};
+ghost use Rattle.hay_physical.specs.OpenCopies.{EndedAt, HasCapacity, IsFrozen, IsOpenCopy, IsUp, KeepsEnd, KeepsHead, bare_of, capacity_of, contents_of, end_of, generation_of, volume_bytes};
 ghost use Rattle.hay_physical.specs.OpenCopies.{goal_of, is_frozen, is_stuck, next_of};
 ghost use Rattle.hay_physical.specs.Draws.{DrewRecorded};
 ghost use Rattle.hay_physical.specs.Faults.{IsDeleteFault, IsFlushFault, IsPutFault};
 ghost use Rattle.hay_needle.specs.Tables.{pair_eq};
-ghost use Rattle.hay_physical.specs.Replicas.{Anywhere, ApartFrom, ArePlacesApart, HasLive, HasWholeNeedle, Holds, IsApart, IsIdleCopy, IsLike, IsWholeNeedle, KeepsSight};
-ghost use Rattle.hay_physical.specs.Replicas.{MayDelete, MayDeletePlace, MaySee, MaySeePlace, ShowsCell, Stands, all_recorded, with_cell, without_cell};
+ghost use Rattle.hay_physical.specs.Replicas.{Anywhere, ApartFrom, ArePlacesApart, HasLive, HasLiveNeedle, HasWholeNeedle, Holds, IsApart, IsIdleCopy, IsLike, IsWholeNeedle};
+ghost use Rattle.hay_physical.specs.Replicas.{KeepsSight, MayDelete, MayDeletePlace, MaySee, MaySeePlace, ShowsCell, Stands, all_recorded, with_cell, without_cell};
 
 use crate::fault::ReplicaFault;
 use crate::state::{Copier, OpenFiles, Phase};
@@ -103,6 +103,8 @@ impl<D: Disk> Replica<D> {
         ensures shows { D.Tells → OnOk result ((s : Stored) → Stands D.files self.new s → AllByRecursion (ShowsCell D.files self.new) s.cells) }
         // Each needle that a place has is a whole one.
         ensures needles { D.Tells → IfOk result (λ cells. (pair : Pair) → HasWholeNeedle D.Piece.Tells (last_place cells.items pair place.None)) }
+        // One that is a photo's stands in the volume file, and is not deleted.
+        ensures live { D.Tells → IfOk result (λ cells. (pair : Pair) → HasLiveNeedle (volume_bytes D.files self.new) (last_place cells.items pair place.None)) }
 
         // What a refusal leaves, and its cause.
         ensures closed { OnErr result (self.new.phase ≡ Closed) }
@@ -311,6 +313,7 @@ impl<D: Disk> Replica<D> {
         ensures goal { goal_of self.new ≡ goal_of self.old }
         ensures place { next_of self.new ≡ next_of self.old }
         ensures stays { KeepsEnd self.old self.new }
+        ensures head_file { D.Tells → KeepsHead D.files self.old self.new }
 
         ensures causes { IfErr result (IsFlushFault (D.fault_count self.old.disk) (D.fault_count self.new.disk)) }
         ensures counts { D.fault_count self.old.disk ≤ D.fault_count self.new.disk }

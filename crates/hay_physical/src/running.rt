@@ -11,8 +11,8 @@ ghost use Rattle.hay_open.specs.Finds.{ArePlacesWithin};
 ghost use Rattle.hay_open.specs.Stored.{Stored, index_file, volume_file};
 ghost use Rattle.hay_compact.specs.Copying.{HeadStands, IsLatest, IsNextWithin, IsPassedOrStands};
 ghost use Rattle.hay_compact.specs.Finishing.{ArePhotos, AreThePlaces, IsSeen};
-ghost use Rattle.hay_physical.specs.OpenCopies.{CanBegin, IsFrozen, IsOpenCopy, IsUp, KeepsEnd, bare_of, copied_of, end_of, faults_at_end, generation_of, goal_of, is_frozen, is_stuck};
-ghost use Rattle.hay_physical.specs.OpenCopies.{next_of, volume_bytes};
+ghost use Rattle.hay_physical.specs.OpenCopies.{CanBegin, IsFrozen, IsOpenCopy, IsUp, KeepsEnd, KeepsHead, bare_of, copied_of, end_of, faults_at_end, generation_of, goal_of};
+ghost use Rattle.hay_physical.specs.OpenCopies.{is_frozen, is_stuck, next_of, volume_bytes};
 ghost use Rattle.hay_physical.specs.Faults.{IsBeginFault, IsPeekFault, IsRunFault};
 ghost use Rattle.hay_physical.specs.Replicas.{Anywhere, HasWholeNeedle, Holds, KeepsSight, MayDelete, MayDeletePlace, ShowsCell, Stands};
 ghost use Rattle.hay_physical.specs.CompactionRuns.{EndsRun, HasNext, HasPair, HasRun, IsPeeked, IsTight, RemovedBoth, Run, Swaps, stepped};
@@ -58,6 +58,7 @@ impl<D: Disk> Replica<D> {
         ensures stays { KeepsEnd self.old self.new }
         ensures bare { bare_of self.new ≡ bare_of self.old }
         ensures bytes { D.Tells → volume_bytes D.files self.new ≡ volume_bytes D.files self.old }
+        ensures head_file { D.Tells → KeepsHead D.files self.old self.new }
 
         ensures causes { IfErr result (IsBeginFault (D.fault_count self.old.disk) (D.fault_count self.new.disk)) }
         ensures counts { D.fault_count self.old.disk ≤ D.fault_count self.new.disk }
@@ -138,6 +139,7 @@ impl<D: Disk> Replica<D> {
         ensures stays { KeepsEnd self.old self.new }
         ensures bare { bare_of self.new ≡ bare_of self.old }
         ensures bytes { D.Tells → volume_bytes D.files self.new ≡ volume_bytes D.files self.old }
+        ensures head_file { D.Tells → KeepsHead D.files self.old self.new }
 
         ensures causes { IfErr result (IsPeekFault (D.fault_count self.old.disk) (D.fault_count self.new.disk)) }
         ensures counts { D.fault_count self.old.disk ≤ D.fault_count self.new.disk }
@@ -187,6 +189,7 @@ impl<D: Disk> Replica<D> {
         ensures stays { KeepsEnd self.old self.new }
         ensures bare { bare_of self.new ≡ bare_of self.old }
         ensures bytes { D.Tells → volume_bytes D.files self.new ≡ volume_bytes D.files self.old }
+        ensures head_file { D.Tells → KeepsHead D.files self.old self.new }
 
         ensures causes { IfErr result (IsPeekFault (D.fault_count self.old.disk) (D.fault_count self.new.disk)) }
         ensures counts { D.fault_count self.old.disk ≤ D.fault_count self.new.disk }
@@ -247,6 +250,8 @@ impl<D: Disk> Replica<D> {
         ensures still_bare { OnErr result (bare_of self.new ≡ bare_of self.old) }
         ensures deletes { D.Tells → (place : ℕ) → MayDelete D.files self.old place → OnErr result (MayDelete D.files self.new place) }
         ensures sees { D.Tells → OnErr result (KeepsSight D.files Anywhere self.old self.new) }
+        // The head is written only where the files are swapped, or the replica is frozen.
+        ensures head_file { D.Tells → OnErr result (IsUp self.new → KeepsHead D.files self.old self.new) }
         ensures goal { goal_of self.new ≡ None }
         ensures faults { (goal : ℕ) → IsUp self.old → goal_of self.old ≡ Some goal → faults_at_end self.new ≡ D.fault_count self.new.disk }
         ensures open { IsOpenCopy self.new }

@@ -296,6 +296,7 @@ impl OpenFiles {
         ensures seen { D.Tells → IfOk result (λ places. (pair : Pair) → IsSeen (last_place places.items pair place.Gone)) }
         ensures needles { D.Tells → IfOk result (λ places. (pair : Pair) → HasWholeNeedle D.Piece.Tells (last_place places.items pair place.Gone)) }
         ensures volume { D.Tells → self.old.frozen ≡ false → OnErr result (D.files disk.new self.old.volume.file ≡ D.files disk.old self.old.volume.file) }
+        ensures head_file { D.Tells → self.old.frozen ≡ false → OnErr result (self.new.frozen ≡ false → D.files disk.new 0 ≡ D.files disk.old 0) }
 
         ensures causes { IfErr result (IsRunFault (D.fault_count disk.old) (D.fault_count disk.new)) }
         ensures counts { D.fault_count disk.old ≤ D.fault_count disk.new }

@@ -65,6 +65,7 @@ impl OpenFiles {
         ensures err { OnErr result (self.new ≡ record self.old { frozen = self.new.frozen }) }
         ensures froze { self.new.frozen ≡ true → result ≡ Err (ReplicaFault.Failed (D.fault_count disk.new)) }
         ensures volume { D.Tells → OnErr result (D.files disk.new self.old.volume.file ≡ D.files disk.old self.old.volume.file) }
+        ensures head_file { D.Tells → OnErr result (self.new.frozen ≡ false → D.files disk.new 0 ≡ D.files disk.old 0) }
 
         ensures none { (faults : ℕ) → result ≡ Err (ReplicaFault.Ended faults) → ⊥ }
         ensures thawed { IsErrOf result ReplicaFault.Frozen → ⊥ }

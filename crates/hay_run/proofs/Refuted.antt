@@ -56,7 +56,7 @@ use Rattle.hay_legal.specs.declared.known.HomeRow.{HomeRow}
 use Rattle.hay_directory.specs.Rows.{OpensRows}
 use Rattle.hay_directory.proofs.RowLaws.{opens_once}
 use Rattle.hay_cluster.specs.Causes.{Counts, EndsRuns, LeavesFuses}
-use Rattle.hay_cluster.specs.Leaving.{AnySlot, IsApartOn, KeepsIn, LeavesByPut, LeavesContents, MayAddRow, MayPut}
+use Rattle.hay_cluster.specs.Leaving.{AnySlot, IsApartOn, KeepsIn, LeavesByPut, LeavesByWork, LeavesContents, MayAddRow, MayPut}
 use Rattle.hay_cluster.specs.Maintenance.{IsRefusedAs}
 use Rattle.hay_cluster.specs.Needles.{AreToldAs, DeletesAsTold, FileAt, FreezesAt, IsDamagedLookOn, LacksFor, LacksPlace, MeetsNeedles, TellsDamage}
 use Rattle.hay_cluster.specs.Passing.{CauseCameUp, PassesBefore, PassesOver, StandsFor, TriesTo}
@@ -1545,33 +1545,87 @@ module _ (Tells : Type 0) (settings : Settings) (before after : Tally) (v m f j 
       omega (arith, far, low, within))
       says
 
+-- HEADS BEHIND WORK THAT FAILED
+
+module _ (Tells : Type 0) (settings : Settings) (before after : Tally) (v m by f j number : ℕ) (tells : Tells) (on : replica_on settings v m ≡ Some j) (low : v < settings.volumes)
+    (within : j < settings.replicas)
+    (other : after.contents (slot_of settings v j) 0 ≡ before.contents (slot_of settings v j) 0 → ⊥) where
+  -- the head of a replica changed behind work that failed, though its volume takes changes then
+  head_of_another : (now : VolumeSeen) → At (after.seen).volumes v now → now.frozen ≡ None
+      → LeavesByWork settings v m (Failed v by f) (after.seen).volumes before.contents after.contents → ⊥
+  head_of_another now is thawed (inr keeps) = other (keeps (slot_of settings v j) 0 (slot_below settings v j low within) tt)
+  head_of_another now is thawed (inl (may, apart, head)) = elim (head now j is thawed on) [
+    | inl compacted ↦ let wrong : Failed v by f ≡ Compacted v m compacted.0 = compacted.1 in cc
+    | inr same ↦ other same
+  ]
+
+  -- a step, a flush, and the beginning and the end of a compaction
+  pub step_failed_with_another_head : (cells : ℕ) (now : VolumeSeen) → At (after.seen).volumes v now → now.frozen ≡ None
+      → Says Tells settings before after (asks.Step v m cells) number (Failed v by f) → ⊥
+  step_failed_with_another_head cells now is thawed says = head_of_another now is thawed (contents_so Tells settings before after (asks.Step v m cells) number (Failed v by f) tells says)
+
+  pub flush_failed_with_another_head : (now : VolumeSeen) → At (after.seen).volumes v now → now.frozen ≡ None → Says Tells settings before after (asks.Flush v m) number (Failed v by f) → ⊥
+  flush_failed_with_another_head now is thawed says = head_of_another now is thawed (contents_so Tells settings before after (asks.Flush v m) number (Failed v by f) tells says)
+
+  pub begin_failed_with_another_head : (now : VolumeSeen) → At (after.seen).volumes v now → now.frozen ≡ None → Says Tells settings before after (asks.Begin v m) number (Failed v by f) → ⊥
+  begin_failed_with_another_head now is thawed says = head_of_another now is thawed (contents_so Tells settings before after (asks.Begin v m) number (Failed v by f) tells says)
+
+  pub finish_failed_with_another_head : (now : VolumeSeen) → At (after.seen).volumes v now → now.frozen ≡ None → Says Tells settings before after (asks.Finish v m) number (Failed v by f) → ⊥
+  finish_failed_with_another_head now is thawed says = head_of_another now is thawed (contents_so Tells settings before after (asks.Finish v m) number (Failed v by f) tells says)
+
+-- The end of a compaction that failed over a cell that it was to copy, whose head alone is whole, with another head of the replica behind
+-- it: whether or not that froze the volume.
+pub finish_failed_over_a_broken_body : (Tells : Type 0) (settings : Settings) (before after : Tally) (v m f j number at : ℕ) (volume now : VolumeSeen) (r : ReplicaSeen) (front : List CellHead) → Tells
+    → replica_on settings v m ≡ Some j → v < settings.volumes → j < settings.replicas → (after.contents (slot_of settings v j) 0 ≡ before.contents (slot_of settings v j) 0 → ⊥)
+    → At (before.seen).volumes v volume → volume.frozen ≡ None → At volume.replicas j r → At (after.seen).volumes v now
+    → BreaksBehind ((before.seen).places v) j r.next at (before.contents (slot_of settings v j) (volume_file r.generation)) front → at < r.end
+    → Says Tells settings before after (asks.Finish v m) number (Failed v m f) → ⊥
+finish_failed_over_a_broken_body Tells settings before after v m f j number at volume now r front tells on low within other there thawed is here breaks past says = by_freeze now.frozen refl
+  where
+    by_freeze : (o : Option ℕ) → now.frozen ≡ o → ⊥
+    by_freeze None still = finish_failed_with_another_head Tells settings before after v m m f j number tells on low within other now here still says
+    by_freeze (Some by) froze =
+        let freezes : FreezesAt v before.seen after.seen = ((volume, there, thawed), by, (now, here, froze)) in
+        finish_froze_over_a_broken_body Tells settings before after v m f j number volume r tells on there is freezes at front breaks past says
+
 -- RESTARTS OVER DAMAGED DISKS
 
--- a delete that was told as lost on a replica since its place was not looked at, though a needle of its size stands there
-pub lost_over_a_needle : (Tells : Type 0) (settings : Settings) (before after : Tally) (pick number v j at size : ℕ) (deleted : Bool) (pair : Pair) (tag : CoreTag) (text : List ℕ)
-    (old now : VolumeSeen) (r : ReplicaSeen) → Tells
-    → At (before.seen).volumes v old → old.unsure ≡ Some (record { tag = tag; change = change.Delete pair }) → j < settings.replicas
-    → At (after.seen).volumes v now → At now.replicas j r → (after.seen).places v pair j ≡ Unseen at size
-    → HasNeedleOf size deleted at (after.contents (slot_of settings v j) (volume_file r.generation)) → IsRestartText Tells settings before after (asks.Restart pick) number text → ⊥
-lost_over_a_needle Tells settings before after pick number v j at size deleted pair tag text old now r tells was pending within is there unseen has
-    (p, rows, notes, asked, large, tells_all, fits, opens, many, arms, text_is, sound) =
-    met ((sound tells).1 v j old was within)
-  where
-    file : List ℕ
-    file = after.contents (slot_of settings v j) (volume_file r.generation)
+-- What the opening found of the place of a delete that was pending is so.
+module _ (Tells : Type 0) (settings : Settings) (before after : Tally) (pick number v j : ℕ) (pair : Pair) (tag : CoreTag) (text : List ℕ) (old now : VolumeSeen) (r : ReplicaSeen) (tells : Tells)
+    (was : At (before.seen).volumes v old) (pending : old.unsure ≡ Some (record { tag = tag; change = change.Delete pair })) (within : j < settings.replicas)
+    (is : At (after.seen).volumes v now) (there : At now.replicas j r) where
+  abbrev found_in : List ℕ
+  found_in = after.contents (slot_of settings v j) (volume_file r.generation)
 
-    lacks : (u : Option Unsure) → u ≡ Some (record { tag = tag; change = change.Delete pair }) → ToldUnsure u ((after.seen).places v) j file → LacksNeedleOf size at file
-    lacks u same told =
-        subst (λ (s : Sight). IsToldPlace s file) unseen (subst (λ (w : Option Unsure). ToldUnsure w ((after.seen).places v) j file) same told)
+  place_so : IsRestartText Tells settings before after (asks.Restart pick) number text → IsToldPlace ((after.seen).places v pair j) found_in
+  place_so (p, rows, notes, asked, large, tells_all, fits, opens, many, arms, text_is, sound) = so_there ((sound tells).1 v j old was within)
+    where
+      so_pending : (u : Option Unsure) → u ≡ Some (record { tag = tag; change = change.Delete pair }) → ToldUnsure u ((after.seen).places v) j found_in
+          → IsToldPlace ((after.seen).places v pair j) found_in
+      so_pending u same told = subst (λ (w : Option Unsure). ToldUnsure w ((after.seen).places v) j found_in) same told
 
-    met : FileAt settings after.contents after.seen v j (λ o bytes. ToldUnsure old.unsure ((after.seen).places v) j bytes) → ⊥
-    met (now', is', (o, there', told)) =
-        let one : Some now' ≡ Some now = sym is' ∙ is in
-        let same : now' ≡ now = cc in
-        let two : Some o ≡ Some r = sym (subst (λ (w : VolumeSeen). At w.replicas j o) same there') ∙ there in
-        let same_replica : o ≡ r = cc in
-        lacks old.unsure pending (subst (λ (x : ReplicaSeen). ToldUnsure old.unsure ((after.seen).places v) j (after.contents (slot_of settings v j) (volume_file x.generation))) same_replica told)
-        (needle_of_cell has.cell) (cell_begins at file has.cell has.stands) has.size_is
+      so_there : FileAt settings after.contents after.seen v j (λ o bytes. ToldUnsure old.unsure ((after.seen).places v) j bytes) → IsToldPlace ((after.seen).places v pair j) found_in
+      so_there (now', is', (o, there', told)) =
+          let one : Some now' ≡ Some now = sym is' ∙ is in
+          let same : now' ≡ now = cc in
+          let two : Some o ≡ Some r = sym (subst (λ (w : VolumeSeen). At w.replicas j o) same there') ∙ there in
+          let same_replica : o ≡ r = cc in
+          so_pending old.unsure pending (subst (λ (x : ReplicaSeen). ToldUnsure old.unsure ((after.seen).places v) j
+          (after.contents (slot_of settings v j) (volume_file x.generation))) same_replica told)
+
+  -- a delete that was told as lost on a replica since its place was not looked at, though a needle of its size stands there
+  pub lost_over_a_needle : (at size : ℕ) (deleted : Bool) → (after.seen).places v pair j ≡ Unseen at size → HasNeedleOf size deleted at found_in
+      → IsRestartText Tells settings before after (asks.Restart pick) number text → ⊥
+  lost_over_a_needle at size deleted unseen has told =
+      let lacks : LacksNeedleOf size at found_in = subst (λ (s : Sight). IsToldPlace s found_in) unseen (place_so told) in
+      lacks (needle_of_cell has.cell) (cell_begins at found_in has.cell has.stands) has.size_is
+
+  -- and one since its photo was found, though the needle there is deleted, or none is there
+  pub lost_without_a_photo : (at : ℕ) → (after.seen).places v pair j ≡ Live at → ((size : ℕ) → HasNeedleOf size false at found_in → ⊥)
+      → IsRestartText Tells settings before after (asks.Restart pick) number text → ⊥
+  lost_without_a_photo at live none told =
+      let has : (size : ℕ) × HasNeedleOf size false at found_in = subst (λ (s : Sight). IsToldPlace s found_in) live (place_so told) in
+      none has.0 has.1
 
 -- OPENINGS OVER DAMAGED DISKS
 
@@ -1589,6 +1643,21 @@ found_another_end Tells settings taken sure tally v j s volume r tells low withi
         let two : Some o ≡ Some r = sym (subst (λ (w : VolumeSeen). At w.replicas j o) same is') ∙ is in
         let same_replica : o ≡ r = cc in
         other (ap (λ (x : ReplicaSeen). x.end) (sym same_replica) ∙ found.0)
+
+-- a flush, right behind the first opening, that tells of a replica another number of cells than its whole disk has without a record
+pub flushed_another_number_at_first : (Tells : Type 0) (settings : Settings) (taken : Outside) (sure : ℕ → Bool) (before after : Tally) (v m n number : ℕ) (s : WasStored) (r : ReplicaSeen) → Tells
+    → v < settings.volumes → (sees : SeesReplica settings before.seen v m r) → sees.at < settings.replicas → OpensAs (super_of settings v sees.at) (read_contents taken (slot_of settings v sees.at)) s
+    → (n ≡ length s.cells - s.records → ⊥) → BeginsAt Tells settings taken sure before → Says Tells settings before after (asks.Flush v m) number (Flushed v m n) → ⊥
+flushed_another_number_at_first Tells settings taken sure before after v m n number s r tells low sees within opens other begins says =
+    flushed_another_number Tells settings before after v m n number r sees (λ same. other (same ∙ met ((begins.reads tells).finds v sees.at s low within opens))) says
+  where
+    met : VolumeAt v (SeesAt sees.at (IsFoundAs s)) before.seen → r.bare ≡ length s.cells - s.records
+    met (volume', there', (o, is', found)) =
+        let one : Some volume' ≡ Some sees.volume = sym there' ∙ sees.there in
+        let same : volume' ≡ sees.volume = cc in
+        let two : Some o ≡ Some r = sym (subst (λ (w : VolumeSeen). At w.replicas sees.at o) same is') ∙ sees.is in
+        let same_replica : o ≡ r = cc in
+        ap (λ (x : ReplicaSeen). x.bare) (sym same_replica) ∙ found.2
 
 -- one whose Directory was whole, and that had no home then for a pair with a row
 pub homeless_with_a_row : (Tells : Type 0) (settings : Settings) (taken : Outside) (sure : ℕ → Bool) (tally : Tally) (rows : List HomeRow) (pair : Pair) (v : ℕ) → Tells

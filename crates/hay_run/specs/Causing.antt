@@ -256,7 +256,8 @@ StandsBehind Tells NotOpened settings before after last part =
 
 -- A store that was opened on these disks and arms has this tally, of just these, and an arm that was sure is sure in it. Nothing is pending
 -- or closed. A disk that was not void has what it had, and one that was is formatted, with nothing stored in it; the rows are those of the
--- Directory's disk, and of each replica whose disk was void or whole its generation is seen, and where its cells end.
+-- Directory's disk, and of each replica whose disk was void or whole its generation is seen, where its cells end, and how many have no
+-- record.
 pub record BeginsAt (Tells : Type 0) (settings : Settings) (taken : Outside) (sure : ℕ → Bool) (tally : Tally) : Type 0 where
   pub disks : length tally.counts.disks ≡ disk_count settings
   pub fused : length tally.fuses ≡ disk_count settings

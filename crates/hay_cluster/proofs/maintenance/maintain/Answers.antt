@@ -1,7 +1,8 @@
-use Rattle.std.proofs.Common.{◌≡◌, ℕ, List, None, Some, refl, sym, ap, subst, ◌∙◌, arith}
+use Rattle.std.proofs.Common.{◌≡◌, ◌⊎◌, inl, inr, ℕ, List, None, Some, refl, sym, ap, subst, ◌∙◌, arith}
 use Rattle.std.specs.Prelude.{Err, IfErr, Ok, OnErr, OnOk, Result}
 use Rattle.std.proofs.lemmas.Result.{IfErr-at_err}
-use Rattle.hay_physical.specs.OpenCopies.{Copy}
+use Rattle.hay_physical.specs.OpenCopies.{Copy, KeepsHead, contents_of}
+use Rattle.hay_physical.proofs.Views.{on_err_so}
 use Rattle.hay_logical.specs.Volumes.{Volume}
 use Rattle.hay_cluster.specs.declared.maintenance.Maintenance.{Maintenance}
 use Rattle.std.specs.Prelude.{IfOk}
@@ -17,7 +18,7 @@ use Rattle.hay_logical.specs.Seen.{ReplicaSeen, begun, replica_seen}
 use Rattle.hay_logical.specs.declared.fault.LogicalFault.{LogicalFault}
 use Rattle.hay_logical.specs.declared.fault.LogicalFault.TheVariants as refusal
 use Rattle.hay_cluster.specs.declared.maintenance.Maintenance.TheVariants.{Flush, Begin, Step, Finish, Compact}
-use Rattle.hay_cluster.specs.Maintenance.{MayWantMemory}
+use Rattle.hay_cluster.specs.Maintenance.{HasSwapped, MayWantMemory}
 use Rattle.hay_cluster.specs.Needles.{LacksWork, LeadsPart, LeadsSwap, LeadsWork}
 use Rattle.hay_cluster.proofs.maintenance.maintain.Goals as goal
 
@@ -46,6 +47,15 @@ if_ok_by (Err e) Q P makes q = tt
 if_err_made : {T E : Type 0} (r : Result T E) (P : E → Type 0) → ((e : E) → r ≡ Err e → P e) → IfErr r P
 if_err_made (Ok x) P makes = tt
 if_err_made (Err e) P makes = makes e refl
+
+-- the files were swapped, or this is so
+finished_or : (r : Result ℕ LogicalFault) (Q : Type 0) → OnErr r Q → HasSwapped Finish r ⊎ Q
+finished_or (Ok n) Q q = inl tt
+finished_or (Err fault) Q q = inr q
+
+compacted_or : (r : Result ℕ LogicalFault) (Q : Type 0) → OnErr r Q → HasSwapped Compact r ⊎ Q
+compacted_or (Ok n) Q q = inl tt
+compacted_or (Err fault) Q q = inr q
 
 -- work that examined nothing
 none_led : (sights : Sights) (j : ℕ) (work : Maintenance) (r : ReplicaSeen) (file : List ℕ) → LeadsPart sights j work r r file
@@ -328,3 +338,25 @@ pub returns-in-Compact-clause-froze : goal.returns-in-Compact-clause-froze
 returns-in-Compact-clause-froze g c = λ tells thawed m e r was.
     subst (λ (work : Maintenance). LeadsSwap (sights_of (c.args.volume.now).rows) c.args.replica work (replica_seen r) (volume_bytes g.D.Disk.files r)) (sym c.in-Compact.is)
     (c.compact.ensures.froze tells thawed m e r was)
+
+pub returns-in-Some-clause-head_file : goal.returns-in-Some-clause-head_file
+returns-in-Some-clause-head_file g c = λ tells thawed r r' was now. inr (ap (λ (x : Copy g.row.D.Denot). contents_of g.D.Disk.files x.disk 0) (one_copy r r' (sym was ∙ now)))
+
+pub returns-in-Flush-clause-head_file : goal.returns-in-Flush-clause-head_file
+returns-in-Flush-clause-head_file g c = λ tells thawed r r' was now. inr (c.flush.ensures.head_file tells r r' was now)
+
+pub returns-in-Begin-clause-head_file : goal.returns-in-Begin-clause-head_file
+returns-in-Begin-clause-head_file g c = λ tells thawed r r' was now. inr (c.begin.ensures.head_file tells r r' was now)
+
+pub returns-in-Step-clause-head_file : goal.returns-in-Step-clause-head_file
+returns-in-Step-clause-head_file g c = λ tells thawed r r' was now. inr (c.step.ensures.head_file tells r r' was now)
+
+pub returns-in-Finish-clause-head_file : goal.returns-in-Finish-clause-head_file
+returns-in-Finish-clause-head_file g c = λ tells thawed r r' was now.
+    subst (λ (work : Maintenance). HasSwapped work c.finish.result ⊎ KeepsHead g.D.Disk.files r r') (sym c.in-Finish.is)
+    (finished_or c.finish.result (KeepsHead g.D.Disk.files r r') (on_err_so c.finish.result _ _ (λ head. head thawed r r' was now) (c.finish.ensures.head_file tells)))
+
+pub returns-in-Compact-clause-head_file : goal.returns-in-Compact-clause-head_file
+returns-in-Compact-clause-head_file g c = λ tells thawed r r' was now.
+    subst (λ (work : Maintenance). HasSwapped work c.compact.result ⊎ KeepsHead g.D.Disk.files r r') (sym c.in-Compact.is)
+    (compacted_or c.compact.result (KeepsHead g.D.Disk.files r r') (on_err_so c.compact.result _ _ (λ head. head thawed r r' was now) (c.compact.ensures.head_file tells)))

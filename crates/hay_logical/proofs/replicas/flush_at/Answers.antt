@@ -37,6 +37,7 @@ returns-clause-flushes g c = λ r r' e f.
       not_stuck = not_stuck_before here c.flush.new.self c.flush.result c.flush.ensures.frozen;
       tried = c.flush.ensures.tried;
       reach = λ tells. record { deletes = c.flush.ensures.deletes tells; sees = c.flush.ensures.sees tells };
+      head = c.flush.ensures.head_file;
     } in
     subst (λ x. FlushesAt g.D.Disk.Tells g.D.Disk.files g.D.Disk.fault_count x r' c.flush.result) (sym same.0)
     (subst (λ x. FlushesAt g.D.Disk.Tells g.D.Disk.files g.D.Disk.fault_count here x c.flush.result) (sym same.1) step)

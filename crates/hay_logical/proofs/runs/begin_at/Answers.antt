@@ -28,7 +28,7 @@ returns-clause-begins g c = λ r r' e f.
     let began : BeginsAt g.D.Disk.Tells g.D.Disk.files g.D.Disk.fault_count here c.begin.new.self c.begin.result =
     begins g.D.Disk.Tells g.D.Disk.files g.D.Disk.fault_count here c.begin.new.self c.begin.result
     (c.requires.up c.args.at here there) b.«open» b.same b.sup b.stuck b.stands
-    (λ tells. record { deletes = b.deletes tells; sees = b.sees tells }) b.busy b.worn b.thawed b.idle b.most b.last b.begun b.goal b.kept b.causes in
+    (λ tells. record { deletes = b.deletes tells; sees = b.sees tells }) b.head_file b.busy b.worn b.thawed b.idle b.most b.last b.begun b.goal b.kept b.causes in
     subst (λ x. BeginsAt g.D.Disk.Tells g.D.Disk.files g.D.Disk.fault_count x r' c.begin.result) (sym same.0)
     (subst (λ x. BeginsAt g.D.Disk.Tells g.D.Disk.files g.D.Disk.fault_count here x c.begin.result) (sym same.1) began)
 
@@ -47,7 +47,7 @@ returns-clause-seen g c = λ r r' e f.
     let began : BeginsAt g.D.Disk.Tells g.D.Disk.files g.D.Disk.fault_count here c.begin.new.self c.begin.result =
     begins g.D.Disk.Tells g.D.Disk.files g.D.Disk.fault_count here c.begin.new.self c.begin.result
     (c.requires.up c.args.at here there) b.«open» b.same b.sup b.stuck b.stands
-    (λ tells. record { deletes = b.deletes tells; sees = b.sees tells }) b.busy b.worn b.thawed b.idle b.most b.last b.begun b.goal b.kept b.causes in
+    (λ tells. record { deletes = b.deletes tells; sees = b.sees tells }) b.head_file b.busy b.worn b.thawed b.idle b.most b.last b.begun b.goal b.kept b.causes in
     subst (λ x. IfOk c.begin.result (λ goal. BeginsTo goal (replica_seen x) (replica_seen r'))) (sym same.0)
     (subst (λ x. IfOk c.begin.result (λ goal. BeginsTo goal (replica_seen here) (replica_seen x))) (sym same.1)
     (begin_seen g.D.Disk.Tells g.D.Disk.files g.D.Disk.fault_count here c.begin.new.self c.begin.result began b.goal b.first (run_changed here c.begin.new.self b.stays b.stuck b.bare)))

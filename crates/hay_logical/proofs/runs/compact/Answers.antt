@@ -22,7 +22,7 @@ begun : (g : given.Over) (c : After-begin g) → BeginsAt g.D.Disk.Tells g.D.Dis
 begun g c =
     let e = c.begin.ensures in
     begins g.D.Disk.Tells g.D.Disk.files g.D.Disk.fault_count c.args.replica.now c.begin.new.self c.begin.result c.requires.up e.«open» e.same e.sup e.stuck e.stands
-    (λ tells. record { deletes = e.deletes tells; sees = e.sees tells })
+    (λ tells. record { deletes = e.deletes tells; sees = e.sees tells }) e.head_file
     e.busy e.worn e.thawed e.idle e.most e.last e.begun e.goal e.kept e.causes
 
 pub returns-in-Ok-clause-swaps : goal.returns-in-Ok-clause-swaps
@@ -69,6 +69,7 @@ returns-in-Err-clause-swaps g c =
           (λ e. began.last tells s stands (ap Err e)) began.cause;
       reach = λ tells reach.
           reaches_on g.D.Disk.files c.args.rows.now c.args.rows.now c.args.at r x (λ u. c.requires.up) (λ u. up_open r c.requires.up) (began.on.reach tells) (λ pair. refl) reach;
+      head = λ tells up. began.on.head tells;
     }
 
 pub returns-in-Err-clause-places : goal.returns-in-Err-clause-places

@@ -30,6 +30,7 @@ peeked g c = record {
   stuck = c.peek.ensures.stuck;
   stands = c.peek.ensures.stands;
   reach = λ tells. record { deletes = c.peek.ensures.deletes tells; sees = c.peek.ensures.sees tells };
+  head = c.peek.ensures.head_file;
 }
 
 copied : (g : given.Over) (c : goal.After-copy g) → GoesOn g.D.Disk.Tells g.D.Disk.files c.peek.new.self c.copy.new.self
@@ -39,6 +40,7 @@ copied g c = record {
   stuck = c.copy.ensures.stuck;
   stands = c.copy.ensures.stands;
   reach = λ tells. record { deletes = c.copy.ensures.deletes tells; sees = c.copy.ensures.sees tells };
+  head = c.copy.ensures.head_file;
 }
 
 pub returns-in-Ok-None-clause-examines : goal.returns-in-Ok-None-clause-examines

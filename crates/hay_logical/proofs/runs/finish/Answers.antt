@@ -15,7 +15,7 @@ use Rattle.hay_logical.specs.Needles.{LacksCell}
 use Rattle.hay_logical.specs.Sights.{sights_of}
 use Rattle.hay_logical.proofs.Damages.{heads_all}
 use Rattle.hay_physical.proofs.Looks.{always_ok}
-use Rattle.hay_physical.specs.OpenCopies.{volume_bytes}
+use Rattle.hay_physical.specs.OpenCopies.{contents_of, volume_bytes}
 use Rattle.hay_logical.specs.Seen.{ReplicaSeen, StepsTo, replica_seen}
 use Rattle.std.proofs.Common.{ap}
 use Rattle.hay_logical.proofs.runs.finish.Goals as goal
@@ -74,6 +74,7 @@ returns-in-Err-clause-swaps g c =
       reach = λ tells reach.
           reaches_on g.D.Disk.files c.args.rows.now c.args.rows.now c.args.at r y (λ u. c.requires.up) (λ u. up_open r c.requires.up)
           (dropped g (goal.at.returns-in-Err-clause-swaps g c).After-drop_run tells) (λ pair. refl) reach;
+      head = λ tells still. ap (λ d. contents_of g.D.Disk.files d 0) c.drop_run.ensures.disk ∙ on.head tells;
     }
 
 pub returns-in-Err-clause-places : goal.returns-in-Err-clause-places

@@ -60,6 +60,7 @@ returns-in-Ok-clause-swaps g c =
       reach =
           λ tells reach. reach_swapped g.D.Piece.Piece.Tells c.args.rows.now c.swap.new.self c.args.at c.in-Ok.places.items photos changed g.D.Disk.files x
           (c.in-Ok.ensures.can_delete tells) (c.in-Ok.ensures.needles tells);
+      head = λ tells. tt;
     }
 
 pub returns-in-Ok-clause-places : goal.returns-in-Ok-clause-places
@@ -118,6 +119,7 @@ returns-in-Err-clause-swaps g c =
                   | inr made ↦ (made.1.0, made.1.1, made.1.3)
                 ]);
             reach = stays;
+            head = λ tells up. absurd (not_both x up frozen);
           }
       | inr thawed ↦
           let up = open_up x c.finish.ensures.«open» thawed in
@@ -137,6 +139,7 @@ returns-in-Err-clause-swaps g c =
                 subst (λ u. HoldsUnswapped g.D.Disk.files r x s run u) (sym is)
                 (refused_holds g.D.Disk.files g.D.Disk.fault_count r x s run c.in-Err.fault c.in-Err.ensures.causes (c.in-Err.ensures.kept tells s stands up) c.in-Err.ensures.still.0);
             reach = stays;
+            head = λ tells. c.in-Err.ensures.head_file tells;
           }
     ]
 

@@ -110,7 +110,7 @@ loop-at-preserved g c =
       told =
           λ tells. told_on T files g.D.Piece.Piece.Tells faults g.D.Disk.fuse_count c.args.replicas.now c.loop-at.replicas c.args.rows.now c.loop-at.rows c.loop-at.invariant.looks
           c.see_at.new.replicas c.see_at.new.rows c.loop-at.at c.args.pair c.see_at.result one sights c.see_at.ensures.row c.see_at.ensures.counts tells only
-          (c.see_at.ensures.told tells) (c.loop-at.invariant.told tells);
+          (c.see_at.ensures.told tells) ((c.loop-at.invariant.drawn tells).places c.loop-at.at (let here : c.loop-at.at ≤ c.loop-at.at = omega arith in here)) (c.loop-at.invariant.told tells);
     }
 
 pub returns-clause-looks : goal.returns-clause-looks

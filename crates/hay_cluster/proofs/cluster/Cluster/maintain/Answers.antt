@@ -1,5 +1,5 @@
 use Rattle.std.proofs.Common.{◌≡◌, ◌<◌, None, Some, refl, sym, ap, subst, ◌∙◌, inl, inr}
-use Rattle.std.specs.Prelude.{Err}
+use Rattle.std.specs.Prelude.{Err, Ok}
 use Rattle.std.proofs.lemmas.Option.{same_Some}
 use Rattle.std.proofs.lemmas.Result.{IfErr-at_err, IfOk-at_ok}
 use Rattle.hay_logical.specs.declared.fault.LogicalFault.TheVariants as refusal
@@ -11,7 +11,7 @@ use Rattle.hay_cluster.proofs.Needling.{done_number, done_undamaged, memory_undo
 use Rattle.hay_needle.specs.declared.settings.Settings.{Settings}
 use Rattle.hay_reply.specs.declared.Reply.{Reply}
 use Rattle.hay_legal.specs.Known.{replica_on}
-use Rattle.hay_cluster.specs.Maintenance.{MayWantMemory, command_of}
+use Rattle.hay_cluster.specs.Maintenance.{MayWantMemory, command_of, done_as}
 use Rattle.hay_cluster.specs.State.{Answered}
 use Rattle.hay_cluster.specs.Store.{Open, contents_in, disks_of}
 use Rattle.hay_cluster.proofs.Maintaining.{maintained, not_maintained, nowhere}
@@ -19,7 +19,7 @@ use Rattle.hay_cluster.proofs.Suiting.{done_suits, memory_suits, nowhere_suits, 
 use Rattle.hay_cluster.specs.Causes.{RefusesOn}
 use Rattle.hay_cluster.proofs.Changing.{replica_machine}
 use Rattle.hay_cluster.specs.Leaving.{AnySlot, IsApart, IsApartOn}
-use Rattle.hay_cluster.proofs.Leaving.{done_leaves, keeps-all, leaves-fewer, leaves_contents, refused_leaves}
+use Rattle.hay_cluster.proofs.Leaving.{done_leaves, head_leaves, keeps-all, leaves-fewer, leaves_contents, refused_leaves}
 use Rattle.hay_cluster.specs.Seen.{store_seen}
 use Rattle.hay_cluster.proofs.Seeing.{keeps_all}
 use Rattle.hay_cluster.proofs.Sighting.{keeps_photos, unworked_sights, worked_sights}
@@ -98,8 +98,13 @@ returns-in-Ok-clause-contents g c = λ tells.
     let apart = leaves_contents g.D.Disk.files (c.args.self.now).settings (IsApartOn (c.args.self.now).settings c.args.volume c.args.machine) c.args.self.now c.maintain_in.new.self
     (leaves-fewer (IsApart (c.args.self.now).settings c.args.volume c.in-Some.replica) (IsApartOn (c.args.self.now).settings c.args.volume c.args.machine)
     (disks_of c.args.self.now) (disks_of c.maintain_in.new.self) (λ slot far. far c.in-Some.replica there) c.maintain_in.ensures.others) in
-    done_leaves (c.args.self.now).settings c.args.volume c.args.machine (contents_in g.D.Disk.files c.args.self.now) (contents_in g.D.Disk.files c.maintain_in.new.self) c.args.work
-    c.in-Ok.number c.done.result c.done.ensures.is apart
+    let old = contents_in g.D.Disk.files c.args.self.now in
+    let new = contents_in g.D.Disk.files c.maintain_in.new.self in
+    let after = (store_seen c.maintain_in.new.self).volumes in
+    let head = head_leaves (c.args.self.now).settings c.args.volume c.args.machine old new c.args.work c.maintain_in.result c.done.result after c.in-Some.replica there
+    (λ n is. let one : c.in-Ok.number ≡ n = (let both = sym c.in-Ok.is ∙ is in cc) in c.done.ensures.is ∙ ap (done_as c.args.volume c.args.machine c.args.work) one)
+    (λ volume at thawed. c.maintain_in.ensures.head_file tells (volume, at, thawed)) in
+    done_leaves (c.args.self.now).settings c.args.volume c.args.machine old new c.args.work c.in-Ok.number c.done.result after c.done.ensures.is apart head
 
 pub returns-in-Err-clause-contents : goal.returns-in-Err-clause-contents
 returns-in-Err-clause-contents g c = λ tells.
@@ -109,8 +114,13 @@ returns-in-Err-clause-contents g c = λ tells.
     let apart = leaves_contents g.D.Disk.files (c.args.self.now).settings (IsApartOn (c.args.self.now).settings c.args.volume c.args.machine) c.args.self.now c.maintain_in.new.self
     (leaves-fewer (IsApart (c.args.self.now).settings c.args.volume c.in-Some.replica) (IsApartOn (c.args.self.now).settings c.args.volume c.args.machine)
     (disks_of c.args.self.now) (disks_of c.maintain_in.new.self) (λ slot far. far c.in-Some.replica there) c.maintain_in.ensures.others) in
-    refused_leaves (c.args.self.now).settings c.args.volume c.args.machine (contents_in g.D.Disk.files c.args.self.now) (contents_in g.D.Disk.files c.maintain_in.new.self)
-    c.in-Err.fault c.refused.result c.refused.ensures.is apart (IfErr-at_err _ c.in-Err.is (c.maintain_in.ensures.kept tells))
+    let old = contents_in g.D.Disk.files c.args.self.now in
+    let new = contents_in g.D.Disk.files c.maintain_in.new.self in
+    let after = (store_seen c.maintain_in.new.self).volumes in
+    let head = head_leaves (c.args.self.now).settings c.args.volume c.args.machine old new c.args.work c.maintain_in.result c.refused.result after c.in-Some.replica there
+    (λ n is. let both : Err c.in-Err.fault ≡ Ok n = sym c.in-Err.is ∙ is in absurd cc) (λ volume at thawed. c.maintain_in.ensures.head_file tells (volume, at, thawed)) in
+    refused_leaves (c.args.self.now).settings c.args.volume c.args.machine old new c.in-Err.fault c.refused.result after c.refused.ensures.is apart head
+    (IfErr-at_err _ c.in-Err.is (c.maintain_in.ensures.kept tells))
 
 pub returns-in_default-clause-seen : goal.returns-in_default-clause-seen
 returns-in_default-clause-seen g c =

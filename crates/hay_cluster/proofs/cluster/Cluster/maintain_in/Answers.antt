@@ -1,19 +1,20 @@
-use Rattle.std.proofs.Common.{◌≡◌, ◌<◌, ℕ, List, None, Some, ap, length, refl, sym, subst, ◌∙◌, arith}
+use Rattle.std.proofs.Common.{◌≡◌, ◌⊎◌, ◌<◌, ℕ, List, None, Some, ap, length, refl, sym, subst, ◌∙◌, arith}
 use Rattle.std.specs.Prelude.{Result, Ok, Err, slice_index_or, slice_set, IfErr, IfOk}
 use Rattle.std.proofs.lemmas.List.{with_items_is}
 use Rattle.std.proofs.lemmas.Option.{same_Some, slice_get_within}
 use Rattle.std.proofs.lemmas.Result.{IfErr-at_err, IfErr-weaker, IfOk-at_ok, on_ok_weaker, on_err_weaker}
 use borrow.Author.Rules.{scaled_Fits}
 use Rattle.hay_needle.specs.declared.settings.Settings.{Settings}
+use Rattle.hay_legal.specs.Known.{slot_of}
 use Rattle.hay_logical.specs.Fits.{At}
 use Rattle.hay_logical.specs.Volumes.{Volume}
 use Rattle.hay_logical.proofs.Lists.{at_read}
 use Rattle.hay_cluster.specs.Store.{Open, disks_of, contents_in}
 use Rattle.hay_cluster.proofs.Calls.{called_open, called_up, replica_cause}
 use Rattle.hay_cluster.proofs.Lists.{length-set, map-at, slice_get-set}
-use Rattle.hay_cluster.proofs.Needling.{file_on}
+use Rattle.hay_cluster.proofs.Needling.{file_on, head_on}
 use Rattle.hay_cluster.specs.Needles.{FreezesAt, LacksWork, LeadsPart, LeadsSwap, LeadsWork}
-use Rattle.hay_cluster.specs.Maintenance.{MayWantMemory}
+use Rattle.hay_cluster.specs.Maintenance.{HasSwapped, MayWantMemory}
 use Rattle.hay_logical.specs.Sights.{Sights, sights_of}
 use Rattle.hay_cluster.proofs.ClosingStore.{order_item}
 use Rattle.hay_cluster.proofs.Moves.{Called, called_fuses, called_later, called_shape, in_volume, volume_of, with_one}
@@ -468,3 +469,36 @@ returns-clause-froze g c = λ tells freezes.
     (LeadsSwap ((store_seen c.args.self.now).places c.args.volume) c.args.replica c.args.work) c.args.replica c.requires.replica
     (λ r there. subst (λ (sights : Sights). LeadsSwap sights c.args.replica c.args.work (replica_seen r) (volume_bytes g.D.Disk.files r)) (sym seen)
     (c.maintain.ensures.froze tells thawed froze.1 frozen r there))
+
+pub returns-clause-head_file : goal.returns-clause-head_file
+returns-clause-head_file g c = λ tells.
+    let store : Open g.row.D.Denot g.row.D-Piece.Denot g.row.A.Denot = record {
+      settings = c.self.inside.settings;
+      directory = c.self.inside.directory;
+      volumes = c.self.inside.volumes.items;
+      arms = c.self.inside.seats.items;
+    } in
+    let within : c.args.volume < length c.self.inside.volumes.items =
+    let same = ap (λ (st : Open g.row.D.Denot g.row.D-Piece.Denot g.row.A.Denot). (st.settings).volumes) c.self.view_is in omega (arith, c.requires.volume, c.self.invariant.many, same) in
+    let volume : Volume g.row.D.Denot g.row.D-Piece.Denot = slice_index_or c.as_mut_slice.result.now c.args.volume c.index-as_mut_slice-volume.result in
+    let at : At store.volumes c.args.volume volume = subst (λ (vs : List (Volume g.row.D.Denot g.row.D-Piece.Denot)). At vs c.args.volume volume) c.as_mut_slice.ensures.value
+    (at_read c.as_mut_slice.result.now c.args.volume c.index-as_mut_slice-volume.result (let long = ap length c.as_mut_slice.ensures.value in omega (arith, within, long))) in
+    let items =
+    with_items_is c.self.inside.volumes (slice_set c.as_mut_slice.result.now c.args.volume c.maintain.new.volume)
+    (length-set c.as_mut_slice.result.now c.args.volume c.maintain.new.volume ∙ c.as_mut_slice.ensures.len)
+    ∙ ap (λ (vs : List (Volume g.row.D.Denot g.row.D-Piece.Denot)). slice_set vs c.args.volume c.maintain.new.volume) c.as_mut_slice.ensures.value in
+    let after = c.maintain.new.volume in
+    let next : Open g.row.D.Denot g.row.D-Piece.Denot g.row.A.Denot = with_one store c.args.volume after in
+    let called : Called g.D.Disk.fault_count g.D.Disk.fuse_count store c.args.volume volume after = record { at = at; same = c.maintain.ensures.same; counts = c.maintain.ensures.counts } in
+    let shaped = called_shape g.D.Disk.fault_count g.D.Disk.fuse_count store c.args.volume volume after c.self.invariant called in
+    let now : At (store_seen next).volumes c.args.volume (volume_seen after) =
+    map-at volume_seen (slice_set store.volumes c.args.volume after) c.args.volume after (slice_get-set store.volumes c.args.volume volume after at) in
+    let settings = (c.args.self.now).settings in
+    subst (λ (vs : List (Volume g.row.D.Denot g.row.D-Piece.Denot)). let st : Open g.row.D.Denot g.row.D-Piece.Denot g.row.A.Denot = record store { volumes = vs } in
+    VolumeAt c.args.volume (λ (seen : VolumeSeen). seen.frozen ≡ None) (store_seen st) → HasSwapped c.args.work c.maintain.result
+    ⊎ (contents_in g.D.Disk.files st (slot_of settings c.args.volume c.args.replica) 0 ≡ contents_in g.D.Disk.files c.args.self.now (slot_of settings c.args.volume c.args.replica) 0)) (sym items)
+    (λ thawed.
+    let none : after.frozen ≡ None = ap (λ (w : VolumeSeen). w.frozen) (same_Some (volume_seen after) thawed.0 (sym now ∙ thawed.1)) ∙ thawed.2 in
+    head_on g.D.Disk.files c.args.self.now store c.self.view_is c.self.invariant c.args.volume volume at (HasSwapped c.args.work c.maintain.result) after c.args.replica
+    c.requires.replica shaped (c.maintain.ensures.counts).count
+    (c.maintain.ensures.head_file tells none))

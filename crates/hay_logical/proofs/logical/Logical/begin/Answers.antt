@@ -2,7 +2,7 @@ use Rattle.std.proofs.Common.{◌≡◌, ◌<◌, ℕ, length, Ok, Err, refl, sy
 use Rattle.std.specs.Prelude.{IfErr, IfOk}
 use Rattle.std.specs.Vec.{with_items}
 use Rattle.std.proofs.lemmas.List.{with_items_is}
-use Rattle.hay_physical.specs.OpenCopies.{Copy, IsUp}
+use Rattle.hay_physical.specs.OpenCopies.{Copy, IsUp, contents_of}
 use Rattle.hay_logical.specs.Answers.{BeginRefused, IsBegun}
 use Rattle.hay_logical.specs.Answers as answers
 use Rattle.hay_logical.specs.Fits.{At}
@@ -380,3 +380,14 @@ returns-clause-refused_seen g c =
           c.self.inside.frozen c.self.inside.unsure one c.args.self.now c.self.view_is (with_items c.self.inside.replicas c.begin_at.new.replicas).items kept
           (subst (λ x. OnErr x (replica_seen one.after ≡ replica_seen one.before)) w.in-Err.is (c.begin_at.ensures.kept one.before one.after was there))) w.in-Err.fault left.cause))
     ]
+
+pub returns-in-Some-clause-head_file : goal.returns-in-Some-clause-head_file
+returns-in-Some-clause-head_file g c = λ tells r r' e f. ap (λ (x : Copy g.row.D.Denot). contents_of g.D.Disk.files x.disk 0) (at_same c.args.self.now.replicas c.args.replica r' r f e)
+
+pub returns-clause-head_file : goal.returns-clause-head_file
+returns-clause-head_file g c = λ tells r r' e f.
+    let now = c.as_mut_slice.ensures.value in
+    let kept = with_items_is c.self.inside.replicas c.begin_at.new.replicas (c.begin_at.auto.replicas ∙ c.as_mut_slice.ensures.len) in
+    let was : At c.as_mut_slice.result.now c.args.replica r = subst (λ xs. At xs c.args.replica r) (sym now) (subst (λ v. At v.replicas c.args.replica r) (sym c.self.view_is) e) in
+    let there : At c.begin_at.new.replicas c.args.replica r' = subst (λ xs. At xs c.args.replica r') kept f in
+    ((c.begin_at.ensures.begins r r' was there).on).head tells

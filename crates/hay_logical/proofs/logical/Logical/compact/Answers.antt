@@ -3,10 +3,12 @@ use Rattle.std.proofs.lemmas.Result.{err_from_is_err_and}
 use Rattle.hay_logical.specs.declared.fault.LogicalFault.{LogicalFault}
 use Rattle.hay_logical.specs.declared.fault.LogicalFault.TheVariants.{Damaged, ReadOnly}
 use Rattle.std.proofs.Common.{subst}
-use Rattle.std.specs.Prelude.{IfErr}
+use Rattle.std.specs.Prelude.{IfErr, None}
 use Rattle.hay_logical.specs.Seen.{CompactRefusedSeen, VolumeSeen, volume_seen}
 use Rattle.std.specs.Prelude.{OnErr}
 use Rattle.hay_logical.specs.Sights.{KeepsSights, sights_of}
+use Rattle.hay_physical.specs.OpenCopies.{Copy, KeepsHead}
+use Rattle.hay_logical.specs.Fits.{At}
 use Rattle.hay_logical.proofs.logical.Logical.compact.Goals as goal
 
 pub returns-in_err-files-clause-frozen : goal.returns-in_err-files-clause-frozen
@@ -48,3 +50,10 @@ returns-in_err-files-clause-damaged g c = λ tells m place e.
     let fault = err_from_is_err_and c.from_residual.result c.from_residual.ensures.1 in
     let same : c.in_err-files.field-0.0 ≡ Damaged m place = (let both = sym fault.1 ∙ e in let is = fault.2 in cc) in
     c.compact_files.ensures.damaged tells m place (c.in_err-files.was ∙ ap (λ (f : LogicalFault). Err f) same)
+
+pub returns-in_err-files-clause-head_file : goal.returns-in_err-files-clause-head_file
+returns-in_err-files-clause-head_file g c = λ tells.
+    let fault = err_from_is_err_and c.from_residual.result c.from_residual.ensures.1 in
+    subst (λ r. OnErr r (c.compact_files.new.self.frozen ≡ None → (x x' : Copy g.row.D.Denot) → At c.args.self.now.replicas c.args.replica x
+    → At c.compact_files.new.self.replicas c.args.replica x' → KeepsHead g.D.Disk.files x x')) (sym fault.1)
+    (c.in_err-files.ensures.head_file tells)

@@ -3,7 +3,7 @@ use Rattle.std.specs.Vec.{with_items}
 use Rattle.std.proofs.lemmas.List.{with_items_is}
 use Rattle.hay_map.specs.Rows.{ChangesRows, row_at}
 use Rattle.hay_map.specs.declared.view.MapOp.TheVariants as op
-use Rattle.hay_physical.specs.OpenCopies.{Copy, IsUp, end_of, is_stuck, volume_bytes}
+use Rattle.hay_physical.specs.OpenCopies.{Copy, IsUp, contents_of, end_of, is_stuck, volume_bytes}
 use Rattle.hay_logical.specs.Answers.{CompactRefused, HasSizes, IsCompacted}
 use Rattle.hay_logical.specs.Answers as answers
 use Rattle.hay_logical.specs.Fits.{At}
@@ -18,7 +18,7 @@ use Rattle.hay_logical.proofs.Lists.{at_same}
 use Rattle.hay_logical.proofs.Methods.{same_by}
 use Rattle.hay_logical.proofs.Standing.{volume_with}
 use Rattle.hay_logical.proofs.Swapping.{rows_stay}
-use Rattle.hay_logical.proofs.SwapShapes.{SwapCall, called_each, called_open, called_reach, called_shaped, called_stuck, called_up, called_with}
+use Rattle.hay_logical.proofs.SwapShapes.{SwapCall, called_each, called_head, called_open, called_reach, called_shaped, called_stuck, called_up, called_with}
 use Rattle.hay_logical.specs.Volumes.{IsMachineOf, Volume}
 use Rattle.hay_logical.specs.declared.refusals.Unfinished.{Unfinished}
 use Rattle.hay_logical.proofs.Untouched.{called_thawed, called_untouched}
@@ -400,3 +400,13 @@ returns-in-Err-clause-froze g c = λ tells thawed m e r there.
     subst (λ v. HeadsLeadOn (sights_of v.rows) c.args.replica (begun (replica_seen r)) (volume_bytes g.D.Disk.files r)) c.self.view_is
     (c.compact_at.ensures.unsure tells by.0 (c.in-Err.is ∙ ap (λ (u : Unswapped). Err u) by.1) r
     (subst (λ xs. At xs c.args.replica r) (sym c.as_mut_slice.ensures.value) (subst (λ v. At v.replicas c.args.replica r) (sym c.self.view_is) there)))
+
+pub returns-in-Some-clause-head_file : goal.returns-in-Some-clause-head_file
+returns-in-Some-clause-head_file g c = λ tells none r r' e f. ap (λ (x : Copy g.row.D.Denot). contents_of g.D.Disk.files x.disk 0) (at_same c.args.self.now.replicas c.args.replica r' r f e)
+
+pub returns-in-Err-clause-head_file : goal.returns-in-Err-clause-head_file
+returns-in-Err-clause-head_file g c = λ tells none r r' e f.
+    let after = (goal.at.returns-in-Err-clause-head_file g c).After-compact_at in
+    let call = called_with c.in-Err.is (called g after) in
+    let up = called_up c.self.inside.settings c.self.inside.number c.in-Err.unswapped call (ap (λ x. x.frozen) (sym c.unfinished_by-unfinished.ensures) ∙ none) in
+    called_head c.in-Err.unswapped call tells up r r' (subst (λ v. At v.replicas c.args.replica r) (sym c.self.view_is) e) (subst (λ xs. At xs c.args.replica r') (kept g after) f)

@@ -3,7 +3,7 @@ use Rattle.std.specs.Prelude.{IfErr, IfOk, OnErr, OnOk, false}
 use Rattle.std.specs.Vec.{with_items}
 use Rattle.std.proofs.lemmas.List.{with_items_is}
 use Rattle.hay_legal.specs.Known.{machine_of}
-use Rattle.hay_physical.specs.OpenCopies.{Copy, IsUp, is_stuck}
+use Rattle.hay_physical.specs.OpenCopies.{Copy, IsUp, contents_of, is_stuck}
 use Rattle.hay_logical.specs.Answers.{DeleteRefused, FlushRefused, HasFailed, IsDeleted, IsFlushed, IsPut, PutRefused}
 use Rattle.hay_logical.specs.Answers as answers
 use Rattle.hay_logical.specs.Fits.{At}
@@ -364,3 +364,14 @@ returns-clause-refused_seen g c =
           (with_items c.self.inside.replicas c.flush_at.new.replicas).items kept
           (loose, sticks ∙ ap (λ b. record (replica_seen one.before) { stuck = b }) stuck, left.tried printed failed))))
     ]
+
+pub returns-in-Some-clause-head_file : goal.returns-in-Some-clause-head_file
+returns-in-Some-clause-head_file g c = λ tells r r' e f. ap (λ (x : Copy g.row.D.Denot). contents_of g.D.Disk.files x.disk 0) (at_same c.args.self.now.replicas c.args.replica r' r f e)
+
+pub returns-clause-head_file : goal.returns-clause-head_file
+returns-clause-head_file g c = λ tells r r' e f.
+    let now = c.as_mut_slice.ensures.value in
+    let kept = with_items_is c.self.inside.replicas c.flush_at.new.replicas (c.flush_at.auto.replicas ∙ c.as_mut_slice.ensures.len) in
+    let was : At c.as_mut_slice.result.now c.args.replica r = subst (λ xs. At xs c.args.replica r) (sym now) (subst (λ v. At v.replicas c.args.replica r) (sym c.self.view_is) e) in
+    let there : At c.flush_at.new.replicas c.args.replica r' = subst (λ xs. At xs c.args.replica r') kept f in
+    (c.flush_at.ensures.flushes r r' was there).head tells

@@ -20,7 +20,7 @@ use Rattle.std.specs.Prelude.{map}
 use Rattle.hay_logical.specs.Seen.{IsFresh, ReplicaSeen, replica_seen}
 use Rattle.hay_logical.specs.Sights.{LiesWithinAt, sights_of}
 use Rattle.std.specs.Vec.{with_items}
-use Rattle.hay_physical.proofs.Laws.{no_next, stands_end, stands_generation}
+use Rattle.hay_physical.proofs.Laws.{no_next, stands_bare, stands_end, stands_generation}
 use Rattle.hay_logical.proofs.Seen.{map_at}
 use Rattle.hay_logical.proofs.logical.Logical.open.Goals as goal
 
@@ -412,4 +412,4 @@ returns-clause-finds g c = λ tells j r r' s there here opens.
     let kept = with_items_is c.self.inside.replicas c.open_all.new.replicas (c.open_all.auto.replicas ∙ c.as_mut_slice.ensures.len) in
     let e : At c.self.inside.replicas.items j r = subst (λ (v : Volume g.row.D.Denot g.row.D-Piece.Denot). At v.replicas j r) (sym c.self.view_is) there in
     let stands = ((c.in-Ok.ensures.opened j r r' (subst (λ xs. At xs j r) (sym now) e) (subst (λ xs. At xs j r') kept here)).opened tells s opens).0 in
-    (stands_end g.D.Disk.files r' s stands, stands_generation g.D.Disk.files r' s stands)
+    (stands_end g.D.Disk.files r' s stands, stands_generation g.D.Disk.files r' s stands, stands_bare g.D.Disk.files r' s stands)

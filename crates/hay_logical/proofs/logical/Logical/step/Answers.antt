@@ -2,7 +2,7 @@ use Rattle.std.proofs.Common.{◌≤◌, None, ◌≡◌, ◌<◌, ℕ, length, 
 use Rattle.std.specs.Prelude.{IfErr, IfOk}
 use Rattle.std.specs.Vec.{with_items}
 use Rattle.std.proofs.lemmas.List.{with_items_is}
-use Rattle.hay_physical.specs.OpenCopies.{Copy, IsUp, goal_of}
+use Rattle.hay_physical.specs.OpenCopies.{Copy, IsUp, contents_of, goal_of}
 use Rattle.hay_logical.specs.Answers.{StepRefused, IsStepped}
 use Rattle.hay_logical.specs.Answers as answers
 use Rattle.hay_logical.specs.Fits.{At}
@@ -503,3 +503,17 @@ returns-clause-part g c = λ tells r r' e f said.
           subst (λ v. HeadsLeadPart (sights_of v.rows) c.args.replica c.args.cells (next_of r) (next_of r') (volume_bytes g.D.Disk.files r)) c.self.view_is
           (c.step_at.ensures.part tells r r' was there (w.in-Err.is ∙ ap (λ (f : ReplicaFault). Err f) memory))
     ]
+
+pub returns-in-Some-clause-head_file : goal.returns-in-Some-clause-head_file
+returns-in-Some-clause-head_file g c = λ tells r r' e f. ap (λ (x : Copy g.row.D.Denot). contents_of g.D.Disk.files x.disk 0) (at_same c.args.self.now.replicas c.args.replica r' r f e)
+
+pub returns-then-is_none-clause-head_file : goal.returns-then-is_none-clause-head_file
+returns-then-is_none-clause-head_file g c = λ tells r r' e f. ap (λ (x : Copy g.row.D.Denot). contents_of g.D.Disk.files x.disk 0) (at_same c.args.self.now.replicas c.args.replica r' r f e)
+
+pub returns-clause-head_file : goal.returns-clause-head_file
+returns-clause-head_file g c = λ tells r r' e f.
+    let now = c.as_mut_slice.ensures.value in
+    let kept = with_items_is c.self.inside.replicas c.step_at.new.replicas (c.step_at.auto.replicas ∙ c.as_mut_slice.ensures.len) in
+    let was : At c.as_mut_slice.result.now c.args.replica r = subst (λ xs. At xs c.args.replica r) (sym now) (subst (λ v. At v.replicas c.args.replica r) (sym c.self.view_is) e) in
+    let there : At c.step_at.new.replicas c.args.replica r' = subst (λ xs. At xs c.args.replica r') kept f in
+    ((c.step_at.ensures.steps r r' was there).on).head tells

@@ -7,7 +7,7 @@ use Rattle.hay_open.specs.Stored.{volume_file}
 use Rattle.std.proofs.Common.{sym}
 use Rattle.hay_physical.specs.OpenCopies.{phase_generation}
 use Rattle.hay_physical.proofs.Views.{if_ok_so}
-use Rattle.hay_physical.proofs.RunViews.{bytes_beside, files_begin, files_bounded, files_goal, files_say}
+use Rattle.hay_physical.proofs.RunViews.{bytes_beside, files_begin, files_bounded, files_goal, files_say, head_beside}
 use Rattle.hay_physical.proofs.replica.Replica.begin.Goals as goal
 
 pub returns-clause-last : goal.returns-clause-last
@@ -74,3 +74,8 @@ returns-clause-bytes g c = λ tells.
     let was = c.self.inside in
     bytes_beside g.D.Disk.files c.args.self.now was.sup was.disk c.begin.new.disk was.phase c.in-Open.files c.begin.new.self c.self.view_is c.in-Open.is c.begin.ensures.keeps
     (c.begin.ensures.others tells (volume_file c.in-Open.files.head.generation) (λ e. omega arith) (λ e. omega arith))
+
+pub returns-clause-head_file : goal.returns-clause-head_file
+returns-clause-head_file g c = λ tells.
+    let was = c.self.inside in
+    head_beside g.D.Disk.files c.args.self.now was.sup was.disk c.begin.new.disk was.phase c.self.view_is (c.begin.ensures.others tells 0 (λ e. omega arith) (λ e. omega arith))

@@ -9,7 +9,7 @@ use Rattle.hay_volume.specs.Needles.{LacksNeedleWithin}
 use Rattle.hay_needle.specs.Sizes.{needle_total}
 use Rattle.hay_physical.specs.OpenCopies.{copier_next, next_of, phase_end, phase_next, volume_bytes}
 use Rattle.hay_physical.proofs.Views.{on_err_so}
-use Rattle.hay_physical.proofs.RunViews.{bytes_beside, files_bounded, files_bytes, files_goal, files_say}
+use Rattle.hay_physical.proofs.RunViews.{bytes_beside, files_bounded, files_bytes, files_goal, files_say, head_beside}
 use Rattle.hay_compact.specs.Copying.{HeadStands, IsNextWithin, IsPassedOrStands}
 use Rattle.hay_physical.proofs.replica.Replica.copy.Goals as goal
 
@@ -111,3 +111,8 @@ returns-clause-met g c = λ tells.
     (λ met. subst (λ n. IsPassedOrStands n c.args.cell c.args.latest (volume_bytes files c.args.self.now)) next
     (subst (λ (l : List ℕ). IsPassedOrStands (copier_next opened.copier) c.args.cell c.args.latest l) bytes met))
     (c.copy.ensures.met tells)
+
+pub returns-clause-head_file : goal.returns-clause-head_file
+returns-clause-head_file g c = λ tells.
+    let was = c.self.inside in
+    head_beside g.D.Disk.files c.args.self.now was.sup was.disk c.copy.new.disk was.phase c.self.view_is (c.copy.ensures.others tells 0 (λ e. omega arith) (λ e. omega arith))

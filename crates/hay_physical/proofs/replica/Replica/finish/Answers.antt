@@ -19,7 +19,7 @@ use Rattle.hay_physical.proofs.Looks.{always_ok}
 use Rattle.hay_physical.proofs.Seeing.{sight_same, stands_shows}
 use Rattle.std.proofs.Common.{◌≤◌, length}
 use Rattle.hay_physical.specs.OpenCopies.{phase_bare, phase_end}
-use Rattle.hay_physical.proofs.RunViews.{files_goal, files_say}
+use Rattle.hay_physical.proofs.RunViews.{files_goal, files_say, head_beside}
 use Rattle.hay_physical.proofs.replica.Replica.finish.Goals as goal
 
 pub invariant_of-self : goal.invariant_of-self
@@ -177,3 +177,16 @@ returns-clause-still_bare g c =
 
 pub returns-clause-within : goal.returns-clause-within
 returns-clause-within g c = c.finish.ensures.within
+
+pub returns-clause-head_file : goal.returns-clause-head_file
+returns-clause-head_file g c = λ tells.
+    let files = g.D.Disk.files in
+    let was = c.self.inside in
+    let opened = c.in-Open.files in
+    elim (cases_Bool opened.frozen) [
+      | inl frozen ↦
+          let same = c.finish.ensures.frozen frozen in
+          on_any c.finish.result _ (λ up. head_beside files c.args.self.now was.sup was.disk c.finish.new.disk was.phase c.self.view_is (ap (λ d. files d 0) same.2))
+      | inr going ↦
+          on_err_so c.finish.result _ _ (λ kept up. head_beside files c.args.self.now was.sup was.disk c.finish.new.disk was.phase c.self.view_is (kept up)) (c.finish.ensures.head_file tells going)
+    ]

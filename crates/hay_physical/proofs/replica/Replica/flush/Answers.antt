@@ -1,4 +1,5 @@
-use Rattle.std.proofs.Common.{◌∙◌, ◌<◌, ap, arith, length, subst, sym}
+use Rattle.std.proofs.Common.{inl, inr, ◌∙◌, ◌<◌, ap, arith, length, subst, sym}
+use Rattle.std.proofs.lemmas.Bool.{cases_Bool}
 use Rattle.hay_volume.specs.declared.volume.VolumeFile.{VolumeFile}
 use Rattle.hay_physical.specs.Replicas.{all_recorded}
 use Rattle.hay_physical.proofs.RunLaws.{bounded_still, copier_ready_index, next_besides_index, run_kept, settled_still}
@@ -8,7 +9,8 @@ use Rattle.hay_physical.specs.Replicas.{Anywhere}
 use Rattle.hay_physical.proofs.Seeing.{sight_same}
 use Rattle.hay_physical.specs.OpenCopies.{copier_next, phase_bare, phase_next}
 use Rattle.hay_physical.proofs.Views.{on_ok_one}
-use Rattle.hay_physical.proofs.RunViews.{files_say}
+use Rattle.hay_physical.proofs.RunViews.{files_say, head_beside}
+use Rattle.hay_physical.proofs.SwapLaws.{old_index_apart}
 use Rattle.hay_physical.proofs.replica.Replica.flush.Goals as goal
 
 pub returns-clause-flushed : goal.returns-clause-flushed
@@ -108,3 +110,15 @@ returns-clause-tried g c =
     let was = c.self.inside in
     if_err_so c.flush.result _ _ (λ fault tried faults is. subst (λ n. 0 < n) (files_say phase_bare c.args.self.now was.sup was.disk was.phase c.in-Open.files c.self.view_is
     c.in-Open.is) (tried faults is)) c.flush.ensures.tried
+
+pub returns-clause-head_file : goal.returns-clause-head_file
+returns-clause-head_file g c = λ tells.
+    let files = g.D.Disk.files in
+    let was = c.self.inside in
+    let opened = c.in-Open.files in
+    head_beside files c.args.self.now was.sup was.disk c.flush.new.disk was.phase c.self.view_is
+    (elim (cases_Bool opened.frozen) [
+      | inl frozen ↦ let same = c.flush.ensures.frozen frozen in ap (λ d. files d 0) same.2
+      | inr going ↦ let ready =
+          files_ready (files was.disk) was.phase opened c.in-Open.is (c.self.invariant.0 tells) going in c.flush.ensures.others tells 0 (old_index_apart (files was.disk) opened ready.0)
+    ])

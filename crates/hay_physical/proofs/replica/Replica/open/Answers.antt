@@ -1,10 +1,10 @@
 use Rattle.std.proofs.Common.{◌≡◌, ap, arith, refl, subst, Err, sym}
 use Rattle.std.proofs.lemmas.Result.{err_from_is_err_and}
 use Rattle.hay_open.specs.Damage.{IsOpeningDamage}
-use Rattle.hay_open.specs.Stored.{IsVoid, fresh_stored}
+use Rattle.hay_open.specs.Stored.{IsVoid, fresh_stored, volume_file}
 use Rattle.hay_physical.specs.OpenCopies.{Copy}
 use Rattle.hay_physical.proofs.Apartness.{found_apart}
-use Rattle.hay_physical.proofs.Whole.{found_whole}
+use Rattle.hay_physical.proofs.Whole.{found_live, found_whole}
 use Rattle.hay_physical.specs.Draws.{DrewRecorded}
 use Rattle.hay_physical.proofs.Deleting.{found_deletes}
 use Rattle.hay_physical.proofs.Drawing.{opening_draws}
@@ -136,6 +136,14 @@ pub returns-clause-needles : goal.returns-clause-needles
 returns-clause-needles g c = λ tells.
     let done = c.in_ok-head.ensures in
     found_whole g.D.Piece.Piece.Tells c.self.inside.sup (λ n. (g.D.Disk.files c.self.inside.disk n).now) c.in_ok-head.field-0 (done.whole tells) (done.places tells fresh_stored)
+
+pub returns-clause-live : goal.returns-clause-live
+returns-clause-live g c = λ tells.
+    let files = g.D.Disk.files in
+    let done = c.in_ok-head.ensures in
+    found_live g.D.Piece.Piece.Tells c.self.inside.sup (λ n. (files c.self.inside.disk n).now)
+    (files c.open_replica.new.disk (volume_file c.in_ok-head.field-0.head.generation)).now c.in_ok-head.field-0
+    (done.whole tells) (done.places tells fresh_stored) (λ some. done.kept tells some (volume_file c.in_ok-head.field-0.head.generation))
 
 pub returns-clause-drawn : goal.returns-clause-drawn
 returns-clause-drawn g c = λ tells.

@@ -11,7 +11,7 @@ use Rattle.hay_physical.specs.Replicas.{Anywhere}
 use Rattle.hay_physical.proofs.Seeing.{beside_sight}
 use Rattle.std.proofs.Common.{◌∙◌, subst, sym}
 use Rattle.hay_physical.specs.OpenCopies.{copier_next, phase_end, phase_next, volume_bytes}
-use Rattle.hay_physical.proofs.RunViews.{bytes_beside, files_bounded, files_bytes, files_goal, files_ready, files_say}
+use Rattle.hay_physical.proofs.RunViews.{bytes_beside, files_bounded, files_bytes, files_goal, files_ready, files_say, head_beside}
 use Rattle.hay_compact.specs.Copying.{HeadStands, IsNextWithin}
 use Rattle.hay_physical.proofs.replica.Replica.peek.Goals as goal
 
@@ -114,3 +114,8 @@ returns-clause-bytes g c = λ tells.
     let was = c.self.inside in
     bytes_beside g.D.Disk.files c.args.self.now was.sup was.disk c.peek.new.disk was.phase c.in-Open.files c.peek.new.self c.self.view_is c.in-Open.is c.peek.ensures.keeps
     (ap (λ (f : Files). f (volume_file c.in-Open.files.head.generation)) (c.peek.ensures.files tells))
+
+pub returns-clause-head_file : goal.returns-clause-head_file
+returns-clause-head_file g c = λ tells.
+    let was = c.self.inside in
+    head_beside g.D.Disk.files c.args.self.now was.sup was.disk c.peek.new.disk was.phase c.self.view_is (ap (λ (f : Files). f 0) (c.peek.ensures.files tells))

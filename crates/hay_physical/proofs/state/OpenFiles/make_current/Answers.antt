@@ -163,3 +163,7 @@ returns-in-Ok-clause-needles g c = λ tells.
     (λ places is pair. subst (λ x. HasWholeNeedle g.D.Piece.Piece.Tells (last_place x.items pair place.Gone)) (sym is.0)
     (whole_of g.D.Piece.Piece.Tells (last_cell m.fresh pair) (last_place c.in-Ok.finished.places.items pair place.Gone) (fin.places pair)))
     c.swap.ensures.swapped
+
+pub returns-in-Ok-clause-head_file : goal.returns-in-Ok-clause-head_file
+returns-in-Ok-clause-head_file g c = λ tells.
+    on_err_so c.swap.result _ _ (λ kept going. ap (λ (f : Files). f 0) (kept going) ∙ c.finish.ensures.others tells 0 (λ e. omega arith) (λ e. omega arith)) (c.swap.ensures.kept tells)
