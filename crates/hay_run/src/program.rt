@@ -15,7 +15,7 @@ ghost use Rattle.hay_run.specs.Causing.{CausedRun, ending_in};
 ghost use Rattle.hay_run.specs.Draws.{AsksNothing, drawn_of};
 ghost use Rattle.hay_lines.specs.Stream.{IsReadToEnd, TookAtMost};
 ghost use Rattle.hay_run.specs.Stops.{ending_of};
-ghost use Rattle.hay_run.specs.Runs.{HasOpened, IsNotOpened, IsNotOpenedBehind, IsSureStill, IsTaken, RanTo, WasRead};
+ghost use Rattle.hay_run.specs.Runs.{HasOpened, IsNotOpened, IsSureStill, IsTaken, RanTo, WasRead};
 ghost use Rattle.hay_run.specs.Turns.{Appends};
 ghost use Rattle.hay_run.specs.Audits.{AuditsTo};
 ghost use Rattle.hay_run.specs.Checking.{ChecksTo, IsUnchanged};
@@ -45,86 +45,7 @@ use std::alloc::Global;
 use std::sync::Wait;
 use std::thread::Threads;
 
-/// Opens a store on the disks of the shelf, answers the script, and gives the disks back.
-fn answer_script<H, S, K, G, R>(
-    rt: &R,
-    alloc: Global,
-    settings: Settings,
-    source: &mut S,
-    sink: &mut K,
-    shelf: &mut H,
-    gate: &G,
-) -> Result<(), Stop>
-where
-    H: Shelf,
-    H::Disk: Send + Sync,
-    <H::Disk as Disk>::Piece: Send + Sync,
-    H::Arm: Send,
-    S: Source,
-    K: Sink,
-    G: Gate + Sync,
-    R: Threads + Wait + Sync,
-    requires built { IsBuilt settings }
-    requires disks_in { AreIn (disk_count settings) (H.disks shelf.old) }
-    requires arms_in { AreArmsIn 8 (H.arms shelf.old) }
-    ensures ran { H.Disk.Tells → OnOk result ((k : Known) →
-        IsTaken settings (outside_of (H.fault_count shelf.old) (H.disks shelf.old) (H.arms shelf.old)) k → (script held : List ℕ) →
-        S.left source.old ≡ Some script → K.written sink.old ≡ Some (held ++ texts.header_line settings) →
-        RanTo settings k Ending.ReadAll script (S.left source.new) (outside_of (H.fault_count shelf.old) (H.disks shelf.old) (H.arms shelf.old))
-        (outside_of (H.fault_count shelf.new) (H.disks shelf.new) (H.arms shelf.new)) held (K.written sink.new)) }
-    ensures stopped { H.Disk.Tells → (stop : Stop) → result ≡ Err stop → (k : Known) →
-        IsTaken settings (outside_of (H.fault_count shelf.old) (H.disks shelf.old) (H.arms shelf.old)) k → (script held : List ℕ) →
-        S.left source.old ≡ Some script → K.written sink.old ≡ Some (held ++ texts.header_line settings) →
-        RanTo settings k (ending_of stop) script (S.left source.new) (outside_of (H.fault_count shelf.old) (H.disks shelf.old) (H.arms shelf.old))
-        (outside_of (H.fault_count shelf.new) (H.disks shelf.new) (H.arms shelf.new)) held (K.written sink.new) }
-    ensures caused { (script held : List ℕ) → S.left source.old ≡ Some script → K.written sink.old ≡ Some (held ++ texts.header_line settings) →
-        CausedRun H.Disk.Tells settings (ending_in result) script (S.left source.new) (outside_of (H.fault_count shelf.old) (H.disks shelf.old) (H.arms shelf.old))
-        (outside_of (H.fault_count shelf.new) (H.disks shelf.new) (H.arms shelf.new)) (λ lane. (H.arms shelf.old lane).is_sure) (H.disks shelf.old) (H.disks shelf.new) held (K.written sink.new) }
-    ensures ended { OnOk result (IsReadToEnd (S.left source.old) (S.left source.new)) }
-    ensures short { OnOk result ((script : List ℕ) → S.left source.old ≡ Some script → length script ≤ SCRIPT) }
-    ensures long { IsErrOf result Stop.TooLong → (script : List ℕ) → S.left source.old ≡ Some script →
-        (rest : List ℕ) × (S.left source.new ≡ Some rest) × (length script ≡ SCRIPT + 1 + length rest) }
-    ensures taken { (IsErrOf result Stop.TooLong → ⊥) → TookAtMost SCRIPT (S.left source.old) (S.left source.new) }
-    ensures source { IsErrOf result Stop.Input → Rose (S.fault_count source.old) (S.fault_count source.new) }
-    ensures source_count { S.fault_count source.old ≤ S.fault_count source.new }
-    ensures sink { IsErrOf result Stop.Output → Rose (K.fault_count sink.old) (K.fault_count sink.new) }
-    ensures sink_count { K.fault_count sink.old ≤ K.fault_count sink.new }
-    ensures store { IsErrOf result Stop.Store →
-        IsNotOpenedBehind H.Disk.Tells settings (H.disks shelf.old) (H.disks shelf.new)
-        (outside_of (H.fault_count shelf.old) (H.disks shelf.old) (H.arms shelf.old))
-        (outside_of (H.fault_count shelf.new) (H.disks shelf.new) (H.arms shelf.new)) (S.left source.old) (S.left source.new) (K.written sink.old) (K.written sink.new) }
-    ensures disks_back { AreIn (disk_count settings) (H.disks shelf.new) }
-    ensures arms_back { AreArmsIn 8 (H.arms shelf.new) }
-    ensures faults { (slot : ℕ) → slot < disk_count settings →
-        (H.disks shelf.old slot).fault_count ≤ (H.disks shelf.new slot).fault_count }
-    ensures arm_faults { (lane : ℕ) → lane < 8 →
-        (H.arms shelf.old lane).fault_count ≤ (H.arms shelf.new lane).fault_count }
-    ensures other_slots { SameFrom (disk_count settings) (H.disks shelf.old) (H.disks shelf.new) }
-    ensures other_lanes { SameFrom 8 (H.arms shelf.old) (H.arms shelf.new) }
-    ensures sound { H.Disk.Tells → HasOpened result ⊎ WasRead (S.left source.old) (S.left source.new) → IsUndamaged settings (λ slot. read_of (H.disks shelf.old slot)) }
-    ensures formatted { H.Disk.Tells → HasOpened result ⊎ WasRead (S.left source.old) (S.left source.new) →
-        (k : Known) → IsTaken settings (outside_of (H.fault_count shelf.old) (H.disks shelf.old) (H.arms shelf.old)) k →
-        (slot : ℕ) → slot < disk_count settings → IsVoid (read_of (H.disks shelf.new slot)) → ⊥ }
-    ensures contents { H.Disk.Tells → AsksNothing (S.left source.old) → KeepsContents settings (λ slot. read_of (H.disks shelf.old slot)) (λ slot. read_of (H.disks shelf.new slot)) }
-    ensures drew { H.Disk.Tells → OnOk result (AsksNothing (S.left source.old) →
-        EachDrewLittle settings (λ slot. read_of (H.disks shelf.new slot)) no_look (drawn_of (H.disks shelf.old)) (drawn_of (H.disks shelf.new))) }
-    ensures flushed { H.Disk.Tells → OnOk result ((k : Known) →
-        IsTaken settings (outside_of (H.fault_count shelf.old) (H.disks shelf.old) (H.arms shelf.old)) k → AsksNothing (S.left source.old) →
-        FlushedDrewLittle settings k (drawn_of (H.disks shelf.old)) (drawn_of (H.disks shelf.new))) }
-    ensures sure_arms { (lane : ℕ) → lane < 8 → IsSureStill (H.arms shelf.old lane) (H.arms shelf.new lane) }
-    ensures appends { Appends (K.written sink.old) (K.written sink.new) }
-    ensures shelf { H.fault_count shelf.old ≤ H.fault_count shelf.new }
-{
-    let cluster = match Cluster::open(alloc, settings, shelf) {
-        Ok(cluster) => cluster,
-        Err(fault) => return Err(write_refusal(alloc, fault, sink)),
-    };
-    let (cluster, outcome) = serve(rt, alloc, cluster, source, sink, gate);
-    cluster.close(shelf);
-    outcome
-}
-
-/// Writes the header, and answers the script on the disks of the shelf.
+/// Writes the header, opens a store on the disks of the shelf, answers the script, and gives the disks back.
 fn run_script<H, S, K, G, R>(
     rt: &R,
     alloc: Global,
@@ -195,7 +116,13 @@ where
     ensures shelf { H.fault_count shelf.old ≤ H.fault_count shelf.new }
 {
     write_header(alloc, &settings, sink)?;
-    answer_script(rt, alloc, settings, source, sink, shelf, gate)
+    let cluster = match Cluster::open(alloc, settings, shelf) {
+        Ok(cluster) => cluster,
+        Err(fault) => return Err(write_refusal(alloc, fault, sink)),
+    };
+    let (cluster, outcome) = serve(rt, alloc, cluster, source, sink, gate);
+    cluster.close(shelf);
+    outcome
 }
 
 /// Runs the script of a day's use, and writes the summary of what the store answered. Where the store was not opened, at first or at
