@@ -6,7 +6,7 @@ ghost use Rattle.hay_audit_steps.specs.Boxes as boxes;
 ghost use Rattle.hay_audit_steps.specs.Slacks as slacks;
 ghost use Rattle.hay_audit.specs.Ranging as ranging;
 
-use crate::state::{State, VolumeState};
+use crate::state::{State, VolumeState, drop_state};
 use hay_base::{Duplicate, Listed, NoMemory};
 use std::alloc::Global;
 use std::marker::Model;
@@ -61,6 +61,9 @@ impl Duplicate for BoxState {
         })
     }
 }
+
+/// Ends a box that no turn leaves.
+pub(crate) fn drop_box(_state: BoxState) {}
 
 pub(crate) fn no_slack() -> Slack
     ensures { result ≡ slacks.no_slack }
@@ -192,8 +195,14 @@ fn no_slacks(alloc: Global, volumes: &[VolumeState]) -> Result<Listed<Listed<Sla
 pub(crate) fn exact_box(alloc: Global, state: State) -> Result<BoxState, NoMemory>
     ensures { IfOk result (λ made. made ≡ box_plain.exact_box state) }
 {
-    let low = no_slacks(alloc, state.volumes.as_slice())?;
-    let high = no_slacks(alloc, state.volumes.as_slice())?;
+    let Ok(low) = no_slacks(alloc, state.volumes.as_slice()) else {
+        drop_state(state);
+        return Err(NoMemory);
+    };
+    let Ok(high) = no_slacks(alloc, state.volumes.as_slice()) else {
+        drop_state(state);
+        return Err(NoMemory);
+    };
     Ok(BoxState {
         base: state,
         low,

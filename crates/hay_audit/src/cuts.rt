@@ -5,7 +5,7 @@ ghost use Rattle.hay_audit_steps.specs.Boxes as boxes;
 ghost use Rattle.hay_audit_steps.specs.Rooms as rooms;
 ghost use Rattle.hay_audit.specs.Ranging.{IsDecidedAt};
 
-use crate::boxes::{BoxState, Slack, push_boxes, set_slack, slack_at};
+use crate::boxes::{BoxState, Slack, drop_box, push_boxes, set_slack, slack_at};
 use crate::looks::{end_of, replica_count};
 use hay_base::{Duplicate, Listed, NoMemory};
 use hay_needle::{Settings, total_of};
@@ -61,7 +61,9 @@ fn push_where_end(
     let high = slack_at(state.high.as_slice(), volume, replica);
     if low.end <= high.end {
         out.push(state)?;
+        return Ok(());
     }
+    drop_box(state);
     Ok(())
 }
 
@@ -72,6 +74,22 @@ fn has_place(ranges: &[Listed<Slack>], volume: u32, replica: usize) -> bool
         Some(row) => replica < row.len(),
         None => false,
     }
+}
+
+/// Adds the part of the box up to an end, if it has one.
+fn push_up_to(
+    alloc: Global,
+    state: &BoxState,
+    volume: u32,
+    replica: usize,
+    most: u64,
+    out: &mut Listed<BoxState>,
+) -> Result<(), NoMemory>
+    ensures { OnOk result (out.new ≡ out.old ++ rooms.where_end volume replica (boxes.up_to state.now volume replica most)) }
+{
+    let copy = state.duplicate(alloc)?;
+    let part = up_to(alloc, copy, volume, replica, most);
+    push_where_end(part, volume, replica, out)
 }
 
 /// The ends of the box lie on one side.
@@ -105,13 +123,10 @@ fn cut_at(
         out.push(state)?;
         return Ok(());
     }
-    let copy = state.duplicate(alloc)?;
-    push_where_end(
-        up_to(alloc, copy, volume, replica, most),
-        volume,
-        replica,
-        out,
-    )?;
+    let Ok(()) = push_up_to(alloc, &state, volume, replica, most, out) else {
+        drop_box(state);
+        return Err(NoMemory);
+    };
     push_where_end(
         above(alloc, state, volume, replica, most),
         volume,

@@ -4,6 +4,7 @@ ghost use Rattle.std.specs.Prelude.{◌≡◌, ◌<◌, ◌∷◌, ◌++◌, [],
 ghost use Rattle.hay_legal.specs.declared.known.ReplicaKnown.{ReplicaKnown};
 ghost use Rattle.hay_legal.specs.Known as known;
 ghost use Rattle.hay_legal.specs.Plain as plain;
+ghost use Rattle.hay_core.specs.declared.entry.Entry.TheVariants as entry;
 ghost use Rattle.hay_audit_steps.specs.Next as next;
 ghost use Rattle.hay_audit.specs.Deleting as deleting;
 
@@ -18,7 +19,7 @@ use crate::plain::{keep_if, next_unknown};
 use crate::puts::is_at;
 use crate::replicas::{Change, changed};
 use crate::spread::{replica_on, slot_of};
-use crate::state::{ReplicaState, State, VolumeState};
+use crate::state::{ReplicaState, State, VolumeState, drop_state};
 use hay_base::{Duplicate, Listed, NoMemory};
 use hay_core::{CoreTag, Entry, Logged};
 use hay_legal::known::Pending;
@@ -333,6 +334,30 @@ fn replicas_of(state: &State, volume: u32) -> &[ReplicaState]
     }
 }
 
+/// The states behind a deletion, by the runs that may have ended.
+fn deleted_each(
+    alloc: Global,
+    settings: &Settings,
+    state: &State,
+    tag: CoreTag,
+    pair: Pair,
+    volume: u32,
+) -> Result<Listed<State>, NoMemory>
+    ensures { IfOk result (λ states. states ≡ map (next.deleted settings.now state.now tag pair volume)
+        (next.endings settings.now state.now volume 0 (known.volume_at state.now volume).replicas)) }
+{
+    let choices = endings(alloc, settings, state, volume, replicas_of(state, volume))?;
+    all_deleted(
+        alloc,
+        settings,
+        state,
+        tag,
+        pair,
+        volume,
+        choices.as_slice(),
+    )
+}
+
 fn next_deleted(
     alloc: Global,
     settings: &Settings,
@@ -350,18 +375,101 @@ fn next_deleted(
         || !stands_there(&state, pair, volume)
         || u128::from(position) != u128::from(front_of(&state, volume)) + 1
     {
+        drop_state(state);
         return Ok(Listed::new(alloc));
     }
-    let choices = endings(alloc, settings, &state, volume, replicas_of(&state, volume))?;
-    all_deleted(
+    let states = deleted_each(alloc, settings, &state, tag, pair, volume);
+    drop_state(state);
+    states
+}
+
+/// The state with the deletion pending that failed on a machine.
+fn del_frozen(
+    alloc: Global,
+    state: State,
+    tag: CoreTag,
+    pair: Pair,
+    volume: u32,
+    machine: u32,
+) -> Result<State, NoMemory>
+    ensures { IfOk result (λ after. after ≡ plain.change_volume state volume (plain.frozen_with machine tag (entry.Del pair) true)) }
+{
+    let pending = Pending {
+        tag,
+        entry: Entry::Del { pair },
+        failed: true,
+    };
+    frozen_by(alloc, state, volume, machine, Some(pending))
+}
+
+/// Adds the state with the deletion pending, where there was a photo to delete.
+fn add_pending(
+    alloc: Global,
+    state: State,
+    tag: CoreTag,
+    pair: Pair,
+    volume: u32,
+    machine: u32,
+    slot: usize,
+    faults: u64,
+    out: &mut Listed<State>,
+) -> Result<(), NoMemory>
+    ensures { OnOk result (out.new ≡ out.old ++ next.keep_if (next.stands_there state pair volume)
+        (next.with_fault (plain.change_volume state volume (plain.frozen_with machine tag (entry.Del pair) true)) slot faults)) }
+{
+    if !stands_there(&state, pair, volume) {
+        drop_state(state);
+        return Ok(());
+    }
+    let after = del_frozen(alloc, state, tag, pair, volume, machine)?;
+    out.push(with_fault(after, slot, faults))?;
+    Ok(())
+}
+
+/// A copy of the state alone, with this count of the disk.
+fn listed_copy(
+    alloc: Global,
+    state: &State,
+    slot: usize,
+    faults: u64,
+) -> Result<Listed<State>, NoMemory>
+    ensures { IfOk result (λ states. states ≡ next.with_fault state.now slot faults ∷ []) }
+{
+    let copy = state.duplicate(alloc)?;
+    let states = Listed::one(alloc, with_fault(copy, slot, faults))?;
+    Ok(states)
+}
+
+/// The states behind a deletion for which this disk failed.
+fn del_failed(
+    alloc: Global,
+    state: State,
+    tag: CoreTag,
+    pair: Pair,
+    volume: u32,
+    machine: u32,
+    slot: usize,
+    faults: u64,
+) -> Result<Listed<State>, NoMemory>
+    ensures { IfOk result (λ states. states ≡ next.with_fault state slot faults ∷ next.keep_if (next.stands_there state pair volume)
+        (next.with_fault (plain.change_volume state volume (plain.frozen_with machine tag (entry.Del pair) true)) slot faults)) }
+{
+    let Ok(mut states) = listed_copy(alloc, &state, slot, faults) else {
+        drop_state(state);
+        return Err(NoMemory);
+    };
+    add_pending(
         alloc,
-        settings,
-        &state,
+        state,
         tag,
         pair,
         volume,
-        choices.as_slice(),
-    )
+        machine,
+        slot,
+        faults,
+        &mut states,
+    )?;
+    Ok(states)
 }
 
 /// Behind a deletion that failed on a replica.
@@ -379,6 +487,7 @@ fn next_failed(
     ensures { IfOk result (λ states. states ≡ next.del_failed_by settings.now state tag pair volume machine faults (known.replica_on settings.now volume machine)) }
 {
     let Some(replica) = replica_on(settings, volume, machine) else {
+        drop_state(state);
         return Ok(Listed::new(alloc));
     };
     let slot = slot_of(settings, volume, replica);
@@ -386,19 +495,10 @@ fn next_failed(
         || closed(settings, &state, volume).is_some()
         || !rises_to(&state, slot, faults)
     {
+        drop_state(state);
         return Ok(Listed::new(alloc));
     }
-    let mut states = Listed::one(alloc, with_fault(state.duplicate(alloc)?, slot, faults))?;
-    if stands_there(&state, pair, volume) {
-        let pending = Pending {
-            tag,
-            entry: Entry::Del { pair },
-            failed: true,
-        };
-        let after = frozen_by(alloc, state, volume, machine, Some(pending))?;
-        states.push(with_fault(after, slot, faults))?;
-    }
-    Ok(states)
+    del_failed(alloc, state, tag, pair, volume, machine, slot, faults)
 }
 
 /// Behind a deletion.
@@ -440,6 +540,9 @@ pub(crate) fn next_del(
         } => next_failed(
             alloc, settings, state, tag, pair, *volume, *machine, *faults,
         ),
-        _ => Ok(Listed::new(alloc)),
+        _ => {
+            drop_state(state);
+            Ok(Listed::new(alloc))
+        }
     }
 }

@@ -5,7 +5,7 @@ ghost use Rattle.hay_legal.specs.Known as known;
 ghost use Rattle.hay_audit_steps.specs.Next as next;
 
 use crate::lay::{count_at, set_count};
-use crate::state::State;
+use crate::state::{State, drop_state};
 use hay_base::{Listed, NoMemory};
 use std::alloc::Global;
 
@@ -49,6 +49,7 @@ pub(crate) fn fault_if(
     if test {
         Listed::one(alloc, with_fault(state, slot, faults))
     } else {
+        drop_state(state);
         Ok(Listed::new(alloc))
     }
 }

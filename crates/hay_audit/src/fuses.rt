@@ -6,7 +6,7 @@ ghost use Rattle.hay_audit_steps.specs.Next as next;
 
 use crate::lay::{count_at, set_count};
 use crate::plain::keep_if;
-use crate::state::State;
+use crate::state::{State, drop_state};
 use hay_base::{Listed, NoMemory};
 use hay_needle::Settings;
 use hay_reply::Reply;
@@ -84,7 +84,10 @@ pub(crate) fn next_drain(
             keep_if(alloc, test, with_drain(state, asked, true))
         }
         Reply::Nowhere => keep_if(alloc, asked >= settings.machines, state),
-        _ => Ok(Listed::new(alloc)),
+        _ => {
+            drop_state(state);
+            Ok(Listed::new(alloc))
+        }
     }
 }
 
@@ -103,7 +106,10 @@ pub(crate) fn next_undrain(
             keep_if(alloc, test, with_drain(state, asked, false))
         }
         Reply::Nowhere => keep_if(alloc, asked >= settings.machines, state),
-        _ => Ok(Listed::new(alloc)),
+        _ => {
+            drop_state(state);
+            Ok(Listed::new(alloc))
+        }
     }
 }
 
@@ -117,6 +123,9 @@ pub(crate) fn next_fuse_dir(
 {
     match reply {
         Reply::FusedDir { calls } => keep_if(alloc, *calls == asked, fused(state, 0)),
-        _ => Ok(Listed::new(alloc)),
+        _ => {
+            drop_state(state);
+            Ok(Listed::new(alloc))
+        }
     }
 }

@@ -16,7 +16,7 @@ ghost use Rattle.hay_audit.specs.Sizes.{IsSmall};
 ghost use Rattle.hay_audit.specs.Wants.{AreWanting};
 
 use crate::answers::read_answer;
-use crate::boxes::{BoxState, exact_box};
+use crate::boxes::{BoxState, drop_box, exact_box};
 use crate::counts::note_count;
 use crate::first::fresh_state;
 use crate::fits::fits;
@@ -128,6 +128,7 @@ fn tell_restart(
 {
     let count = note_count(&state.base);
     let Some(told) = read_notes(alloc, text, count)? else {
+        drop_box(state);
         return Ok(());
     };
     let states = restart_boxes(alloc, settings, state, rows, told.notes.as_slice())?;
@@ -155,10 +156,12 @@ fn advance_restart(
 {
     let Candidate { state, at } = candidate;
     let Some(answer) = read_answer(alloc, line, &transcript[at..])? else {
+        drop_box(state);
         return Ok(());
     };
     fits(&answer.reply);
     let Reply::Restarted { rows } = answer.reply else {
+        drop_box(state);
         return Ok(());
     };
     let behind = at + answer.behind;
@@ -197,6 +200,7 @@ fn advance_plain(
 {
     let Candidate { state, at } = candidate;
     let Some(answer) = read_answer(alloc, line, &transcript[at..])? else {
+        drop_box(state);
         return Ok(());
     };
     fits(&answer.reply);

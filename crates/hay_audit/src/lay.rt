@@ -3,7 +3,7 @@
 ghost use Rattle.std.specs.Prelude.{◌≡◌, ◌<◌, ◌++◌, ◌==◌, ◌-◌, ◌^◌, length, max, slice_index, slice_set, IfOk, OnOk};
 ghost use Rattle.hay_audit_steps.specs.Laid as laid;
 
-use crate::state::State;
+use crate::state::{State, drop_state};
 use hay_base::{Duplicate, Listed, NoMemory};
 use std::alloc::Global;
 
@@ -83,7 +83,9 @@ fn add_on_arm(lane: usize, state: State, out: &mut Listed<State>) -> Result<(), 
 {
     if lane < state.arms.len() {
         out.push(raise_arm(lane, state))?;
+        return Ok(());
     }
+    drop_state(state);
     Ok(())
 }
 
@@ -98,7 +100,10 @@ fn lay_state(
 ) -> Result<(), NoMemory>
     ensures { OnOk result (out.new ≡ out.old ++ (laid.on_disk before.now slot state ++ laid.on_arm lane state)) }
 {
-    add_on_disk(alloc, before, slot, &state, out)?;
+    let Ok(()) = add_on_disk(alloc, before, slot, &state, out) else {
+        drop_state(state);
+        return Err(NoMemory);
+    };
     add_on_arm(lane, state, out)
 }
 

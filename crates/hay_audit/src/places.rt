@@ -10,7 +10,7 @@ ghost use Rattle.hay_audit.specs.Ranging as ranging;
 ghost use Rattle.hay_audit.specs.Replicas as replicas;
 ghost use Rattle.hay_audit.specs.Sizes.{IsSmallAt};
 
-use crate::boxes::{BoxState, Slack, no_slack, set_slack, slack_at};
+use crate::boxes::{BoxState, Slack, drop_box, no_slack, set_slack, slack_at};
 use crate::looks::end_of;
 use crate::replicas::{Change, change_replica, standing_of};
 use crate::state::{State, VolumeState};
@@ -105,6 +105,7 @@ pub(crate) fn flushed_boxes(
     let test = is_named(spot, volume, machine)
         && (is_open(&state.base, spot.volume) && !here.stuck);
     if !test || !is_between(least, records, most) {
+        drop_box(state);
         return Ok(Listed::new(alloc));
     }
     let none = Range {
@@ -132,6 +133,7 @@ fn copied_all(
         || cells - run.left < range.low.cells
         || range.high.cells < cells - run.left
     {
+        drop_box(state);
         return Ok(Listed::new(alloc));
     }
     let change = Change::Copied {
@@ -166,6 +168,7 @@ fn copied_some(
     let asked = u64::from(asked);
     let more = range.low.cells.max(asked.saturating_sub(run.left));
     if range.high.cells < more {
+        drop_box(state);
         return Ok(Listed::new(alloc));
     }
     let change = Change::Copied {
@@ -200,6 +203,7 @@ fn copied_boxes(
         return copied_all(alloc, state, spot, run, cells);
     }
     if cells != u64::from(asked) {
+        drop_box(state);
         return Ok(Listed::new(alloc));
     }
     let made = copied_some(alloc, state, spot, run, asked)?;
@@ -221,11 +225,15 @@ pub(crate) fn stepped_boxes(
 {
     let here = standing_of(&state.base, spot.volume, spot.replica);
     if !is_named(spot, volume, machine) || !is_open(&state.base, spot.volume) {
+        drop_box(state);
         return Ok(Listed::new(alloc));
     }
     match here.run {
         Some(run) => copied_boxes(alloc, state, spot, run, asked, cells),
-        None => Ok(Listed::new(alloc)),
+        None => {
+            drop_box(state);
+            Ok(Listed::new(alloc))
+        }
     }
 }
 
@@ -320,9 +328,13 @@ pub(crate) fn compacted_boxes(
         && (is_open(base, spot.volume)
             && (is_resting(base, spot) && is_next(spot, base, generation)));
     if !test {
+        drop_box(state);
         return Ok(Listed::new(alloc));
     }
-    let sizes = tight_sizes(alloc, base, spot)?;
+    let Ok(sizes) = tight_sizes(alloc, base, spot) else {
+        drop_box(state);
+        return Err(NoMemory);
+    };
     let end = as_number(sizes.end);
     let none = Range {
         low: no_slack(),
@@ -387,12 +399,14 @@ pub(crate) fn finished_boxes(
     ensures { IfOk result (λ made. made ≡ box_next.finished_boxes state spot.volume spot.machine spot.replica volume machine generation) }
 {
     if !is_finish(&state.base, spot, volume, machine, generation) {
+        drop_box(state);
         return Ok(Listed::new(alloc));
     }
     let most = most_end(&state, spot);
     let many = most_cells(&state, spot);
     let sizes = tight_sizes(alloc, &state.base, spot)?;
     if !fits_file(sizes, most, many) {
+        drop_box(state);
         return Ok(Listed::new(alloc));
     }
     let end = as_number(sizes.end);

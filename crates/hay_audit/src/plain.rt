@@ -11,7 +11,7 @@ use crate::fuses::{next_drain, next_fuse_dir, next_undrain};
 use crate::looks::{home_of, rows_of};
 use crate::shows::next_show;
 use crate::spread::start_of;
-use crate::state::State;
+use crate::state::{State, drop_state};
 use crate::upkeep::{Work, next_on_replica};
 use crate::urls::{next_get, next_url};
 use hay_base::{Listed, NoMemory};
@@ -29,6 +29,7 @@ pub(crate) fn keep_if(alloc: Global, test: bool, state: State) -> Result<Listed<
     if test {
         Listed::one(alloc, state)
     } else {
+        drop_state(state);
         Ok(Listed::new(alloc))
     }
 }
@@ -162,7 +163,10 @@ fn next_command(
         | Command::Step { .. }
         | Command::Finish { .. }
         | Command::Fuse { .. } => next_named(alloc, settings, state, line, command, reply),
-        Command::Restart { .. } => Ok(Listed::new(alloc)),
+        Command::Restart { .. } => {
+            drop_state(state);
+            Ok(Listed::new(alloc))
+        }
         Command::Put { .. } => unreachable!(),
     }
 }

@@ -9,7 +9,7 @@ ghost use Rattle.hay_audit_steps.specs.Rooms as rooms;
 ghost use Rattle.hay_audit.specs.Sizes.{VolumeMayGrow};
 ghost use Rattle.hay_url.specs.Url as url;
 
-use crate::boxes::{BoxState, push_boxes, ranged_all};
+use crate::boxes::{BoxState, drop_box, push_boxes, ranged_all};
 use crate::change::{put_frozen, row_pending, stored};
 use crate::closed::taker_of;
 use crate::cuts::try_cuts;
@@ -19,7 +19,7 @@ use crate::plain::keep_if;
 use crate::refusals::{as_closed, tries_of, want_room};
 use crate::rooms::refused_boxes;
 use crate::spread::{replica_on, slot_of};
-use crate::state::{ReplicaState, State, VolumeState};
+use crate::state::{ReplicaState, State, VolumeState, drop_state};
 use hay_base::{Duplicate, Listed, NoMemory};
 use hay_core::CoreTag;
 use hay_needle::{Bytes, Cookie, Pair, Settings};
@@ -95,9 +95,13 @@ fn stored_if(
     ensures { IfOk result (λ states. states ≡ box_next.stored_if settings.now state tag pair photo.now told.volume told.position told.rows told.cookie taker) }
 {
     if !is_at(taker, told.volume) || !is_stored_so(settings, &state, pair, told) {
+        drop_state(state);
         return Ok(Listed::new(alloc));
     }
-    let bytes = photo.duplicate(alloc)?;
+    let Ok(bytes) = photo.duplicate(alloc) else {
+        drop_state(state);
+        return Err(NoMemory);
+    };
     let size = bytes.len() as u32;
     let after = stored(
         alloc,
@@ -129,13 +133,18 @@ fn failed_if(
     ensures { IfOk result (λ states. states ≡ rooms.failed_if settings.now state tag pair photo.now volume machine faults taker (known.replica_on settings.now volume machine)) }
 {
     let Some(replica) = replica_on(settings, volume, machine) else {
+        drop_state(state);
         return Ok(Listed::new(alloc));
     };
     let slot = slot_of(settings, volume, replica);
     if !is_at(taker, volume) || !is_dir_open(&state, pair) || !rises_to(&state, slot, faults) {
+        drop_state(state);
         return Ok(Listed::new(alloc));
     }
-    let bytes = photo.duplicate(alloc)?;
+    let Ok(bytes) = photo.duplicate(alloc) else {
+        drop_state(state);
+        return Err(NoMemory);
+    };
     let after = put_frozen(alloc, settings, state, tag, pair, bytes, volume, machine)?;
     Listed::one(alloc, with_fault(after, slot, faults))
 }
@@ -152,6 +161,7 @@ fn next_row_failed(
     ensures { IfOk result (λ states. states ≡ next.row_failed_by state tag pair faults taker) }
 {
     let Some(volume) = taker else {
+        drop_state(state);
         return Ok(Listed::new(alloc));
     };
     let is_missing = home_of(&state, pair).is_none();
@@ -159,6 +169,7 @@ fn next_row_failed(
         let after = row_pending(state, tag, pair, volume);
         Listed::one(alloc, with_fault(after, 0, faults))
     } else {
+        drop_state(state);
         Ok(Listed::new(alloc))
     }
 }
@@ -207,7 +218,10 @@ fn put_by(
             alloc, settings, state, tag, pair, photo, *volume, *machine, *faults, taker,
         ),
         Reply::FailedDir { faults } => { next_row_failed(alloc, state, tag, pair, *faults, taker) }
-        _ => Ok(Listed::new(alloc)),
+        _ => {
+            drop_state(state);
+            Ok(Listed::new(alloc))
+        }
     }
 }
 
@@ -281,7 +295,10 @@ pub(crate) fn put_boxes(
     requires grow { Each VolumeMayGrow state.base.volumes }
     ensures { IfOk result (λ made. made ≡ rooms.put_boxes settings.now tag pair photo.now reply.now state) }
 {
-    let tries = tries_of(alloc, settings, &state.base, pair)?;
+    let Ok(tries) = tries_of(alloc, settings, &state.base, pair) else {
+        drop_box(state);
+        return Err(NoMemory);
+    };
     let parts = try_cuts(alloc, settings, photo.len() as u32, tries.as_slice(), state)?;
     let mut made = Listed::new(alloc);
     for part in parts.into_vec() {

@@ -1,19 +1,19 @@
 //! The boxes behind a restart.
 
-ghost use Rattle.std.specs.Prelude.{◌≡◌, ◌++◌, ◌<◌, ◌≤◌, drop, flat_map, length, map, IfOk, IfSome, IfNone, OnOk, Some, None};
+ghost use Rattle.std.specs.Prelude.{◌≡◌, ◌++◌, ◌∷◌, [], ◌<◌, ◌≤◌, drop, flat_map, length, map, IfOk, IfSome, IfNone, OnOk, Some, None};
 ghost use Rattle.hay_reply.specs.declared.Reply.TheVariants as reply_of;
 ghost use Rattle.hay_audit_steps.specs.BoxReopen as box_reopen;
 ghost use Rattle.hay_audit.specs.Choosing as choosing;
 ghost use Rattle.hay_audit.specs.Restarting as restarting;
 ghost use Rattle.hay_audit.specs.Sizes.{IsSmall};
 
-use crate::boxes::{BoxState, Slack};
+use crate::boxes::{BoxState, Slack, drop_box};
 use crate::first::undrained;
 use crate::keeps::{new_row, volume_kept};
 use crate::looks::rows_of;
 use crate::pairs::{Log, Rows};
 use crate::parts::{PartState, push_each, reopened_choices};
-use crate::state::{Directory, State, VolumeState};
+use crate::state::{Directory, ReplicaState, State, VolumeState, drop_state, with_volumes};
 use hay_base::{Duplicate, Listed, NoMemory};
 use hay_legal::known::HomeRow;
 use hay_needle::Settings;
@@ -84,62 +84,101 @@ fn reopened_stores(
     Ok(Some(Stores { stores, used }))
 }
 
-/// A volume behind a restart, with the ranges of its replicas.
-#[derive(Drop)]
-struct Opened {
-    volume: VolumeState,
-    low: Listed<Slack>,
-    high: Listed<Slack>,
+fn bases_of(alloc: Global, parts: Listed<PartState>) -> Result<Listed<ReplicaState>, NoMemory>
+    ensures { IfOk result (λ made. made ≡ map box_reopen.base_of parts) }
+{
+    let mut made = Listed::new(alloc);
+    for part in parts.into_vec() {
+        made.push(part.base)?;
+    }
+    Ok(made)
 }
 
-fn open_volume(alloc: Global, parts: Listed<PartState>) -> Result<Opened, NoMemory>
-    ensures volume { IfOk result (λ opened. opened.volume ≡ box_reopen.volume_of parts) }
-    ensures low { IfOk result (λ opened. opened.low ≡ map box_reopen.low_of parts) }
-    ensures high { IfOk result (λ opened. opened.high ≡ map box_reopen.high_of parts) }
+fn lows_of(alloc: Global, parts: &[PartState]) -> Result<Listed<Slack>, NoMemory>
+    ensures { IfOk result (λ made. made ≡ map box_reopen.low_of parts.now) }
 {
-    let mut replicas = Listed::new(alloc);
-    let mut low = Listed::new(alloc);
-    let mut high = Listed::new(alloc);
-    for part in parts.into_vec() {
-        low.push(part.low)?;
-        high.push(part.high)?;
-        replicas.push(part.base)?;
+    let mut made = Listed::new(alloc);
+    for part in parts {
+        made.push(part.low)?;
     }
-    Ok(Opened {
-        volume: VolumeState {
-            log: Log::new(alloc),
-            frozen: None,
-            pending: None,
-            replicas,
-        },
-        low,
-        high,
+    Ok(made)
+}
+
+fn highs_of(alloc: Global, parts: &[PartState]) -> Result<Listed<Slack>, NoMemory>
+    ensures { IfOk result (λ made. made ≡ map box_reopen.high_of parts.now) }
+{
+    let mut made = Listed::new(alloc);
+    for part in parts {
+        made.push(part.high)?;
+    }
+    Ok(made)
+}
+
+/// A volume behind a restart.
+fn open_volume(alloc: Global, parts: Listed<PartState>) -> Result<VolumeState, NoMemory>
+    ensures { IfOk result (λ opened. opened ≡ box_reopen.volume_of parts) }
+{
+    let replicas = bases_of(alloc, parts)?;
+    Ok(VolumeState {
+        log: Log::new(alloc),
+        frozen: None,
+        pending: None,
+        replicas,
     })
+}
+
+fn open_volumes(
+    alloc: Global,
+    store: Listed<Listed<PartState>>,
+) -> Result<Listed<VolumeState>, NoMemory>
+    ensures { IfOk result (λ opened. opened ≡ map box_reopen.volume_of store) }
+{
+    let mut opened = Listed::new(alloc);
+    for parts in store.into_vec() {
+        opened.push(open_volume(alloc, parts)?)?;
+    }
+    Ok(opened)
+}
+
+/// The least that the sizes of the replicas of each volume lie above the lowest.
+fn all_lows(alloc: Global, store: &[Listed<PartState>]) -> Result<Listed<Listed<Slack>>, NoMemory>
+    ensures { IfOk result (λ made. made ≡ map (λ parts. map box_reopen.low_of parts) store.now) }
+{
+    let mut made = Listed::new(alloc);
+    for parts in store {
+        made.push(lows_of(alloc, parts.as_slice())?)?;
+    }
+    Ok(made)
+}
+
+/// The most.
+fn all_highs(alloc: Global, store: &[Listed<PartState>]) -> Result<Listed<Listed<Slack>>, NoMemory>
+    ensures { IfOk result (λ made. made ≡ map (λ parts. map box_reopen.high_of parts) store.now) }
+{
+    let mut made = Listed::new(alloc);
+    for parts in store {
+        made.push(highs_of(alloc, parts.as_slice())?)?;
+    }
+    Ok(made)
 }
 
 /// The volumes behind a restart, with the ranges of their replicas.
 #[derive(Drop)]
-struct OpenedVolumes {
+struct Opened {
     volumes: Listed<VolumeState>,
     low: Listed<Listed<Slack>>,
     high: Listed<Listed<Slack>>,
 }
 
-fn open_volumes(alloc: Global, store: Listed<Listed<PartState>>) -> Result<OpenedVolumes, NoMemory>
+fn open_store(alloc: Global, store: Listed<Listed<PartState>>) -> Result<Opened, NoMemory>
     ensures volumes { IfOk result (λ opened. opened.volumes ≡ map box_reopen.volume_of store) }
     ensures low { IfOk result (λ opened. opened.low ≡ map (λ parts. map box_reopen.low_of parts) store) }
     ensures high { IfOk result (λ opened. opened.high ≡ map (λ parts. map box_reopen.high_of parts) store) }
 {
-    let mut volumes = Listed::new(alloc);
-    let mut low = Listed::new(alloc);
-    let mut high = Listed::new(alloc);
-    for parts in store.into_vec() {
-        let opened = open_volume(alloc, parts)?;
-        low.push(opened.low)?;
-        high.push(opened.high)?;
-        volumes.push(opened.volume)?;
-    }
-    Ok(OpenedVolumes { volumes, low, high })
+    let low = all_lows(alloc, store.as_slice())?;
+    let high = all_highs(alloc, store.as_slice())?;
+    let volumes = open_volumes(alloc, store)?;
+    Ok(Opened { volumes, low, high })
 }
 
 /// A store with these volumes.
@@ -150,27 +189,29 @@ fn with_store(
 ) -> Result<BoxState, NoMemory>
     ensures { IfOk result (λ made. made ≡ choosing.stored_box frame store) }
 {
-    let OpenedVolumes { volumes, low, high } = open_volumes(alloc, store)?;
-    let State {
-        volumes: _,
-        directory,
-        drained,
-        faults,
-        arms,
-        fuses,
-    } = frame;
+    let Ok(opened) = open_store(alloc, store) else {
+        drop_state(frame);
+        return Err(NoMemory);
+    };
     Ok(BoxState {
-        base: State {
-            volumes,
-            directory,
-            drained,
-            faults,
-            arms,
-            fuses,
-        },
-        low,
-        high,
+        base: with_volumes(frame, opened.volumes),
+        low: opened.low,
+        high: opened.high,
     })
+}
+
+/// Adds a store with these volumes.
+fn push_store(
+    alloc: Global,
+    frame: &State,
+    store: Listed<Listed<PartState>>,
+    out: &mut Listed<BoxState>,
+) -> Result<(), NoMemory>
+    ensures { OnOk result (out.new ≡ out.old ++ choosing.stored_box frame.now store ∷ []) }
+{
+    let made = with_store(alloc, frame.duplicate(alloc)?, store)?;
+    out.push(made)?;
+    Ok(())
 }
 
 fn with_stores(
@@ -183,10 +224,14 @@ fn with_stores(
     let mut made = Listed::new(alloc);
     let mut stores = stores.into_vec();
     let Some(last) = stores.pop() else {
+        drop_state(frame);
         return Ok(made);
     };
     for store in stores {
-        made.push(with_store(alloc, frame.duplicate(alloc)?, store)?)?;
+        let Ok(()) = push_store(alloc, &frame, store, &mut made) else {
+            drop_state(frame);
+            return Err(NoMemory);
+        };
     }
     made.push(with_store(alloc, frame, last)?)?;
     Ok(made)
@@ -250,12 +295,15 @@ pub(crate) fn restart_boxes(
     ensures { IfOk result (λ made. made ≡ box_reopen.restart_boxes settings.now state (reply_of.Restarted rows) notes.now) }
 {
     let Some(all) = reopened_stores(alloc, settings, &state, notes)? else {
+        drop_box(state);
         return Ok(Listed::new(alloc));
     };
     let Some(row) = new_row(&state.base.directory.pending, &notes[all.used..]) else {
+        drop_box(state);
         return Ok(Listed::new(alloc));
     };
     if u128::from(rows) != rows_with(&state.base, &row) {
+        drop_box(state);
         return Ok(Listed::new(alloc));
     }
     let frame = frame_of(alloc, state.base, row)?;

@@ -5,7 +5,7 @@ ghost use Rattle.hay_legal.specs.Known as known;
 ghost use Rattle.hay_audit_steps.specs.Rooms as rooms;
 ghost use Rattle.hay_audit.specs.Ranging as ranging;
 
-use crate::boxes::{BoxState, Slack, set_slack, slack_at};
+use crate::boxes::{BoxState, Slack, drop_box, set_slack, slack_at};
 use crate::closed::{closed, lacking_of};
 use crate::looks::end_of;
 use crate::refusals::{refuse_so, tries_of};
@@ -56,7 +56,9 @@ fn at_end(
     let most = u128::from(base) + u128::from(high.end);
     if least <= u128::from(end) && u128::from(end) <= most {
         out.push(with_end(alloc, state, volume, replica, end - base))?;
+        return Ok(());
     }
+    drop_box(state);
     Ok(())
 }
 
@@ -74,11 +76,15 @@ fn full_at(
     ensures { OnOk result (out.new ≡ out.old ++ rooms.refused_at settings.now size state volume None refused.now) }
 {
     let Refused::NoRoom { end, .. } = refused else {
+        drop_box(state);
         return Ok(());
     };
     match lacking_of(settings, &state, volume, size) {
         Some((j, _)) => at_end(alloc, state, volume, j, *end, out),
-        None => Ok(()),
+        None => {
+            drop_box(state);
+            Ok(())
+        }
     }
 }
 
@@ -100,7 +106,9 @@ fn refused_at(
     }
     if matches!(refused, Refused::Closed { .. }) {
         out.push(state)?;
+        return Ok(());
     }
+    drop_box(state);
     Ok(())
 }
 
@@ -136,6 +144,7 @@ fn all_refused_at(
     ensures { IfOk result (λ parts. parts ≡ rooms.all_refused_at settings.now size tries.now refused.now state) }
 {
     if tries.len() != refused.len() {
+        drop_box(state);
         return Ok(Listed::new(alloc));
     }
     let mut states = Listed::one(alloc, state)?;
@@ -160,9 +169,15 @@ fn refuse_box(
     requires volumes { 0 < settings.now.volumes }
     ensures { OnOk result (out.new ≡ out.old ++ rooms.refuse_box settings.now pair size refused.now rest state) }
 {
-    if refuse_so(alloc, settings, &state, pair, size, refused)? && rest {
+    let Ok(so) = refuse_so(alloc, settings, &state, pair, size, refused) else {
+        drop_box(state);
+        return Err(NoMemory);
+    };
+    if so && rest {
         out.push(state)?;
+        return Ok(());
     }
+    drop_box(state);
     Ok(())
 }
 
@@ -180,7 +195,10 @@ pub(crate) fn refused_boxes(
     requires volumes { 0 < settings.now.volumes }
     ensures { IfOk result (λ made. made ≡ rooms.refused_boxes settings.now pair size refused.now rest state) }
 {
-    let tries = tries_of(alloc, settings, &state.base, pair)?;
+    let Ok(tries) = tries_of(alloc, settings, &state.base, pair) else {
+        drop_box(state);
+        return Err(NoMemory);
+    };
     let states = all_refused_at(alloc, settings, size, tries.as_slice(), refused, state)?;
     let mut made = Listed::new(alloc);
     for state in states.into_vec() {

@@ -3,6 +3,7 @@
 ghost use Rattle.std.specs.Prelude.{◌≡◌, ◌<◌, ◌+◌, ◌%◌, IfOk};
 ghost use Rattle.hay_legal.specs.Plain as plain;
 ghost use Rattle.hay_legal.specs.Known as known;
+ghost use Rattle.hay_audit_steps.specs.Laid as laid;
 ghost use Rattle.hay_audit_steps.specs.Next as next;
 ghost use Rattle.hay_audit.specs.Showing as showing;
 ghost use Rattle.hay_audit.specs.Wanted.{fits};
@@ -13,7 +14,7 @@ use crate::photos::{Wanted, stands};
 use crate::plain::{keep_if, next_unknown};
 use crate::puts::is_at;
 use crate::spread::{replica_on, slot_of};
-use crate::state::State;
+use crate::state::{State, drop_state};
 use crate::unreadable::{all_caused, arms_rise, may_pass, order_from};
 use hay_base::{Listed, NoMemory};
 use hay_needle::{Cookie, Pair, Settings};
@@ -68,6 +69,22 @@ fn slots_before(
     Ok(slots)
 }
 
+/// The states behind a reader that passed over these disks: the state alone, where it passed over none.
+fn laid_behind(
+    alloc: Global,
+    state: State,
+    slots: &Listed<usize>,
+) -> Result<Listed<State>, NoMemory>
+    ensures { IfOk result (λ states. states ≡ laid.laid state 0 slots.now) }
+{
+    if slots.is_empty() {
+        return Listed::one(alloc, state);
+    }
+    let states = lay(alloc, &state, 0, slots.as_slice());
+    drop_state(state);
+    states
+}
+
 /// Behind a reader that saw this.
 pub(crate) fn next_shown(
     alloc: Global,
@@ -83,15 +100,17 @@ pub(crate) fn next_shown(
     ensures { IfOk result (λ states. states ≡ next.next_shown settings.now state (record { lane = 0; line = line }) start pair sight.volume sight.machine sight.front sight.rows (fits wanted.now)) }
 {
     let Some(replica) = replica_on(settings, sight.volume, sight.machine) else {
+        drop_state(state);
         return Ok(Listed::new(alloc));
     };
     if is_seen(&state, pair, sight) && stands(wanted, &state, sight.volume, replica, pair) {
-        let slots = slots_before(alloc, settings, sight.volume, start, replica)?;
-        if slots.is_empty() {
-            return Listed::one(alloc, state);
-        }
-        lay(alloc, &state, 0, slots.as_slice())
+        let Ok(slots) = slots_before(alloc, settings, sight.volume, start, replica) else {
+            drop_state(state);
+            return Err(NoMemory);
+        };
+        laid_behind(alloc, state, &slots)
     } else {
+        drop_state(state);
         Ok(Listed::new(alloc))
     }
 }
@@ -128,7 +147,10 @@ fn next_unreadable(
         front,
         rows,
     };
-    let order = order_from(alloc, settings, start)?;
+    let Ok(order) = order_from(alloc, settings, start) else {
+        drop_state(state);
+        return Err(NoMemory);
+    };
     let order = order.as_slice();
     let causes = causes.as_slice();
     if is_seen(&state, pair, sight)
@@ -136,6 +158,7 @@ fn next_unreadable(
     {
         Listed::one(alloc, all_caused(settings, volume, order, causes, state))
     } else {
+        drop_state(state);
         Ok(Listed::new(alloc))
     }
 }
@@ -162,7 +185,10 @@ fn next_unshown(
             alloc, settings, state, start, pair, *volume, *front, *rows, causes,
         ),
         Reply::Unknown { rows } => next_unknown(alloc, state, pair, *rows),
-        _ => Ok(Listed::new(alloc)),
+        _ => {
+            drop_state(state);
+            Ok(Listed::new(alloc))
+        }
     }
 }
 

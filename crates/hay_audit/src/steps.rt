@@ -10,7 +10,7 @@ ghost use Rattle.hay_audit.specs.Outside.{IsWithinItem};
 ghost use Rattle.hay_audit.specs.Ranging as ranging;
 ghost use Rattle.hay_audit.specs.Sizes.{IsSmall};
 
-use crate::boxes::{BoxState, ranged_all};
+use crate::boxes::{BoxState, drop_box, ranged_all};
 use crate::places::{compacted_boxes, finished_boxes, flushed_boxes, stepped_boxes};
 use crate::plain::next_plain;
 use crate::puts::put_boxes;
@@ -62,7 +62,10 @@ fn next_flushed(
             records,
         } => match spot_on(settings, volume, machine) {
             Some(spot) => flushed_boxes(alloc, state, spot, *told, *on, *records),
-            None => Ok(Listed::new(alloc)),
+            None => {
+                drop_box(state);
+                Ok(Listed::new(alloc))
+            }
         },
         _ => {
             let item = Item::Command(Command::Flush { volume, machine });
@@ -94,7 +97,10 @@ fn next_stepped(
             cells,
         } => match spot_on(settings, volume, machine) {
             Some(spot) => stepped_boxes(alloc, state, spot, asked, *told, *on, *cells),
-            None => Ok(Listed::new(alloc)),
+            None => {
+                drop_box(state);
+                Ok(Listed::new(alloc))
+            }
         },
         _ => {
             let item = Item::Command(Command::Step {
@@ -128,7 +134,10 @@ fn next_compacted(
             generation,
         } => match spot_on(settings, volume, machine) {
             Some(spot) => compacted_boxes(alloc, state, spot, *told, *on, *generation),
-            None => Ok(Listed::new(alloc)),
+            None => {
+                drop_box(state);
+                Ok(Listed::new(alloc))
+            }
         },
         _ => {
             let item = Item::Command(Command::Compact { volume, machine });
@@ -159,7 +168,10 @@ fn next_finished(
             generation,
         } => match spot_on(settings, volume, machine) {
             Some(spot) => finished_boxes(alloc, state, spot, *told, *on, *generation),
-            None => Ok(Listed::new(alloc)),
+            None => {
+                drop_box(state);
+                Ok(Listed::new(alloc))
+            }
         },
         _ => {
             let item = Item::Command(Command::Finish { volume, machine });

@@ -1,6 +1,6 @@
 //! Behind a line that keeps up one replica: flushes, compactions and fuses.
 
-ghost use Rattle.std.specs.Prelude.{◌≡◌, ◌<◌, IfOk, IfSome, option_map};
+ghost use Rattle.std.specs.Prelude.{◌≡◌, ◌<◌, ◌∷◌, [], IfOk, IfSome, option_map};
 ghost use Rattle.hay_legal.specs.Known as known;
 ghost use Rattle.hay_legal.specs.Plain as plain;
 ghost use Rattle.hay_audit_steps.specs.Next as next;
@@ -17,7 +17,7 @@ use crate::plain::keep_if;
 use crate::puts::is_at;
 use crate::replicas::{Change, Standing, change_replica, standing_of};
 use crate::spread::{replica_on, slot_of};
-use crate::state::State;
+use crate::state::{State, drop_state};
 use hay_base::{Duplicate, Listed, NoMemory};
 use hay_legal::known::Run;
 use hay_needle::Settings;
@@ -138,6 +138,7 @@ fn change_if(
     ensures { IfOk result (λ states. states ≡ next.keep_if test (plain.change_replica state spot.volume spot.replica (replicas.changed change))) }
 {
     if !test {
+        drop_state(state);
         return Ok(Listed::new(alloc));
     }
     let after = change_replica(alloc, state, spot.volume, spot.replica, change);
@@ -157,6 +158,7 @@ fn fail_if(
         (next.with_fault (plain.change_replica state spot.volume spot.replica (replicas.changed change)) (known.slot_of settings.now spot.volume spot.replica) faults)) }
 {
     if !test {
+        drop_state(state);
         return Ok(Listed::new(alloc));
     }
     let after = failed_with(alloc, settings, state, spot, change, faults);
@@ -190,7 +192,10 @@ fn next_flush(
                     && (!here.stuck && rises(settings, &state, spot, *faults)));
             fail_if(alloc, settings, test, state, spot, Change::Stuck, *faults)
         }
-        _ => Ok(Listed::new(alloc)),
+        _ => {
+            drop_state(state);
+            Ok(Listed::new(alloc))
+        }
     }
 }
 
@@ -310,6 +315,23 @@ fn next_step(
     }
 }
 
+/// The state alone in which the replica stands before a swap that failed.
+fn not_swapped(
+    alloc: Global,
+    settings: &Settings,
+    state: &State,
+    spot: Spot,
+    faults: u64,
+) -> Result<Listed<State>, NoMemory>
+    ensures { IfOk result (λ states. states ≡ next.with_fault (plain.change_replica state.now spot.volume spot.replica plain.without_run)
+        (known.slot_of settings.now spot.volume spot.replica) faults ∷ []) }
+{
+    let copy = state.duplicate(alloc)?;
+    let before = failed_with(alloc, settings, copy, spot, Change::NoRun, faults);
+    let states = Listed::one(alloc, before)?;
+    Ok(states)
+}
+
 /// A swap failed, and the replica stands before it, or no one knows where.
 fn swap_failed(
     alloc: Global,
@@ -321,9 +343,10 @@ fn swap_failed(
     ensures { IfOk result (λ states. states ≡ next.swap_failed settings.now state spot.volume spot.machine spot.replica faults) }
 {
     let slot = slot_of(settings, spot.volume, spot.replica);
-    let copy = state.duplicate(alloc)?;
-    let before = failed_with(alloc, settings, copy, spot, Change::NoRun, faults);
-    let mut states = Listed::one(alloc, before)?;
+    let Ok(mut states) = not_swapped(alloc, settings, &state, spot, faults) else {
+        drop_state(state);
+        return Err(NoMemory);
+    };
     let poised = poised_by(alloc, state, spot.volume, spot.machine, spot.replica)?;
     states.push(with_fault(poised, slot, faults))?;
     Ok(states)
@@ -351,6 +374,7 @@ fn next_compact(
             {
                 swap_failed(alloc, settings, state, spot, *faults)
             } else {
+                drop_state(state);
                 Ok(Listed::new(alloc))
             }
         }
@@ -380,6 +404,7 @@ fn next_finish(
             {
                 swap_failed(alloc, settings, state, spot, *faults)
             } else {
+                drop_state(state);
                 Ok(Listed::new(alloc))
             }
         }
@@ -407,7 +432,10 @@ fn next_fuse(
             let slot = slot_of(settings, spot.volume, spot.replica);
             keep_if(alloc, test, fused(state, slot))
         }
-        _ => Ok(Listed::new(alloc)),
+        _ => {
+            drop_state(state);
+            Ok(Listed::new(alloc))
+        }
     }
 }
 

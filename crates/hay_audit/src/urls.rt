@@ -10,7 +10,7 @@ use crate::plain::{keep_if, next_unknown};
 use crate::puts::{cookie_eq, is_at};
 use crate::shows::next_show;
 use crate::spread::{machine_of, replica_on, start_of};
-use crate::state::State;
+use crate::state::{State, drop_state};
 use hay_base::{Listed, NoMemory};
 use hay_needle::{Pair, Settings};
 use hay_reply::Reply;
@@ -58,7 +58,10 @@ pub(crate) fn next_url(
             keep_if(alloc, test, state)
         }
         Reply::Unknown { rows } => next_unknown(alloc, state, pair, *rows),
-        _ => Ok(Listed::new(alloc)),
+        _ => {
+            drop_state(state);
+            Ok(Listed::new(alloc))
+        }
     }
 }
 
@@ -102,6 +105,7 @@ pub(crate) fn next_get(
             alloc, settings, state, line, start, url.pair, url.cookie, reply,
         )
     } else {
+        drop_state(state);
         Ok(Listed::new(alloc))
     }
 }

@@ -4,8 +4,4 @@ use Rattle.hay_audit_steps.specs.BoxReopen as box_reopen
 use Rattle.hay_audit.proofs.reopens.open_volumes.Given as goal
 
 abbrev pub invariant-loop-parts : goal.invariant-loop-parts
-invariant-loop-parts l = record {
-  bases : l.volumes ++ map box_reopen.volume_of l.parts-iterator.rest.items ≡ map box_reopen.volume_of l.fn.store;
-  lows : l.low ++ map (λ parts. map box_reopen.low_of parts) l.parts-iterator.rest.items ≡ map (λ parts. map box_reopen.low_of parts) l.fn.store;
-  highs : l.high ++ map (λ parts. map box_reopen.high_of parts) l.parts-iterator.rest.items ≡ map (λ parts. map box_reopen.high_of parts) l.fn.store;
-}
+invariant-loop-parts l = l.opened ++ map box_reopen.volume_of l.parts-iterator.rest.items ≡ map box_reopen.volume_of l.fn.store
