@@ -1,7 +1,7 @@
 -- What a block leaves, from what was run at all its locks.
 use Rattle.std.proofs.Common.{◌≡◌, ◌<◌, ◌≤◌, ℕ, List, [], ◌∷◌, map, length, refl, sym, ap, subst, ◌∙◌, arith, Some, slice_get, Vec, Global}
 use Rattle.std.specs.Prelude.{Bool}
-use Rattle.std.specs.List.{AllByRecursion as Each, AllZip}
+use Rattle.std.specs.List.{AllByRecursion as Each, AllZip, flat_map}
 use Rattle.std.proofs.lemmas.List.{length-map}
 use Rattle.std.proofs.lemmas.Option.{slice_get_within}
 use Rattle.hay_needle.specs.declared.settings.Settings.{Settings}
@@ -19,17 +19,19 @@ use Rattle.hay_meeting.specs.Acts.{Start, row_lock}
 use Rattle.hay_meeting.specs.Locks.{LockSight}
 use Rattle.hay_meeting.proofs.Closing.{there}
 use Rattle.hay_lane.specs.declared.lane.Lane.{Lane}
+use Rattle.hay_lane.specs.Blames.{Blames, causes_told}
 use Rattle.hay_lane.specs.Lanes.{IsLaterArm}
 use Rattle.hay_shared_volume.specs.Tellings.{StoreVolume}
 use Rattle.hay_lane.proofs.Arms.{later_on, later_same}
+use Rattle.hay_lane.proofs.Blaming.{blames_more, blames_none}
 use Rattle.hay_block.specs.declared.worker.Job.{Job}
 use Rattle.hay_block.specs.Frames.{RanAll, shared_by}
-use Rattle.hay_block.specs.Lines.{Answers, AnswersBad, AnswersSuited}
+use Rattle.hay_block.specs.Lines.{Answers, AnswersBad, AnswersSuited, BlameArms}
 use Rattle.hay_shared_volume.specs.Making.{AreSeated, AreUnseen}
 use Rattle.hay_block.specs.Making.{LeavesDirectory}
 use Rattle.hay_block.specs.Stores.{AreStill, CountsRise}
 use Rattle.hay_block.proofs.Framing.{nothing_made}
-use Rattle.hay_block.proofs.Lists.{each_by, same_item, zip_by, zip_mapped, zip_same}
+use Rattle.hay_block.proofs.Lists.{each_by, mapped, same_item, zip_by, zip_mapped, zip_same}
 
 -- REPLIES, whatever the disks tell
 
@@ -81,6 +83,25 @@ module _ {W J O : Type 0} (gives : W → ℕ → J → W → O → Type 0) where
       let w = there workers lane (let within = slice_get_within jobs lane js at_js in omega (arith, within, given)) in
       let r = all.each lane w.0 js w.1 at_js in
       subst (AllZip R js) (same_item outs lane r.3 at_rs) (zip_out R is lane w.0 js r.0 r.1 r.4))
+
+  chained : (R : W → List O → W → Type 0) → ((w : W) → R w [] w) → ((w : W) (lane : ℕ) (job : J) (x : W) (out : O) (rest : List O) (y : W) → gives w lane job x out → R x rest y → R w (out ∷ rest) y)
+      → (lane : ℕ) (w : W) (jobs : List J) (after : W) (outs : List O) → AnswersAll gives lane w jobs after outs → R w outs after
+  chained R none on lane w [] after outs (same, none_out) = subst (λ os. R w os after) (sym none_out) (subst (R w []) (sym same) (none w))
+  chained R none on lane w (job ∷ jobs) after outs (x, out, rest, outs_are, answered, more) =
+      subst (λ os. R w os after) (sym outs_are) (on w lane job x out rest after answered (chained R none on lane x jobs after rest more))
+
+  -- what each answer adds to those behind it, all of a lane's have
+  pub lanes_chained : (R : W → List O → W → Type 0) → ((w : W) → R w [] w)
+      → ((w : W) (lane : ℕ) (job : J) (x : W) (out : O) (rest : List O) (y : W) → gives w lane job x out → R x rest y → R w (out ∷ rest) y)
+      → {workers after : List W} {jobs : List (List J)} {outs : List (List O)} → length jobs ≡ length workers → AnswersLanes gives workers jobs after outs
+      → (lane : ℕ) (rs : List O) → slice_get outs lane ≡ Some rs → (w : W) × (x : W) × (slice_get workers lane ≡ Some w) × (slice_get after lane ≡ Some x) × R w rs x
+  lanes_chained R none on {workers} {after} {jobs} {outs} given all lane rs at_rs =
+      let within = slice_get_within outs lane rs at_rs in
+      let same = all.lanes_stay in
+      let js = there jobs lane (omega (arith, within, same)) in
+      let w = there workers lane (omega (arith, within, same, given)) in
+      let r = all.each lane w.0 js.0 w.1 js.1 in
+      (w.0, r.0, w.1, r.2, subst (λ os. R w.0 os r.0) (same_item outs lane r.3 at_rs) (chained R none on lane w.0 js.0 r.0 r.1 r.4))
 
   -- WORKERS
 
@@ -141,6 +162,31 @@ module _ {V D S T A W : Type 0} {fits : ℕ → V → Settings → ℕ → S →
 
   pub all_fit : length jobs ≡ length arms → Each (Each FitsReply) replies
   all_fit given = replies_are Gives FitsReply (λ before lane job after reply gives. gives.fits_reply) (given_lanes given) all.answers
+
+  -- a lane's arm, from its first line to its last
+  abbrev LaneLeaves : Lane S T A → List Reply → Lane S T A → Type 0
+  LaneLeaves before replies after = IsLaterArm arm_sure arm_faults before.arm after.arm × Blames arm_sure arm_faults before.arm after.arm (flat_map causes_told replies)
+
+  lane_leaves : (before : Lane S T A) (lane : ℕ) (job : Job) (next : Lane S T A) (reply : Reply) (rest : List Reply) (after : Lane S T A) → Gives before lane job next reply
+      → LaneLeaves next rest after → LaneLeaves before (reply ∷ rest) after
+  lane_leaves before lane job next reply rest after gives leaves = (
+    later_on gives.arm leaves.0,
+    blames_more arm_sure arm_faults before.arm next.arm after.arm (causes_told reply) (flat_map causes_told rest) gives.arm leaves.0 gives.blames leaves.1,
+  )
+
+  -- no arm is told as a cause but the lane's own
+  pub all_blame : length jobs ≡ length arms → BlameArms arm_sure arm_faults arms arms_behind replies
+  all_blame given = record {
+    each = λ lane rs at_rs.
+        let of_arm : Lane S T A → A = λ l. l.arm in
+        let leaves = lanes_chained Gives LaneLeaves (λ l. (later_same refl, blames_none arm_sure arm_faults l.arm l.arm [] refl)) lane_leaves (given_lanes given) all.answers lane rs at_rs in (
+          (leaves.0).arm,
+          (leaves.1).arm,
+          ap (λ z. slice_get z lane) (sym all.arms_are) ∙ mapped of_arm all.lanes lane leaves.0 leaves.2,
+          ap (λ z. slice_get z lane) (sym all.arms_behind_are) ∙ mapped of_arm all.after lane leaves.1 leaves.3,
+          (leaves.4).1,
+        );
+  }
 
 -- WHERE NO LINE WAS ANSWERED
 

@@ -1,6 +1,6 @@
 -- The lines of a lane, and what it answers.
 use Rattle.std.specs.Prelude.{◌≡◌, ℕ, ◌<◌, ◌==◌, List, [], ◌∷◌, length, filter, slice_get, Some, Bool}
-use Rattle.std.specs.List.{AllByRecursion as Each}
+use Rattle.std.specs.List.{AllByRecursion as Each, flat_map}
 use Rattle.hay_needle.specs.declared.settings.Settings.{Settings}
 use Rattle.hay_core.specs.declared.entry.Entry.{Entry}
 use Rattle.hay_script.specs.Script.{IsWithin}
@@ -20,6 +20,7 @@ use Rattle.hay_meeting.specs.Locks.{LockSight}
 use Rattle.hay_meeting.specs.Replies.{AnsweredHere}
 use Rattle.hay_lane.specs.declared.lane.Lane.{Lane}
 use Rattle.hay_lane.specs.declared.lane.Shared.{Shared}
+use Rattle.hay_lane.specs.Blames.{Blames, causes_told}
 use Rattle.hay_lane.specs.Lanes.{IsLaterArm, IsOf, IsSeated, sight}
 use Rattle.hay_shared_volume.specs.Tellings.{StoreVolume}
 use Rattle.hay_block.specs.declared.worker.Job.{Job}
@@ -58,6 +59,7 @@ module _ {V D S T A : Type 0} (fits : ℕ → V → Settings → ℕ → S → T
     -- whatever the disks tell
     pub suits : AnswersSuited shared.settings job reply
     pub bad : AnswersBad job reply
+    pub blames : Blames arm_sure arm_faults old.arm new.arm (causes_told reply)
     pub arm : IsLaterArm arm_sure arm_faults old.arm new.arm
 
 -- a lane's lines with their replies
@@ -71,3 +73,8 @@ pub record AreItems (jobs : List (List Job)) (replies : List (List Reply)) (item
   pub low : Each (λ item. item.lane < length jobs) items
   pub each : (lane : ℕ) (js : List Job) (rs : List Reply) → slice_get jobs lane ≡ Some js → slice_get replies lane ≡ Some rs
       → filter (λ item. item.lane == lane) items ≡ answered_lines lane js rs
+
+-- Of the causes that the replies of each lane tell, in their order, those that are an arm are of the lane's own, in this block.
+pub record BlameArms {A : Type 0} (is_sure : A → Bool) (faults : A → ℕ) (old new : List A) (replies : List (List Reply)) : Type 0 where
+  pub each : (lane : ℕ) (rs : List Reply) → slice_get replies lane ≡ Some rs
+      → (a : A) × (b : A) × (slice_get old lane ≡ Some a) × (slice_get new lane ≡ Some b) × Blames is_sure faults a b (flat_map causes_told rs)

@@ -11,7 +11,7 @@ ghost use Rattle.hay_reply.specs.Fits.{FitsReply};
 ghost use Rattle.hay_legal.specs.Known.{EachPair};
 ghost use Rattle.hay_lane.specs.Lanes.{IsLaterArm};
 ghost use Rattle.hay_block.specs.Frames.{AreFit, HasRoom};
-ghost use Rattle.hay_block.specs.Lines.{AnswersBad, AnswersSuited, AreItems, IsServed};
+ghost use Rattle.hay_block.specs.Lines.{AnswersBad, AnswersSuited, AreItems, BlameArms, IsServed};
 ghost use Rattle.hay_shared_volume.specs.Making.{AreSeated, IsVolumeOf, VolumeStands, count_of};
 ghost use Rattle.hay_block.specs.Making.{LeavesDirectory};
 ghost use Rattle.hay_block.specs.Stores.{AreUpwards, AreVolumes, CountsRise, RanLegally, StoreStands, line_of_tag, notes_from};
@@ -195,10 +195,11 @@ where
     ensures arms { length result.0.arms.items ≡ length jobs.now }
     ensures refused { OnErr result.1 (IsSameParts (VolumeStands D.Tells D.files P.Tells) (count_of D.fault_count) (count_of D.fuse_count) settings parts result.0) }
     // Whatever the disks tell, each line is answered, by a reply that suits it, and no count of a disk or of an arm falls. An arm that
-    // was sure is so still, with the same count.
+    // was sure is so still, with the same count, and is told as no cause.
     ensures replies { IfOk result.1 (λ answers. AllZip (λ js rs. length js.items ≡ length rs.items) jobs.now answers.replies.items) }
     ensures suits { IfOk result.1 (λ answers. AllZip (λ js rs. AllZip (AnswersSuited settings) js.items rs.items) jobs.now answers.replies.items) }
     ensures bad { IfOk result.1 (λ answers. AllZip (λ js rs. AllZip AnswersBad js.items rs.items) jobs.now answers.replies.items) }
+    ensures blames { IfOk result.1 (λ answers. BlameArms A.is_sure A.fault_count parts.arms.items result.0.arms.items (map (λ rs. rs.items) answers.replies.items)) }
     ensures fits { IfOk result.1 (λ answers. AllByRecursion (λ rs. AllByRecursion FitsReply rs.items) answers.replies.items) }
     ensures upwards { IfOk result.1 (λ answers. IfOk answers.notes (λ notes. AreUpwards settings.volumes notes.logs.items)) }
     ensures arms_rise { AllZip (IsLaterArm A.is_sure A.fault_count) parts.arms.items result.0.arms.items }

@@ -1,11 +1,14 @@
 -- The arms of all lanes, of which the first ones were in a block.
 use Rattle.std.proofs.Common.{◌≡◌, ◌≤◌, ◌+◌, ◌-◌, ℕ, zero, suc, Bool, List, [], ◌∷◌, ◌++◌, map, refl, sym, ap, subst, ◌∙◌, arith, take, drop, reverse, length, length-append, length-drop}
+use Rattle.std.specs.Prelude.{Some, slice_get}
 use Rattle.std.specs.List.{AllByRecursion as Each, AllZip}
 use Rattle.std.proofs.Math.Seq.{drop-append_seam}
 use Rattle.std.proofs.lemmas.List.{length-reverse, length-take-le, reverse-append, reverse-reverse, take-append-drop}
+use Rattle.hay_reply.specs.declared.Reply.{Reply}
 use Rattle.hay_legal.specs.Known.{NoneFalls}
 use Rattle.hay_lane.specs.Lanes.{IsLaterArm}
 use Rattle.hay_cluster.specs.Causes.{StaySure}
+use Rattle.hay_block.specs.Lines.{BlameArms}
 use Rattle.hay_block.proofs.Lists.{each_mapped}
 use Rattle.hay_cluster_block.proofs.Slots.{each_last, zip_append}
 
@@ -85,3 +88,23 @@ pub others_back : {A : Type 0} (n : ℕ) (arms others last : List A) → others 
 others_back n arms others last others_are many =
     subst (λ m. drop m (last ++ reverse others) ≡ drop n arms) many
     (drop-append_seam last (reverse others) ∙ (ap (λ z. reverse z) others_are ∙ reverse-reverse (drop n arms)))
+
+taken_at : {A : Type 0} (n : ℕ) (xs : List A) (i : ℕ) (x : A) → slice_get (take n xs) i ≡ Some x → slice_get xs i ≡ Some x
+taken_at zero xs i x at = absurd cc
+taken_at (suc n) [] i x at = absurd cc
+taken_at (suc n) (y ∷ xs) zero x at = at
+taken_at (suc n) (y ∷ xs) (suc i) x at = taken_at n xs i x at
+
+before_at : {A : Type 0} (xs ys : List A) (i : ℕ) (x : A) → slice_get xs i ≡ Some x → slice_get (xs ++ ys) i ≡ Some x
+before_at [] ys i x at = absurd cc
+before_at (y ∷ xs) ys zero x at = at
+before_at (y ∷ xs) ys (suc i) x at = before_at xs ys i x at
+
+-- the lanes of a block have the first arms
+pub blame_all : {A : Type 0} (is_sure : A → Bool) (faults : A → ℕ) (n : ℕ) (arms first last others : List A) (replies : List (List Reply)) → first ≡ take n arms
+    → BlameArms is_sure faults first last replies → BlameArms is_sure faults arms (last ++ others) replies
+blame_all is_sure faults n arms first last others replies first_are blames = record {
+  each = λ lane rs at_rs.
+      let b = blames.each lane rs at_rs in
+      (b.0, b.1, taken_at n arms lane b.0 (ap (λ z. slice_get z lane) (sym first_are) ∙ b.2), before_at last others lane b.1 b.3, b.4);
+}

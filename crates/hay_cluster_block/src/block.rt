@@ -5,7 +5,7 @@ ghost use Rattle.hay_reply.specs.Fits.{FitsNote, FitsReply};
 ghost use Rattle.hay_legal.specs.declared.known.Known.{Known};
 ghost use Rattle.hay_legal.specs.declared.turn.LaneItem.{LaneItem};
 ghost use Rattle.hay_legal.specs.Known.{EachPair, NoneFalls};
-ghost use Rattle.hay_block.specs.Lines.{AnswersBad, AnswersSuited, AreItems, IsServed};
+ghost use Rattle.hay_block.specs.Lines.{AnswersBad, AnswersSuited, AreItems, BlameArms, IsServed};
 ghost use Rattle.hay_directory.specs.State.{home_of};
 ghost use Rattle.hay_cluster.specs.Causes.{StaySure};
 ghost use Rattle.hay_cluster.specs.State.{Stands};
@@ -116,10 +116,11 @@ where
     ensures up { IsUp result.0 }
     ensures settings { result.0.settings ≡ cluster.settings }
     // Whatever the disks tell, each line is answered by a reply that suits it, each row that a note tells is of a line that put its pair,
-    // no count falls, the arm of a lane that the block has not is as it was, and a sure arm stays sure.
+    // no count falls, the arm of a lane that the block has not is as it was, and a sure arm stays sure and is told as no cause.
     ensures replies { IfOk result.1 (λ answers. AllZip (λ js rs. length js.items ≡ length rs.items) jobs.now answers.replies.items) }
     ensures suits { IfOk result.1 (λ answers. AllZip (λ js rs. AllZip (AnswersSuited cluster.settings) js.items rs.items) jobs.now answers.replies.items) }
     ensures bad { IfOk result.1 (λ answers. AllZip (λ js rs. AllZip AnswersBad js.items rs.items) jobs.now answers.replies.items) }
+    ensures blames { IfOk result.1 (λ answers. BlameArms A.is_sure A.fault_count cluster.arms result.0.arms (map (λ rs. rs.items) answers.replies.items)) }
     ensures fits { IfOk result.1 (λ answers. AllByRecursion (λ rs. AllByRecursion FitsReply rs.items) answers.replies.items) }
     ensures notes { IfOk result.1 (λ answers. IfOk answers.notes (λ notes. AreBlockNotes cluster.settings.volumes notes.items × AllByRecursion FitsNote notes.items)) }
     ensures rows { IfOk result.1 (λ answers. IfOk answers.notes (λ notes. AllByRecursion (TellsRowsOf (home_of result.0.directory) (all_jobs jobs.now)) notes.items)) }

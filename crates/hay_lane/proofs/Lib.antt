@@ -8,3 +8,4 @@ pub mod Compacted
 pub mod Reading
 pub mod Showing
 pub mod Suiting
+pub mod Blaming

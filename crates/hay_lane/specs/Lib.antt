@@ -3,3 +3,4 @@ pub mod Lanes
 pub mod Replies
 pub mod Puts
 pub mod Reads
+pub mod Blames

@@ -1,5 +1,5 @@
 -- What the parts of a read tell.
-use Rattle.std.specs.Prelude.{◌≡◌, ◌≢◌, ◌⊎◌, ℕ, ◌+◌, ◌%◌, ◌<◌, ◌≤◌, Bool, List, length, map, Result, Ok, IsErr}
+use Rattle.std.specs.Prelude.{◌≡◌, ◌≢◌, ◌⊎◌, ℕ, ◌+◌, ◌%◌, ◌<◌, ◌≤◌, Bool, List, [], length, map, Result, Ok, IsErr}
 use Rattle.hay_needle.specs.declared.needle.Pair.{Pair}
 use Rattle.hay_needle.specs.declared.needle.Cookie.{Cookie}
 use Rattle.hay_needle.specs.declared.needle.Outcome.{Outcome}
@@ -84,6 +84,20 @@ IsFoundAs (read.Gone j) what = what ≡ found.Gone j
 IsFoundAs (read.WrongCookie j) what = what ≡ found.WrongCookie j
 IsFoundAs (read.Unreadable causes) what = what ≡ found.Unreadable causes
 IsFoundAs (read.Unseen j causes) what = ⊥
+
+-- the causes for which a read passed over replicas, in their order
+abbrev pub causes_read : ReadReply → List Cause
+causes_read (read.Photo j) = []
+causes_read (read.Gone j) = []
+causes_read (read.WrongCookie j) = []
+causes_read (read.Unseen j causes) = causes_in causes
+causes_read (read.Unreadable causes) = causes_in causes
+
+abbrev pub causes_found : Found → List Cause
+causes_found (found.Photo j) = []
+causes_found (found.Gone j) = []
+causes_found (found.WrongCookie j) = []
+causes_found (found.Unreadable causes) = causes_in causes
 
 -- why a replica is passed over whose place was not seen
 abbrev pub IsSightCause : {E : Type 0} → SightFault → Result Cause E → Type 0

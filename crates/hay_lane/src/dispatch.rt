@@ -5,6 +5,7 @@ ghost use Rattle.hay_script.specs.Script.{IsWithin};
 ghost use Rattle.hay_legal.specs.Suiting.{Suits};
 ghost use Rattle.hay_meeting.specs.Acts.{Start};
 ghost use Rattle.hay_holdings.specs.Lines.{IsAnswered};
+ghost use Rattle.hay_lane.specs.Blames.{Blames, causes_told};
 ghost use Rattle.hay_lane.specs.Lanes.{IsLaterArm, IsOf, IsSeated, sight};
 ghost use Rattle.hay_reply.specs.Fits.{FitsReply};
 ghost use Rattle.hay_shared_volume.specs.Seats.{IsSeatOf, WasAt, sight_of};
@@ -42,6 +43,8 @@ impl<D: Disk<Piece = P>, P: Piece, L: DirectoryCalls> Shared<SharedVolume<D, P>,
         ensures answered { (start : Start) → IsOf (WasAt D.Tells D.files P.Tells D.fault_count D.fuse_count) L.is_at self.now.settings start lane.old →
             IsAnswered self.now.settings start self.now.drained.items tag command.now result (sight sight_of L.sight A.fault_count lane.old) (sight sight_of L.sight A.fault_count lane.new) }
         ensures suits { Suits self.now.settings tag.line command.now result }
+        // Of what it tells of an arm's failures, each is of the lane's own, in this call.
+        ensures blames { Blames A.is_sure A.fault_count lane.old.arm lane.new.arm (causes_told result) }
         ensures fits { FitsReply result }
     {
         match command {

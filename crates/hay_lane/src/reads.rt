@@ -14,8 +14,10 @@ ghost use Rattle.hay_reader.specs.Causes.{ComeFirst};
 ghost use Rattle.hay_reader.specs.Shown.{HasBytes, ReadsRow};
 ghost use Rattle.hay_reader.specs.Tried.{CanShow, HasItsPhoto};
 ghost use Rattle.hay_reader.specs.declared.causes.PassedReplica.{PassedReplica};
+ghost use Rattle.hay_lane.specs.Blames.{Blames, BlamesOn, causes_told};
 ghost use Rattle.hay_lane.specs.Lanes.{IsLaterArm, IsOf, IsSeated, sight};
-ghost use Rattle.hay_lane.specs.Reads.{FoundWithin, FrozeBehind, HasFound, HasRead, IsFoundAs, IsFoundReply, IsNext, IsSightCause, ShowTells, ShownWithin, StopsBehind, passed_at};
+ghost use Rattle.hay_lane.specs.Reads.{FoundWithin, FrozeBehind, HasFound, HasRead, IsFoundAs, IsFoundReply, IsNext, IsSightCause, ShowTells, ShownWithin, StopsBehind};
+ghost use Rattle.hay_lane.specs.Reads.{causes_found, causes_in, causes_read, passed_at};
 ghost use Rattle.hay_shared_volume.specs.Looks.{WasSeen};
 ghost use Rattle.hay_reply.specs.Fits.{FitsPassed, FitsReply};
 ghost use Rattle.hay_reply.specs.declared.Reply.TheVariants as reply;
@@ -70,6 +72,7 @@ impl<D: Disk<Piece = P>, P: Piece, L: DirectoryCalls> Shared<SharedVolume<D, P>,
             IsAnswered self.now.settings start self.now.drained.items tag (asks.Read pair cookie) result
             (sight sight_of L.sight A.fault_count lane.old) (sight sight_of L.sight A.fault_count lane.new) }
         ensures suits { Suits self.now.settings tag.line (asks.Read pair cookie) result }
+        ensures blames { Blames A.is_sure A.fault_count lane.old.arm lane.new.arm (causes_told result) }
         ensures fits { FitsReply result }
     {
         let (rows, home) = self.home_in_view(rt, lane, tag, pair);
@@ -100,6 +103,7 @@ impl<D: Disk<Piece = P>, P: Piece, L: DirectoryCalls> Shared<SharedVolume<D, P>,
         ensures answered { (start : Start) → IsOf (WasAt D.Tells D.files P.Tells D.fault_count D.fuse_count) L.is_at self.now.settings start lane.old →
             IsAnswered self.now.settings start self.now.drained.items tag (asks.Get url.now) result (sight sight_of L.sight A.fault_count lane.old) (sight sight_of L.sight A.fault_count lane.new) }
         ensures suits { Suits self.now.settings tag.line (asks.Get url.now) result }
+        ensures blames { Blames A.is_sure A.fault_count lane.old.arm lane.new.arm (causes_told result) }
         ensures fits { FitsReply result }
     {
         let Some(first) = replica_on(&self.settings, url.volume, url.machine) else {
@@ -142,6 +146,7 @@ impl<D: Disk<Piece = P>, P: Piece, L: DirectoryCalls> Shared<SharedVolume<D, P>,
             Sees self.now.settings start self.now.drained.items tag pair rows (Some volume) a (sight sight_of L.sight A.fault_count lane.old) →
             ShowTells self.now.settings start self.now.drained.items tag pair cookie rows volume first result a (sight sight_of L.sight A.fault_count lane.new) }
         ensures suits { ShowsOf self.now.settings volume result ⊎ (result ≡ reply.NoMem) }
+        ensures blames { Blames A.is_sure A.fault_count lane.old.arm lane.new.arm (causes_told result) }
         ensures fits { FitsReply result }
     {
         let Ok(mut photo) = Vec::with_capacity(alloc, MAX_PHOTO as usize) else {
@@ -182,6 +187,7 @@ impl<D: Disk<Piece = P>, P: Piece, L: DirectoryCalls> Shared<SharedVolume<D, P>,
             → IsOf (WasAt D.Tells D.files P.Tells D.fault_count D.fuse_count) L.is_at self.now.settings start lane.new }
         ensures arm { IsLaterArm A.is_sure A.fault_count lane.old.arm lane.new.arm }
         ensures within { IfOk result (λ answer. FoundWithin self.now.settings.replicas photo.new.items answer.1) }
+        ensures blames { IfOk result (λ answer. Blames A.is_sure A.fault_count lane.old.arm lane.new.arm (causes_found answer.1)) }
         ensures found { (start : Start) (d : ℕ) (a : Sight) → IsOf (WasAt D.Tells D.files P.Tells D.fault_count D.fuse_count) L.is_at self.now.settings start lane.old →
             Sees self.now.settings start self.now.drained.items tag pair d (Some volume) a (sight sight_of L.sight A.fault_count lane.old) →
             IfOk result (λ answer. HasFound self.now.settings start self.now.drained.items tag pair d volume first cookie answer.0 photo.new.items answer.1
@@ -229,6 +235,7 @@ impl<D: Disk<Piece = P>, P: Piece, L: DirectoryCalls> Shared<SharedVolume<D, P>,
         ensures long { length result.0.row ≡ self.now.settings.replicas }
         ensures stops { StopsBehind first self.now.settings.replicas 0 result.1 }
         ensures shown { ShownWithin self.now.settings.replicas result.1 }
+        ensures blames { Blames A.is_sure A.fault_count lane.old.arm lane.new.arm (causes_read result.1) }
         ensures bytes { HasBytes photo.new.items result.1 }
         ensures room { MAX_PHOTO ≤ vec_capacity photo.new }
         ensures tells { (start : Start) (d : ℕ) (a : Sight) → IsOf (WasAt D.Tells D.files P.Tells D.fault_count D.fuse_count) L.is_at self.now.settings start lane.old →
@@ -272,6 +279,7 @@ impl<D: Disk<Piece = P>, P: Piece, L: DirectoryCalls> Shared<SharedVolume<D, P>,
         ensures long { IfOk result (λ on. length on.0.row ≡ self.now.settings.replicas) }
         ensures stops { IfOk result (λ on. StopsBehind first self.now.settings.replicas (length causes + 1) on.1) }
         ensures shown { IfOk result (λ on. ShownWithin self.now.settings.replicas on.1) }
+        ensures blames { IfOk result (λ on. BlamesOn A.is_sure A.fault_count lane.old.arm lane.new.arm (causes_in causes) (causes_read on.1)) }
         ensures bytes { IfOk result (λ on. HasBytes photo.new.items on.1) }
         ensures room { MAX_PHOTO ≤ vec_capacity photo.new }
         ensures tells { (start : Start) (d : ℕ) (a : Sight) → IsOf (WasAt D.Tells D.files P.Tells D.fault_count D.fuse_count) L.is_at self.now.settings start lane.old →
@@ -335,6 +343,7 @@ fn read_seen<P: Piece, A: Arm<P>>(
     ensures later { A.fault_count arm.old ≤ A.fault_count arm.new }
     ensures most { (A.fault_count arm.new ≡ A.fault_count arm.old) ⊎ (A.fault_count arm.new < 2 ^ 64) }
     ensures shown { ShownWithin (length row.now) result }
+    ensures blames { BlamesOn A.is_sure A.fault_count arm.old arm.new (causes_in passed) (causes_read result) }
     ensures bytes { HasBytes photo.new.items result }
     ensures room { MAX_PHOTO ≤ vec_capacity photo.new }
 {

@@ -9,7 +9,7 @@ ghost use Rattle.hay_legal.specs.declared.turn.RowNote.{RowNote};
 ghost use Rattle.hay_legal.specs.Known.{EachPair};
 ghost use Rattle.hay_lane.specs.Lanes.{IsLaterArm};
 ghost use Rattle.hay_block.specs.Frames.{AreFit};
-ghost use Rattle.hay_block.specs.Lines.{AnswersBad, AnswersSuited, AreItems, IsServed};
+ghost use Rattle.hay_block.specs.Lines.{AnswersBad, AnswersSuited, AreItems, BlameArms, IsServed};
 ghost use Rattle.hay_block.specs.Parts.{NotesTell};
 ghost use Rattle.hay_block.specs.Stores.{AreUpwards, AreVolumes, CountsRise};
 ghost use Rattle.hay_locks.specs.Blocks.{AreSameParts, PartsStand, RanOnParts};
@@ -59,12 +59,14 @@ where
     ensures directory { IsDirectoryOf result.0.directory settings }
     ensures arms { length result.0.arms.items ≡ length jobs.now }
     ensures refused { OnErr result.1 (AreSameParts D.Tells D.files P.Tells D.fault_count D.fuse_count settings parts result.0) }
-    // Whatever the disks tell, each line is answered, by a reply that suits it, no count of a disk or of an arm falls, and a sure arm stays so.
+    // Whatever the disks tell, each line is answered, by a reply that suits it, no count of a disk or of an arm falls, and a sure arm stays so
+    // and is told as no cause.
     ensures replies { IfOk result.1 (λ answers. AllZip (λ js rs. length js.items ≡ length rs.items) jobs.now answers.replies.items) }
     ensures fits { IfOk result.1 (λ answers. AllByRecursion (λ rs. AllByRecursion FitsReply rs.items) answers.replies.items) }
     ensures upwards { IfOk result.1 (λ answers. IfOk answers.notes (λ notes. AreUpwards settings.volumes notes.logs.items)) }
     ensures suits { IfOk result.1 (λ answers. AllZip (λ js rs. AllZip (AnswersSuited settings) js.items rs.items) jobs.now answers.replies.items) }
     ensures bad { IfOk result.1 (λ answers. AllZip (λ js rs. AllZip AnswersBad js.items rs.items) jobs.now answers.replies.items) }
+    ensures blames { IfOk result.1 (λ answers. BlameArms A.is_sure A.fault_count parts.arms.items result.0.arms.items (map (λ rs. rs.items) answers.replies.items)) }
     ensures rises { CountsRise settings (count_of D.fault_count) (rows_count_of D.fault_count) parts.volumes.items parts.directory result.0.volumes.items result.0.directory }
     ensures arms_rise { AllZip (IsLaterArm A.is_sure A.fault_count) parts.arms.items result.0.arms.items }
     // Where the disks tell, the lines are a legal block of what was known, in any order that keeps each lane's own, with these notes, and

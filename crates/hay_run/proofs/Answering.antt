@@ -1,6 +1,6 @@
 -- A block, from its lines to what stands behind it.
 use Rattle.std.proofs.Common.{◌≡◌, ◌≢◌, ◌⊎◌, inr, ℕ, ◌<◌, ◌≤◌, List, [], ◌∷◌, map, length, Option, refl, sym, subst, arith}
-use Rattle.std.specs.Prelude.{Result, Ok, Err, IfOk, OnOk, OnErr, Vec}
+use Rattle.std.specs.Prelude.{slice_index, Result, Ok, Err, IfOk, OnOk, OnErr, Vec}
 use Rattle.std.specs.Global.{Global}
 use Rattle.std.specs.List.{AllByRecursion as Each, AllZip}
 use Rattle.std.proofs.lemmas.Result.{IfOk-weaker, on_ok_weaker, on_err_weaker}
@@ -17,8 +17,10 @@ use Rattle.hay_legal.specs.declared.turn.LaneItem.{LaneItem}
 use Rattle.hay_legal.specs.Items.{InBlock, line_asked}
 use Rattle.hay_legal.specs.Items.Asked.{Block}
 use Rattle.hay_legal.specs.Known.{EachPair}
+use Rattle.hay_lane.specs.Blames.{BlamesArm}
 use Rattle.hay_block.specs.declared.worker.Job.{Job}
 use Rattle.hay_block.specs.Lines.{AnswersBad, AnswersSuited, AreItems, IsServed}
+use Rattle.hay_cluster.specs.Causes.{Counts}
 use Rattle.hay_cluster.specs.Seen.{home_seen}
 use Rattle.hay_cluster.specs.State.{Stands, Holds}
 use Rattle.hay_cluster.specs.Store.{Open}
@@ -29,8 +31,8 @@ use Rattle.hay_cluster_block.specs.Rows.{all_jobs}
 use Rattle.hay_run.specs.declared.deal.Place.{Place}
 use Rattle.hay_run.specs.declared.stops.Stop.{Stop}
 use Rattle.hay_run.specs.declared.stops.Stop.TheVariants as stop
-use Rattle.hay_run.specs.Blocks.{AreAnswered, AreJobs, ArePlaces, IsBlockOf, IsBlockText, answered_text, job_of}
-use Rattle.hay_run.specs.Causing.{Caused, IsLaterTally, StopCaused, Tally, WantedBlock}
+use Rattle.hay_run.specs.Blocks.{AreAnswered, AreJobs, ArePlaces, IsBlockOf, IsBlockText, answered_text, job_of, lane_causes}
+use Rattle.hay_run.specs.Causing.{Caused, HasSureArm, IsLaterTally, StopCaused, Tally, WantedBlock}
 use Rattle.hay_run.specs.Turns.{AnswersAll, AnswersPart, AnyTurn, IsGoingOn}
 use Rattle.hay_run.proofs.Blocked.{NotesOf, block_ran, block_told, err_here, notes_of_told, ok_by, ok_here}
 use Rattle.hay_run.proofs.Causing.{caused_one, part_stops}
@@ -119,16 +121,18 @@ module _ (lanes : ℕ) (lines : List InBlock) (jobs : List (Vec Job Global)) (pl
     -- their text, whatever the disks tell
     pub text_told : (items : List LaneItem) (told : Result (Vec Note Global) NoMemory) → AreAnswered lines (own_replies replies) items
         → Each (λ (rs : Vec Reply Global). Each FitsReply rs.items) replies
-        → AllZip (λ (js : Vec Job Global) (rs : Vec Reply Global). AllZip AnswersBad js.items rs.items) jobs replies → (settings : Settings) (home : Pair → Option ℕ)
-        → AllZip (λ (js : Vec Job Global) (rs : Vec Reply Global). AllZip (AnswersSuited settings) js.items rs.items) jobs replies → (n : NotesOf settings.volumes home (map job_of lines) told)
-        → IsBlockText settings home lines (answered_text items n.notes)
-    text_told items told are fits bad settings home suits n =
+        → AllZip (λ (js : Vec Job Global) (rs : Vec Reply Global). AllZip AnswersBad js.items rs.items) jobs replies
+        → (settings : Settings) (Sure : ℕ → Type 0) (before after : Counts) (home : Pair → Option ℕ)
+        → AllZip (λ (js : Vec Job Global) (rs : Vec Reply Global). AllZip (AnswersSuited settings) js.items rs.items) jobs replies
+        → ((lane : ℕ) → BlamesArm (Sure lane) (slice_index before.arms lane) (slice_index after.arms lane) (lane_causes lane items)) → (n : NotesOf settings.volumes home (map job_of lines) told)
+        → IsBlockText settings Sure before after home lines (answered_text items n.notes)
+    text_told items told are fits bad settings Sure before after home suits blames n =
         let answers = zip_mapped (λ (own : Vec Job Global). own.items) (λ (own : Vec Reply Global). own.items) (λ (js : List Job) (rs : List Reply). AllZip AnswersBad js rs) jobs replies bad in
-        block_told settings home lanes lines (own_jobs jobs) (own_replies replies) items told d.jobs_are
+        block_told settings Sure before after home lanes lines (own_jobs jobs) (own_replies replies) items told d.jobs_are
         (zip_many (λ (js : List Job) (rs : List Reply). AllZip AnswersBad js rs) (own_jobs jobs) (own_replies replies) answers) are
         (each_mapped (λ (own : Vec Reply Global). own.items) (λ (own : List Reply). Each FitsReply own) replies fits)
         (zip_mapped (λ (own : Vec Job Global). own.items) (λ (own : Vec Reply Global). own.items) (λ (js : List Job) (rs : List Reply). AllZip (AnswersSuited settings) js rs) jobs
-        replies suits) answers n
+        replies suits) answers blames n
 
 -- ANSWERED AND WRITTEN
 
@@ -160,7 +164,7 @@ module _ {D P A : Type 0} (files : D → Files) (DiskTells Tells : Type 0) (faul
 
 -- whatever they tell
 module _ (Tells : Type 0) (settings : Settings) (before after : Tally) (lines : List InBlock) (text : List ℕ) (written written' : Option (List ℕ))
-    (later : IsLaterTally before after) (is : IsBlockText settings (home_seen after.seen) lines text) where
+    (later : IsLaterTally before after) (is : IsBlockText settings (HasSureArm before) before.counts after.counts (home_seen after.seen) lines text) where
   pub block_caused : {X : Type 0} (r : Result X Stop) → OnOk r (Wrote written text written') → OnOk r (Caused Tells Wrote settings before after (Block lines ∷ []) written written')
   block_caused r wrote = on_ok_weaker r (λ whole. caused_one Tells Wrote settings before after (Block lines) text written written' later is whole) wrote
 

@@ -1,6 +1,6 @@
 -- A block that was answered, and one that wanted memory before.
 use Rattle.std.proofs.Common.{◌≡◌, ℕ, List, [], ◌∷◌, ◌++◌, map, length, Option, refl, sym, ap, subst, ◌∙◌, append_assoc}
-use Rattle.std.specs.Prelude.{Bool, Result, Ok, Err, IfOk, OnOk, OnErr, Vec, flat_map}
+use Rattle.std.specs.Prelude.{Bool, slice_index, Result, Ok, Err, IfOk, OnOk, OnErr, Vec, flat_map}
 use Rattle.std.specs.Global.{Global}
 use Rattle.std.specs.List.{AllByRecursion as Each, AllZip}
 use Rattle.hay_base.specs.declared.memory.NoMemory.{NoMemory}
@@ -22,6 +22,7 @@ use Rattle.hay_legal.specs.Items.{InBlock, line_asked}
 use Rattle.hay_legal.specs.Items.Asked.{Block}
 use Rattle.hay_legal.specs.Suiting.{SuitsItem}
 use Rattle.hay_legal.specs.Transcript.{answered_line, log_line, row_line, turn_text}
+use Rattle.hay_lane.specs.Blames.{BlamesArm}
 use Rattle.hay_block.specs.declared.worker.Job.{Job}
 use Rattle.hay_block.specs.Lines.{AnswersBad, AnswersSuited}
 use Rattle.hay_cluster.specs.Causes.{Counts}
@@ -29,7 +30,7 @@ use Rattle.hay_cluster.specs.Store.{Open, disks_of}
 use Rattle.hay_cluster_block.specs.Blocks.{RanBlock, StaysAs}
 use Rattle.hay_cluster_block.specs.Notes.{AreBlockNotes, TellsRowsOf, block_notes}
 use Rattle.hay_cluster_block.proofs.Noting.{notes_text}
-use Rattle.hay_run.specs.Blocks.{AreAnswered, AreJobs, IsBlockText, answered_text, job_of}
+use Rattle.hay_run.specs.Blocks.{AreAnswered, AreJobs, IsBlockText, answered_text, job_of, lane_causes}
 use Rattle.hay_run.specs.Causing.{WantedBlock, tally_of}
 use Rattle.hay_run.specs.Turns.{AnswersTurns, Standing, Writing}
 use Rattle.hay_run.proofs.Dealing.{each_answer, each_reply}
@@ -88,18 +89,22 @@ each_of_three : (P Q R : LaneItem → Type 0) (items : List LaneItem) → Each P
 each_of_three P Q R [] p q r = tt
 each_of_three P Q R (item ∷ items) p q r = ((p.0, q.0, r.0), each_of_three P Q R items p.1 q.1 r.1)
 
-pub block_told : (settings : Settings) (home : Pair → Option ℕ) (lanes : ℕ) (lines : List InBlock) (jobs : List (List Job)) (replies : List (List Reply)) (items : List LaneItem)
+pub block_told : (settings : Settings) (Sure : ℕ → Type 0) (before after : Counts) (home : Pair → Option ℕ) (lanes : ℕ) (lines : List InBlock) (jobs : List (List Job))
+    (replies : List (List Reply)) (items : List LaneItem)
     (told : Result (Vec Note Global) NoMemory)
     → AreJobs lanes lines jobs → length jobs ≡ length replies → AreAnswered lines replies items → Each (λ own. Each FitsReply own) replies
     → AllZip (λ js rs. AllZip (AnswersSuited settings) js rs) jobs replies
-    → AllZip (λ js rs. AllZip AnswersBad js rs) jobs replies → (n : NotesOf settings.volumes home (map job_of lines) told) → IsBlockText settings home lines (answered_text items n.notes)
-block_told settings home lanes lines jobs replies items told are long answered fits suits bad n = record {
+    → AllZip (λ js rs. AllZip AnswersBad js rs) jobs replies
+    → ((lane : ℕ) → BlamesArm (Sure lane) (slice_index before.arms lane) (slice_index after.arms lane) (lane_causes lane items)) → (n : NotesOf settings.volumes home (map job_of lines) told)
+    → IsBlockText settings Sure before after home lines (answered_text items n.notes)
+block_told settings Sure before after home lanes lines jobs replies items told are long answered fits suits bad blames n = record {
   items = items;
   asked = answered.asked;
   fits = each_of_three (λ line. FitsReply line.reply) (λ line. SuitsItem settings line.line line.item line.reply) (λ line. line.item ≡ item.Bad → line.reply ≡ BadLine) items
       (each_reply FitsReply lines replies items fits answered)
       (each_answer (AnswersSuited settings) lanes lines jobs replies items suits are long answered)
       (each_answer AnswersBad lanes lines jobs replies items bad are long answered);
+  blames = blames;
   notes = n.notes;
   told = n.kinds;
   rows = n.rows;

@@ -1,6 +1,7 @@
 pub mod Answering
 pub mod Asking
 pub mod Auditing
+pub mod Blamed
 pub mod Blocked
 pub mod Blocking
 pub mod Bounding

@@ -1,9 +1,13 @@
 -- Texts of blocks that no run has, each as a lemma.
-use Rattle.std.proofs.Common.{◌≡◌, ◌≢◌, ℕ, zero, suc, ◌<◌, ◌≤◌, List, [], ◌∷◌, Contains, Option, Some, length, map, refl, sym, ap, subst, ◌∙◌, arith}
-use Rattle.std.specs.Prelude.{slice_get}
+use Rattle.std.proofs.Common.{◌≡◌, ◌≢◌, ℕ, zero, suc, ◌<◌, ◌≤◌, ◌-◌, ◌^◌, ◌==◌, ◌++◌, inl, inr, Bool, true, false, eq-eqb, List, [], ◌∷◌, Contains, Option, Some, length, map}
+use Rattle.std.proofs.Common.{refl, sym, ap, subst, ◌∙◌, arith}
+use Rattle.std.specs.Prelude.{slice_get, slice_index}
+use Rattle.std.specs.List.{AllByRecursion as Each}
 use Rattle.std.proofs.lemmas.List.{length-map}
 use Rattle.hay_needle.specs.declared.needle.Pair.{Pair}
 use Rattle.hay_needle.specs.declared.settings.Settings.{Settings}
+use Rattle.hay_reply.specs.declared.Cause.{Cause}
+use Rattle.hay_reply.specs.declared.Cause.TheVariants.{Arm}
 use Rattle.hay_reply.specs.declared.LineVolume.{LineVolume}
 use Rattle.hay_reply.specs.declared.Note.{Note}
 use Rattle.hay_reply.specs.declared.Note.TheVariants.{Kept, Log, Rows}
@@ -14,39 +18,95 @@ use Rattle.hay_legal.specs.declared.turn.LogNote.{LogNote}
 use Rattle.hay_legal.specs.declared.turn.RowNote.{RowNote}
 use Rattle.hay_legal.specs.Items.{InBlock, line_asked}
 use Rattle.hay_legal.specs.Known.{EachPair}
-use Rattle.hay_history.proofs.Lists.{each_in}
+use Rattle.hay_history.proofs.Lists.{each_in, first_or_rest, none_in}
+use Rattle.hay_lane.specs.Blames.{MayBlame, causes_told}
 use Rattle.hay_block.specs.declared.worker.Job.{Job}
 use Rattle.hay_cluster_block.specs.Notes.{AreBlockNotes, IsRowOf, TellsRowsOf, block_notes, notes_of_rows}
 use Rattle.hay_cluster_block.specs.Rows.{pair_of}
-use Rattle.hay_run.specs.Blocks.{FitsLine, IsBlockText, job_of}
+use Rattle.hay_cluster.specs.Causes.{Counts}
+use Rattle.hay_run.specs.Blocks.{FitsLine, IsBlockText, job_of, lane_causes}
 use Rattle.hay_run.proofs.Dealing.{each_at}
 
 -- LINES
 
 -- a line that is no command, and was answered as one
-pub bad_line_answered : (settings : Settings) (home : Pair → Option ℕ) (lines : List InBlock) (text : List ℕ) (block : IsBlockText settings home lines text) (answered : LaneItem)
+pub bad_line_answered : (settings : Settings) (Sure : ℕ → Type 0) (before after : Counts) (home : Pair → Option ℕ) (lines : List InBlock) (text : List ℕ)
+    (block : IsBlockText settings Sure before after home lines text) (answered : LaneItem)
     → Contains block.items answered → answered.item ≡ item.Bad → answered.reply ≢ BadLine → ⊥
-bad_line_answered settings home lines text block answered among bad other = other ((each_in (FitsLine settings) block.items answered block.fits among).2 bad)
+bad_line_answered settings Sure before after home lines text block answered among bad other = other ((each_in (FitsLine settings) block.items answered block.fits among).2 bad)
 
 -- a line without a reply
-pub line_without_a_reply : (settings : Settings) (home : Pair → Option ℕ) (lines : List InBlock) (text : List ℕ) (block : IsBlockText settings home lines text) → length block.items < length lines → ⊥
-line_without_a_reply settings home lines text block fewer =
+pub line_without_a_reply : (settings : Settings) (Sure : ℕ → Type 0) (before after : Counts) (home : Pair → Option ℕ) (lines : List InBlock) (text : List ℕ)
+    (block : IsBlockText settings Sure before after home lines text) → length block.items < length lines → ⊥
+line_without_a_reply settings Sure before after home lines text block fewer =
     let many : length lines ≡ length block.items = ap length (sym block.asked) ∙ length-map block.items line_asked in
     omega (arith, fewer, many)
+
+-- ARMS
+
+-- what holds of each cause of a lane holds of those of one of its lines
+of_line : (P : Cause → Type 0) (items : List LaneItem) (answered : LaneItem) → Each P (lane_causes answered.lane items) → Contains items answered → Each P (causes_told answered.reply)
+of_line P items answered each among = by items each among
+  where
+    front : (xs ys : List Cause) → Each P (xs ++ ys) → Each P xs
+    front [] ys each = tt
+    front (x ∷ xs) ys each = (each.0, front xs ys each.1)
+
+    rest : (xs ys : List Cause) → Each P (xs ++ ys) → Each P ys
+    rest [] ys each = each
+    rest (x ∷ xs) ys each = rest xs ys each.1
+
+    kept : (b : Bool) (item : LaneItem) (items : List LaneItem) → (item.lane == answered.lane) ≡ b → Each P (lane_causes answered.lane (item ∷ items)) → Each P (lane_causes answered.lane items)
+    kept true item items is each = rest (causes_told item.reply) (lane_causes answered.lane items) (rw is at each)
+    kept false item items is each = rw is at each
+
+    first : (item : LaneItem) (items : List LaneItem) → item ≡ answered → Each P (lane_causes answered.lane (item ∷ items)) → Each P (causes_told answered.reply)
+    first item items same each =
+        let here : (item.lane == answered.lane) ≡ true = eq-eqb item.lane answered.lane (ap (λ (l : LaneItem). l.lane) same) in
+        subst (λ (l : LaneItem). Each P (causes_told l.reply)) same (front (causes_told item.reply) (lane_causes answered.lane items) (rw here at each))
+
+    by : (items : List LaneItem) → Each P (lane_causes answered.lane items) → Contains items answered → Each P (causes_told answered.reply)
+    by [] each among = absurd (none_in answered among)
+    by (item ∷ items) each among = elim (first_or_rest item items answered among) [
+      | inl same ↦ first item items same each
+      | inr more ↦ by items (kept (item.lane == answered.lane) item items refl each) more
+    ]
+
+module _ (settings : Settings) (Sure : ℕ → Type 0) (before after : Counts) (home : Pair → Option ℕ) (lines : List InBlock) (text : List ℕ)
+    (block : IsBlockText settings Sure before after home lines text) (answered : LaneItem) (among : Contains block.items answered) where
+  blamed : (count : ℕ) → Contains (causes_told answered.reply) (Arm count)
+      → MayBlame (Sure answered.lane) (slice_index before.arms answered.lane) (slice_index after.arms answered.lane) (Arm count)
+  blamed count told =
+      let P : Cause → Type 0 = MayBlame (Sure answered.lane) (slice_index before.arms answered.lane) (slice_index after.arms answered.lane) in
+      each_in P (causes_told answered.reply) (Arm count) (of_line P block.items answered ((block.blames answered.lane).each) among) told
+
+  -- a sure arm is blamed, be its count the greatest
+  pub sure_arm_blamed : (count : ℕ) → Contains (causes_told answered.reply) (Arm count) → Sure answered.lane → ⊥
+  sure_arm_blamed count told sure = (blamed count told).0 sure
+
+  -- and an arm with a count that it had before the block
+  pub arm_that_never_rose : (count : ℕ) → Contains (causes_told answered.reply) (Arm count) → count ≤ slice_index before.arms answered.lane → count ≢ 2 ^ 64 - 1 → ⊥
+  arm_that_never_rose count told low less = elim (((blamed count told).1).0) [ inl rose ↦ absurd (omega (arith, rose, low)) | inr most ↦ less most ]
+
+  -- and with one that it has not come to behind it
+  pub arm_that_came_later : (count : ℕ) → Contains (causes_told answered.reply) (Arm count) → slice_index after.arms answered.lane < count → ⊥
+  arm_that_came_later count told high = let most = ((blamed count told).1).1 in absurd (omega (arith, high, most))
 
 -- NOTES
 
 -- a note of another kind
-pub kept_behind_a_block : (settings : Settings) (home : Pair → Option ℕ) (lines : List InBlock) (text : List ℕ) (block : IsBlockText settings home lines text) (v m line : ℕ)
+pub kept_behind_a_block : (settings : Settings) (Sure : ℕ → Type 0) (before after : Counts) (home : Pair → Option ℕ) (lines : List InBlock) (text : List ℕ)
+    (block : IsBlockText settings Sure before after home lines text) (v m line : ℕ)
     → Contains block.notes (Kept v m line) → ⊥
-kept_behind_a_block settings home lines text block v m line among = each_in (TellsRowsOf home (map job_of lines)) block.notes (Kept v m line) block.rows among
+kept_behind_a_block settings Sure before after home lines text block v m line among = each_in (TellsRowsOf home (map job_of lines)) block.notes (Kept v m line) block.rows among
 
 -- a row of a line that put no pair of this home
-pub row_of_another_pair : (settings : Settings) (home : Pair → Option ℕ) (lines : List InBlock) (text : List ℕ) (block : IsBlockText settings home lines text) (from : ℕ)
+pub row_of_another_pair : (settings : Settings) (Sure : ℕ → Type 0) (before after : Counts) (home : Pair → Option ℕ) (lines : List InBlock) (text : List ℕ)
+    (block : IsBlockText settings Sure before after home lines text) (from : ℕ)
     (rows : List LineVolume) (row : LineVolume)
     → Contains block.notes (Rows from rows) → Contains rows row
     → ((job : Job) (pair : Pair) → Contains (map job_of lines) job → job.line ≡ row.line → pair_of job.item ≡ Some pair → home pair ≢ Some row.volume) → ⊥
-row_of_another_pair settings home lines text block from rows row among told none =
+row_of_another_pair settings Sure before after home lines text block from rows row among told none =
     let is = each_in (IsRowOf home (map job_of lines)) rows row (each_in (TellsRowsOf home (map job_of lines)) block.notes (Rows from rows) block.rows among) told in
     none is.job is.pair is.among is.line is.put is.home_is
 
@@ -73,7 +133,8 @@ pairs_at R (x ∷ xs) zero (suc j) a b pairs below at_a at_b =
     subst (λ z. R z b) is (each_at (R x) xs j b pairs.0 at_b)
 pairs_at R (x ∷ xs) (suc i) (suc j) a b pairs below at_a at_b = pairs_at R xs i j a b pairs.1 (omega (arith, below)) at_a at_b
 
-module _ (settings : Settings) (home : Pair → Option ℕ) (lines : List InBlock) (text : List ℕ) (block : IsBlockText settings home lines text) where
+module _ (settings : Settings) (Sure : ℕ → Type 0) (before after : Counts) (home : Pair → Option ℕ) (lines : List InBlock) (text : List ℕ)
+    (block : IsBlockText settings Sure before after home lines text) where
   found : (i v from : ℕ) (own : List ℕ) → slice_get block.notes i ≡ Some (Log v from own)
       → (log : LogNote) × (slice_get (block.told).logs i ≡ Some log) × (log.volume ≡ v) × (log.lines ≡ own)
   found i v from own at = in_logs (block.told).logs (block.told).rows i v from own (ap (λ notes. slice_get notes i) (sym (block.told).are) ∙ at)

@@ -13,9 +13,11 @@ use Rattle.hay_legal.specs.declared.turn.LaneItem.{LaneItem}
 use Rattle.hay_legal.specs.Items.{InBlock}
 use Rattle.hay_legal.specs.Suiting.{Suits, SuitsItem, SuitsRead}
 use Rattle.hay_history.proofs.Lists.{each_in}
+use Rattle.hay_cluster.specs.Causes.{Counts}
 use Rattle.hay_run.specs.Blocks.{FitsLine, IsBlockText}
 
-module _ (settings : Settings) (home : Pair → Option ℕ) (lines : List InBlock) (text : List ℕ) (block : IsBlockText settings home lines text) (answered : LaneItem)
+module _ (settings : Settings) (Sure : ℕ → Type 0) (before after : Counts) (home : Pair → Option ℕ) (lines : List InBlock) (text : List ℕ)
+    (block : IsBlockText settings Sure before after home lines text) (answered : LaneItem)
     (among : Contains block.items answered) where
   suits : (command : Command) (reply : Reply) → answered.item ≡ item.Command command → answered.reply ≡ reply → Suits settings answered.line command reply
   suits command reply asked said =

@@ -1,8 +1,9 @@
 -- Blocks of lines: what is asked of one, how its lines come to their lanes, and the text that answers it.
-use Rattle.std.specs.Prelude.{◌≡◌, ◌≢◌, ℕ, ◌<◌, ◌≤◌, ◌==◌, List, [], ◌∷◌, ◌++◌, length, map, flat_map, filter, take, slice_get, slice_index_or, slice_set, Option, Some}
+use Rattle.std.specs.Prelude.{◌≡◌, ◌≢◌, ℕ, ◌<◌, ◌≤◌, ◌==◌, List, [], ◌∷◌, ◌++◌, length, map, flat_map, filter, take, slice_get, slice_index, slice_index_or, slice_set, Option, Some}
 use Rattle.std.specs.List.{AllByRecursion as Each}
 use Rattle.hay_needle.specs.declared.needle.Pair.{Pair}
 use Rattle.hay_needle.specs.declared.settings.Settings.{Settings}
+use Rattle.hay_reply.specs.declared.Cause.{Cause}
 use Rattle.hay_reply.specs.declared.Note.{Note}
 use Rattle.hay_reply.specs.declared.Reply.{Reply}
 use Rattle.hay_reply.specs.declared.Reply.TheVariants.{BadLine}
@@ -14,8 +15,10 @@ use Rattle.hay_legal.specs.Items.{InBlock, OpenBlock, line_asked}
 use Rattle.hay_legal.specs.Known.{EachPair}
 use Rattle.hay_legal.specs.Suiting.{SuitsItem}
 use Rattle.hay_legal.specs.Transcript.{answered_line}
+use Rattle.hay_lane.specs.Blames.{BlamesArm, causes_told}
 use Rattle.hay_block.specs.declared.worker.Job.{Job}
 use Rattle.hay_block.specs.Lines.{IsServed}
+use Rattle.hay_cluster.specs.Causes.{Counts}
 use Rattle.hay_cluster_block.specs.Notes.{AreBlockNotes, TellsRowsOf}
 use Rattle.hay_run.specs.declared.deal.Place.{Place}
 
@@ -77,12 +80,18 @@ answered_text items notes = flat_map answered_line items ++ flat_map note_line n
 abbrev pub FitsLine : Settings → LaneItem → Type 0
 FitsLine settings answered = FitsReply answered.reply × SuitsItem settings answered.line answered.item answered.reply × (answered.item ≡ item.Bad → answered.reply ≡ BadLine)
 
--- These lines were answered so, whatever the disks tell, where pairs have these homes behind them: each has its reply, and notes on new entries
--- and on new rows stand behind them, where each row is of a line that put a pair of this home.
-pub record IsBlockText (settings : Settings) (home : Pair → Option ℕ) (lines : List InBlock) (text : List ℕ) : Type 0 where
+-- the causes that a lane's lines tell, in their order
+abbrev pub lane_causes : ℕ → List LaneItem → List Cause
+lane_causes lane items = flat_map (λ answered. causes_told answered.reply) (filter (λ answered. answered.lane == lane) items)
+
+-- These lines were answered so, whatever the disks tell, where pairs have these homes behind them, and while the counts went from these to
+-- those: each has its reply, which blames no arm but its lane's own, and none that is sure; and notes on new entries and on new rows stand
+-- behind them, where each row is of a line that put a pair of this home. `Sure` says of a lane that its arm is sure.
+pub record IsBlockText (settings : Settings) (Sure : ℕ → Type 0) (before after : Counts) (home : Pair → Option ℕ) (lines : List InBlock) (text : List ℕ) : Type 0 where
   pub items : List LaneItem
   pub asked : map line_asked items ≡ lines
   pub fits : Each (FitsLine settings) items
+  pub blames : (lane : ℕ) → BlamesArm (Sure lane) (slice_index before.arms lane) (slice_index after.arms lane) (lane_causes lane items)
   pub notes : List Note
   pub told : AreBlockNotes settings.volumes notes
   pub rows : Each (TellsRowsOf home (map job_of lines)) notes

@@ -110,7 +110,7 @@ abbrev pub IsTextOf : Type 0 → Settings → Tally → Tally → Asked → List
 IsTextOf Tells settings before after (Alone number (item.Command command)) text =
     LeavesFuses settings command before.fuses after.fuses × (IsRestartText Tells settings before after command number text ⊎ IsReplyText Tells settings before after command number text)
 IsTextOf Tells settings before after (Alone number item.Bad) text = (after ≡ before) × (text ≡ numbered_line number BadLine)
-IsTextOf Tells settings before after (Block lines) text = IsBlockText settings (home_seen after.seen) lines text
+IsTextOf Tells settings before after (Block lines) text = IsBlockText settings (HasSureArm before) before.counts after.counts (home_seen after.seen) lines text
 
 -- one text after another answers the items
 abbrev pub AnswerTexts : Type 0 → Settings → Tally → Tally → List Asked → List ℕ → Type 0

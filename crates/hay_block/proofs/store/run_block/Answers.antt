@@ -13,7 +13,7 @@ use Rattle.hay_shared_volume.specs.Making.{AreUnseen, IsVolumeOf, VolumeStands, 
 use Rattle.hay_block.specs.Stores.{AreStill, AreUpwards, AreVolumes, line_of_tag, notes_from}
 use Rattle.hay_block.proofs.Blocks.{block_told}
 use Rattle.hay_block.proofs.Lists.{each_mapped, each_unmapped, err_at, ok_at, ok_weaker, zip_long, zip_unmapped}
-use Rattle.hay_block.proofs.Whole.{all_bad, all_fit, all_later, all_replied, all_suit, counts_rise, directory_same, made_rows, same_arms, seated_rows, still_counts}
+use Rattle.hay_block.proofs.Whole.{all_bad, all_blame, all_fit, all_later, all_replied, all_suit, counts_rise, directory_same, made_rows, same_arms, seated_rows, still_counts}
 use Rattle.hay_block.proofs.Staying.{still_self}
 use Rattle.hay_block.proofs.Upwards.{notes_upwards}
 use Rattle.hay_shared_volume.specs.Seats.{IsSeatOf, WasAt, sight_of}
@@ -97,6 +97,7 @@ returns-in-Ok-answer g c =
           zip_unmapped (λ (js : Vec Job Global). js.items) (λ (rs : Vec Reply Global). rs.items) (AllZip (AnswersSuited c.args.settings)) c.args.jobs.now
           c.in-Ok-answer.replies.items (all_suit ran (sym given));
       bad = zip_unmapped (λ (js : Vec Job Global). js.items) (λ (rs : Vec Reply Global). rs.items) (AllZip AnswersBad) c.args.jobs.now c.in-Ok-answer.replies.items (all_bad ran (sym given));
+      blames = all_blame ran (sym given);
       fits = each_unmapped (λ (rs : Vec Reply Global). rs.items) (AllByRecursion FitsReply) c.in-Ok-answer.replies.items (all_fit ran (sym given));
       upwards = ok_weaker (λ (n : BlockNotes). n.logs.items ≡ notes_from 0 c.in-Ok.ready.fronts.items told) (λ n. AreUpwards c.args.settings.volumes n.logs.items)
           (λ n is. subst (AreUpwards c.args.settings.volumes) (sym is) (notes_upwards c.args.settings.volumes c.in-Ok.ready.fronts.items told (as_many ∙ many))) c.notes_of-notes.result logs;
@@ -140,6 +141,7 @@ returns-in-Ok-new g c =
       replies = tt;
       suits = tt;
       bad = tt;
+      blames = tt;
       fits = tt;
       upwards = tt;
       arms_rise = same_arms g.A.Arm.is_sure g.A.Arm.fault_count same;

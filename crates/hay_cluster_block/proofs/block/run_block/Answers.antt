@@ -7,14 +7,14 @@ use Rattle.hay_legal.specs.Known.{NoneFalls}
 use Rattle.hay_directory.specs.State.{home_of}
 use Rattle.hay_block.specs.declared.store.BlockNotes.{BlockNotes}
 use Rattle.hay_block.specs.declared.worker.Job.{Job}
-use Rattle.hay_block.specs.Lines.{AnswersSuited, AreItems}
+use Rattle.hay_block.specs.Lines.{AnswersSuited, AreItems, BlameArms}
 use Rattle.hay_block.specs.Stores.{AreUpwards}
 use Rattle.hay_cluster.specs.Causes.{StaySure}
 use Rattle.hay_cluster.specs.Store.{Open, disks_of}
 use Rattle.hay_cluster.proofs.Moves.{none_falls}
 use Rattle.hay_cluster_block.proofs.Behind.{notes_of_block}
 use Rattle.hay_cluster_block.proofs.RowsTold.{rows_told}
-use Rattle.hay_cluster_block.proofs.Rising.{all_arms, all_split, arms_sure, others_back, others_small, same_arms}
+use Rattle.hay_cluster_block.proofs.Rising.{all_arms, all_split, arms_sure, blame_all, others_back, others_small, same_arms}
 use Rattle.hay_cluster_block.proofs.Standing.{made, made_of}
 use Rattle.hay_cluster_block.proofs.Whole.{arms_later, arms_stay, counts_rise, is_up, many_behind, ran, room_again, shape_again, stays, stays_self, were}
 use Rattle.hay_cluster_block.specs.Blocks.{StaysAs}
@@ -175,6 +175,21 @@ returns-in-Ok-answer-clause-suits g c =
     (subst (λ (z : Vec (Vec Reply Global) Global). AllZip (λ (js : Vec Job Global) (rs : Vec Reply Global). AllZip (AnswersSuited p.result.settings) js.items rs.items)
     c.args.jobs.now z.items) (sym c.told-replies.ensures.replies)
     (rw c.in-Ok-answer.is at q.ensures.suits))
+
+pub returns-in-Ok-answer-clause-blames : goal.returns-in-Ok-answer-clause-blames
+returns-in-Ok-answer-clause-blames g c =
+    let p = c.into_parts-directory in
+    let q = c.run_on_locks-parts in
+    let replies = c.in-Ok-answer.answers.replies.items in
+    let blames =
+    blame_all g.A.Arm.is_sure g.A.Arm.fault_count (length c.args.jobs.now) p.result.arms.items c.in-Ok.arms.items q.result.0.arms.items (reverse c.in-Ok.others.items)
+    (map (λ (rs : Vec Reply Global). rs.items) replies) c.in-Ok.ensures.first (rw c.in-Ok-answer.is at q.ensures.blames) in
+    subst (λ (z : Vec (Vec Reply Global) Global). BlameArms g.A.Arm.is_sure g.A.Arm.fault_count c.args.cluster.arms c.restored.result.arms
+    (map (λ (rs : Vec Reply Global). rs.items) z.items)) (sym c.told-replies.ensures.replies)
+    (subst (λ (z : List g.row.A.Denot). BlameArms g.A.Arm.is_sure g.A.Arm.fault_count c.args.cluster.arms z (map (λ (rs : Vec Reply Global). rs.items) replies))
+    (sym c.restored.ensures.arms)
+    (subst (λ (z : List g.row.A.Denot). BlameArms g.A.Arm.is_sure g.A.Arm.fault_count z (q.result.0.arms.items ++ reverse c.in-Ok.others.items)
+    (map (λ (rs : Vec Reply Global). rs.items) replies)) p.ensures.arms blames))
 
 pub returns-in-Ok-answer-clause-notes : goal.returns-in-Ok-answer-clause-notes
 returns-in-Ok-answer-clause-notes g c =

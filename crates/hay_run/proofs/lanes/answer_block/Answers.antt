@@ -1,4 +1,7 @@
 use Rattle.std.proofs.Common.{◌≡◌, inl, inr, [], ◌∷◌, map, refl}
+use Rattle.std.specs.Prelude.{Vec}
+use Rattle.std.specs.Global.{Global}
+use Rattle.hay_reply.specs.declared.Reply.{Reply}
 use Rattle.hay_directory.specs.State.{home_of}
 use Rattle.hay_legal.specs.Items.Asked.{Block}
 use Rattle.hay_cluster.specs.Store.{disks_of}
@@ -7,10 +10,11 @@ use Rattle.hay_cluster.proofs.Formatted.{stands_formatted}
 use Rattle.hay_cluster.proofs.Sure.{same_sure}
 use Rattle.hay_run.specs.declared.stops.Stop.TheVariants as stop
 use Rattle.hay_run.specs.Blocks.{answered_text}
-use Rattle.hay_run.specs.Causing.{tally_of}
+use Rattle.hay_run.specs.Causing.{HasSureArm, tally_of}
 use Rattle.hay_run.specs.Turns.{AnswersPart}
 use Rattle.hay_run.proofs.Answering.{Dealt, answered, block_caused, block_part, block_stops, block_whole, dealt, few_jobs, items_are, items_differ, items_fit, low_lines}
 use Rattle.hay_run.proofs.Answering.{notes_told, served_jobs, some_jobs, text_told, wanted_stops}
+use Rattle.hay_run.proofs.Blamed.{lanes_blame}
 use Rattle.hay_run.proofs.Blocked.{err_here, same_block, wanted_block}
 use Rattle.hay_run.proofs.Counting.{NoneFalls-same, StaySure-lanes}
 use Rattle.hay_run.proofs.lanes.answer_block.Goals as goal
@@ -158,9 +162,15 @@ returns-in-Ok-outcome-clause-caused g c =
     let n =
     notes_told c.args.block.lanes lines jobs places d c.args.cluster.settings home told (rw c.in-Ok-outcome.is at c.run_block-cluster.ensures.notes)
     (rw c.in-Ok-outcome.is at c.run_block-cluster.ensures.rows) in
+    let was = tally_of D.files D.drawn D.fault_count D.fuse_count A.fault_count A.is_sure c.args.cluster in
+    let now = tally_of D.files D.drawn D.fault_count D.fuse_count A.fault_count A.is_sure c.run_block-cluster.result.0 in
+    let blames =
+    lanes_blame A.is_sure A.fault_count c.args.cluster.arms c.run_block-cluster.result.0.arms lines (map (λ (own : Vec Reply Global). own.items) replies) a.0 a.1
+    (rw c.in-Ok-outcome.is at c.run_block-cluster.ensures.blames) in
     let text =
     text_told c.args.block.lanes lines jobs places d replies same a.0 told a.1 (rw c.in-Ok-outcome.is at c.run_block-cluster.ensures.fits)
-    (rw c.in-Ok-outcome.is at c.run_block-cluster.ensures.bad) c.args.cluster.settings home (rw c.in-Ok-outcome.is at c.run_block-cluster.ensures.suits) n in
+    (rw c.in-Ok-outcome.is at c.run_block-cluster.ensures.bad) c.args.cluster.settings (HasSureArm was) was.counts now.counts home
+    (rw c.in-Ok-outcome.is at c.run_block-cluster.ensures.suits) blames n in
     block_caused D.Tells c.args.cluster.settings (tally_of D.files D.drawn D.fault_count D.fuse_count A.fault_count A.is_sure c.args.cluster)
     (tally_of D.files D.drawn D.fault_count D.fuse_count A.fault_count A.is_sure c.run_block-cluster.result.0) lines (answered_text a.0 n.notes)
     (K.written c.args.sink.now) (K.written c.write_answers-written.new.sink) (
@@ -190,9 +200,15 @@ returns-in-Ok-outcome-clause-stop_caused g c =
     let n =
     notes_told c.args.block.lanes lines jobs places d c.args.cluster.settings home told (rw c.in-Ok-outcome.is at c.run_block-cluster.ensures.notes)
     (rw c.in-Ok-outcome.is at c.run_block-cluster.ensures.rows) in
+    let was = tally_of D.files D.drawn D.fault_count D.fuse_count A.fault_count A.is_sure c.args.cluster in
+    let now = tally_of D.files D.drawn D.fault_count D.fuse_count A.fault_count A.is_sure c.run_block-cluster.result.0 in
+    let blames =
+    lanes_blame A.is_sure A.fault_count c.args.cluster.arms c.run_block-cluster.result.0.arms lines (map (λ (own : Vec Reply Global). own.items) replies) a.0 a.1
+    (rw c.in-Ok-outcome.is at c.run_block-cluster.ensures.blames) in
     let text =
     text_told c.args.block.lanes lines jobs places d replies same a.0 told a.1 (rw c.in-Ok-outcome.is at c.run_block-cluster.ensures.fits)
-    (rw c.in-Ok-outcome.is at c.run_block-cluster.ensures.bad) c.args.cluster.settings home (rw c.in-Ok-outcome.is at c.run_block-cluster.ensures.suits) n in
+    (rw c.in-Ok-outcome.is at c.run_block-cluster.ensures.bad) c.args.cluster.settings (HasSureArm was) was.counts now.counts home
+    (rw c.in-Ok-outcome.is at c.run_block-cluster.ensures.suits) blames n in
     λ why is. block_stops D.Tells c.args.cluster.settings (tally_of D.files D.drawn D.fault_count D.fuse_count A.fault_count A.is_sure c.args.cluster)
     (tally_of D.files D.drawn D.fault_count D.fuse_count A.fault_count A.is_sure c.run_block-cluster.result.0) lines (answered_text a.0 n.notes)
     (K.written c.args.sink.now) (K.written c.write_answers-written.new.sink) (

@@ -13,6 +13,7 @@ returns-in-Command-clause-answered g c = rw c.new.ensures (
     fits_reply = c.answer-reply.ensures.fits;
     suits = rw c.in-Command.is c.answer-reply.ensures.suits;
     bad = λ is. let clash = sym c.in-Command.is ∙ is in absurd cc;
+    blames = c.answer-reply.ensures.blames;
     arm = c.answer-reply.ensures.arm;
   },
 )
@@ -27,6 +28,7 @@ returns-in-Bad-clause-answered g c = rw c.new-in-Bad.ensures (
     fits_reply = tt;
     suits = rw c.in-Bad.is tt;
     bad = λ is. refl;
+    blames = record { each = tt; rises = tt };
     arm = later_same refl;
   },
 )

@@ -1,4 +1,6 @@
+use Rattle.hay_script.specs.declared.Command.TheVariants as asks
 use Rattle.hay_lane.proofs.Arms.{later_same}
+use Rattle.hay_lane.proofs.Blaming.{blames_none, spared}
 use Rattle.hay_lane.proofs.dispatch.Shared+SharedVolume+D+P+L.answer.Goals as goal
 
 pub returns-in-Put-clause-arm : goal.returns-in-Put-clause-arm
@@ -36,3 +38,54 @@ returns-in-Fuse-clause-arm g c = later_same c.fuse.ensures.arm
 
 pub returns-in-FuseDir-clause-arm : goal.returns-in-FuseDir-clause-arm
 returns-in-FuseDir-clause-arm g c = later_same c.fuse_dir.ensures.arm
+
+pub returns-in-Put-clause-blames : goal.returns-in-Put-clause-blames
+returns-in-Put-clause-blames g c =
+    blames_none g.A.Arm.is_sure g.A.Arm.fault_count _ _ _ (spared c.args.self.now.settings c.put.result c.args.tag.line (asks.Put c.in-Put.pair c.in-Put.photo) tt c.put.ensures.suits)
+
+pub returns-in-Del-clause-blames : goal.returns-in-Del-clause-blames
+returns-in-Del-clause-blames g c =
+    blames_none g.A.Arm.is_sure g.A.Arm.fault_count _ _ _ (spared c.args.self.now.settings c.delete.result c.args.tag.line (asks.Del c.in-Del.pair) tt c.delete.ensures.suits)
+
+pub returns-in-Url-clause-blames : goal.returns-in-Url-clause-blames
+returns-in-Url-clause-blames g c = blames_none g.A.Arm.is_sure g.A.Arm.fault_count _ _ _ (spared c.args.self.now.settings c.url.result c.args.tag.line (asks.Url c.in-Url.pair) tt c.url.ensures.suits)
+
+pub returns-in-Flush-clause-blames : goal.returns-in-Flush-clause-blames
+returns-in-Flush-clause-blames g c =
+    blames_none g.A.Arm.is_sure g.A.Arm.fault_count _ _ _ (spared c.args.self.now.settings c.flush.result c.args.tag.line (asks.Flush c.in-Flush.volume c.in-Flush.machine) tt c.flush.ensures.suits)
+
+pub returns-in-Compact-clause-blames : goal.returns-in-Compact-clause-blames
+returns-in-Compact-clause-blames g c =
+    blames_none g.A.Arm.is_sure g.A.Arm.fault_count _ _ _ (spared c.args.self.now.settings c.compact.result c.args.tag.line (asks.Compact c.in-Compact.volume c.in-Compact.machine)
+    tt c.compact.ensures.suits)
+
+pub returns-in-Begin-clause-blames : goal.returns-in-Begin-clause-blames
+returns-in-Begin-clause-blames g c =
+    blames_none g.A.Arm.is_sure g.A.Arm.fault_count _ _ _ (spared c.args.self.now.settings c.begin.result c.args.tag.line (asks.Begin c.in-Begin.volume c.in-Begin.machine) tt c.begin.ensures.suits)
+
+pub returns-in-Step-clause-blames : goal.returns-in-Step-clause-blames
+returns-in-Step-clause-blames g c =
+    blames_none g.A.Arm.is_sure g.A.Arm.fault_count _ _ _ (spared c.args.self.now.settings c.step.result c.args.tag.line
+    (asks.Step c.in-Step.volume c.in-Step.machine c.in-Step.cells) tt c.step.ensures.suits)
+
+pub returns-in-Finish-clause-blames : goal.returns-in-Finish-clause-blames
+returns-in-Finish-clause-blames g c =
+    blames_none g.A.Arm.is_sure g.A.Arm.fault_count _ _ _ (spared c.args.self.now.settings c.finish.result c.args.tag.line (asks.Finish c.in-Finish.volume c.in-Finish.machine) tt
+    c.finish.ensures.suits)
+
+pub returns-in-Drain-clause-blames : goal.returns-in-Drain-clause-blames
+returns-in-Drain-clause-blames g c =
+    blames_none g.A.Arm.is_sure g.A.Arm.fault_count _ _ _ (spared c.args.self.now.settings c.drain.result c.args.tag.line (asks.Drain c.in-Drain.machine) tt c.drain.ensures.suits)
+
+pub returns-in-Undrain-clause-blames : goal.returns-in-Undrain-clause-blames
+returns-in-Undrain-clause-blames g c =
+    blames_none g.A.Arm.is_sure g.A.Arm.fault_count _ _ _ (spared c.args.self.now.settings c.undrain.result c.args.tag.line (asks.Undrain c.in-Undrain.machine) tt c.undrain.ensures.suits)
+
+pub returns-in-Fuse-clause-blames : goal.returns-in-Fuse-clause-blames
+returns-in-Fuse-clause-blames g c =
+    blames_none g.A.Arm.is_sure g.A.Arm.fault_count _ _ _ (spared c.args.self.now.settings c.fuse.result c.args.tag.line
+    (asks.Fuse c.in-Fuse.volume c.in-Fuse.machine c.in-Fuse.calls) tt c.fuse.ensures.suits)
+
+pub returns-in-FuseDir-clause-blames : goal.returns-in-FuseDir-clause-blames
+returns-in-FuseDir-clause-blames g c =
+    blames_none g.A.Arm.is_sure g.A.Arm.fault_count _ _ _ (spared c.args.self.now.settings c.fuse_dir.result c.args.tag.line (asks.FuseDir c.in-FuseDir.calls) tt c.fuse_dir.ensures.suits)

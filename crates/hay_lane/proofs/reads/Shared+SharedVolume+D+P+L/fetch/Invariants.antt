@@ -5,8 +5,9 @@ use Rattle.hay_meeting.specs.Acts.{Start}
 use Rattle.hay_meeting.specs.Sights.{Sight}
 use Rattle.hay_holdings.specs.Lines.{Sees}
 use Rattle.hay_reader.specs.Shown.{HasBytes}
+use Rattle.hay_lane.specs.Blames.{Blames}
 use Rattle.hay_lane.specs.Lanes.{IsLaterArm, IsOf, IsSeated, sight}
-use Rattle.hay_lane.specs.Reads.{HasRead, ShownWithin, StopsBehind}
+use Rattle.hay_lane.specs.Reads.{HasRead, ShownWithin, StopsBehind, causes_read}
 use Rattle.hay_lane.proofs.reads.Shared+SharedVolume+D+P+L.fetch.Given as goal
 use Rattle.hay_shared_volume.specs.Seats.{IsSeatOf, WasAt, sight_of}
 
@@ -19,6 +20,7 @@ invariant-loop g l = record {
   long : length l.looked.row ≡ l.self.settings.replicas;
   stops : StopsBehind l.first l.self.settings.replicas l.counter l.read;
   shown : ShownWithin l.self.settings.replicas l.read;
+  blames : Blames g.A.Arm.is_sure g.A.Arm.fault_count l.fn.lane.arm l.lane.arm (causes_read l.read);
   bytes : HasBytes l.photo.items l.read;
   room : MAX_PHOTO ≤ vec_capacity l.photo;
   tells : (start : Start) (d : ℕ) (a : Sight) → IsOf (WasAt g.D.Disk.Tells g.D.Disk.files g.P.Piece.Tells g.D.Disk.fault_count g.D.Disk.fuse_count) g.L.DirectoryCalls.is_at

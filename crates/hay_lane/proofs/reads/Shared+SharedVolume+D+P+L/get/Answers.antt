@@ -12,6 +12,8 @@ use Rattle.hay_legal.specs.Known.{replica_on}
 use Rattle.hay_legal.specs.Suiting.{SuitsGet}
 use Rattle.hay_lane.proofs.Suiting.{at_replica, get_suits, nowhere}
 use Rattle.hay_reply.specs.declared.Reply.TheVariants as reply
+use Rattle.hay_lane.specs.Blames.{Blames, causes_told}
+use Rattle.hay_lane.proofs.Blaming.{blames_none}
 use Rattle.hay_lane.proofs.reads.Shared+SharedVolume+D+P+L.get.Goals as goal
 
 pub returns-in_default-clause-answered : goal.returns-in_default-clause-answered
@@ -84,3 +86,16 @@ returns-clause-suits g c =
     (get_suits c.args.self.now.settings c.in-Some-home.volume c.requires.seated.fewer
     (subst (λ o. IfSome o (λ home. home < c.args.self.now.settings.volumes)) c.in-Some-home.is c.home_in_view-rows.ensures.below) c.args.url.now c.show.result
     c.if-volume-url.false c.show.ensures.suits)
+
+pub returns-in_default-clause-blames : goal.returns-in_default-clause-blames
+returns-in_default-clause-blames g c = blames_none g.A.Arm.is_sure g.A.Arm.fault_count _ _ _ refl
+
+pub returns-in_default-home-clause-blames : goal.returns-in_default-home-clause-blames
+returns-in_default-home-clause-blames g c = blames_none g.A.Arm.is_sure g.A.Arm.fault_count _ _ _ refl
+
+pub returns-then-volume-url-clause-blames : goal.returns-then-volume-url-clause-blames
+returns-then-volume-url-clause-blames g c = blames_none g.A.Arm.is_sure g.A.Arm.fault_count _ _ _ refl
+
+pub returns-clause-blames : goal.returns-clause-blames
+returns-clause-blames g c =
+    subst (λ arm. Blames g.A.Arm.is_sure g.A.Arm.fault_count arm c.show.new.lane.arm (causes_told c.show.result)) c.home_in_view-rows.ensures.arm c.show.ensures.blames

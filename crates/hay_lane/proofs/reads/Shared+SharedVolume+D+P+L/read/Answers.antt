@@ -8,6 +8,8 @@ use Rattle.hay_lane.proofs.Changed.{saw}
 use Rattle.hay_lane.proofs.Showing.{read_shown}
 use Rattle.hay_shared_volume.specs.Seats.{sight_of}
 use Rattle.hay_lane.proofs.Suiting.{read_suits}
+use Rattle.hay_lane.specs.Blames.{Blames, causes_told}
+use Rattle.hay_lane.proofs.Blaming.{blames_none}
 use Rattle.hay_lane.proofs.reads.Shared+SharedVolume+D+P+L.read.Goals as goal
 
 pub returns-in_default-clause-answered : goal.returns-in_default-clause-answered
@@ -40,3 +42,10 @@ pub returns-clause-suits : goal.returns-clause-suits
 returns-clause-suits g c =
     read_suits c.args.self.now.settings c.in-Some.volume c.requires.seated.fewer (subst (λ o. IfSome o (λ home. home < c.args.self.now.settings.volumes)) c.in-Some.is
     c.home_in_view-rows.ensures.below) c.show.result c.show.ensures.suits
+
+pub returns-in_default-clause-blames : goal.returns-in_default-clause-blames
+returns-in_default-clause-blames g c = blames_none g.A.Arm.is_sure g.A.Arm.fault_count _ _ _ refl
+
+pub returns-clause-blames : goal.returns-clause-blames
+returns-clause-blames g c =
+    subst (λ arm. Blames g.A.Arm.is_sure g.A.Arm.fault_count arm c.show.new.lane.arm (causes_told c.show.result)) c.home_in_view-rows.ensures.arm c.show.ensures.blames

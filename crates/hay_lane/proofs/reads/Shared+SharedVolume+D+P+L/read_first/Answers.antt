@@ -1,10 +1,13 @@
-use Rattle.std.proofs.Common.{[]}
+use Rattle.std.proofs.Common.{[], subst}
 use Rattle.hay_lane.specs.Lanes.{sight}
 use Rattle.hay_lane.proofs.Arms.{later_on, later_same}
 use Rattle.hay_lane.proofs.Reading.{looked_first, row_tells, shown_by}
 use Rattle.hay_lane.proofs.Stepping.{fetched}
 use Rattle.hay_shared_volume.specs.Seats.{IsSeatOf, sight_of}
 use Rattle.hay_lane.proofs.Suiting.{shown_by_row}
+use Rattle.hay_lane.specs.Blames.{Blames}
+use Rattle.hay_lane.specs.Reads.{causes_read}
+use Rattle.hay_lane.proofs.Blaming.{first_blames}
 use Rattle.hay_lane.proofs.reads.Shared+SharedVolume+D+P+L.read_first.Goals as goal
 
 pub returns-clause-tells : goal.returns-clause-tells
@@ -30,3 +33,10 @@ pub returns-clause-shown : goal.returns-clause-shown
 returns-clause-shown g c =
     shown_by_row g.P.Piece.Tells _ c.args.self.now.settings.replicas c.args.first c.look_at-looked.result.row c.args.cookie [] c.show-read.new.out.items c.show-read.result
     c.look_at-looked.ensures.long c.requires.seated.replicas c.show-read.ensures.reads
+
+pub returns-clause-blames : goal.returns-clause-blames
+returns-clause-blames g c =
+    subst (λ arm. Blames g.A.Arm.is_sure g.A.Arm.fault_count arm c.show-read.new.self (causes_read c.show-read.result)) c.look_at-looked.ensures.arm
+    (first_blames g.A.Arm.is_sure g.A.Arm.fault_count g.P.Piece.Tells c.look_at-looked.new.lane.arm c.show-read.new.self c.args.first c.look_at-looked.result.row c.args.cookie
+    c.show-read.new.out.items c.show-read.result (record { rises = c.show-read.ensures.later; sure = c.show-read.ensures.stays_sure }) c.show-read.ensures.reads
+    c.show-read.ensures.sure)

@@ -11,6 +11,9 @@ use Rattle.hay_lane.proofs.Stepping.{fetched}
 use Rattle.hay_shared_volume.specs.Seats.{IsSeatOf, sight_of}
 use Rattle.hay_lane.specs.Reads.{ShownWithin}
 use Rattle.hay_lane.proofs.Suiting.{shown_by_row}
+use Rattle.hay_lane.specs.Blames.{BlamesOn}
+use Rattle.hay_lane.specs.Reads.{causes_in, causes_read}
+use Rattle.hay_lane.proofs.Blaming.{passed_blames}
 use Rattle.hay_lane.proofs.reads.Shared+SharedVolume+D+P+L.read_on.Goals as goal
 
 pub show_more-read-requires-clause-first : goal.show_more-read-requires-clause-first
@@ -76,3 +79,15 @@ pub returns-in_ok-cause-in-Err-clause-shown : goal.returns-in_ok-cause-in-Err-cl
 returns-in_ok-cause-in-Err-clause-shown g c =
     shown_by_row g.P.Piece.Tells _ c.args.self.now.settings.replicas c.args.first c.args.looked.row c.args.cookie c.push.new.self c.show_more-read.new.out.items
     c.show_more-read.result c.requires.long c.requires.seated.replicas c.show_more-read.ensures.reads
+
+pub returns-in-Ok-clause-blames : goal.returns-in-Ok-clause-blames
+returns-in-Ok-clause-blames g c =
+    subst (λ arm. BlamesOn g.A.Arm.is_sure g.A.Arm.fault_count arm c.read_seen-read.new.arm (causes_in c.args.causes) (causes_read c.read_seen-read.result)) c.see_at.ensures.arm
+    c.read_seen-read.ensures.blames
+
+pub returns-in_ok-cause-in-Err-clause-blames : goal.returns-in_ok-cause-in-Err-clause-blames
+returns-in_ok-cause-in-Err-clause-blames g c =
+    subst (λ arm. BlamesOn g.A.Arm.is_sure g.A.Arm.fault_count arm c.show_more-read.new.self (causes_in c.args.causes) (causes_read c.show_more-read.result)) c.see_at.ensures.arm
+    (passed_blames g.A.Arm.is_sure g.A.Arm.fault_count g.P.Piece.Tells c.see_at.new.lane.arm c.show_more-read.new.self c.args.first c.args.looked.row c.args.cookie c.args.causes
+    c.push.new.self c.show_more-read.new.out.items c.show_more-read.result c.args.replica c.in-Err.fault c.in_ok-cause-in-Err.cause c.in_ok-cause-in-Err.ensures.is c.push.ensures
+    (record { rises = c.show_more-read.ensures.later; sure = c.show_more-read.ensures.stays_sure }) c.show_more-read.ensures.reads c.show_more-read.ensures.sure)
