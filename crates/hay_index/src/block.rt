@@ -16,6 +16,12 @@ pub(crate) const INDEX_MAGIC: u64 = 0x494e_4445_5842_4c4b;
 /// The number of bytes before a block's records: the magic and their number.
 pub const FRONT_LEN: usize = 16;
 
+// The number of bytes of the magic.
+const MAGIC_LEN: usize = 8;
+
+// The number of bytes behind the magic but for the records: their number, and the end mark.
+const REST_LEN: usize = 16;
+
 // Adds the block of these records from behind its magic on, and the end mark.
 fn push_rest(out: &mut Vec<u8>, records: &[Record]) -> Result<(), AllocError>
     ensures bytes { OnOk result (out.new.items ≡ out.old.items ++ (block_rest records.now ++ end_mark)) }
@@ -34,7 +40,7 @@ pub(crate) fn encode_rest(alloc: Global, records: &[Record]) -> Result<Vec<u8>, 
     ensures bytes { IfOk result (λ body. body.items ≡ block_rest records.now ++ end_mark) }
     ensures fit { OnOk result (All RecordFits records.now) }
 {
-    let mut body = Vec::new(alloc);
+    let mut body = Vec::with_capacity(alloc, REST_LEN + RECORD_LEN * records.len())?;
     push_rest(&mut body, records)?;
     Ok(body)
 }
@@ -44,7 +50,8 @@ pub(crate) fn encode_whole(alloc: Global, records: &[Record]) -> Result<Vec<u8>,
     ensures bytes { IfOk result (λ block. block.items ≡ gated index_magic (block_rest records.now ++ end_mark)) }
     ensures fit { OnOk result (All RecordFits records.now) }
 {
-    let mut block = Vec::new(alloc);
+    let len = MAGIC_LEN + REST_LEN + RECORD_LEN * records.len();
+    let mut block = Vec::with_capacity(alloc, len)?;
     block.extend_from_slice(&INDEX_MAGIC.to_be_bytes())?;
     push_rest(&mut block, records)?;
     Ok(block)

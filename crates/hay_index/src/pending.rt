@@ -71,11 +71,12 @@ impl Pending {
         self.records.pop();
     }
 
-    /// Takes all records away.
+    /// Takes all records away, and gives their room back.
     pub(crate) fn clear(&mut self)
         ensures { self.new ≡ [] }
     {
         self.records.clear();
+        self.records.shrink_to_fit();
     }
 
     pub(crate) fn allocator(&self) -> Global {
