@@ -75,7 +75,7 @@ impl Compactor {
         } = self;
         let alloc = *bytes.allocator();
         let file = volume.file();
-        let records = Vec::from_slice(alloc, index.pending.as_slice())?;
+        let records = index.pending.to_vec(alloc)?;
         index.flush_loose(disk)?;
         disk.sync(index.file)?;
         disk.sync(file)?;

@@ -6,6 +6,7 @@ ghost use Rattle.hay_disk.specs.Gate.{end_mark, magic_bytes, record_of as gated}
 ghost use Rattle.hay_index.specs.Records.{BeginsWithBlock, RecordFits, block_rest, index_magic, record_bytes};
 ghost use Rattle.hay_index.specs.declared.record.Record.{Record};
 
+use crate::packed::PackedRecord;
 use crate::record::{RECORD_LEN, Record, bytes_of, record_of};
 use hay_needle::u64_at;
 use std::alloc::{AllocError, Global};
@@ -23,20 +24,20 @@ const MAGIC_LEN: usize = 8;
 const REST_LEN: usize = 16;
 
 // Adds the block of these records from behind its magic on, and the end mark.
-fn push_rest(out: &mut Vec<u8>, records: &[Record]) -> Result<(), AllocError>
+fn push_rest(out: &mut Vec<u8>, records: &[PackedRecord]) -> Result<(), AllocError>
     ensures bytes { OnOk result (out.new.items ≡ out.old.items ++ (block_rest records.now ++ end_mark)) }
     ensures fit { OnOk result (All RecordFits records.now) }
 {
     out.extend_from_slice(&(records.len() as u64).to_be_bytes())?;
     for record in records {
-        out.extend_from_slice(&bytes_of(*record))?;
+        out.extend_from_slice(&bytes_of(record.record()))?;
     }
     out.extend_from_slice(&[0; 8])?;
     Ok(())
 }
 
 // The block of these records from behind its magic on, and the end mark.
-pub(crate) fn encode_rest(alloc: Global, records: &[Record]) -> Result<Vec<u8>, AllocError>
+pub(crate) fn encode_rest(alloc: Global, records: &[PackedRecord]) -> Result<Vec<u8>, AllocError>
     ensures bytes { IfOk result (λ body. body.items ≡ block_rest records.now ++ end_mark) }
     ensures fit { OnOk result (All RecordFits records.now) }
 {
@@ -46,7 +47,7 @@ pub(crate) fn encode_rest(alloc: Global, records: &[Record]) -> Result<Vec<u8>, 
 }
 
 // The block of these records, and the end mark.
-pub(crate) fn encode_whole(alloc: Global, records: &[Record]) -> Result<Vec<u8>, AllocError>
+pub(crate) fn encode_whole(alloc: Global, records: &[PackedRecord]) -> Result<Vec<u8>, AllocError>
     ensures bytes { IfOk result (λ block. block.items ≡ gated index_magic (block_rest records.now ++ end_mark)) }
     ensures fit { OnOk result (All RecordFits records.now) }
 {

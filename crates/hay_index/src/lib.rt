@@ -12,6 +12,7 @@
 mod block;
 mod fault;
 mod index;
+mod packed;
 mod pending;
 mod reading;
 mod record;

@@ -1,17 +1,18 @@
 //! The records that no block has yet.
 
-ghost use Rattle.std.specs.Prelude.{◌≡◌, ◌↔◌, ◌++◌, ◌∷◌, ◌<◌, [], length, IsTrue, OnOk, OnErr};
+ghost use Rattle.std.specs.Prelude.{◌≡◌, ◌↔◌, ◌++◌, ◌∷◌, ◌<◌, [], length, IsTrue, IfOk, OnOk, OnErr};
 ghost use Rattle.hay_index.specs.declared.record.Record.{Record};
 
+use crate::packed::PackedRecord;
 use crate::record::Record;
 use hay_base::NoMemory;
-use std::alloc::Global;
+use std::alloc::{AllocError, Global};
 use std::marker::Model;
 
 /// Records in order, which a clause sees as a list.
 #[derive(Debug, Drop)]
 pub struct Pending {
-    records: Vec<Record>,
+    records: Vec<PackedRecord>,
 }
 
 impl Model for Pending {
@@ -34,10 +35,17 @@ impl Pending {
     }
 
     /// The records in order.
-    pub fn as_slice(&self) -> &[Record]
+    pub(crate) fn as_slice(&self) -> &[PackedRecord]
         ensures { result.now ≡ self.now }
     {
         self.records.as_slice()
+    }
+
+    /// A copy of the records in order.
+    pub fn to_vec(&self, alloc: Global) -> Result<Vec<Record>, AllocError>
+        ensures { IfOk result (λ records. records.items ≡ self.now) }
+    {
+        unpacked(alloc, self.as_slice())
     }
 
     /// How many there are.
@@ -59,7 +67,7 @@ impl Pending {
         ensures ok { OnOk result (self.new ≡ self.old ++ row ∷ []) }
         ensures err { OnErr result (self.new ≡ self.old) }
     {
-        self.records.push(row)?;
+        self.records.push(PackedRecord::new(row))?;
         Ok(())
     }
 
@@ -82,4 +90,15 @@ impl Pending {
     pub(crate) fn allocator(&self) -> Global {
         *self.records.allocator()
     }
+}
+
+// These records in order.
+fn unpacked(alloc: Global, records: &[PackedRecord]) -> Result<Vec<Record>, AllocError>
+    ensures { IfOk result (λ rows. rows.items ≡ records.now) }
+{
+    let mut rows = Vec::with_capacity(alloc, records.len())?;
+    for record in records {
+        rows.push(record.record())?;
+    }
+    Ok(rows)
 }

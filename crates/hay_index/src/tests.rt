@@ -1,11 +1,14 @@
 //! A block as the format has it, and what is damage.
 use crate::block::encode_whole;
 use crate::fault::IndexFault;
+use crate::packed::PackedRecord;
+use crate::pending::Pending;
 use crate::reading::read_index;
 use crate::record::Record;
 use hay_base::NoMemory;
 use hay_needle::{FileKind, Pair, Settings, Super, write_super};
 use std::alloc::Global;
+use std::mem::size_of;
 use std::test::*;
 
 const SUP: Super = Super {
@@ -55,7 +58,11 @@ fn file(alloc: Global, bytes: &[u8]) -> Result<Vec<u8>, NoMemory> {
 
 // The file of a block of these records.
 fn with_records(alloc: Global, records: &[Record]) -> Result<Vec<u8>, NoMemory> {
-    let block = encode_whole(alloc, records)?;
+    let mut pending = Pending::new(alloc);
+    for record in records {
+        pending.push(*record)?;
+    }
+    let block = encode_whole(alloc, pending.as_slice())?;
     file(alloc, block.as_slice())
 }
 
@@ -129,5 +136,11 @@ fn blocks_and_damage(rt: HostRuntime) -> Result<(), Fail> {
     }
     let stray = with_records(alloc, &[FIRST, FIRST]).ok().ok_or("memory")?;
     assert_eq!(rt; read(alloc, &stray), Err(Some(112)));
+    Ok(())
+}
+
+#[test]
+fn packed_without_gaps(rt: HostRuntime) -> Result<(), Fail> {
+    assert_eq!(rt; size_of::<PackedRecord>(), 24);
     Ok(())
 }

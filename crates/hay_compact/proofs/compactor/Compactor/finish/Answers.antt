@@ -33,7 +33,7 @@ seal_all-requires-clause-ready g c = λ tells.
       stored_of s under.fresh,
       ready_to_seal under.sup (files c.args.disk.now) (files c.sync.new.self) (files c.sync-2.new.self) s under.fresh c.file-file.result h file stays (c.sync-2.ensures.keeps tells)
           (c.in_ok-sync-2.ensures.solid tells),
-      c.as_slice-2.ensures.value ∙ c.in_ok-records.ensures.items ∙ c.as_slice.ensures ∙ h.noted,
+      c.as_slice.ensures.value ∙ c.in_ok-records.ensures ∙ h.noted,
     )
 
 pub returns-clause-others : goal.returns-clause-others
@@ -81,7 +81,7 @@ returns-clause-finished g c = λ tells sup fresh making.
     let can =
     ready_to_seal sup (files c.args.disk.now) (files c.sync.new.self) (files c.sync-2.new.self) s fresh c.file-file.result h file stays (c.sync-2.ensures.keeps tells)
     (c.in_ok-sync-2.ensures.solid tells) in
-    let noted = c.as_slice-2.ensures.value ∙ c.in_ok-records.ensures.items ∙ c.as_slice.ensures ∙ h.noted in
+    let noted = c.as_slice.ensures.value ∙ c.in_ok-records.ensures ∙ h.noted in
     let rests = subst (λ k. VolumeRests sup ((files c.seal_all.new.disk) k) (stored_of s fresh)) file (c.seal_all.ensures.rests tells sup (stored_of s fresh) can.rests noted) in
     let last : (files c.seal_all.new.disk) s.index.file ≡ (files c.sync.new.self) s.index.file =
     c.seal_all.ensures.others tells s.index.file (λ e. apart (e ∙ file)) ∙ c.sync-2.ensures.others tells s.index.file (λ e. apart (e ∙ file)) in
@@ -118,7 +118,7 @@ returns-clause-anew g c = λ tells superblock cells end is.
     let can =
     ready_to_seal under.sup (files c.args.disk.now) (files c.sync.new.self) (files c.sync-2.new.self) s under.fresh c.file-file.result h file stays
     (c.sync-2.ensures.keeps tells) (c.in_ok-sync-2.ensures.solid tells) in
-    let noted = c.as_slice-2.ensures.value ∙ c.in_ok-records.ensures.items ∙ c.as_slice.ensures ∙ h.noted in
+    let noted = c.as_slice.ensures.value ∙ c.in_ok-records.ensures ∙ h.noted in
     let rests = c.seal_all.ensures.rests tells under.sup (stored_of s under.fresh) can.rests noted in
     let here : c.adopt.result.file ≡ c.file-file.result = ap (λ (v : VolumeFile). v.file) c.adopt.ensures in
     all_anew superblock (super_bytes (volume_super under.sup s.generation)) ((files c.seal_all.new.disk) c.file-file.result).now cells under.fresh end s.volume.end
@@ -139,7 +139,7 @@ returns-clause-flushed g c = ap (λ (i : IndexFile). i.pending) c.in_ok-flush_lo
 
 pub returns-clause-within : goal.returns-clause-within
 returns-clause-within g c =
-    let noted = c.as_slice-2.ensures.value ∙ c.in_ok-records.ensures.items ∙ c.as_slice.ensures in
+    let noted = c.as_slice.ensures.value ∙ c.in_ok-records.ensures in
     let end : c.adopt.result.end ≡ c.self.inside.volume.end = ap (λ (v : VolumeFile). v.end) c.adopt.ensures ∙ c.end.ensures in
-    c.in_ok-places.ensures.within c.adopt.result.end (subst (λ n. All (RowWithin n) c.as_slice-2.result.now) (sym end)
+    c.in_ok-places.ensures.within c.adopt.result.end (subst (λ n. All (RowWithin n) c.as_slice.result.now) (sym end)
     (subst (λ l. All (RowWithin c.self.inside.volume.end) l) (sym noted) c.self.invariant.within))
