@@ -378,14 +378,16 @@ fn cause_of(fault: SightFault) -> Result<Cause, NoMemory>
     }
 }
 
-// The bytes of a photo, in no more room than they take where memory allows it, since a block keeps its replies to its end.
-fn fitted(alloc: Global, photo: Vec<u8>) -> Bytes
+// The bytes of a photo, in no more room than they take, since a block keeps its replies to its end. A copy leaves nothing of the
+// room for the largest photo behind; where memory does not allow one, the rest of that room is given back.
+fn fitted(alloc: Global, mut photo: Vec<u8>) -> Bytes
     ensures { result ≡ photo.items }
 {
-    match photo.as_slice().to_vec(alloc) {
-        Ok(bytes) => Bytes::from_vec(bytes),
-        Err(_) => Bytes::from_vec(photo),
+    if let Ok(bytes) = photo.as_slice().to_vec(alloc) {
+        return Bytes::from_vec(bytes);
     }
+    photo.shrink_to_fit();
+    Bytes::from_vec(photo)
 }
 
 // The reply to what was found at a front of a pair's home, where there are so many rows.
