@@ -70,16 +70,22 @@ impl Duplicate for Reader {
 
 impl Duplicate for Side {
     fn duplicate(&self, alloc: Global) -> Result<Side, NoMemory> {
+        let base = self.base.duplicate(alloc)?;
+        let past = self.past.duplicate(alloc)?;
+        let current = self.current.duplicate(alloc)?;
+        let fresh = self.fresh.duplicate(alloc)?;
+        let spots = self.spots.duplicate(alloc)?;
+        let doubt = self.doubt.duplicate(alloc)?;
         Ok(Side {
-            base: self.base.duplicate(alloc)?,
-            past: self.past.duplicate(alloc)?,
-            current: self.current.duplicate(alloc)?,
-            fresh: self.fresh.duplicate(alloc)?,
+            base,
+            past,
+            current,
+            fresh,
             rows: self.rows,
             most: self.most,
-            doubt: self.doubt.duplicate(alloc)?,
+            doubt,
             copy: self.copy,
-            spots: self.spots.duplicate(alloc)?,
+            spots,
             is_open: self.is_open,
             progress: self.progress,
             settled: self.settled,
@@ -89,13 +95,18 @@ impl Duplicate for Side {
 
 impl Duplicate for Core {
     fn duplicate(&self, alloc: Global) -> Result<Core, NoMemory> {
+        let log = self.log.duplicate(alloc)?;
+        let sides = self.sides.duplicate(alloc)?;
+        let readers = self.readers.duplicate(alloc)?;
+        let pending = self.pending.duplicate(alloc)?;
+        let hold = self.hold.duplicate(alloc)?;
         Ok(Core {
-            log: self.log.duplicate(alloc)?,
-            sides: self.sides.duplicate(alloc)?,
-            hold: self.hold.duplicate(alloc)?,
-            readers: self.readers.duplicate(alloc)?,
+            log,
+            sides,
+            hold,
+            readers,
             frozen: self.frozen,
-            pending: self.pending.duplicate(alloc)?,
+            pending,
             up: self.up,
         })
     }

@@ -12,7 +12,7 @@ pub struct CoreTag {
 }
 
 /// A change of a volume.
-#[derive(Debug, Drop)]
+#[derive(Drop)]
 pub enum Entry {
     /// The pair has this photo.
     Put {
@@ -27,7 +27,7 @@ pub enum Entry {
 }
 
 /// An entry, and who asked for it.
-#[derive(Debug, Drop)]
+#[derive(Drop)]
 pub struct Logged {
     pub tag: CoreTag,
     pub entry: Entry,

@@ -24,11 +24,13 @@ pub(crate) fn begin(
     if !core.up || core.hold.is_some() || core.frozen || !can_begin(work, core.sides.as_slice()) {
         return Ok(None);
     }
+    let sides = begun_sides(alloc, work, core.sides.as_slice())?;
+    let work = work.duplicate(alloc)?;
     let mut next = core.duplicate(alloc)?;
-    next.sides = begun_sides(alloc, work, core.sides.as_slice())?;
+    next.sides = sides;
     next.hold = Some(Hold {
         tag,
-        work: work.duplicate(alloc)?,
+        work,
         failed: false,
         published: false,
     });
@@ -60,8 +62,8 @@ fn harmed(
 ) -> Result<Core, NoMemory>
     ensures { IfOk result (λ next. next ≡ steps.harmed hold.now harm sides core.now) }
 {
-    let mut next = core.duplicate(alloc)?;
     let mut held = hold.duplicate(alloc)?;
+    let mut next = core.duplicate(alloc)?;
     match harm {
         Harm::Freezes => {
             next.sides = no_copies(alloc, sides.as_slice())?;
@@ -188,11 +190,13 @@ pub(crate) fn publish(alloc: Global, core: &Core) -> Result<Option<Core>, NoMemo
     if hold.failed || hold.published || !publishes(&hold.work) || left {
         return Ok(None);
     }
+    let log = longer_log(alloc, hold, &core.log)?;
+    let sides = published_sides(alloc, &hold.work, core.sides.as_slice())?;
     let mut held = hold.duplicate(alloc)?;
     held.published = true;
     let mut next = core.duplicate(alloc)?;
-    next.log = longer_log(alloc, hold, &core.log)?;
-    next.sides = published_sides(alloc, &hold.work, core.sides.as_slice())?;
+    next.log = log;
+    next.sides = sides;
     next.hold = Some(held);
     Ok(Some(next))
 }
@@ -208,9 +212,11 @@ pub(crate) fn end_hold(alloc: Global, core: &Core) -> Result<Option<Core>, NoMem
     if !hold.failed && (left || !told) {
         return Ok(None);
     }
+    let sides = ended_sides(alloc, &hold.work, hold.failed, core.sides.as_slice())?;
+    let pending = change(alloc, core)?;
     let mut next = core.duplicate(alloc)?;
-    next.sides = ended_sides(alloc, &hold.work, hold.failed, core.sides.as_slice())?;
-    next.pending = change(alloc, core)?;
+    next.sides = sides;
+    next.pending = pending;
     next.hold = None;
     Ok(Some(next))
 }

@@ -12,7 +12,7 @@ use hay_needle::{Needle, Outcome, Pair, Photo, Row};
 use std::alloc::Global;
 
 /// What the volume's lock is held for.
-#[derive(Debug, Drop)]
+#[derive(Drop)]
 pub enum Work {
     Put { pair: Pair, photo: Photo },
     Del { pair: Pair },
@@ -27,7 +27,7 @@ pub enum Work {
 }
 
 /// One holding of the volume's lock.
-#[derive(Debug, Drop)]
+#[derive(Drop)]
 pub struct Hold {
     pub tag: CoreTag,
     pub work: Work,
@@ -37,7 +37,7 @@ pub struct Hold {
 }
 
 /// What a write did that no sync has made sure.
-#[derive(Debug, Drop)]
+#[derive(Drop)]
 pub enum Doubt {
     Sure,
     /// A needle at the end of the current file.
@@ -49,7 +49,7 @@ pub enum Doubt {
 }
 
 /// What the map gives a pair.
-#[derive(Clone, Copy, Debug, PartialEq, Eq)]
+#[derive(Clone, Copy, PartialEq, Eq)]
 pub enum Spot {
     Absent,
     /// The needle of this number, from 0, in the file of this generation.
@@ -58,14 +58,14 @@ pub enum Spot {
 }
 
 /// A pair and its spot. Of two of one pair the later one counts.
-#[derive(Clone, Copy, Debug, PartialEq, Eq)]
+#[derive(Clone, Copy, PartialEq, Eq)]
 pub struct Mapped {
     pub pair: Pair,
     pub spot: Spot,
 }
 
 /// One replica.
-#[derive(Debug, Drop)]
+#[derive(Drop)]
 pub struct Side {
     /// Its table when it was opened.
     pub base: Listed<Row>,
@@ -92,7 +92,7 @@ pub struct Side {
 }
 
 /// Who has looked a pair up, and what was seen.
-#[derive(Debug, Drop)]
+#[derive(Drop)]
 pub struct Reader {
     pub number: u32,
     pub pair: Pair,
@@ -103,7 +103,7 @@ pub struct Reader {
 }
 
 /// One logical volume.
-#[derive(Debug, Drop)]
+#[derive(Drop)]
 pub struct Core {
     /// What was published since all replicas were opened.
     pub log: Listed<Logged>,
@@ -118,7 +118,7 @@ pub struct Core {
 }
 
 /// One atomic step.
-#[derive(Debug, Drop)]
+#[derive(Drop)]
 pub enum Event {
     Begin {
         tag: CoreTag,
@@ -152,7 +152,7 @@ pub enum Event {
 }
 
 /// The answer of a step.
-#[derive(Debug, Drop)]
+#[derive(Drop)]
 pub enum CoreReply {
     Done,
     Shown(Outcome),

@@ -65,8 +65,9 @@ pub(crate) fn look_up(
         front: core.log.len() as u64,
         row: row_of(alloc, pair, core.sides.as_slice())?,
     };
+    let readers = with_reader(alloc, &reader, core.readers.as_slice())?;
     let mut next = core.duplicate(alloc)?;
-    next.readers = with_reader(alloc, &reader, core.readers.as_slice())?;
+    next.readers = readers;
     Ok(Some(next))
 }
 
@@ -130,9 +131,11 @@ pub(crate) fn stop(
     if keep.len() != core.sides.len() || rows.len() != core.sides.len() {
         return Ok(None);
     }
+    let sides = stopped_sides(alloc, keep, rows, core.sides.as_slice())?;
+    let pending = change(alloc, core)?;
     let mut next = core.duplicate(alloc)?;
-    next.sides = stopped_sides(alloc, keep, rows, core.sides.as_slice())?;
-    next.pending = change(alloc, core)?;
+    next.sides = sides;
+    next.pending = pending;
     next.hold = None;
     next.readers = Listed::new(alloc);
     next.up = false;
@@ -175,9 +178,11 @@ pub(crate) fn open_call(alloc: Global, replica: u32, core: &Core) -> Result<Opti
     if side.is_open {
         return Ok(None);
     }
+    let sides = with_opened(alloc, replica as usize, core.sides.as_slice())?;
+    let up = all_open(sides.as_slice());
     let mut next = core.duplicate(alloc)?;
-    next.sides = with_opened(alloc, replica as usize, core.sides.as_slice())?;
-    if all_open(next.sides.as_slice()) {
+    next.sides = sides;
+    if up {
         next.log = Listed::new(alloc);
         next.pending = None;
         next.frozen = false;

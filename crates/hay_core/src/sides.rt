@@ -295,9 +295,11 @@ pub(crate) fn stopped(alloc: Global, keep: bool, rows: bool, side: &Side) -> Res
 pub(crate) fn opened(alloc: Global, side: &Side) -> Result<Side, NoMemory>
     ensures { IfOk result (λ next. next ≡ sides.opened side.now) }
 {
+    let spots = map_now(alloc, side)?;
+    let base = rows_of(alloc, side.current.as_slice())?;
     let mut next = side.duplicate(alloc)?;
-    next.spots = map_now(alloc, side)?;
-    next.base = rows_of(alloc, side.current.as_slice())?;
+    next.spots = spots;
+    next.base = base;
     next.is_open = true;
     Ok(next)
 }

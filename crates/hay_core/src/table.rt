@@ -4,7 +4,7 @@ use hay_needle::{Pair, Photo};
 use std::marker::Model;
 
 /// The photos that stand, each pair once, in the order of the pairs.
-#[derive(Debug, Drop)]
+#[derive(Drop)]
 pub struct Table {
     photos: Vec<(Pair, Photo)>,
 }
