@@ -11,7 +11,7 @@ use hay_reply::{Refused, Reply, numbered_line};
 use std::alloc::Global;
 
 /// What a batch or a bad line is answered.
-#[derive(Debug, Drop)]
+#[derive(Drop)]
 pub enum LoadReply {
     /// The batch was loaded into this volume: so many photos, and so many rows there are now.
     Loaded { volume: u32, photos: u64, rows: u64 },

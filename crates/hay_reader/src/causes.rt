@@ -6,7 +6,7 @@ use hay_reply::Cause;
 use std::marker::Model;
 
 /// A replica that was passed over, and why.
-#[derive(Clone, Copy, Debug)]
+#[derive(Clone, Copy)]
 pub struct PassedReplica {
     pub replica: u32,
     pub cause: Cause,

@@ -93,6 +93,20 @@ reply_text (Restarted rows) = codes "restarted" ++ field rows
 reply_text BadLine = codes "bad line"
 reply_text NoMem = codes "nomem"
 
+-- a reply that names a replica, and behind it a number at most
+abbrev pub NamesReplica : Reply → Type 0
+NamesReplica (Failed volume machine faults) = Unit {0}
+NamesReplica (Damaged volume machine at) = Unit {0}
+NamesReplica (Flushed volume machine records) = Unit {0}
+NamesReplica (Begun volume machine generation) = Unit {0}
+NamesReplica (Stepped volume machine cells) = Unit {0}
+NamesReplica (Compacted volume machine generation) = Unit {0}
+NamesReplica (Busy volume machine generation) = Unit {0}
+NamesReplica (Idle volume machine) = Unit {0}
+NamesReplica (Worn volume machine) = Unit {0}
+NamesReplica (Fused volume machine calls) = Unit {0}
+NamesReplica reply = ⊥
+
 -- a line without a number, without its line feed
 abbrev pub note_text : Note → List ℕ
 note_text (Kept volume machine line) = codes "kept" ++ place volume machine ++ field line

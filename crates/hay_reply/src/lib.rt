@@ -8,6 +8,7 @@
 mod digits;
 mod groups;
 mod lists;
+mod phrases;
 mod read;
 mod words;
 mod write;
@@ -19,7 +20,7 @@ pub use read::{read_note, read_reply};
 pub use write::{header_line, note_text, numbered_line, reply_text};
 
 /// Why a try does not take a photo.
-#[derive(Debug, Drop)]
+#[derive(Drop)]
 pub enum Refused {
     NoRoom {
         volume: u32,
@@ -34,14 +35,14 @@ pub enum Refused {
 }
 
 /// A volume, and the machine by which it is closed.
-#[derive(Clone, Copy, Debug)]
+#[derive(Clone, Copy)]
 pub struct ClosedBy {
     pub volume: u32,
     pub machine: u32,
 }
 
 /// Why a replica was passed over.
-#[derive(Clone, Copy, Debug)]
+#[derive(Clone, Copy)]
 pub enum Cause {
     Arm { faults: u64 },
     Disk { faults: u64 },
@@ -49,21 +50,21 @@ pub enum Cause {
 }
 
 /// A replica's machine, and why it was passed over.
-#[derive(Clone, Copy, Debug)]
+#[derive(Clone, Copy)]
 pub struct Passed {
     pub machine: u32,
     pub cause: Cause,
 }
 
 /// A line, and the volume that its pair got.
-#[derive(Clone, Copy, Debug)]
+#[derive(Clone, Copy)]
 pub struct LineVolume {
     pub line: u64,
     pub volume: u32,
 }
 
 /// What a command was answered.
-#[derive(Debug, Drop)]
+#[derive(Drop)]
 pub enum Reply {
     Stored {
         volume: u32,
@@ -193,7 +194,7 @@ pub enum Reply {
 }
 
 /// A line without a number.
-#[derive(Debug, Drop)]
+#[derive(Drop)]
 pub enum Note {
     Kept {
         volume: u32,

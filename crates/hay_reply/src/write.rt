@@ -5,6 +5,9 @@ ghost use Rattle.hay_reply.specs.Replies as texts;
 
 use crate::digits::write_digits;
 use crate::groups::write_groups;
+use crate::phrases::{
+    write_at, write_one, write_place, write_sight, write_three, write_two, write_word,
+};
 use crate::{Note, Reply};
 use hay_base::NoMemory;
 use hay_needle::Settings;
@@ -88,14 +91,15 @@ fn write_reply(alloc: Global, reply: &Reply, out: &mut String) -> Result<(), NoM
             rows,
             cookie,
         } => {
-            write!(out, "stored {volume} {position} {rows} ")?;
-            cookie_text(alloc, *cookie, out)?;
+            write_three("stored", *volume, *position, *rows, out)?;
+            out.push_str(" ")?;
+            cookie_text(alloc, *cookie, out)
         }
         Reply::Deleted {
             volume,
             position,
             rows,
-        } => write!(out, "deleted {volume} {position} {rows}")?,
+        } => write_three("deleted", *volume, *position, *rows, out),
         Reply::Photo {
             volume,
             machine,
@@ -103,102 +107,123 @@ fn write_reply(alloc: Global, reply: &Reply, out: &mut String) -> Result<(), NoM
             rows,
             photo,
         } => {
-            write!(out, "photo {volume} {machine} {front} {rows} ")?;
-            write_data(alloc, photo.as_slice(), out)?;
+            write_sight("photo", *volume, *machine, *front, *rows, out)?;
+            out.push_str(" ")?;
+            write_data(alloc, photo.as_slice(), out)
         }
         Reply::Gone {
             volume,
             machine,
             front,
             rows,
-        } => write!(out, "gone {volume} {machine} {front} {rows}")?,
+        } => write_sight("gone", *volume, *machine, *front, *rows, out),
         Reply::Absent {
             volume,
             front,
             rows,
-        } => write!(out, "gone {volume} {front} {rows}")?,
+        } => write_three("gone", *volume, *front, *rows, out),
         Reply::WrongCookie {
             volume,
             machine,
             front,
             rows,
-        } => write!(out, "wrong cookie {volume} {machine} {front} {rows}")?,
-        Reply::Unknown { rows } => write!(out, "unknown {rows}")?,
-        Reply::Moved { volume, rows } => write!(out, "moved {volume} {rows}")?,
+        } => write_sight("wrong cookie", *volume, *machine, *front, *rows, out),
+        Reply::Unknown { rows } => write_one("unknown", *rows, out),
+        Reply::Moved { volume, rows } => write_two("moved", *volume, *rows, out),
         Reply::Url { rows, url } => {
-            write!(out, "url {rows} ")?;
-            url_text(alloc, url, out)?;
+            write_one("url", *rows, out)?;
+            out.push_str(" ")?;
+            url_text(alloc, url, out)
         }
         Reply::Full { tries } => {
-            write!(out, "full")?;
-            write_groups(tries, out)?;
+            out.push_str("full")?;
+            write_groups(tries, out)
         }
         Reply::ReadOnly { tries } => {
-            write!(out, "readonly")?;
-            write_groups(tries, out)?;
+            out.push_str("readonly")?;
+            write_groups(tries, out)
         }
-        Reply::ReadOnlyDir => write!(out, "readonly dir")?,
-        Reply::Failed {
-            volume,
-            machine,
-            faults,
-        } => write!(out, "failed {volume}:{machine} {faults}")?,
-        Reply::FailedDir { faults } => write!(out, "failed dir {faults}")?,
+        Reply::ReadOnlyDir => write_word("readonly dir", out),
+        Reply::FailedDir { faults } => write_one("failed dir", *faults, out),
         Reply::Unreadable {
             volume,
             front,
             rows,
             causes,
         } => {
-            write!(out, "unreadable {volume} {front} {rows}")?;
-            write_groups(causes, out)?;
+            write_three("unreadable", *volume, *front, *rows, out)?;
+            write_groups(causes, out)
         }
+        Reply::Drained { machine } => write_one("drained", u64::from(*machine), out),
+        Reply::Undrained { machine } => write_one("undrained", u64::from(*machine), out),
+        Reply::FusedDir { calls } => write_one("fused dir", u64::from(*calls), out),
+        Reply::Nowhere => write_word("nowhere", out),
+        Reply::Restarted { rows } => write_one("restarted", *rows, out),
+        Reply::BadLine => write_word("bad line", out),
+        Reply::NoMem => write_word("nomem", out),
+        Reply::Failed { .. }
+        | Reply::Damaged { .. }
+        | Reply::Flushed { .. }
+        | Reply::Begun { .. }
+        | Reply::Stepped { .. }
+        | Reply::Compacted { .. }
+        | Reply::Busy { .. }
+        | Reply::Idle { .. }
+        | Reply::Worn { .. }
+        | Reply::Fused { .. } => write_of_replica(reply, out),
+    }
+}
+
+/// Adds the text of a reply that names a replica, as its volume and its machine.
+fn write_of_replica(reply: &Reply, out: &mut String) -> Result<(), NoMemory>
+    requires { texts.NamesReplica reply.now }
+    ensures { OnOk result (string_bytes out.new ≡ string_bytes out.old ++ texts.reply_text reply.now) }
+{
+    match reply {
+        Reply::Failed {
+            volume,
+            machine,
+            faults,
+        } => write_at("failed", *volume, *machine, *faults, out),
         Reply::Damaged {
             volume,
             machine,
             at,
-        } => write!(out, "damaged {volume}:{machine} {at}")?,
+        } => write_at("damaged", *volume, *machine, *at, out),
         Reply::Flushed {
             volume,
             machine,
             records,
-        } => write!(out, "flushed {volume}:{machine} {records}")?,
+        } => write_at("flushed", *volume, *machine, *records, out),
         Reply::Begun {
             volume,
             machine,
             generation,
-        } => write!(out, "begun {volume}:{machine} {generation}")?,
+        } => write_at("begun", *volume, *machine, *generation, out),
         Reply::Stepped {
             volume,
             machine,
             cells,
-        } => write!(out, "stepped {volume}:{machine} {cells}")?,
+        } => write_at("stepped", *volume, *machine, *cells, out),
         Reply::Compacted {
             volume,
             machine,
             generation,
-        } => write!(out, "compacted {volume}:{machine} {generation}")?,
+        } => write_at("compacted", *volume, *machine, *generation, out),
         Reply::Busy {
             volume,
             machine,
             generation,
-        } => write!(out, "busy {volume}:{machine} {generation}")?,
-        Reply::Idle { volume, machine } => write!(out, "idle {volume}:{machine}")?,
-        Reply::Worn { volume, machine } => write!(out, "worn {volume}:{machine}")?,
-        Reply::Drained { machine } => write!(out, "drained {machine}")?,
-        Reply::Undrained { machine } => write!(out, "undrained {machine}")?,
+        } => write_at("busy", *volume, *machine, *generation, out),
         Reply::Fused {
             volume,
             machine,
             calls,
-        } => write!(out, "fused {volume}:{machine} {calls}")?,
-        Reply::FusedDir { calls } => write!(out, "fused dir {calls}")?,
-        Reply::Nowhere => write!(out, "nowhere")?,
-        Reply::Restarted { rows } => write!(out, "restarted {rows}")?,
-        Reply::BadLine => write!(out, "bad line")?,
-        Reply::NoMem => write!(out, "nomem")?,
+        } => write_at("fused", *volume, *machine, u64::from(*calls), out),
+        Reply::Idle { volume, machine } => write_place("idle", *volume, *machine, out),
+        Reply::Worn { volume, machine } => write_place("worn", *volume, *machine, out),
+        _ => unreachable!(),
     }
-    Ok(())
 }
 
 fn write_note(note: &Note, out: &mut String) -> Result<(), NoMemory>
@@ -209,31 +234,32 @@ fn write_note(note: &Note, out: &mut String) -> Result<(), NoMemory>
             volume,
             machine,
             line,
-        } => write!(out, "kept {volume}:{machine} {line}")?,
+        } => write_at("kept", *volume, *machine, *line, out),
         Note::Lost {
             volume,
             machine,
             line,
-        } => write!(out, "lost {volume}:{machine} {line}")?,
-        Note::KeptDir { line } => write!(out, "kept dir {line}")?,
-        Note::LostDir { line } => write!(out, "lost dir {line}")?,
+        } => write_at("lost", *volume, *machine, *line, out),
+        Note::KeptDir { line } => write_one("kept dir", *line, out),
+        Note::LostDir { line } => write_one("lost dir", *line, out),
         Note::Log {
             volume,
             from,
             lines,
         } => {
-            write!(out, "log {volume} {from}")?;
-            write_groups(lines, out)?;
+            write_two("log", *volume, *from, out)?;
+            write_groups(lines, out)
         }
         Note::Rows { from, rows } => {
-            write!(out, "rows {from}")?;
-            write_groups(rows, out)?;
+            write_one("rows", *from, out)?;
+            write_groups(rows, out)
         }
-        Note::OpenShelf { faults } => write!(out, "open shelf {faults}")?,
-        Note::OpenFailed { slot, faults } => write!(out, "open failed {slot} {faults}")?,
-        Note::OpenDamaged { slot, file, at } => write!(out, "open damaged {slot} {file} {at}")?,
+        Note::OpenShelf { faults } => write_one("open shelf", *faults, out),
+        Note::OpenFailed { slot, faults } => write_two("open failed", *slot, *faults, out),
+        Note::OpenDamaged { slot, file, at } => {
+            write_three("open damaged", *slot, u64::from(*file), *at, out)
+        }
     }
-    Ok(())
 }
 
 fn are_all(byte: u8, bytes: &[u8]) -> bool
