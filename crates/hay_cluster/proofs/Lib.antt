@@ -21,6 +21,7 @@ pub mod OpeningFill
 pub mod OpeningFound
 pub mod OpeningLists
 pub mod OpeningLower
+pub mod OpeningReads
 pub mod OpeningStore
 pub mod OpeningTaken
 pub mod OpeningVoid

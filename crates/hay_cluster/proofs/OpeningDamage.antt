@@ -21,13 +21,10 @@ use Rattle.hay_legal.specs.Known.{disk_count, slot_of}
 use Rattle.hay_legal.specs.Stands.{Contents, Found}
 use Rattle.hay_dirfile.specs.Journal.{IsDamagedJournal}
 use Rattle.hay_directory.specs.Rows.{OpensRows, journal_super}
-use Rattle.hay_directory.specs.Seen.{directory_seen}
-use Rattle.hay_directory.specs.Seen as homes
 use Rattle.hay_directory.specs.State as directory
 use Rattle.hay_directory.proofs.RowLaws.{opens_void}
 use Rattle.hay_physical.specs.OpenCopies.{Copy, contents_of}
 use Rattle.hay_logical.specs.Fits.{At, IsReplica, super_of}
-use Rattle.hay_logical.specs.Seen.{replica_seen, volume_seen}
 use Rattle.hay_logical.specs.ReplicaCalls.{IsOpenFault}
 use Rattle.hay_logical.specs.Volumes.{Volume}
 use Rattle.hay_cluster.specs.declared.fault.ClusterFault.{ClusterFault}
@@ -36,10 +33,9 @@ use Rattle.hay_cluster.specs.Causes.{HasFaultCause}
 use Rattle.hay_cluster.specs.Faults.{not_opened}
 use Rattle.hay_cluster.specs.Opening.{Gathers, IsRefusedIn, LeavesVolume, OpensDirectory, OpensParts, OpensVolume, RefusesDirectory, RefusesParts, StaysUndamaged}
 use Rattle.hay_cluster.specs.Outside.{AreSoundBelow, IsDamagedDisk, IsFirstDamage, IsNotWhole, IsUndamaged, IsUndamagedBelow, IsVoid, read_of}
-use Rattle.hay_cluster.specs.Seen.{ReadsSeen, store_seen}
 use Rattle.hay_cluster.specs.Store.{IsShaped, IsVolumeOf, Open, contents_in, disks_of}
 use Rattle.hay_cluster.proofs.ClosingStore.{contents_at, disks_many, order_item, order_self}
-use Rattle.hay_cluster.proofs.Lists.{AllZip-long, map-at}
+use Rattle.hay_cluster.proofs.Lists.{AllZip-long}
 use Rattle.hay_cluster.proofs.Moves.{volume_of}
 use Rattle.hay_cluster.proofs.OpeningStore.{MovedParts, StoppedParts, opening_cause, shape_moved}
 use Rattle.hay_cluster.proofs.OpeningTaken.{IsTaken, KeepsBytes, disks_keep, in_volume, taken_contents}
@@ -66,7 +62,7 @@ slot_found settings n some below =
       omega (arith, split),
     )
 
-slot_within : (settings : Settings) (v j : ℕ) → v < settings.volumes → j < settings.replicas → slot_of settings v j < disk_count settings
+pub slot_within : (settings : Settings) (v j : ℕ) → v < settings.volumes → j < settings.replicas → slot_of settings v j < disk_count settings
 slot_within settings v j volume replica =
     let up : v + 1 ≤ settings.volumes = omega (arith, volume) in
     let product = mul-le-mul_left settings.replicas up in
@@ -95,7 +91,7 @@ zip_get R (x' ∷ xs) [] i x at all = absurd all
 zip_get R (x' ∷ xs) (y ∷ ys) zero x at all = let same : x' ≡ x = cc in (y, refl, subst (λ z. R z y) same all.0)
 zip_get R (x' ∷ xs) (y ∷ ys) (suc i) x at all = zip_get R xs ys i x at all.1
 
-gathers_at : {X Y : Type 0} (R : X → X → List Y → Type 0) (xs ys : List X) (all : List Y) (i : ℕ) (x y : X) → Gathers R xs ys all → At xs i x → At ys i y → (more : List Y) × R x y more
+pub gathers_at : {X Y : Type 0} (R : X → X → List Y → Type 0) (xs ys : List X) (all : List Y) (i : ℕ) (x y : X) → Gathers R xs ys all → At xs i x → At ys i y → (more : List Y) × R x y more
 gathers_at R [] ys all i x y g at at' = absurd cc
 gathers_at R (x' ∷ xs) [] all i x y g at at' = absurd g
 gathers_at R (x' ∷ xs) (y' ∷ ys) all zero x y g at at' =
@@ -520,44 +516,3 @@ module _ {D P A : Type 0} (DiskTells : Type 0) (files : D → Files) (Tells : Ty
       let all : disk_count old.settings ≤ disk_count old.settings = omega arith in
       subst (λ (s : Settings). IsUndamaged s (λ slot. read_of (disks slot))) mine
       (lower_taken tells drawn sure disks arms old t (disk_count old.settings) all (before_sound tells old new opened.of_directory (disk_count old.settings) t.shape m opened.directory all stay))
-
-  -- the rows and each disk that was void or whole
-  pub opened_reads : DiskTells → (drawn : D → ℕ → ℕ) (sure : A → Bool) (disks : ℕ → HeldDisk) (arms : ℕ → HeldArm) (settings : Settings) (old new : Open D P A) (notes : List Note)
-      → old.settings ≡ settings
-      → IsTaken DiskTells files Tells faults fuses arm_faults drawn sure disks arms old → MovedParts DiskTells files Tells faults fuses arm_faults old new
-      → OpensParts DiskTells files Tells faults fuses old.directory new.directory old.volumes new.volumes notes → ReadsSeen settings (λ slot. read_of (disks slot)) (store_seen new)
-  opened_reads tells drawn sure disks arms settings old new notes mine t m opened =
-      let shape = t.shape in
-      let rows : List HomeRow = (opened.directory).seen.0 in
-      let journal : ◌≡◌ {A = Contents} (contents_of files (old.directory).disk) (read_of (disks 0)) =
-      sym (contents_at files old 0 (old.directory).disk refl) ∙ taken_contents DiskTells files Tells faults fuses arm_faults drawn sure disks arms tells old t 0
-      (let low : 0 < disk_count old.settings = omega arith in low) in
-      subst (λ (s : Settings). ReadsSeen s (λ slot. read_of (disks slot)) (store_seen new)) mine
-      (record {
-        rows = rows;
-        reads = subst (λ (s : Settings). OpensRows s (read_of (disks 0)) rows) shape.directory
-            (subst (λ (contents : Contents). OpensRows (old.directory).settings contents rows) journal ((opened.directory).reads tells t.fresh));
-        directory = subst (λ (s : Settings). homes.OpenSeen s.machines rows (directory_seen new.directory)) shape.directory (opened.directory).seen.2;
-        finds = λ v j s volume within opens.
-            let many = shape.many in
-            let x = order_item old.volumes v (let less : v < length old.volumes = omega (arith, volume, many) in less) in
-            let is = volume_of old v x.0 shape x.1 in
-            let long : length (x.0).replicas ≡ (old.settings).replicas = is.all ∙ ap (λ (s : Settings). s.replicas) is.settings_are in
-            let r = order_item (x.0).replicas j (let less : j < length (x.0).replicas = omega (arith, within, long) in less) in
-            let y = zip_get (LeavesVolume DiskTells files Tells faults fuses) old.volumes new.volumes v x.0 x.1 m.volumes in
-            let count : length (y.0).replicas ≡ length (x.0).replicas = (y.2).counts.count in
-            let r' = order_item (y.0).replicas j (let less : j < length (y.0).replicas = omega (arith, within, long, count) in less) in
-            let stands : slice_get (disks_of old) (slot_of old.settings v j) ≡ Some (r.0).disk =
-            in_volume (λ n disk. slice_get (disks_of old) n ≡ Some disk) old v j x.0 r.0 shape x.1 r.1 (order_self (disks_of old)) in
-            let bytes : ◌≡◌ {A = Contents} (contents_of files (r.0).disk) (read_of (disks (slot_of old.settings v j))) =
-            sym (contents_at files old (slot_of old.settings v j) (r.0).disk stands)
-            ∙ taken_contents DiskTells files Tells faults fuses arm_faults drawn sure disks arms tells old t (slot_of old.settings v j) (slot_within old.settings v j volume within) in
-            let found : OpensAs (r.0).sup (contents_of files (r.0).disk) s =
-            subst (λ (u : Super). OpensAs u (contents_of files (r.0).disk) s) (sym (superblock old.settings v j x.0 r.0 is r.1))
-            (subst (λ (contents : Contents). OpensAs (super_of old.settings v j) contents s) (sym bytes) opens) in
-            let g = gathers_at (OpensVolume DiskTells files Tells faults fuses) old.volumes new.volumes opened.of_volumes v x.0 y.0 opened.volumes x.1 y.1 in (
-              volume_seen y.0,
-              map-at volume_seen new.volumes v y.0 y.1,
-              (replica_seen r'.0, map-at replica_seen (y.0).replicas j r'.0 r'.1, (g.1).finds tells j r.0 r'.0 s r.1 r'.1 found),
-            );
-      })

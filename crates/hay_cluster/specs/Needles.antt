@@ -12,7 +12,7 @@ use Rattle.hay_legal.specs.Known.{replica_on, slot_of}
 use Rattle.hay_legal.specs.Stands.{Contents}
 use Rattle.hay_volume.specs.Needles.{LacksNeedleOf}
 use Rattle.hay_open.specs.Stored.{volume_file}
-use Rattle.hay_logical.specs.Needles.{HeadsLead, HeadsLeadOn, IsToldBy, LacksCell, LacksCellAnew, LacksCellLeft, LacksSeen}
+use Rattle.hay_logical.specs.Needles.{HasLiveNeedles, HeadsLead, HeadsLeadOn, IsToldBy, LacksCell, LacksCellAnew, LacksCellLeft, LacksSeen}
 use Rattle.hay_logical.specs.Fits.{At}
 use Rattle.hay_logical.specs.Notes.{ToldUnsure}
 use Rattle.hay_logical.specs.Seen.{ReplicaSeen, SeesAt, VolumeSeen, begun}
@@ -163,7 +163,12 @@ MeetsNeedles settings contents old new (asks.Fuse v m calls) said = Unit {0}
 MeetsNeedles settings contents old new (asks.FuseDir calls) said = Unit {0}
 MeetsNeedles settings contents old new (asks.Restart pick) said = Unit {0}
 
--- RESTARTS
+-- OPENINGS
+
+-- Each place that is seen as a photo's has its needle, which is not deleted, on each replica.
+abbrev pub PhotosStand : Settings → (ℕ → Contents) → StoreSeen → Type 0
+PhotosStand settings contents seen = (v j : ℕ) → v < settings.volumes → j < settings.replicas
+    → FileAt settings contents seen v j (λ r file. HasLiveNeedles (seen.places v) j file)
 
 -- Behind a restart a place of a deletion that was pending, and that the opening left not looked at, has no needle of its size, and one that
 -- is a photo's has its needle, which is not deleted.

@@ -24,9 +24,10 @@ use Rattle.hay_physical.specs.OpenCopies.{Copy, contents_of, volume_bytes}
 use Rattle.hay_logical.specs.declared.fault.Unopened.{Unopened}
 use Rattle.hay_logical.specs.Answers.{IsReopened}
 use Rattle.hay_logical.specs.Fits.{At}
+use Rattle.hay_logical.specs.Needles.{HasLiveNeedles}
 use Rattle.hay_logical.specs.Notes.{NotesTell, ToldUnsure}
 use Rattle.hay_logical.specs.Seen.{IsFoundAs, OpenSeen, replica_seen, volume_seen}
-use Rattle.hay_logical.specs.Sights.{LiesWithinEach, sights_of}
+use Rattle.hay_logical.specs.Sights.{AreSightsOf, LiesWithinEach, sights_of}
 use Rattle.hay_logical.specs.Stands.{IsFirst, IsIdleVolume, Stopped}
 use Rattle.hay_logical.specs.Stands as logical
 use Rattle.hay_logical.specs.ReplicaCalls.{IsRefusedAt, KeepsDisk}
@@ -84,7 +85,9 @@ pub record OpensVolume {D P : Type 0} (DiskTells : Type 0) (files : D → Files)
   pub undamaged : DiskTells → EachStaysUndamaged files old new
   pub told : NotesTell old.settings old.number old.unsure (sights_of new.rows) (volume_seen new).replicas notes
   pub told_places : DiskTells → (j : ℕ) (r : Copy D) → At new.replicas j r → ToldUnsure old.unsure (sights_of new.rows) j (volume_bytes files r)
-  pub finds : DiskTells → (j : ℕ) (r r' : Copy D) (s : Stored) → At old.replicas j r → At new.replicas j r' → OpensAs r.sup (contents_of files r.disk) s → IsFoundAs s (replica_seen r')
+  pub finds : DiskTells → (j : ℕ) (r r' : Copy D) (s : Stored) → At old.replicas j r → At new.replicas j r' → OpensAs r.sup (contents_of files r.disk) s
+      → IsFoundAs s (replica_seen r') × AreSightsOf s (sights_of new.rows) j
+  pub live : DiskTells → (j : ℕ) (r : Copy D) → At new.replicas j r → HasLiveNeedles (sights_of new.rows) j (volume_bytes files r)
   pub fits : AllByRecursion FitsNote notes
   pub seen : OpenSeen (volume_seen new)
   pub lie : LiesWithinEach (sights_of new.rows) (volume_seen new).replicas
@@ -181,6 +184,7 @@ pub record OpensDirectory {D : Type 0} (DiskTells : Type 0) (files : D → Files
   pub fits : AllByRecursion FitsNote notes
   pub seen : (rows : List HomeRow) × RowsWithin (new.settings).volumes rows × open_seen.OpenSeen (old.settings).machines rows (directory_seen new)
   pub reads : DiskTells → directory.IsFresh old → OpensRows old.settings (λ n. (files old.disk n).now) seen.0
+  pub reads_now : DiskTells → OpensRows old.settings (λ n. (files new.disk n).now) seen.0
 
 -- why the Directory was not opened
 abbrev pub RefusesDirectory : {D : Type 0} → Type 0 → (D → Files) → (D → ℕ) → State D → State D → ClusterFault → Type 0

@@ -31,7 +31,7 @@ use Rattle.hay_logical.specs.Notes.{NotesTell}
 use Rattle.hay_logical.specs.Seen.{BeginRefusedSeen, BeginSeen, BreaksPutSeen, CompactRefusedSeen, CompactSeen, FinishRefusedSeen, FinishSeen, FlushRefusedSeen, FlushSeen}
 use Rattle.hay_logical.specs.Seen.{FreezesSeen, FullSeen, HideSeen, IsFoundAs, OpenSeen, RoomSeen, SeesAt, StepRefusedSeen, StepSeen, PutSeen, ReplicaSeen, VolumeSeen}
 use Rattle.hay_logical.specs.Seen.{volume_seen}
-use Rattle.hay_logical.specs.Sights.{LiesWithinEach, Sights, sights_of}
+use Rattle.hay_logical.specs.Sights.{AreSightsOf, LiesWithinEach, Sights, sights_of}
 use Rattle.hay_logical.specs.Sights.Sight.{Never}
 use Rattle.hay_logical.specs.Volumes.{Volume}
 use Rattle.hay_cluster.specs.declared.maintenance.Maintenance.{Maintenance}
@@ -360,13 +360,14 @@ pub record OpensSeen (settings : Settings) (seen : StoreSeen) : Type 0 where
   pub directory : directory.OpenSeen settings.machines rows seen.directory
 
 -- What is seen of a store that was opened on these contents: the homes are by the rows of the Directory's disk, and each replica whose disk
--- was void or whole has its generation, ends where its cells do, and has as many without a record, whatever the others have.
+-- was void or whole has its generation, ends where its cells do, has as many without a record, and the places of its last cells, whatever
+-- the others have.
 pub record ReadsSeen (settings : Settings) (contents : ℕ → Contents) (seen : StoreSeen) : Type 0 where
   pub rows : List HomeRow
   pub reads : OpensRows settings (contents 0) rows
   pub directory : directory.OpenSeen settings.machines rows seen.directory
   pub finds : (v j : ℕ) (s : Stored) → v < settings.volumes → j < settings.replicas → OpensAs (super_of settings v j) (contents (slot_of settings v j)) s
-      → VolumeAt v (SeesAt j (IsFoundAs s)) seen
+      → VolumeAt v (SeesAt j (IsFoundAs s)) seen × AreSightsOf s (seen.places v) j
 
 -- RESTARTS
 

@@ -20,7 +20,7 @@ ghost use Rattle.hay_cluster.specs.Draws.{DrawsVolume, EachDrewLittle, FlushedDr
 ghost use Rattle.hay_cluster.specs.Outside.{AreSoundBelow, CountsOn, FormatsVoid, IsDamagedDisk, IsKept, IsUndamaged, IsUndamagedBelow, IsVoid, KeepsContents, outside_of, read_of};
 ghost use Rattle.hay_cluster.specs.Opening.{FillsVolume, Gathers, IsResting, IsEmptyVolume, LeavesDirectory, LeavesVolume, OpensDirectory, OpensParts, OpensVolume};
 ghost use Rattle.hay_cluster.specs.Opening.{RefusesDirectory, RefusesParts, RefusesVolume, RefusesVolumes, StopsDirectory, StopsVolume};
-ghost use Rattle.hay_cluster.specs.Needles.{PendingTold};
+ghost use Rattle.hay_cluster.specs.Needles.{PendingTold, PhotosStand};
 ghost use Rattle.hay_cluster.specs.Seen.{OpensSeen, ReadsSeen, TellsSeen, store_seen};
 ghost use Rattle.hay_cluster.specs.State.{LeftAt, Stands};
 ghost use Rattle.hay_cluster.specs.Store.{IsBuilt, IsShaped, IsUp, IsVolumeOf, contents_in, disks_of};
@@ -71,6 +71,8 @@ impl<D: Disk, A: Arm<D::Piece>> Cluster<D, A> {
         ensures opens { IfOk result (λ store. OpensSeen settings (store_seen store)) }
         // So each disk is found that is void or whole, and the rows of the Directory's one.
         ensures reads { D.Tells → IfOk result (λ store. ReadsSeen settings (λ slot. read_of (H.disks shelf.old slot)) (store_seen store)) }
+        // On any disk each place that is a photo's has its needle.
+        ensures live { D.Tells → IfOk result (λ store. PhotosStand settings (contents_in D.files store) (store_seen store)) }
         ensures counts { IfOk result (λ store. (slot : ℕ) → slot < disk_count settings →
             CountsOn (H.disks shelf.old slot) (slice_index (map D.fault_count (disks_of store)) slot) (slice_index (map D.fuse_count (disks_of store)) slot)) }
         ensures arm_counts { IfOk result (λ store. (lane : ℕ) → lane < 8 →
@@ -134,6 +136,9 @@ impl<D: Disk, A: Arm<D::Piece>> Cluster<D, A> {
         ensures opens { OnOk result (OpensSeen self.old.settings (store_seen self.new)) }
         // A place of a deletion that was pending is not left not looked at where a needle of its size stands.
         ensures told { D.Tells → OnOk result (PendingTold self.old.settings (contents_in D.files self.new) (store_seen self.old) (store_seen self.new)) }
+        // Each disk is found as what it has then, as at a first opening.
+        ensures reads { D.Tells → OnOk result (ReadsSeen self.old.settings (contents_in D.files self.new) (store_seen self.new)) }
+        ensures live { D.Tells → OnOk result (PhotosStand self.old.settings (contents_in D.files self.new) (store_seen self.new)) }
         ensures up { OnOk result (IsUp self.new) }
         // Nothing that it read of a disk is damaged.
         ensures sound { D.Tells → OnOk result (IsUndamaged self.old.settings (contents_in D.files self.new)) }

@@ -173,6 +173,8 @@ impl<D: Disk> Directory<D> {
         ensures reopened { D.Tells → (known : DirKnown) → Stopped D.files self.old known → IfOk result (λ opened. (kept : Bool)
             × (opened.notes ≡ row_notes known.pending kept) × (map home_row opened.rows.items ≡ known.rows ++ kept_row known.pending kept)
             × Stands D.files self.new (directory_with (known.rows ++ kept_row known.pending kept)) (replicate self.old.settings.machines false)) }
+        // Any opening finds the rows that the disk has then.
+        ensures rows { D.Tells → IfOk result (λ opened. OpensRows self.old.settings (λ n. (D.files self.new.disk n).now) (map home_row opened.rows.items)) }
         // Whatever the disk has, the rows are of volumes that there are, the homes are by the rows, and no machine is drained.
         ensures within { IfOk result (λ opened. RowsWithin self.new.settings.volumes (map home_row opened.rows.items)) }
         ensures homes { IfOk result (λ opened. (pair : Pair) → home_of self.new pair ≡ home_in (map home_row opened.rows.items) pair) }

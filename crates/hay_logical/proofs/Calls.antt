@@ -24,14 +24,16 @@ use Rattle.hay_physical.specs.declared.state.Phase.{Phase}
 use Rattle.hay_physical.specs.declared.state.Phase.TheVariants as phase
 use Rattle.hay_physical.specs.declared.fault.ReplicaFault.{ReplicaFault}
 use Rattle.hay_physical.specs.declared.fault.ReplicaFault.TheVariants as fault
-use Rattle.hay_physical.specs.OpenCopies.{Copy, EndedAt, HasFrozen, IsFrozen, IsOpenCopy, IsOpenPhase, IsUp, capacity_of, contents_of, end_of, goal_of, is_frozen, is_stuck, phase_frozen, phase_stuck}
+use Rattle.hay_physical.specs.OpenCopies.{Copy, EndedAt, HasFrozen, IsFrozen, IsOpenCopy, IsOpenPhase, IsUp, capacity_of, contents_of, end_of, goal_of, is_frozen, is_stuck}
+use Rattle.hay_physical.specs.OpenCopies.{phase_frozen, phase_stuck, volume_bytes}
 use Rattle.hay_physical.specs.Replicas as physical
 use Rattle.hay_physical.proofs.Laws.{stands_hold}
 use Rattle.hay_physical.specs.Faults as physical_faults
 use Rattle.hay_logical.specs.Fits.{At, PhotoAt}
+use Rattle.hay_logical.specs.Needles.{HasLiveNeedle}
 use Rattle.hay_logical.specs.Volumes.{CanReach, KeepsCounts, ReachesPlaces}
 use Rattle.hay_logical.specs.ReplicaCalls.{DeletesAt, FollowsAt, IsFlushFault, IsOpenFault, IsPutFault, KeepsDisk, KeepsReach, KeepsRun, LeftAt, LosesRun, OpensAt, PutsAt, RoomFor, StaysBeside}
-use Rattle.hay_logical.specs.Sights.{LiesWithin, sight}
+use Rattle.hay_logical.specs.Sights.{IsSightOfLast, LiesWithin, sight}
 use Rattle.hay_logical.proofs.Lists.{Went, at_below, at_same, at_set_other, at_set_same, at_there, length-slice_set}
 
 -- PHASES
@@ -371,6 +373,8 @@ opens_on DiskTells files Tells rows rows' j r r' same h = record {
       let p = h.reopened tells stuck s t holds in
       (p.0, p.1, p.2, λ pair. subst (PhotoAt Tells (last_cell (p.0).cells pair)) (sym (same pair)) (p.3 pair));
   reach = λ tells. reaches_same files rows rows' j r' same (h.reach tells);
+  found = λ tells s opens pair. subst (λ p. IsSightOfLast (last_cell s.cells pair) (sight p)) (sym (same pair)) (h.found tells s opens pair);
+  live = λ tells pair. subst (λ p. HasLiveNeedle (volume_bytes files r') (sight p)) (sym (same pair)) (h.live tells pair);
 }
 
 -- a disk that was not called, and is solid

@@ -11,6 +11,7 @@ pub mod Reaching
 pub mod Dropping
 pub mod Ends
 pub mod Examining
+pub mod Finding
 pub mod Finishing
 pub mod Formatting
 pub mod Freezing

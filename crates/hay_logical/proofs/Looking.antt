@@ -28,10 +28,8 @@ use Rattle.hay_physical.specs.Replicas as physical
 use Rattle.hay_physical.specs.CompactionRuns.{HasRun, Run}
 use Rattle.hay_physical.proofs.Seeing.{last_shows}
 use Rattle.hay_logical.specs.Fits.{IsUnseen, PhotoAt, PlaceStands}
-use Rattle.hay_logical.specs.Sights.{LiesWithin, sight}
-use Rattle.hay_logical.specs.ReplicaCalls.{KeepsBytes, LooksAt, PlacesAre, SetsPlaceAt, SightsAt}
+use Rattle.hay_logical.specs.ReplicaCalls.{KeepsBytes, PlacesAre, SetsPlaceAt, SightsAt}
 use Rattle.hay_logical.specs.Volumes.{ReachesPlaces}
-use Rattle.hay_logical.proofs.Calls.{reaches_same}
 use Rattle.hay_logical.proofs.Tables.{at_cells, cell_outcome, last_pair, last_placed, place_means, seen_means}
 
 module _ {D : Type 0} (DiskTells : Type 0) (files : D → Files) where
@@ -336,19 +334,6 @@ module _ {P : Type 0} (pair : Pair) (j : ℕ) (rows rows' : MapRows P) where
 
 pub bytes_same : (old : Files) → KeepsBytes old old
 bytes_same old = record { now = λ n. refl; solid = λ n solid. solid; leaves = λ image leaves. leaves }
-
--- a replica that was not looked at, whose places stay
-pub looks_still : {D P : Type 0} (DiskTells : Type 0) (files : D → Files) (Tells : Type 0) (rows rows' : MapRows P) (j : ℕ) (r : Copy D)
-    → ((q : Pair) → place_in (row_at rows' q) j ≡ place_in (row_at rows q) j)
-    → LooksAt DiskTells files Tells rows rows' j r r
-looks_still DiskTells files Tells rows rows' j r same = record {
-  copy = refl;
-  stands = λ tells s stands places. (stands, λ q. subst (λ p. PhotoAt Tells (last_cell s.cells q) p) (sym (same q)) (places q));
-  holds = λ tells stuck s t holds. holds;
-  keeps = λ tells. bytes_same (files r.disk);
-  reach = λ tells reach. reaches_same files rows rows' j r same reach;
-  within = λ end lies q. subst (λ p. LiesWithin end (sight p)) (sym (same q)) (lies q);
-}
 
 module _ {D P : Type 0} (DiskTells : Type 0) (files : D → Files) (faults : D → ℕ) (Tells : Type 0) (pair : Pair) (rows rows' : MapRows P) (j : ℕ) (r r' : Copy D) where
   -- a place that was seen is not looked at

@@ -11,7 +11,7 @@ use Rattle.hay_map.specs.declared.place.Place.{Place}
 use Rattle.hay_map.specs.declared.place.Place.TheVariants as place
 use Rattle.hay_map.specs.Rows.{row_at}
 use Rattle.hay_open.specs.Damage.{IsOpeningDamage}
-use Rattle.hay_open.specs.Stored.{Stored}
+use Rattle.hay_open.specs.Stored.{Stored, last_cell}
 use Rattle.hay_compact.specs.Finishing.{IsSeen}
 use Rattle.hay_physical.specs.declared.fault.ReplicaFault.{ReplicaFault}
 use Rattle.hay_physical.specs.declared.fault.ReplicaFault.TheVariants as fault
@@ -33,10 +33,12 @@ use Rattle.hay_logical.specs.Volumes.{CanReach, KeepsCounts}
 use Rattle.hay_logical.proofs.Calls.{counted_same, keeps_counts, up_open, up_thawed}
 use Rattle.hay_logical.proofs.Examining.{rose_later}
 use Rattle.hay_logical.proofs.Lists.{at_below, at_same, at_there}
-use Rattle.hay_logical.proofs.Looking.{looks_still}
+use Rattle.hay_logical.proofs.Finding.{looked_sight}
 use Rattle.hay_logical.proofs.Methods.{one_after}
-use Rattle.hay_logical.proofs.Sighting.{looks_one, other_places, place_seen}
+use Rattle.hay_logical.proofs.Sighting.{looks_one, looks_still, other_places, place_seen}
 use Rattle.hay_logical.proofs.Bytes.{bytes_more, looked_bytes}
+use Rattle.hay_logical.proofs.Needles.{looked_live, told_more}
+use Rattle.hay_logical.proofs.SightChanges.{look_more}
 use Rattle.hay_logical.proofs.Through.{counts_through}
 
 -- a place behind a look
@@ -77,6 +79,10 @@ module _ {D P : Type 0} (DiskTells : Type 0) (files : D → Files) (Tells : Type
     keeps = λ tells. bytes_more (files r.disk) (files x.disk) (files y.disk) (first.keeps tells) (second.keeps tells);
     reach = λ tells reach. second.reach tells (first.reach tells reach);
     within = λ end lies. second.within end (first.within end lies);
+    looks = λ q. look_more (sights_of a q j) (sights_of b q j) (sights_of c q j) (first.looks q) (second.looks q);
+    told = λ tells q.
+        told_more (volume_bytes files r) (sights_of a q j) (sights_of b q j) (sights_of c q j) (first.looks q) (second.looks q) (first.told tells q)
+        (subst (λ (l : List ℕ). IsToldBy l (sights_of b q j) (sights_of c q j)) (file_looked a b j r x tells first) (second.told tells q));
   }
 
   module _ (faults fuses : D → ℕ) where
@@ -109,13 +115,15 @@ module _ {D P : Type 0} (DiskTells : Type 0) (files : D → Files) (Tells : Type
       still_reached can = λ tells j x f. let o = old_at j x f in (looks.each j o.0 x o.1 f).reach tells (can tells j o.0 o.1)
 
       module _ (new : List (Copy D)) (rows' : MapRows P) (at : ℕ) (pair : Pair) (result : Result Unit ReplicaFault) (one : CallsOne at items new)
-          (sights : SightsAt DiskTells files faults Tells pair rows rows' at one.before one.after result) (row : SeesRow pair at rows rows' result) (counts : KeepsCounts faults fuses items new) where
+          (sights : SightsAt DiskTells files faults Tells pair rows rows' at one.before one.after result) (row : SeesRow pair at rows rows' result) (counts : KeepsCounts faults fuses items new)
+          (needle : DiskTells → (x : Copy D) → At items at x → TellsNeedle (volume_bytes files x) pair at rows rows' result) where
         -- one more was looked at
         pub looks_on : Looks old new before rows'
         looks_on = record {
           each = λ j r r' e f.
               let x = mid j r e in
-              looks_more before rows rows' j r x.0 r' (looks.each j r x.0 e x.1) (looks_one DiskTells files Tells faults items new rows rows' at pair result one sights row j x.0 r' x.1 f);
+              looks_more before rows rows' j r x.0 r' (looks.each j r x.0 e x.1) (looks_one DiskTells files Tells faults items new rows rows' at pair result one sights row
+              (λ tells. needle tells one.before one.was) j x.0 r' x.1 f);
           width = row.width ∙ looks.width;
           counts = counts_through faults fuses old items new looks.counts counts;
         }
@@ -137,11 +145,10 @@ module _ {D P : Type 0} (DiskTells : Type 0) (files : D → Files) (Tells : Type
         ]
 
         pub told_on : DiskTells → ((f : ReplicaFault) → result ≡ Err f → (k : ℕ) × (f ≡ fault.Damaged k))
-            → ((x : Copy D) → At items at x → TellsNeedle (volume_bytes files x) pair at rows rows' result)
             → place_in (row_at rows pair) at ≡ place_in (row_at before pair) at
             → ((j : ℕ) (r : Copy D) → j < at → At old j r → HasLiveNeedles (sights_of before) j (volume_bytes files r) → IsToldPlace (sights_of rows pair j) (volume_bytes files r))
             → (j : ℕ) (r : Copy D) → j < at + 1 → At old j r → HasLiveNeedles (sights_of before) j (volume_bytes files r) → IsToldPlace (sights_of rows' pair j) (volume_bytes files r)
-        told_on tells only needle stayed told j r within e live = elim (cases_eq j at) [
+        told_on tells only stayed told j r within e live = elim (cases_eq j at) [
           | inl same ↦
               let x = mid j r e in
               let there : At items at x.0 = subst (λ n. At items n x.0) same x.1 in
@@ -150,7 +157,7 @@ module _ {D P : Type 0} (DiskTells : Type 0) (files : D → Files) (Tells : Type
               let stands : HasLiveNeedle (volume_bytes files x.0) (sights_of rows pair at) =
               subst (λ (p : Place P). HasLiveNeedle (volume_bytes files x.0) (sight p)) (sym stayed) (subst (λ (l : List ℕ). HasLiveNeedle l (sights_of before pair at)) (sym file) stood) in
               subst (λ n. IsToldPlace (sights_of rows' pair n) (volume_bytes files r)) (sym same)
-              (subst (λ (l : List ℕ). IsToldPlace (sights_of rows' pair at) l) file (by_answer (volume_bytes files x.0) (needle x.0 there) stands result refl))
+              (subst (λ (l : List ℕ). IsToldPlace (sights_of rows' pair at) l) file (by_answer (volume_bytes files x.0) (needle tells x.0 there) stands result refl))
           | inr apart ↦
               let less : j < at = omega (arith, within, apart) in
               subst (λ (p : Place P). IsToldPlace (sight p) (volume_bytes files r)) (sym (other_places pair at rows rows' result row j apart pair)) (told j r less e live)
@@ -234,6 +241,12 @@ module _ {D P : Type 0} (DiskTells : Type 0) (files : D → Files) (Tells : Type
         let now = looks.stands tells was.0 was.2 was.3 in
         (was.0, was.1, now.0, now.1);
     reach = λ tells. looks.reach tells (opens.reach tells);
+    found = λ tells s finds pair.
+        looked_sight Tells (last_cell s.cells pair) (sights_of rows pair j) (place_in (row_at rows' pair) j) (looks.looks pair) (opens.found tells s finds pair)
+        ((let was = opens.opened tells s finds in looks.stands tells s was.0 was.1).1 pair);
+    live = λ tells pair.
+        subst (λ (l : List ℕ). HasLiveNeedle l (sights_of rows' pair j)) (sym (file_looked DiskTells files Tells rows rows' j x y tells looks))
+        (looked_live (volume_bytes files x) (sights_of rows pair j) (sights_of rows' pair j) (looks.looks pair) (looks.told tells pair) (opens.live tells pair));
   }
 
   pub left_looked : (rows rows' : MapRows P) (j : ℕ) (r x y : Copy D) → LeftAt DiskTells files r x → LooksAt DiskTells files Tells rows rows' j x y → LeftAt DiskTells files r y
@@ -264,13 +277,6 @@ module _ {D P : Type 0} (DiskTells : Type 0) (files : D → Files) (Tells : Type
     pub kept_all : DiskTells → ((j : ℕ) (r x : Copy D) → At olds j r → At mids j x → KeepsDisk files r x) → (j : ℕ) (r y : Copy D) → At olds j r → At news j y → KeepsDisk files r y
     kept_all tells = through (λ j r x. KeepsDisk files r x) (λ j r y. KeepsDisk files r y) (λ j r x y was l. disk_looked files r x y was (l.keeps tells))
 
-    pub told_all : DiskTells → (unsure : Option Unsure) → ((j : ℕ) (x : Copy D) → At mids j x → HasLiveNeedles (sights_of rows) j (volume_bytes files x))
-        → ((j : ℕ) (x : Copy D) → At mids j x → HasLiveNeedles (sights_of rows) j (volume_bytes files x) → ToldUnsure unsure (sights_of rows') j (volume_bytes files x))
-        → (j : ℕ) (y : Copy D) → At news j y → ToldUnsure unsure (sights_of rows') j (volume_bytes files y)
-    told_all tells unsure live told j y f =
-        let x = mid_at j y f in
-        subst (λ (l : List ℕ). ToldUnsure unsure (sights_of rows') j l) (sym (file_looked DiskTells files Tells rows rows' j x.0 y tells (looks j x.0 y x.1 f))) (told j x.0 x.1 (live j x.0 x.1))
-
     pub reached_all : CanReach DiskTells files Tells mids rows → CanReach DiskTells files Tells news rows'
     reached_all can = λ tells j y f. let x = mid_at j y f in (looks j x.0 y x.1 f).reach tells (can tells j x.0 x.1)
 
@@ -283,6 +289,15 @@ module _ {D P : Type 0} (DiskTells : Type 0) (files : D → Files) (Tells : Type
           let x = mid_at j y f in
           let r = old_of j x.0 x.1 in
           up_thawed y (opened_all j r.0 y r.1 f).up
+
+      pub told_all : DiskTells → (unsure : Option Unsure)
+          → ((j : ℕ) (x : Copy D) → At mids j x → HasLiveNeedles (sights_of rows) j (volume_bytes files x) → ToldUnsure unsure (sights_of rows') j (volume_bytes files x))
+          → (j : ℕ) (y : Copy D) → At news j y → ToldUnsure unsure (sights_of rows') j (volume_bytes files y)
+      told_all tells unsure told j y f =
+          let x = mid_at j y f in
+          let r = old_of j x.0 x.1 in
+          subst (λ (l : List ℕ). ToldUnsure unsure (sights_of rows') j l) (sym (file_looked DiskTells files Tells rows rows' j x.0 y tells (looks j x.0 y x.1 f)))
+          (told j x.0 x.1 ((opened j r.0 x.0 r.1 x.1).live tells))
 
       -- what is found of a replica has its places there
       pub found_all : DiskTells → {Q : ℕ → Type 0} → ((j : ℕ) (x : Copy D) (s : Stored) → At mids j x → physical.Stands files x s → PlacesAre Tells rows j s → Q j)

@@ -33,6 +33,18 @@ told_place file at size place.Gone told = told
 told_place file at size place.None told = absurd told
 told_place file at size (place.Unseen there long) told = absurd told
 
+-- what a look left
+pub looked_live : (file : List ℕ) (s t : Sight) → Looks s t → IsToldBy file s t → HasLiveNeedle file s → HasLiveNeedle file t
+looked_live file s Never looks told live = tt
+looked_live file s Gone looks told live = tt
+looked_live file s (Unseen at size) looks told live = tt
+looked_live file s (Live at) (inl same) told live = subst (λ (t : Sight). HasLiveNeedle file t) (sym same) live
+looked_live file Never (Live at) (inr becomes) told live = absurd becomes
+looked_live file Gone (Live at) (inr becomes) told live = absurd becomes
+looked_live file (Live there) (Live at) (inr becomes) told live = absurd becomes
+looked_live file (Unseen there size) (Live at) (inr (inl is)) told live = subst (λ (t : Sight). HasLiveNeedle file t) (sym is) (size, told)
+looked_live file (Unseen there size) (Live at) (inr (inr is)) told live = absurd cc
+
 -- what an opening found of a place
 pub live_sight : {P : Type 0} (file : List ℕ) (p : Place P) → physical.HasLiveNeedle file p → HasLiveNeedle file (sight p)
 live_sight file (place.Live needle) live = live

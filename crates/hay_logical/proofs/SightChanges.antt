@@ -92,7 +92,7 @@ becomes_awaits (Live at) b becomes = becomes
 becomes_awaits Gone b becomes = becomes
 becomes_awaits (Unseen at size) b becomes = tt
 
-look_more : (a b c : Sight) → Looks a b → Looks b c → Looks a c
+pub look_more : (a b c : Sight) → Looks a b → Looks b c → Looks a c
 look_more a b c (inl same) second = subst (λ (s : Sight). Looks s c) same second
 look_more a b c (inr was) (inl same) = inr (subst (λ (s : Sight). BecomesSeen a s) (sym same) was)
 look_more a b c (inr was) (inr next) = absurd (becomes_once a b was (becomes_awaits b c next))

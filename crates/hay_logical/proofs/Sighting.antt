@@ -1,10 +1,11 @@
 -- A volume behind a look at one of its places.
 use Rattle.std.proofs.Common.{◌≡◌, ◌≢◌, inl, inr, ℕ, ◌<◌, Bool, List, length, Option, Some, None, Ok, Err, option_map, refl, sym, ap, subst, ◌∙◌, arith}
 use Rattle.std.specs.Prelude.{Result, OnOk}
-use Rattle.std.proofs.lemmas.Bool.{cases_eq}
+use Rattle.std.proofs.lemmas.Bool.{cases_Bool, cases_eq}
 use Rattle.hay_needle.specs.declared.needle.Pair.{Pair}
 use Rattle.hay_needle.specs.declared.settings.Settings.{Settings}
-use Rattle.hay_needle.specs.Tables.{outcome_at, table_of}
+use Rattle.hay_needle.specs.Tables.{outcome_at, pair_eq, table_of}
+use Rattle.hay_needle.proofs.TableLaws.{pair_same}
 use Rattle.hay_disk.specs.Disk.{Files}
 use Rattle.hay_volume.specs.Cells.{needles_of}
 use Rattle.hay_legal.specs.declared.known.VolumeKnown.{VolumeKnown}
@@ -12,26 +13,31 @@ use Rattle.hay_legal.specs.Known.{machine_of, now, replica_at}
 use Rattle.hay_map.specs.MapRows.{MapRows}
 use Rattle.hay_map.specs.Places.{PlaceMeans, place_in}
 use Rattle.hay_map.specs.Rows.{row_at}
+use Rattle.hay_map.specs.declared.place.Place.{Place}
 use Rattle.hay_open.specs.Stored.{Stored, last_cell}
 use Rattle.hay_compact.specs.Finishing.{IsSeen}
 use Rattle.hay_physical.specs.declared.fault.ReplicaFault.{ReplicaFault}
 use Rattle.hay_physical.specs.declared.fault.ReplicaFault.TheVariants as fault
-use Rattle.hay_physical.specs.OpenCopies.{Copy, goal_of, is_stuck}
+use Rattle.hay_physical.specs.OpenCopies.{Copy, goal_of, is_stuck, volume_bytes}
 use Rattle.hay_physical.specs.Faults as physical_faults
 use Rattle.hay_physical.specs.Replicas as physical
 use Rattle.hay_logical.specs.declared.fault.LogicalFault.TheVariants.{Damaged, Failed}
 use Rattle.hay_logical.specs.declared.unsure.Unsure.{Unsure}
 use Rattle.hay_logical.specs.Answers.{IsSightFault}
 use Rattle.hay_logical.specs.Fits.{At, PhotoAt, PlaceStands, copier_run}
+use Rattle.hay_logical.specs.Needles.{IsToldBy, TellsNeedle}
 use Rattle.hay_logical.specs.Refusals.{answer_at}
+use Rattle.hay_logical.specs.Sights.{LiesWithin, Looks, sight, sights_of}
 use Rattle.hay_logical.specs.Stands.{ReplicaStands, StandsFor}
 use Rattle.hay_logical.specs.ReplicaCalls.{CallsOne, LooksAt, PlacesAre, SeesRow, SightsAt}
 use Rattle.hay_logical.specs.Volumes.{CanReach, ReachesPlaces}
 use Rattle.hay_logical.proofs.Calls.{reaches_same}
 use Rattle.hay_logical.proofs.Holding.{held_on}
 use Rattle.hay_logical.proofs.Lists.{at_below, at_same, at_there}
-use Rattle.hay_logical.proofs.Looking.{looks_still, set_others, stands_seen, stored_stands}
+use Rattle.hay_logical.proofs.Looking.{bytes_same, set_others, stands_seen, stored_stands}
 use Rattle.hay_logical.proofs.Methods.{one_after, one_count, other_same, shown}
+use Rattle.hay_logical.proofs.Needles.{told_same}
+use Rattle.hay_logical.proofs.SightChanges.{sights_kept}
 use Rattle.hay_logical.proofs.Standing.{volume_with}
 use Rattle.hay_logical.proofs.Within.{row_lies}
 
@@ -76,6 +82,38 @@ sight_cause faults settings number items new at machine fault.Worn within is one
 sight_cause faults settings number items new at machine (fault.Damaged there) within is one cause = (at, within, is)
 sight_cause faults settings number items new at machine fault.NoMemory within is one cause = tt
 
+-- a replica that was not looked at, whose places stay
+pub looks_still : {D P : Type 0} (DiskTells : Type 0) (files : D → Files) (Tells : Type 0) (rows rows' : MapRows P) (j : ℕ) (r : Copy D)
+    → ((q : Pair) → place_in (row_at rows' q) j ≡ place_in (row_at rows q) j)
+    → LooksAt DiskTells files Tells rows rows' j r r
+looks_still {P = P} DiskTells files Tells rows rows' j r same = record {
+  copy = refl;
+  stands = λ tells s stands places. (stands, λ q. subst (λ p. PhotoAt Tells (last_cell s.cells q) p) (sym (same q)) (places q));
+  holds = λ tells stuck s t holds. holds;
+  keeps = λ tells. bytes_same (files r.disk);
+  reach = λ tells reach. reaches_same files rows rows' j r same reach;
+  within = λ end lies q. subst (λ p. LiesWithin end (sight p)) (sym (same q)) (lies q);
+  looks = λ q. inl (ap (λ (p : Place P). sight p) (same q));
+  told = λ tells q. told_same (volume_bytes files r) (sights_of rows q j) (sights_of rows' q j) (ap (λ (p : Place P). sight p) (same q));
+}
+
+-- what a look makes of the places of every pair
+row_looks : {P : Type 0} (pair : Pair) (at : ℕ) (rows rows' : MapRows P) (result : Result Unit ReplicaFault) → SeesRow pair at rows rows' result → (j : ℕ) (q : Pair)
+    → Looks (sights_of rows q j) (sights_of rows' q j)
+row_looks pair at rows rows' (Err f) sees j q = inl (sights_kept rows rows' sees.kept q j)
+row_looks pair at rows rows' (Ok value) sees j q = elim (cases_Bool (pair_eq pair q)) [
+  | inl same ↦ subst (λ (p : Pair). Looks (sights_of rows p j) (sights_of rows' p j)) (pair_same pair q same) (sees.sees.looks.each j)
+  | inr apart ↦ inl (sees.sees.looks.others q j apart)
+]
+
+row_told : {P : Type 0} (file : List ℕ) (pair : Pair) (at : ℕ) (rows rows' : MapRows P) (result : Result Unit ReplicaFault) → TellsNeedle file pair at rows rows' result
+    → SeesRow pair at rows rows' result → (q : Pair) → IsToldBy file (sights_of rows q at) (sights_of rows' q at)
+row_told file pair at rows rows' (Err f) needle sees q = told_same file (sights_of rows q at) (sights_of rows' q at) (sights_kept rows rows' sees.kept q at)
+row_told file pair at rows rows' (Ok value) needle sees q = elim (cases_Bool (pair_eq pair q)) [
+  | inl same ↦ subst (λ (p : Pair). IsToldBy file (sights_of rows p at) (sights_of rows' p at)) (pair_same pair q same) needle.told
+  | inr apart ↦ told_same file (sights_of rows q at) (sights_of rows' q at) (sees.sees.looks.others q at apart)
+]
+
 module _ {D P : Type 0} (DiskTells : Type 0) (files : D → Files) (Tells : Type 0) (faults : D → ℕ) (items new : List (Copy D)) (rows rows' : MapRows P) (at : ℕ) (pair : Pair)
     (result : Result Unit ReplicaFault)
     (one : CallsOne at items new) (sights : SightsAt DiskTells files faults Tells pair rows rows' at one.before one.after result) (row : SeesRow pair at rows rows' result) where
@@ -91,8 +129,9 @@ module _ {D P : Type 0} (DiskTells : Type 0) (files : D → Files) (Tells : Type
   ]
 
   -- a look changes nothing that a replica stands for
-  pub looks_one : (j : ℕ) (r r' : Copy D) → At items j r → At new j r' → LooksAt DiskTells files Tells rows rows' j r r'
-  looks_one =
+  pub looks_one : (DiskTells → TellsNeedle (volume_bytes files one.before) pair at rows rows' result) → (j : ℕ) (r r' : Copy D) → At items j r → At new j r'
+      → LooksAt DiskTells files Tells rows rows' j r r'
+  looks_one needle =
       by_replica (λ n x y. LooksAt DiskTells files Tells rows rows' n x y) (record {
         copy = sights.copy;
         stands = sights.stands;
@@ -100,6 +139,8 @@ module _ {D P : Type 0} (DiskTells : Type 0) (files : D → Files) (Tells : Type
         keeps = sights.keeps;
         reach = sights.reach;
         within = row_lies pair at rows rows' result row at;
+        looks = row_looks pair at rows rows' result row at;
+        told = λ tells. row_told (volume_bytes files one.before) pair at rows rows' result (needle tells) row;
       })
       (λ n x apart e. looks_still DiskTells files Tells rows rows' n x (other_places pair at rows rows' result row n apart))
 

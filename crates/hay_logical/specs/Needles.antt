@@ -11,6 +11,7 @@ use Rattle.hay_compact.specs.Copying.{HeadStands, IsPassedOrStands}
 use Rattle.hay_physical.specs.declared.fault.ReplicaFault.{ReplicaFault}
 use Rattle.hay_physical.specs.declared.fault.ReplicaFault.TheVariants as fault
 use Rattle.hay_physical.specs.OpenCopies.{Copy, volume_bytes}
+use Rattle.hay_physical.specs.Replicas.{HasLiveNeedleAt}
 use Rattle.hay_map.specs.MapRows.{MapRows}
 use Rattle.hay_logical.specs.Fits.{At}
 use Rattle.hay_logical.specs.Seen.{ReplicaSeen, begun, replica_seen}
@@ -40,7 +41,7 @@ pub record DeletesTold {D : Type 0} (files : D → Files) (replicas : List (Copy
 
 -- the needle of a photo that was seen stands there, and is not deleted
 abbrev pub HasLiveNeedle : List ℕ → Sight → Type 0
-HasLiveNeedle file (Live at) = (size : ℕ) × HasNeedleOf size false at file
+HasLiveNeedle file (Live at) = HasLiveNeedleAt file at
 HasLiveNeedle file Never = Unit {0}
 HasLiveNeedle file Gone = Unit {0}
 HasLiveNeedle file (Unseen at size) = Unit {0}

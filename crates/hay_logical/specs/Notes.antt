@@ -3,13 +3,14 @@ use Rattle.std.specs.Prelude.{◌≡◌, ℕ, nat_lt, not, Bool, true, false, Li
 use Rattle.hay_needle.specs.declared.settings.Settings.{Settings}
 use Rattle.hay_reply.specs.declared.Note.{Note}
 use Rattle.hay_legal.specs.Restarts.{replica_notes}
-use Rattle.hay_volume.specs.Needles.{HasNeedleOf, LacksNeedleOf}
+use Rattle.hay_volume.specs.Needles.{LacksNeedleOf}
 use Rattle.hay_map.specs.MapRows.{MapRows}
 use Rattle.hay_map.specs.Places.{place_in}
 use Rattle.hay_map.specs.Rows.{row_at}
 use Rattle.hay_map.specs.declared.place.Place.{Place}
 use Rattle.hay_map.specs.declared.place.Place.TheVariants as place
 use Rattle.hay_compact.specs.Finishing.{IsSeen}
+use Rattle.hay_physical.specs.Replicas.{HasLiveNeedleAt}
 use Rattle.hay_logical.specs.declared.unsure.Change.{Change}
 use Rattle.hay_logical.specs.declared.unsure.Change.TheVariants as change
 use Rattle.hay_logical.specs.declared.unsure.Unsure.{Unsure}
@@ -61,7 +62,7 @@ NotesTell settings v (Some unsure) sights replicas notes =
 -- stands at its place, and is not deleted.
 abbrev pub IsToldPlace : Sight → List ℕ → Type 0
 IsToldPlace (Unseen at size) file = LacksNeedleOf size at file
-IsToldPlace (Live at) file = (size : ℕ) × HasNeedleOf size false at file
+IsToldPlace (Live at) file = HasLiveNeedleAt file at
 IsToldPlace Never file = Unit {0}
 IsToldPlace Gone file = Unit {0}
 

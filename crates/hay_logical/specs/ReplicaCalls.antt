@@ -29,7 +29,7 @@ use Rattle.hay_open.specs.Stored.{Stored, IsReplicaFile, IsSealedCell, PlaceOf, 
 use Rattle.hay_physical.specs.declared.fault.ReplicaFault.{ReplicaFault}
 use Rattle.hay_physical.specs.declared.fault.ReplicaFault.TheVariants as fault
 use Rattle.hay_physical.specs.declared.state.Phase.TheVariants.{Closed}
-use Rattle.hay_physical.specs.OpenCopies.{Copy, IsFrozen, IsOpenCopy, IsUp, KeepsHead, bare_of, capacity_of, contents_of, end_of, generation_of, goal_of, is_frozen, is_stuck}
+use Rattle.hay_physical.specs.OpenCopies.{Copy, IsFrozen, IsOpenCopy, IsUp, KeepsHead, bare_of, capacity_of, contents_of, end_of, generation_of, goal_of, is_frozen, is_stuck, volume_bytes}
 use Rattle.hay_physical.specs.Faults.{IsSightFault}
 use Rattle.hay_physical.specs.Replicas as physical
 use Rattle.hay_compact.specs.Finishing.{IsSeen}
@@ -43,9 +43,10 @@ use Rattle.hay_logical.specs.declared.runs.Unswapped.{Unswapped}
 use Rattle.hay_logical.specs.declared.runs.Unswapped.TheVariants.{Refused, Unsure}
 use Rattle.hay_logical.specs.Answers.{HasSizes}
 use Rattle.hay_logical.specs.Fits.{At, PhotoAt, PlaceStands}
+use Rattle.hay_logical.specs.Needles.{HasLiveNeedles, IsToldBy}
 use Rattle.hay_logical.specs.Refusals.{IsUntouched}
 use Rattle.hay_logical.specs.Seen.{CanBegin, MeetsDamage, MeetsDamageLeft, ReplicaSeen, begun, replica_seen}
-use Rattle.hay_logical.specs.Sights.{AwaitsLook, AwaitsLookAt, LiesWithinAt, SeesPair, Sight, SwapsSights, sight, sights_of}
+use Rattle.hay_logical.specs.Sights.{AreSightsOf, AwaitsLook, AwaitsLookAt, LiesWithinAt, Looks, SeesPair, Sight, SwapsSights, sight, sights_of}
 use Rattle.hay_logical.specs.Sights.Sight.{Live}
 use Rattle.hay_logical.specs.Volumes.{ReachesPlaces}
 
@@ -561,6 +562,8 @@ pub record OpensAt {D P : Type 0} (DiskTells : Type 0) (files : D → Files) (Te
   pub reopened : DiskTells → (stuck : Bool) (s t : Stored) → physical.Holds files r stuck s t → (found : Stored)
       × (physical.IsLike stuck s found ⊎ physical.IsLike stuck t found) × physical.Stands files r' found × PlacesAre Tells rows j found
   pub reach : DiskTells → ReachesPlaces files Tells rows j r'
+  pub found : DiskTells → (s : Stored) → OpensAs r.sup (contents_of files r.disk) s → AreSightsOf s (sights_of rows) j
+  pub live : DiskTells → HasLiveNeedles (sights_of rows) j (volume_bytes files r')
 
 -- what an opening that was refused has left of a replica
 pub record LeftAt {D : Type 0} (DiskTells : Type 0) (files : D → Files) (r r' : Copy D) : Type 0 where
@@ -606,6 +609,8 @@ pub record LooksAt {D P : Type 0} (DiskTells : Type 0) (files : D → Files) (Te
   pub keeps : DiskTells → KeepsBytes (files r.disk) (files r'.disk)
   pub reach : DiskTells → ReachesPlaces files Tells rows j r → ReachesPlaces files Tells rows' j r'
   pub within : (end : ℕ) → LiesWithinAt j end (sights_of rows) → LiesWithinAt j end (sights_of rows')
+  pub looks : (pair : Pair) → Looks (sights_of rows pair j) (sights_of rows' pair j)
+  pub told : DiskTells → (pair : Pair) → IsToldBy (volume_bytes files r) (sights_of rows pair j) (sights_of rows' pair j)
 
 -- A needle that is damaged ends no opening.
 abbrev pub IsLookFault : ℕ → ℕ → OpenFault → Type 0

@@ -1,6 +1,7 @@
 -- What the rows say of each pair on each replica, and how each call changes that, whatever the disks tell.
-use Rattle.std.specs.Prelude.{◌≡◌, ◌⊎◌, ◌≤◌, ◌<◌, ◌+◌, ℕ, false, List, Option, None, Some}
+use Rattle.std.specs.Prelude.{◌≡◌, ◌⊎◌, ◌≤◌, ◌<◌, ◌+◌, ℕ, true, false, List, length, Option, None, Some}
 use Rattle.hay_needle.specs.declared.settings.Settings.{Settings}
+use Rattle.hay_needle.specs.declared.needle.Cell.{Cell}
 use Rattle.hay_needle.specs.declared.needle.Pair.{Pair}
 use Rattle.hay_needle.specs.Sizes.{needle_total}
 use Rattle.hay_needle.specs.Tables.{pair_eq}
@@ -10,6 +11,7 @@ use Rattle.hay_map.specs.Places.{place_in}
 use Rattle.hay_map.specs.Rows.{row_at}
 use Rattle.hay_map.specs.declared.place.Place.{Place}
 use Rattle.hay_map.specs.declared.place.Place.TheVariants as place
+use Rattle.hay_open.specs.Stored.{Stored, last_cell}
 use Rattle.hay_logical.specs.declared.fault.LogicalFault.{LogicalFault}
 use Rattle.hay_logical.specs.declared.fault.LogicalFault.TheVariants as refusal
 use Rattle.hay_logical.specs.Fits.{At}
@@ -76,6 +78,23 @@ LiesWithin end Never = Unit {0}
 LiesWithin end (Live at) = (64 ≤ at) × (at + needle_total 0 ≤ end)
 LiesWithin end Gone = Unit {0}
 LiesWithin end (Unseen at size) = (64 ≤ at) × (at + needle_total size ≤ end)
+
+-- WHAT STANDS ON A DISK
+
+-- The place of a pair whose last cell this is, looked at or not.
+abbrev pub IsSightOfLast : Option Cell → Sight → Type 0
+IsSightOfLast (Some cell) (Unseen at size) = (at ≡ cell.at) × (size ≡ length cell.bytes)
+IsSightOfLast (Some cell) (Live at) = (at ≡ cell.at) × (cell.deleted ≡ false)
+IsSightOfLast (Some cell) Gone = cell.deleted ≡ true
+IsSightOfLast (Some cell) Never = ⊥
+IsSightOfLast None (Unseen at size) = ⊥
+IsSightOfLast None (Live at) = ⊥
+IsSightOfLast None Gone = Unit {0}
+IsSightOfLast None Never = Unit {0}
+
+-- the places of a replica are those of the last cells that stood on its disk
+abbrev pub AreSightsOf : Stored → Sights → ℕ → Type 0
+AreSightsOf s sights replica = (pair : Pair) → IsSightOfLast (last_cell s.cells pair) (sights pair replica)
 
 -- WHAT IS SEEN OF A PAIR
 

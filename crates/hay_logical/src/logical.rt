@@ -27,8 +27,9 @@ ghost use Rattle.hay_logical.specs.Refusals.{IsUntouchedBy};
 ghost use Rattle.hay_logical.specs.Seen.{AreEnds, BeginRefusedSeen, BeginSeen, ChangesAt, CompactRefusedSeen, CompactSeen, DeleteRefusedSeen, EraseSeen, FinishRefusedSeen};
 ghost use Rattle.hay_logical.specs.Seen.{FinishSeen, FlushRefusedSeen, FlushSeen, FreezesSeen, HideSeen, IsEnded, IsFoundAs, OpenSeen, PutRefusedSeen, PutSeen, ReplicaSeen};
 ghost use Rattle.hay_logical.specs.Seen.{RoomRefusedSeen, RoomSeen, StepRefusedSeen, StepSeen, WriteSeen, begun, replica_seen, volume_seen};
-ghost use Rattle.hay_logical.specs.Needles.{AreToldBy, DeletesTold, HeadsLead, HeadsLeadOn, HeadsLeadPart, IsDamagedCell, IsDamagedLook, LacksCell, LacksCellAnew, LacksCellLeft, LacksSeenOn};
-ghost use Rattle.hay_logical.specs.Sights.{DeleteRefusedSights, DeletesSights, ErasesSights, FindsPhoto, KeepsSights, LiesWithinEach, LookRefusedSights, LooksAtPair};
+ghost use Rattle.hay_logical.specs.Needles.{AreToldBy, DeletesTold, HasLiveNeedles, HeadsLead, HeadsLeadOn, HeadsLeadPart, IsDamagedCell, IsDamagedLook, LacksCell, LacksCellAnew};
+ghost use Rattle.hay_logical.specs.Needles.{LacksCellLeft, LacksSeenOn};
+ghost use Rattle.hay_logical.specs.Sights.{AreSightsOf, DeleteRefusedSights, DeletesSights, ErasesSights, FindsPhoto, KeepsSights, LiesWithinEach, LookRefusedSights, LooksAtPair};
 ghost use Rattle.hay_logical.specs.Sights.{SeeRefusedSights, SeesPair, StoresSights, SwapsSights, sights_of};
 ghost use Rattle.hay_logical.specs.ReplicaCalls.{AllIdle, IsRefusedAt, IsSeenBy, KeepsAbove, KeepsDisk, KeepsFiles, KeepsRuns, KeepsStuck, LosesRun, RoomFor, SetsPlaceAt};
 ghost use Rattle.hay_logical.specs.Volumes.{HasAll, HasSupers, IsClosed, IsMachineOf, IsOfSettings, IsOpenVolume, IsSame, KeepsCounts, Volume};
@@ -188,7 +189,10 @@ impl<D: Disk> Logical<D> {
         ensures same { IsSame self.old self.new }
         // A disk that is void or whole is found as what it has, whatever the others have.
         ensures finds { D.Tells → OnOk result ((j : ℕ) (r r' : Copy D) (s : Stored) → At self.old.replicas j r → At self.new.replicas j r' →
-            OpensAs r.sup (contents_of D.files r.disk) s → IsFoundAs s (replica_seen r')) }
+            OpensAs r.sup (contents_of D.files r.disk) s → IsFoundAs s (replica_seen r') × AreSightsOf s (sights_of self.new.rows) j) }
+        // On any disk that tells the needle of each place that is a photo's stands, and is not deleted.
+        ensures live { D.Tells → OnOk result ((j : ℕ) (r : Copy D) → At self.new.replicas j r →
+            HasLiveNeedles (sights_of self.new.rows) j (volume_bytes D.files r)) }
         ensures seen { OnOk result (OpenSeen (volume_seen self.new)) }
         ensures within { OnOk result (LiesWithinEach (sights_of self.new.rows) (volume_seen self.new).replicas) }
     {

@@ -5,16 +5,14 @@ ghost use Rattle.hay_map.specs.Places.{place_in};
 ghost use Rattle.hay_map.specs.Rows.{row_at};
 ghost use Rattle.hay_map.specs.Sealed.{SealedNeedle};
 ghost use Rattle.hay_map.specs.declared.place.Place.TheVariants as place;
-ghost use Rattle.hay_physical.specs.OpenCopies.{Copy, HasCapacity, IsOpenCopy, IsUp, end_of, is_frozen, is_stuck, volume_bytes};
+ghost use Rattle.hay_physical.specs.OpenCopies.{Copy, HasCapacity, IsOpenCopy, IsUp, end_of, is_frozen, is_stuck};
 ghost use Rattle.hay_physical.specs.declared.state.Phase.TheVariants.{Closed};
 ghost use Rattle.hay_physical.specs.Replicas as physical;
 ghost use Rattle.hay_physical.specs.CompactionRuns.{HasRun, Run};
 ghost use Rattle.hay_open.specs.Stored.{Stored};
 ghost use Rattle.hay_logical.specs.Draws.{DrewRecordedAt, HasDrawnNothing};
 ghost use Rattle.hay_logical.specs.Fits.{At};
-ghost use Rattle.hay_logical.specs.Needles.{HasLiveNeedles};
 ghost use Rattle.hay_logical.specs.Refusals.{IsUntouched};
-ghost use Rattle.hay_logical.specs.Sights.{sights_of};
 ghost use Rattle.hay_logical.specs.Volumes.{CanReach, KeepsCounts, ReachesPlaces};
 ghost use Rattle.hay_logical.specs.Seen.{DeleteSeen, FlushesTo, grown, replica_seen};
 ghost use Rattle.hay_logical.specs.ReplicaCalls.{AllIdle, CallsOne, DeleteLeaves, DeletesAt, EndsRuns, FlushesAt, FollowsAt, FusesAt, IsOpenFault, IsRefusedAt, KeepsDisk, KeepsFiles};
@@ -278,7 +276,6 @@ pub(crate) fn open_each<D: Disk>(
         OpensAt D.Tells D.files D.Piece.Tells rows.new j r r') }
     ensures drew { D.Tells → OnOk result ((j : ℕ) (r r' : Copy D) → At replicas.old j r → At replicas.new j r' →
         DrewRecordedAt D.files D.drawn rows.new j r r') }
-    ensures live { D.Tells → OnOk result ((j : ℕ) (r : Copy D) → At replicas.new j r → HasLiveNeedles (sights_of rows.new) j (volume_bytes D.files r)) }
     ensures left { (j : ℕ) (r r' : Copy D) → At replicas.old j r → At replicas.new j r' → LeftAt D.Tells D.files r r' }
     ensures kept { D.Tells → (j : ℕ) (r r' : Copy D) → At replicas.old j r → At replicas.new j r' → KeepsDisk D.files r r' }
     ensures reach { CanReach D.Tells D.files D.Piece.Tells replicas.new rows.new }
@@ -312,7 +309,6 @@ fn open_one<D: Disk>(
     requires empty { (pair : Pair) → place_in (row_at rows.old pair) j ≡ place.None }
     ensures opened { OnOk result (OpensAt D.Tells D.files D.Piece.Tells rows.new j replica.old replica.new) }
     ensures drew { D.Tells → OnOk result (DrewRecordedAt D.files D.drawn rows.new j replica.old replica.new) }
-    ensures live { D.Tells → OnOk result (HasLiveNeedles (sights_of rows.new) j (volume_bytes D.files replica.new)) }
     ensures left { LeftAt D.Tells D.files replica.old replica.new }
     ensures thawed { is_frozen replica.new ≡ false }
     ensures kept { D.Tells → KeepsDisk D.files replica.old replica.new }

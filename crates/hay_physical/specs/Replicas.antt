@@ -276,9 +276,13 @@ HasWholeNeedle Tells place.None = Unit {0}
 HasWholeNeedle Tells place.Gone = Unit {0}
 HasWholeNeedle Tells (place.Unseen at size) = Unit {0}
 
--- the needle of a place that is a photo's stands in the volume file, and is not deleted
+-- the needle of a photo stands here in the volume file, and is not deleted
+abbrev pub HasLiveNeedleAt : List ℕ → ℕ → Type 0
+HasLiveNeedleAt file at = (size : ℕ) × HasNeedleOf size false at file
+
+-- so it is of a place that is a photo's
 abbrev pub HasLiveNeedle : {P : Type 0} → List ℕ → Place P → Type 0
-HasLiveNeedle file (place.Live needle) = (size : ℕ) × HasNeedleOf size false needle.at file
+HasLiveNeedle file (place.Live needle) = HasLiveNeedleAt file needle.at
 HasLiveNeedle file place.None = Unit {0}
 HasLiveNeedle file place.Gone = Unit {0}
 HasLiveNeedle file (place.Unseen at size) = Unit {0}

@@ -21,15 +21,15 @@ use Rattle.hay_legal.specs.Suiting.{Suits}
 use Rattle.hay_cluster.specs.declared.fault.ClusterFault.{ClusterFault}
 use Rattle.hay_cluster.specs.declared.fault.ClusterFault.TheVariants as refusal
 use Rattle.hay_cluster.specs.Leaving.{LeavesContents}
-use Rattle.hay_cluster.specs.Needles.{MeetsNeedles, PendingTold, TellsDamage}
-use Rattle.hay_cluster.specs.Outside.{AreSoundBelow, IsDamagedDisk, IsUndamaged}
+use Rattle.hay_cluster.specs.Needles.{MeetsNeedles, TellsDamage}
+use Rattle.hay_cluster.specs.Outside.{AreSoundBelow, IsDamagedDisk}
 use Rattle.hay_cluster.specs.Causes.{EndsRuns, HasFaultCause, IsCaused, LeavesFuses}
 use Rattle.hay_cluster.specs.Passing.{PassesBefore}
 use Rattle.hay_cluster.specs.Seen.{Answers, OpensSeen, TellsSeen}
 use Rattle.hay_cluster.specs.Sights.{LeavesSights}
 use Rattle.hay_run.specs.declared.stops.Stop.{Stop}
 use Rattle.hay_run.specs.declared.stops.Stop.TheVariants as stop
-use Rattle.hay_run.specs.Causing.{IsLaterTally, IsTextOf, AnswerTexts, Caused, IsNoteCaused, IsRestart, NotReopened, ToldRefusal, ToldWanting, StopCaused, TookLastItem, TurnStops}
+use Rattle.hay_run.specs.Causing.{IsLaterTally, IsTextOf, AnswerTexts, Caused, IsNoteCaused, IsRestart, NotReopened, ReadsAgain, ToldRefusal, ToldWanting, StopCaused, TookLastItem, TurnStops}
 use Rattle.hay_run.specs.Causing.{HasSureArm, Tally, plain_tag}
 use Rattle.hay_run.specs.Items.{TookOpen}
 use Rattle.hay_lines.specs.Lines.{TookPart, TookOver, TookSome}
@@ -115,7 +115,7 @@ module _ (Tells : Type 0) where
       → IsLaterTally before after → after.fuses ≡ before.fuses → after.counts.arms ≡ before.counts.arms → FitsReply (Restarted rows)
       → TellsSeen settings before.seen after.seen notes → AllByRecursion FitsNote notes
       → OpensSeen settings after.seen → rows ≡ (after.seen).directory.rows
-      → (Tells → IsUndamaged settings after.contents × PendingTold settings after.contents before.seen after.seen)
+      → (Tells → ReadsAgain settings before after)
       → Writes written (numbered_line number (Restarted rows) ++ flat_map note_line notes) written'
       → Caused Tells Writes settings before after (Alone number (item.Command (asks.Restart pick)) ∷ []) written written'
   caused_restart Writes settings before after number pick rows notes written written' none fuses arms large tells fits opens many sound wrote =

@@ -24,6 +24,7 @@ pub mod Refuted
 pub mod RefutedBlocks
 pub mod RefutedChecks
 pub mod RefutedLines
+pub mod RefutedOpenings
 pub mod Restarting
 pub mod Serving
 pub mod Stopping

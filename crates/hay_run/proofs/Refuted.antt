@@ -185,7 +185,7 @@ contents_so Tells settings before after command number said tells (large, told) 
     (sym (same_reply number said told.said large told.fits told.is)) (told.contents tells)
 
 -- and what is seen of photos
-sights_so : (Tells : Type 0) (settings : Settings) (before after : Tally) (command : Command) (number : ℕ) (said : Reply) → Says Tells settings before after command number said
+pub sights_so : (Tells : Type 0) (settings : Settings) (before after : Tally) (command : Command) (number : ℕ) (said : Reply) → Says Tells settings before after command number said
     → LeavesSights settings command said before.seen after.seen
 sights_so Tells settings before after command number said (large, told) =
     subst (λ (r : Reply). LeavesSights settings command r before.seen after.seen) (sym (same_reply number said told.said large told.fits told.is)) told.sights
@@ -1001,7 +1001,7 @@ pub record HasNeedleAt (file : List ℕ) (place size : ℕ) : Type 0 where
   pub long : length (needle.photo).bytes ≡ size
 
 -- and what is told of damage
-damage_so : (Tells : Type 0) (settings : Settings) (before after : Tally) (command : Command) (number : ℕ) (said : Reply) → Tells → Says Tells settings before after command number said
+pub damage_so : (Tells : Type 0) (settings : Settings) (before after : Tally) (command : Command) (number : ℕ) (said : Reply) → Tells → Says Tells settings before after command number said
     → TellsDamage settings before.contents before.seen command said
 damage_so Tells settings before after command number said tells (large, told) =
     subst (λ (r : Reply). TellsDamage settings before.contents before.seen command r) (sym (same_reply number said told.said large told.fits told.is)) (told.damaged tells)
@@ -1117,7 +1117,7 @@ still_there (Unseen there size) new at place was (inr (inl live)) is = let same 
 still_there (Unseen there size) new at place was (inr (inr gone)) is = absurd (subst (StandsFor (Damage place)) gone is)
 
 -- what a read that starts at this replica's machine tells of it first, by what is seen of the pair there behind it
-first_passed : (Tells : Type 0) (settings : Settings) (before after : Tally) (pair : Pair) (cookie : Cookie) (v f d m j number : ℕ) (cause : Cause) (causes : List Passed)
+pub first_passed : (Tells : Type 0) (settings : Settings) (before after : Tally) (pair : Pair) (cookie : Cookie) (v f d m j number : ℕ) (cause : Cause) (causes : List Passed)
     → replica_on settings v m ≡ Some j → Says Tells settings before after (asks.Read pair cookie) number (Unreadable v f d (record { machine = m; cause = cause } ∷ causes))
     → StandsFor cause ((after.seen).places v pair j)
 first_passed Tells settings before after pair cookie v f d m j number cause causes on says =
@@ -1313,7 +1313,7 @@ photo_of_an_empty_replica Tells settings before after pair cookie v m f d number
 
 -- WHAT LOOKS MADE OF PLACES, WHERE THE DISKS TELL
 
-told_so : (Tells : Type 0) (settings : Settings) (before after : Tally) (command : Command) (number : ℕ) (said : Reply) → Tells → Says Tells settings before after command number said
+pub told_so : (Tells : Type 0) (settings : Settings) (before after : Tally) (command : Command) (number : ℕ) (said : Reply) → Tells → Says Tells settings before after command number said
     → MeetsNeedles settings before.contents before.seen after.seen command said
 told_so Tells settings before after command number said tells (large, told) =
     subst (λ (r : Reply). MeetsNeedles settings before.contents before.seen after.seen command r) (sym (same_reply number said told.said large told.fits told.is)) (told.told tells)
@@ -1598,7 +1598,7 @@ module _ (Tells : Type 0) (settings : Settings) (before after : Tally) (pick num
   found_in = after.contents (slot_of settings v j) (volume_file r.generation)
 
   place_so : IsRestartText Tells settings before after (asks.Restart pick) number text → IsToldPlace ((after.seen).places v pair j) found_in
-  place_so (p, rows, notes, asked, large, tells_all, fits, opens, many, arms, text_is, sound) = so_there ((sound tells).1 v j old was within)
+  place_so (p, rows, notes, asked, large, tells_all, fits, opens, many, arms, text_is, sound) = so_there ((sound tells).pending v j old was within)
     where
       so_pending : (u : Option Unsure) → u ≡ Some (record { tag = tag; change = change.Delete pair }) → ToldUnsure u ((after.seen).places v) j found_in
           → IsToldPlace ((after.seen).places v pair j) found_in
@@ -1634,7 +1634,7 @@ pub found_another_end : (Tells : Type 0) (settings : Settings) (taken : Outside)
     → v < settings.volumes → j < settings.replicas → OpensAs (super_of settings v j) (read_contents taken (slot_of settings v j)) s
     → At (tally.seen).volumes v volume → At volume.replicas j r → (r.end ≡ s.end → ⊥) → BeginsAt Tells settings taken sure tally → ⊥
 found_another_end Tells settings taken sure tally v j s volume r tells low within opens there is other begins =
-    met ((begins.reads tells).finds v j s low within opens)
+    met ((begins.reads tells).finds v j s low within opens).0
   where
     met : VolumeAt v (SeesAt j (IsFoundAs s)) tally.seen → ⊥
     met (volume', there', (o, is', found)) =
@@ -1649,7 +1649,7 @@ pub flushed_another_number_at_first : (Tells : Type 0) (settings : Settings) (ta
     → v < settings.volumes → (sees : SeesReplica settings before.seen v m r) → sees.at < settings.replicas → OpensAs (super_of settings v sees.at) (read_contents taken (slot_of settings v sees.at)) s
     → (n ≡ length s.cells - s.records → ⊥) → BeginsAt Tells settings taken sure before → Says Tells settings before after (asks.Flush v m) number (Flushed v m n) → ⊥
 flushed_another_number_at_first Tells settings taken sure before after v m n number s r tells low sees within opens other begins says =
-    flushed_another_number Tells settings before after v m n number r sees (λ same. other (same ∙ met ((begins.reads tells).finds v sees.at s low within opens))) says
+    flushed_another_number Tells settings before after v m n number r sees (λ same. other (same ∙ met ((begins.reads tells).finds v sees.at s low within opens).0)) says
   where
     met : VolumeAt v (SeesAt sees.at (IsFoundAs s)) before.seen → r.bare ≡ length s.cells - s.records
     met (volume', there', (o, is', found)) =

@@ -25,7 +25,7 @@ use Rattle.hay_legal.specs.Suiting.{Suits}
 use Rattle.hay_cluster.specs.Causes.{Counts, EndsRuns, HasFile, IsCaused, LeavesFuses, RoseIn}
 use Rattle.hay_cluster.specs.Draws.{drawn_in}
 use Rattle.hay_cluster.specs.Leaving.{LeavesContents}
-use Rattle.hay_cluster.specs.Needles.{MeetsNeedles, PendingTold, TellsDamage}
+use Rattle.hay_cluster.specs.Needles.{MeetsNeedles, PendingTold, PhotosStand, TellsDamage}
 use Rattle.hay_cluster.specs.Outside.{AreSoundBelow, FormatsVoid, IsDamagedDisk, IsKept, IsUndamaged, KeepsContents}
 use Rattle.hay_cluster.specs.Passing.{PassesBefore}
 use Rattle.hay_cluster.specs.Seen.{Answers, OpensSeen, ReadsSeen, StoreSeen, TellsSeen, home_seen, store_seen}
@@ -73,14 +73,21 @@ IsLaterTally before after =
 
 -- THE TEXT OF ITEMS
 
+-- What a restart reads of disks that tell: nothing is damaged, and no place of a deletion that was pending was left not looked at where a
+-- needle of its size stands. The store is seen as the disks have it then, as it is behind a first opening.
+pub record ReadsAgain (settings : Settings) (before after : Tally) : Type 0 where
+  pub sound : IsUndamaged settings after.contents
+  pub pending : PendingTold settings after.contents before.seen after.seen
+  pub reads : ReadsSeen settings after.contents after.seen
+  pub live : PhotosStand settings after.contents after.seen
+
 -- the text of a restart: its reply, with how many rows are seen then, and the notes behind it, which tell of all that was pending whether it was kept, with
--- numbers of their types; nothing is pending or closed then, nothing that an opening reads of the disks is damaged, and no place of a deletion that was
--- pending was left not looked at where a needle of its size stands
+-- numbers of their types; nothing is pending or closed then
 abbrev pub IsRestartText : Type 0 → Settings → Tally → Tally → Command → ℕ → List ℕ → Type 0
 IsRestartText Tells settings before after command number text =
     (pick : ℕ) × (rows : ℕ) × (notes : List Note) × (command ≡ asks.Restart pick) × FitsReply (Restarted rows) × TellsSeen settings before.seen after.seen notes × AllByRecursion FitsNote notes
     × OpensSeen settings after.seen × (rows ≡ (after.seen).directory.rows) × (after.counts.arms ≡ before.counts.arms)
-    × (text ≡ numbered_line number (Restarted rows) ++ flat_map note_line notes) × (Tells → IsUndamaged settings after.contents × PendingTold settings after.contents before.seen after.seen)
+    × (text ≡ numbered_line number (Restarted rows) ++ flat_map note_line notes) × (Tells → ReadsAgain settings before after)
 
 -- the line of a command outside blocks
 abbrev pub plain_tag : ℕ → CoreTag
@@ -256,8 +263,8 @@ StandsBehind Tells NotOpened settings before after last part =
 
 -- A store that was opened on these disks and arms has this tally, of just these, and an arm that was sure is sure in it. Nothing is pending
 -- or closed. A disk that was not void has what it had, and one that was is formatted, with nothing stored in it; the rows are those of the
--- Directory's disk, and of each replica whose disk was void or whole its generation is seen, where its cells end, and how many have no
--- record.
+-- Directory's disk, and of each replica whose disk was void or whole its generation is seen, where its cells end, how many have no
+-- record, and where its photos stand. On each disk what is seen as a photo's has its needle, which is not deleted.
 pub record BeginsAt (Tells : Type 0) (settings : Settings) (taken : Outside) (sure : ℕ → Bool) (tally : Tally) : Type 0 where
   pub disks : length tally.counts.disks ≡ disk_count settings
   pub fused : length tally.fuses ≡ disk_count settings
@@ -268,6 +275,7 @@ pub record BeginsAt (Tells : Type 0) (settings : Settings) (taken : Outside) (su
   pub stay_sure : (lane : ℕ) → lane < 8 → sure lane ≡ true → HasSureArm tally lane
   pub seen : OpensSeen settings tally.seen
   pub reads : Tells → ReadsSeen settings (read_contents taken) tally.seen
+  pub live : Tells → PhotosStand settings tally.contents tally.seen
   pub contents : Tells → KeepsContents settings (read_contents taken) tally.contents
   pub formatted : Tells → FormatsVoid settings (read_contents taken) tally.contents
 

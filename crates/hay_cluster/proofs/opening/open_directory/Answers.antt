@@ -24,6 +24,7 @@ returns-in-Ok-clause-opened g c =
       fits = e.fits;
       seen = (map home_row c.in-Ok.opened.rows.items, e.within, e.seen);
       reads = λ tells fresh. (e.opened tells fresh).1;
+      reads_now = e.rows;
     }
 
 pub returns-in-Ok-clause-moves : goal.returns-in-Ok-clause-moves

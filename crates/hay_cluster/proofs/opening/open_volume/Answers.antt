@@ -55,6 +55,7 @@ returns-in_ok-append-in-Ok-clause-opened g c =
         told = e.told;
         told_places = e.told_places;
         finds = e.finds;
+        live = e.live;
         fits = e.fits;
         seen = e.seen;
         lie = e.within;

@@ -3,11 +3,8 @@ use Rattle.std.specs.Prelude.{slice_index_or, slice_set}
 use Rattle.std.proofs.lemmas.Bool.{cases_lt}
 use Rattle.std.proofs.lemmas.List.{length-replicate}
 use Rattle.hay_map.specs.Places.{place_in}
-use Rattle.hay_map.specs.declared.place.Place.{Place}
-use Rattle.hay_physical.specs.OpenCopies.{Copy, is_frozen, phase_frozen, volume_bytes}
+use Rattle.hay_physical.specs.OpenCopies.{Copy, is_frozen, phase_frozen}
 use Rattle.hay_logical.specs.Fits.{At}
-use Rattle.hay_logical.specs.Needles.{HasLiveNeedle}
-use Rattle.hay_logical.specs.Sights.{sight}
 use Rattle.hay_logical.specs.ReplicaCalls.{KeepsDisk, LeftAt}
 use Rattle.hay_logical.specs.Volumes.{ReachesPlaces}
 use Rattle.hay_logical.proofs.Calls.{Counted, disk_same, left_same, none_in, opens_on, reach_from, reaches_same, up_thawed, went_counts}
@@ -108,10 +105,8 @@ loop-j-preserved g c =
             p.2,
             p.3,
             λ tells. drew_on g.D.Disk.files g.D.Disk.drawn c.loop-j.rows c.open_one.new.rows i r r' (λ pair. c.open_one.ensures.others pair i (λ e. absurd (omega (arith, h, e)))) (p.4 tells),
-            λ tells pair. subst (λ (x : Place _). HasLiveNeedle (volume_bytes g.D.Disk.files r') (sight x))
-                (sym (c.open_one.ensures.others pair i (λ e. absurd (omega (arith, h, e))))) (p.5 tells pair),
           ))
-          (c.in-Ok.ensures.opened, (c.open_one.ensures.counts, c.open_one.ensures.fuses), c.open_one.ensures.left, c.open_one.ensures.kept, c.in-Ok.ensures.drew, c.in-Ok.ensures.live);
+          (c.in-Ok.ensures.opened, (c.open_one.ensures.counts, c.open_one.ensures.fuses), c.open_one.ensures.left, c.open_one.ensures.kept, c.in-Ok.ensures.drew);
       width = c.open_one.ensures.width ∙ c.loop-j.invariant.width;
       long = c.open_one.ensures.long;
       empty = λ pair i h. c.open_one.ensures.others pair i (λ e. absurd (omega (arith, h, e))) ∙ c.loop-j.invariant.empty pair i (let less : c.loop-j.j ≤ i = omega (arith, h) in less);
@@ -168,10 +163,3 @@ returns-in-Err-clause-thawed g c = λ i r f.
 
 pub returns-clause-drew : goal.returns-clause-drew
 returns-clause-drew g c = λ tells j r r' e f. (went_all _ _ c.args.replicas.now _ c.loop-j.invariant.went (let all : length c.args.replicas.now ≤ c.loop-j.j = omega arith in all) j r r' e f).4 tells
-
-pub returns-clause-live : goal.returns-clause-live
-returns-clause-live g c = λ tells j r f.
-    let went = c.loop-j.invariant.went in
-    let all : length c.args.replicas.now ≤ c.loop-j.j = omega arith in
-    let old = at_there c.args.replicas.now j (let h = at_below _ j r f in let n = went.count in let less : j < length c.args.replicas.now = omega (arith, h, n) in less) in
-    (went_all _ _ c.args.replicas.now _ went all j old.0 r old.1 f).5 tells

@@ -6,10 +6,11 @@ use Rattle.hay_map.specs.declared.place.Place.TheVariants as place
 use Rattle.hay_open.specs.Stored.{PlaceOf, last_cell}
 use Rattle.hay_physical.specs.OpenCopies.{contents_of, end_of, phase_frozen, volume_bytes}
 use Rattle.hay_logical.specs.Needles.{HasLiveNeedle}
-use Rattle.hay_logical.specs.Sights.{LiesWithin, sight}
+use Rattle.hay_logical.specs.Sights.{IsSightOfLast, LiesWithin, sight}
 use Rattle.hay_logical.proofs.Within.{last_lies}
 use Rattle.hay_logical.proofs.Calls.{loaded, loaded_other, open_cause, opened_holds, reaches_loaded, reaches_none, up_thawed}
 use Rattle.hay_logical.proofs.Compacting.{photo_at}
+use Rattle.hay_logical.proofs.Finding.{found_sight}
 use Rattle.hay_logical.proofs.Lists.{length-slice_set}
 use Rattle.hay_logical.proofs.Needles.{live_sight}
 use Rattle.hay_logical.proofs.Formatting.{opened_formatted}
@@ -52,6 +53,12 @@ returns-in-Ok-load-clause-opened g c =
       reach =
           λ tells. reaches_loaded g.D.Disk.files c.load.new.self c.args.j c.open.new.self (λ pair. last_place c.in-Ok.cells.items pair place.None) there
           (c.in-Ok.ensures.can_delete tells) (c.in-Ok.ensures.can_see tells) (c.in-Ok.ensures.apart tells) (c.in-Ok.ensures.needles tells);
+      found = λ tells s opens pair.
+          subst (λ p. IsSightOfLast (last_cell s.cells pair) (sight p)) (sym (there pair))
+          (found_sight g.D.Piece.Piece.Tells (last_cell s.cells pair) (last_place c.in-Ok.cells.items pair place.None) ((c.in-Ok.ensures.opened tells s opens).1 pair));
+      live = λ tells pair.
+          let file = volume_bytes g.D.Disk.files c.open.new.self in
+          subst (λ p. HasLiveNeedle file (sight p)) (sym (there pair)) (live_sight file (last_place c.in-Ok.cells.items pair place.None) (c.in-Ok.ensures.live tells pair));
     }
 
 pub returns-in-Ok-load-clause-left : goal.returns-in-Ok-load-clause-left
@@ -135,13 +142,3 @@ returns-in-Ok-load-clause-drew g c = λ tells.
     ∙ ap (λ p. last_place c.in-Ok.cells.items pair p) (c.requires.empty pair) in
     let did = c.in-Ok.ensures.drawn tells in
     record { drew = did.drew; unseen = λ pair at size is. did.unseen pair at size (sym (there pair) ∙ is) }
-
-pub returns-in-Ok-load-clause-live : goal.returns-in-Ok-load-clause-live
-returns-in-Ok-load-clause-live g c = λ tells pair.
-    let file = volume_bytes g.D.Disk.files c.open.new.self in
-    let there : place_in (row_at c.load.new.self pair) c.args.j ≡ last_place c.in-Ok.cells.items pair place.None =
-    loaded (row_at c.args.rows.now pair) (row_at c.load.new.self pair) c.args.j _ (c.in-Ok-load.ensures.ok.rows pair)
-    (let long = c.requires.long pair in let h = c.requires.within in let less : c.args.j < length (row_at c.args.rows.now pair) = omega (arith, long, h) in less)
-    ∙ ap (λ l. last_place l pair (place_in (row_at c.args.rows.now pair) c.args.j)) c.as_slice.ensures.value
-    ∙ ap (λ p. last_place c.in-Ok.cells.items pair p) (c.requires.empty pair) in
-    subst (λ p. HasLiveNeedle file (sight p)) (sym there) (live_sight file (last_place c.in-Ok.cells.items pair place.None) (c.in-Ok.ensures.live tells pair))

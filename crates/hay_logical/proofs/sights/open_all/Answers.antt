@@ -71,5 +71,5 @@ returns-in-Ok-clause-told g c = λ tells.
     on_ok_then c.see_broken_off.result
     (told_all g.D.Disk.Tells g.D.Disk.files g.D.Piece.Piece.Tells g.D.Disk.fault_count g.D.Disk.fuse_count c.args.replicas.now c.open_each.new.replicas
     c.see_broken_off.new.replicas c.open_each.new.rows c.see_broken_off.new.rows c.open_each.ensures.counts
-    c.see_broken_off.ensures.counts c.see_broken_off.ensures.looks tells c.args.unsure.now (c.in-Ok.ensures.live tells))
+    c.see_broken_off.ensures.counts c.see_broken_off.ensures.looks c.in-Ok.ensures.opened tells c.args.unsure.now)
     (c.see_broken_off.ensures.told tells)

@@ -52,7 +52,7 @@ returns-in-Some-clause-looks g c =
     let one = c.see_at.ensures.one in
     let sights = c.see_at.ensures.sights one.before one.after one.was (one_after c.loop-at.at c.loop-at.replicas c.see_at.new.replicas one) in
     (looks_on T files g.D.Piece.Piece.Tells faults g.D.Disk.fuse_count c.args.replicas.now c.loop-at.replicas c.args.rows.now c.loop-at.rows c.loop-at.invariant.looks
-    c.see_at.new.replicas c.see_at.new.rows c.loop-at.at c.args.pair c.see_at.result one sights c.see_at.ensures.row c.see_at.ensures.counts).each
+    c.see_at.new.replicas c.see_at.new.rows c.loop-at.at c.args.pair c.see_at.result one sights c.see_at.ensures.row c.see_at.ensures.counts c.see_at.ensures.told).each
 
 pub returns-in-Some-clause-counts : goal.returns-in-Some-clause-counts
 returns-in-Some-clause-counts g c =
@@ -62,7 +62,7 @@ returns-in-Some-clause-counts g c =
     let one = c.see_at.ensures.one in
     let sights = c.see_at.ensures.sights one.before one.after one.was (one_after c.loop-at.at c.loop-at.replicas c.see_at.new.replicas one) in
     (looks_on T files g.D.Piece.Piece.Tells faults g.D.Disk.fuse_count c.args.replicas.now c.loop-at.replicas c.args.rows.now c.loop-at.rows c.loop-at.invariant.looks
-    c.see_at.new.replicas c.see_at.new.rows c.loop-at.at c.args.pair c.see_at.result one sights c.see_at.ensures.row c.see_at.ensures.counts).counts
+    c.see_at.new.replicas c.see_at.new.rows c.loop-at.at c.args.pair c.see_at.result one sights c.see_at.ensures.row c.see_at.ensures.counts c.see_at.ensures.told).counts
 
 pub returns-in-Some-clause-refused : goal.returns-in-Some-clause-refused
 returns-in-Some-clause-refused g c =
@@ -77,7 +77,7 @@ returns-in-Some-clause-refused g c =
     subst (λ x. MatchOption x ((k : ℕ) × (c.in-Err.fault ≡ ReplicaFault.Damaged k)) (IsLookFault (faults one.before.disk) (faults one.after.disk))) c.in-Some.is
     (c.ending_fault.ensures.cause (faults one.before.disk) (faults one.after.disk) cause) in
     unseen T files g.D.Piece.Piece.Tells faults g.D.Disk.fuse_count c.args.replicas.now c.loop-at.replicas c.args.rows.now c.loop-at.rows c.loop-at.invariant.looks
-    c.see_at.new.replicas c.see_at.new.rows c.loop-at.at c.args.pair c.see_at.result one sights c.see_at.ensures.row c.see_at.ensures.counts c.in-Some.fault is
+    c.see_at.new.replicas c.see_at.new.rows c.loop-at.at c.args.pair c.see_at.result one sights c.see_at.ensures.row c.see_at.ensures.counts c.see_at.ensures.told c.in-Some.fault is
 
 pub loop-at-preserved : goal.loop-at-preserved
 loop-at-preserved g c =
@@ -99,18 +99,19 @@ loop-at-preserved g c =
     record {
       looks =
           looks_on T files g.D.Piece.Piece.Tells faults g.D.Disk.fuse_count c.args.replicas.now c.loop-at.replicas c.args.rows.now c.loop-at.rows c.loop-at.invariant.looks
-          c.see_at.new.replicas c.see_at.new.rows c.loop-at.at c.args.pair c.see_at.result one sights c.see_at.ensures.row c.see_at.ensures.counts;
+          c.see_at.new.replicas c.see_at.new.rows c.loop-at.at c.args.pair c.see_at.result one sights c.see_at.ensures.row c.see_at.ensures.counts c.see_at.ensures.told;
       drawn = λ tells.
           draws_one g.D.Disk.drawn c.args.pair c.args.rows.now c.loop-at.at c.args.replicas.now c.loop-at.replicas c.see_at.new.replicas c.loop-at.rows c.see_at.new.rows
           c.see_at.result (c.loop-at.invariant.drawn tells) one c.see_at.ensures.row
           (c.see_at.ensures.drawn tells one.before one.after one.was (one_after c.loop-at.at c.loop-at.replicas c.see_at.new.replicas one));
       seen =
           λ tells. seen_on T files g.D.Piece.Piece.Tells faults g.D.Disk.fuse_count c.args.replicas.now c.loop-at.replicas c.args.rows.now c.loop-at.rows c.loop-at.invariant.looks
-          c.see_at.new.replicas c.see_at.new.rows c.loop-at.at c.args.pair c.see_at.result one sights c.see_at.ensures.row c.see_at.ensures.counts tells only (c.loop-at.invariant.seen tells);
+          c.see_at.new.replicas c.see_at.new.rows c.loop-at.at c.args.pair c.see_at.result one sights c.see_at.ensures.row c.see_at.ensures.counts c.see_at.ensures.told tells only
+          (c.loop-at.invariant.seen tells);
       told =
           λ tells. told_on T files g.D.Piece.Piece.Tells faults g.D.Disk.fuse_count c.args.replicas.now c.loop-at.replicas c.args.rows.now c.loop-at.rows c.loop-at.invariant.looks
-          c.see_at.new.replicas c.see_at.new.rows c.loop-at.at c.args.pair c.see_at.result one sights c.see_at.ensures.row c.see_at.ensures.counts tells only
-          (c.see_at.ensures.told tells) ((c.loop-at.invariant.drawn tells).places c.loop-at.at (let here : c.loop-at.at ≤ c.loop-at.at = omega arith in here)) (c.loop-at.invariant.told tells);
+          c.see_at.new.replicas c.see_at.new.rows c.loop-at.at c.args.pair c.see_at.result one sights c.see_at.ensures.row c.see_at.ensures.counts c.see_at.ensures.told tells only
+          ((c.loop-at.invariant.drawn tells).places c.loop-at.at (let here : c.loop-at.at ≤ c.loop-at.at = omega arith in here)) (c.loop-at.invariant.told tells);
     }
 
 pub returns-clause-looks : goal.returns-clause-looks

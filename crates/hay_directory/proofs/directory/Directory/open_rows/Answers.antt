@@ -1,4 +1,4 @@
-use Rattle.std.proofs.Common.{map, take, ◌≡◌, true, false, Err, refl, ap, sym, subst, ◌∙◌, arith}
+use Rattle.std.proofs.Common.{map, take, ◌≡◌, true, false, Err, inr, refl, ap, sym, subst, ◌∙◌, arith}
 use Rattle.std.specs.Prelude.{Option, replicate}
 use Rattle.std.proofs.lemmas.List.{length-map}
 use Rattle.std.proofs.lemmas.Result.{err_from_is_err_and}
@@ -71,6 +71,10 @@ returns-clause-opened g c = rw (← c.self.view_is) (λ tells fresh.
       found.found,
       stands_opened files was.settings (files was.disk 0) _ _ (map home_row c.in_ok-loaded.loaded.rows.items) found refl refl drains,
     ))
+
+pub returns-clause-rows : goal.returns-clause-rows
+unfolding OpensRows
+returns-clause-rows g c = rw (← c.self.view_is) (λ tells. inr ((c.in_ok-loaded.ensures.found tells).settled).journal)
 
 pub returns-clause-reopened : goal.returns-clause-reopened
 unfolding Stopped Stands

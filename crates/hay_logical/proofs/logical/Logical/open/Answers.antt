@@ -411,5 +411,18 @@ returns-clause-finds g c = λ tells j r r' s there here opens.
     let now = c.as_mut_slice.ensures.value in
     let kept = with_items_is c.self.inside.replicas c.open_all.new.replicas (c.open_all.auto.replicas ∙ c.as_mut_slice.ensures.len) in
     let e : At c.self.inside.replicas.items j r = subst (λ (v : Volume g.row.D.Denot g.row.D-Piece.Denot). At v.replicas j r) (sym c.self.view_is) there in
-    let stands = ((c.in-Ok.ensures.opened j r r' (subst (λ xs. At xs j r) (sym now) e) (subst (λ xs. At xs j r') kept here)).opened tells s opens).0 in
-    (stands_end g.D.Disk.files r' s stands, stands_generation g.D.Disk.files r' s stands, stands_bare g.D.Disk.files r' s stands)
+    let opened = c.in-Ok.ensures.opened j r r' (subst (λ xs. At xs j r) (sym now) e) (subst (λ xs. At xs j r') kept here) in
+    let stands = (opened.opened tells s opens).0 in
+    ((stands_end g.D.Disk.files r' s stands, stands_generation g.D.Disk.files r' s stands, stands_bare g.D.Disk.files r' s stands), opened.found tells s opens)
+
+pub returns-clause-live : goal.returns-clause-live
+returns-clause-live g c = λ tells j r' here.
+    let now = c.as_mut_slice.ensures.value in
+    let kept = with_items_is c.self.inside.replicas c.open_all.new.replicas (c.open_all.auto.replicas ∙ c.as_mut_slice.ensures.len) in
+    let olds = c.self.inside.replicas.items in
+    let news = c.open_all.new.replicas in
+    let count = c.open_all.ensures.counts.count ∙ ap length now in
+    let f : At news j r' = subst (λ xs. At xs j r') kept here in
+    let old = at_there olds j (let h = at_below news j r' f in let less : j < length olds = omega (arith, h, count) in less) in
+    let e = subst (λ xs. At xs j old.0) (sym now) old.1 in
+    (c.in-Ok.ensures.opened j old.0 r' e f).live tells
