@@ -34,7 +34,7 @@ use Rattle.hay_legal.specs.Known.{NoneFalls, arm_count, empty_volume, fault_coun
 use Rattle.hay_legal.specs.Known as known
 use Rattle.hay_legal.specs.Plain as legal
 use Rattle.hay_legal.specs.Plain.{IsShown, IsUnreadable, LegalCommand, LegalGet, LeavesElsewhere, LegalGetAt, LegalShow, order_from}
-use Rattle.hay_legal.specs.Suiting.{ShowsOf}
+use Rattle.hay_legal.specs.Suiting.{NamesEach, ShowsOf}
 use Rattle.hay_logical.specs.Answers as answers
 use Rattle.hay_logical.specs.Fits.{At, PlaceStands}
 use Rattle.hay_logical.specs.Stands as logical
@@ -578,6 +578,12 @@ pub machines_told : (settings : Settings) (v : ℕ) (over : List PassedReplica) 
 machines_told settings v [] = refl
 machines_told settings v (p ∷ over) = ap (λ (ms : List ℕ). machine_of settings v p.replica ∷ ms) (machines_told settings v over)
 
+-- so they are told, each once
+pub names_each : (settings : Settings) (start v : ℕ) (over : List PassedReplica) (told : List Passed) → told ≡ map (passed_at settings v) over
+    → ComeFirst start settings.replicas over → length over ≡ settings.replicas → NamesEach settings start v told
+names_each settings start v over told is order all =
+    ap (λ (l : List Passed). map (λ passed. passed.machine) l) is ∙ machines_told settings v over ∙ ap (map (machine_of settings v)) (in_order settings start over order all)
+
 -- the replica that showed the photo is one of the volume's
 pub to_below : (W : Cause → Type 0) (settings : Settings) (lane v start : ℕ) (before after : Counts) (Had : ℕ → Cause → Type 0) (passed causes : List PassedReplica) (j : ℕ)
     → PassesTo W settings lane v start before after Had passed causes j → j < settings.replicas
@@ -926,7 +932,7 @@ found_bytes bytes (read.Unseen i causes) f is has j here = absurd is
 -- what is legal to show to a reader of a URL is legal for its command
 pub get_command : (settings : Settings) (k t : Known) (tag : CoreTag) (url : Url) (start v : ℕ) (answer : Reply) → replica_on settings url.volume url.machine ≡ Some start
     → home_of k url.pair ≡ Some v → v ≡ url.volume
-    → LegalShow settings k tag start url.pair url.cookie answer t → ShowsOf settings v answer ⊎ (answer ≡ reply.NoMem) → LegalCommand settings k tag (command.Get url) answer t
+    → LegalShow settings k tag start url.pair url.cookie answer t → ShowsOf settings start v answer ⊎ (answer ≡ reply.NoMem) → LegalCommand settings k tag (command.Get url) answer t
 get_command settings k t tag url start v answer there home same legal shows =
     go shows
   where
@@ -940,9 +946,9 @@ get_command settings k t tag url start v answer there home same legal shows =
     so r is gets =
         subst (λ (a : Reply). LegalCommand settings k tag (command.Get url) a t) (sym is) (at r (gets (subst (λ (a : Reply). LegalShow settings k tag start url.pair url.cookie a t) is legal)))
 
-    go : ShowsOf settings v answer ⊎ (answer ≡ reply.NoMem) → LegalCommand settings k tag (command.Get url) answer t
+    go : ShowsOf settings start v answer ⊎ (answer ≡ reply.NoMem) → LegalCommand settings k tag (command.Get url) answer t
     go (inl (inl (m, p, d, bytes, on, few, is))) = so (reply.Photo v m p d bytes) is (λ h. (h, same, elsewhere))
     go (inl (inr (inl (m, p, d, on, is)))) = so (reply.Gone v m p d) is (λ h. (h, same, elsewhere))
     go (inl (inr (inr (inl (m, p, d, on, is))))) = so (reply.WrongCookie v m p d) is (λ h. (h, same, elsewhere))
-    go (inl (inr (inr (inr (p, d, causes, is))))) = so (reply.Unreadable v p d causes) is (λ h. (h, same, elsewhere))
+    go (inl (inr (inr (inr (p, d, causes, each, is))))) = so (reply.Unreadable v p d causes) is (λ h. (h, same, elsewhere))
     go (inr is) = so reply.NoMem is (λ h. (h, tt, elsewhere))

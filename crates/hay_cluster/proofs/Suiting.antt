@@ -4,9 +4,9 @@ use Rattle.std.specs.Prelude.{IfSome, find}
 use Rattle.std.specs.List.{AllZip, list_any, range_with_len}
 use Rattle.std.proofs.lemmas.Option.{IfSome_then}
 use Rattle.hay_needle.specs.declared.needle.Pair.{Pair}
+use Rattle.hay_needle.specs.Sizes.{needle_total}
 use Rattle.hay_needle.specs.declared.settings.Settings.{Settings}
 use Rattle.hay_reply.specs.declared.Refused.{Refused}
-use Rattle.hay_reply.specs.declared.Refused.TheVariants.{NoRoom, Closed}
 use Rattle.hay_reply.specs.declared.Reply.{Reply}
 use Rattle.hay_reply.specs.declared.Reply.TheVariants as reply
 use Rattle.hay_legal.specs.Known.{all_tries, machine_of, replica_on, replicas_of, try_at}
@@ -14,7 +14,8 @@ use Rattle.hay_legal.specs.Plain.{wants_room}
 use Rattle.hay_legal.specs.Suiting.{AtReplica, IsOn, IsReadOnlyAt, IsRefusedBy, Refuses, Suits, SuitsBegin, SuitsCompact, SuitsDel, SuitsFlush, SuitsFuse, SuitsPut, SuitsRun}
 use Rattle.hay_directory.specs.declared.fault.DirFault.{DirFault}
 use Rattle.hay_directory.specs.declared.fault.DirFault.TheVariants as settling
-use Rattle.hay_logical.specs.Answers.{IsRoomFault}
+use Rattle.hay_logical.specs.Answers.{BreaksPutOff, IsRoomFault}
+use Rattle.hay_logical.specs.Seen.{RoomRefusedSeen, VolumeSeen}
 use Rattle.hay_logical.specs.declared.fault.LogicalFault.{LogicalFault}
 use Rattle.hay_logical.specs.declared.fault.LogicalFault.TheVariants as refusal
 use Rattle.hay_cluster.specs.declared.maintenance.Maintenance.{Maintenance}
@@ -61,16 +62,21 @@ fuses_none o done none = subst (λ (p : Option ℕ). SuitsFuse p done reply.Nowh
 -- PUTS
 
 -- a volume that lacks room
-pub lack_refuses : (settings : Settings) (v : ℕ) (fault : LogicalFault) → IsBuilt settings → v < settings.volumes → IsRoomFault settings v fault → IfSome (lack_of v fault) (Refuses settings v)
-lack_refuses settings v (refusal.Full m end need capacity) built volume is = (refl, on_machine settings v is.0 m built volume is.1 is.2)
-lack_refuses settings v (refusal.ReadOnly m) built volume is = (refl, on_machine settings v is.0 m built volume is.1 is.2)
-lack_refuses settings v (refusal.Gone front) built volume is = absurd is
-lack_refuses settings v (refusal.Failed m count) built volume is = absurd is
-lack_refuses settings v (refusal.Busy m generation) built volume is = absurd is
-lack_refuses settings v (refusal.Worn m) built volume is = absurd is
-lack_refuses settings v refusal.Idle built volume is = absurd is
-lack_refuses settings v (refusal.Damaged m at) built volume is = absurd is
-lack_refuses settings v refusal.NoMemory built volume is = absurd is
+pub lack_refuses : (settings : Settings) (size v : ℕ) (seen : VolumeSeen) (fault : LogicalFault) → IsBuilt settings → v < settings.volumes → IsRoomFault settings v fault
+    → RoomRefusedSeen settings v size seen fault → IfSome (lack_of v fault) (Refuses settings size v)
+lack_refuses settings size v seen (refusal.Full m end need capacity) built volume is full = (
+  refl,
+  on_machine settings v is.0 m built volume is.1 is.2,
+  (full.need_is, subst (λ (e : ℕ). settings.capacity < e + needle_total size + 8) (sym full.end_is) full.lacks),
+)
+lack_refuses settings size v seen (refusal.ReadOnly m) built volume is refused = (refl, on_machine settings v is.0 m built volume is.1 is.2)
+lack_refuses settings size v seen (refusal.Gone front) built volume is refused = absurd is
+lack_refuses settings size v seen (refusal.Failed m count) built volume is refused = absurd is
+lack_refuses settings size v seen (refusal.Busy m generation) built volume is refused = absurd is
+lack_refuses settings size v seen (refusal.Worn m) built volume is refused = absurd is
+lack_refuses settings size v seen refusal.Idle built volume is refused = absurd is
+lack_refuses settings size v seen (refusal.Damaged m at) built volume is refused = absurd is
+lack_refuses settings size v seen refusal.NoMemory built volume is refused = absurd is
 
 pub room_lack : (settings : Settings) (v : ℕ) (fault : LogicalFault) → IsRoomFault settings v fault → LacksRoom fault
 room_lack settings v (refusal.Full m end need capacity) is = tt
@@ -96,34 +102,34 @@ one_more_refuses R settings pair turn v refused more is refuses others =
     subst (λ vs. AllZip R vs (refused ++ more ∷ [])) (sym tries)
     (AllZip-append R (map t (range_with_len 0 turn)) (v ∷ []) refused (more ∷ []) others (refuses, tt))
 
-pub all_refuse : (settings : Settings) (pair : Pair) (refused : List Refused) → AllZip (Refuses settings) (all_tries settings pair) refused → IsRefusedBy settings pair refused
-all_refuse settings pair refused each = (all_tries settings pair, inl refl, each)
+pub all_refuse : (settings : Settings) (pair : Pair) (size : ℕ) (refused : List Refused) → AllZip (Refuses settings size) (all_tries settings pair) refused
+    → IsRefusedBy settings pair size refused
+all_refuse settings pair size refused each = (all_tries settings pair, inl refl, each)
 
-pub one_refuses : (settings : Settings) (pair : Pair) (v : ℕ) (one : Refused) → v < settings.volumes → Refuses settings v one → IsRefusedBy settings pair (one ∷ [])
-one_refuses settings pair v one volume refuses = (v ∷ [], inr (v, volume, refl), (refuses, tt))
+pub one_refuses : (settings : Settings) (pair : Pair) (size v : ℕ) (one : Refused) → v < settings.volumes → Refuses settings size v one → IsRefusedBy settings pair size (one ∷ [])
+one_refuses settings pair size v one volume refuses = (v ∷ [], inr (v, volume, refl), (refuses, tt))
 
-pub refusal_suits : (settings : Settings) (pair : Pair) (refused : List Refused) (said : Reply) → IsRefusedBy settings pair refused → IsRefusal refused said → SuitsPut settings pair said
-refusal_suits settings pair refused (reply.Full tries) by told =
-    inr (inl (tries, subst (λ (rs : List Refused). IsRefusedBy settings pair rs) (sym told.0) by, ap (λ rs. list_any wants_room rs) told.0 ∙ told.1, refl))
-refusal_suits settings pair refused (reply.ReadOnly closed) by told = inr (inr (inl (closed, subst (λ (rs : List Refused). IsRefusedBy settings pair rs) (sym told) by, refl)))
-refusal_suits settings pair refused reply.NoMem by told = inr (inr (inr (inr (inr (inr refl)))))
-refusal_suits settings pair refused _ by told = absurd told
+pub refusal_suits : (settings : Settings) (pair : Pair) (size : ℕ) (refused : List Refused) (said : Reply) → IsRefusedBy settings pair size refused → IsRefusal refused said
+    → SuitsPut settings pair size said
+refusal_suits settings pair size refused (reply.Full tries) by told =
+    inr (inl (tries, subst (λ (rs : List Refused). IsRefusedBy settings pair size rs) (sym told.0) by, ap (λ rs. list_any wants_room rs) told.0 ∙ told.1, refl))
+refusal_suits settings pair size refused (reply.ReadOnly closed) by told =
+    inr (inr (inl (closed, subst (λ (rs : List Refused). IsRefusedBy settings pair size rs) (sym told) by, refl)))
+refusal_suits settings pair size refused reply.NoMem by told = inr (inr (inr (inr (inr (inr refl)))))
+refusal_suits settings pair size refused _ by told = absurd told
 
-pub put_refusal_suits : (settings : Settings) (pair : Pair) (v : ℕ) (before after : List ℕ) (fault : LogicalFault) (said : Reply) → v < settings.volumes
-    → IsPutCause settings v before after fault → IsPutReply v fault said
-    → SuitsPut settings pair said
-put_refusal_suits settings pair v before after (refusal.ReadOnly m) said volume cause told =
-    refusal_suits settings pair (Closed v m ∷ []) said (one_refuses settings pair v (Closed v m) volume (refl, cause.2)) told
-put_refusal_suits settings pair v before after (refusal.Full m end need capacity) said volume cause told =
-    refusal_suits settings pair (NoRoom v m end need ∷ []) said (one_refuses settings pair v (NoRoom v m end need) volume (refl, cause.2)) told
-put_refusal_suits settings pair v before after (refusal.Failed m count) said volume cause told = let rose = cause.1 in inr (inr (inr (inr (inl (v, m, count, (rose.replica, rose.there), told)))))
-put_refusal_suits settings pair v before after refusal.NoMemory said volume cause told = inr (inr (inr (inr (inr (inr told)))))
-put_refusal_suits settings pair v before after _ said volume cause told = absurd told
+-- by a volume that takes the photo
+pub put_refusal_suits : (settings : Settings) (pair : Pair) (size v : ℕ) (before after : List ℕ) (fault : LogicalFault) (said : Reply) → BreaksPutOff fault
+    → IsPutCause settings v before after fault → IsPutReply v fault said → SuitsPut settings pair size said
+put_refusal_suits settings pair size v before after (refusal.Failed m count) said breaks cause told =
+    let rose = cause.1 in inr (inr (inr (inr (inl (v, m, count, (rose.replica, rose.there), told)))))
+put_refusal_suits settings pair size v before after refusal.NoMemory said breaks cause told = inr (inr (inr (inr (inr (inr told)))))
+put_refusal_suits settings pair size v before after _ said breaks cause told = absurd breaks
 
-pub settle_suits : (settings : Settings) (pair : Pair) (fault : DirFault) → SuitsPut settings pair (settle_reply fault)
-settle_suits settings pair settling.Frozen = inr (inr (inr (inl refl)))
-settle_suits settings pair settling.NoMemory = inr (inr (inr (inr (inr (inr refl)))))
-settle_suits settings pair (settling.Failed count) = inr (inr (inr (inr (inr (inl (count, refl))))))
+pub settle_suits : (settings : Settings) (pair : Pair) (size : ℕ) (fault : DirFault) → SuitsPut settings pair size (settle_reply fault)
+settle_suits settings pair size settling.Frozen = inr (inr (inr (inl refl)))
+settle_suits settings pair size settling.NoMemory = inr (inr (inr (inr (inr (inr refl)))))
+settle_suits settings pair size (settling.Failed count) = inr (inr (inr (inr (inr (inl (count, refl))))))
 
 -- DELETES
 

@@ -125,7 +125,7 @@ TurnsAside settings seen size (Closed v m) = Closes settings seen v m
 TurnsAside settings seen size (NoRoom v m end need) = IsOpenTo settings seen v × VolumeAt v (λ volume. FullSeen settings v size volume m end need settings.capacity) seen
 
 abbrev pub RefusesPhoto : Settings → StoreSeen → ℕ → ℕ → Refused → Type 0
-RefusesPhoto settings seen size v refused = Refuses settings v refused × TurnsAside settings seen size refused
+RefusesPhoto settings seen size v refused = Refuses settings size v refused × TurnsAside settings seen size refused
 
 -- It takes one.
 abbrev pub TakesPhotoAt : Settings → StoreSeen → ℕ → ℕ → Type 0

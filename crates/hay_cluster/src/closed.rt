@@ -80,7 +80,7 @@ impl<D: Disk, A: Arm<D::Piece>> Cluster<D, A> {
         requires up { IsUp self.now }
         ensures known { D.Tells → (k : Known) → Stands D.files D.Piece.Tells D.fault_count D.fuse_count A.fault_count self.now k → result ≡ known.refusal_of self.now.settings k size volume }
         ensures takes { IfNone result (TakesPhoto self.now volume size) }
-        ensures refuses { IfSome result (Refuses self.now.settings volume) }
+        ensures refuses { IfSome result (Refuses self.now.settings size volume) }
         ensures takes_seen { IfNone result (TakesPhotoAt self.now.settings (store_seen self.now) size volume) }
         ensures refuses_seen { IfSome result (RefusesPhoto self.now.settings (store_seen self.now) size volume) }
         ensures fits { IfSome result FitsRefused }

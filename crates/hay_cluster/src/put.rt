@@ -76,7 +76,7 @@ impl<D: Disk, A: Arm<D::Piece>> Cluster<D, A> {
         ensures known { D.Tells → (k : Known) → Stands D.files D.Piece.Tells D.fault_count D.fuse_count A.fault_count self.now k → IfOk result (IsTried self.now.settings k pair size) }
         ensures within { (volume : ℕ) → result ≡ Ok (Tried.Taker volume) → volume < self.now.settings.volumes }
         ensures takes { (volume : ℕ) → result ≡ Ok (Tried.Taker volume) → TakesPhoto self.now volume size }
-        ensures refused { (refused : List Refused) → result ≡ Ok (Tried.Nobody refused) → AllZip (Refuses self.now.settings) (all_tries self.now.settings pair) refused }
+        ensures refused { (refused : List Refused) → result ≡ Ok (Tried.Nobody refused) → AllZip (Refuses self.now.settings size) (all_tries self.now.settings pair) refused }
         ensures fits { (refused : List Refused) → result ≡ Ok (Tried.Nobody refused) → AllByRecursion FitsRefused refused }
         ensures seen { (volume : ℕ) → result ≡ Ok (Tried.Taker volume) → IsTaker self.now.settings (store_seen self.now) pair size volume }
         ensures refused_seen { (refused : List Refused) → result ≡ Ok (Tried.Nobody refused) →
@@ -106,7 +106,7 @@ impl<D: Disk, A: Arm<D::Piece>> Cluster<D, A> {
         requires homeless { directory.home_of self.old.directory pair ≡ None }
         requires within { (volume : ℕ) → tried ≡ Tried.Taker volume → volume < self.old.settings.volumes }
         requires takes { (volume : ℕ) → tried ≡ Tried.Taker volume → TakesPhoto self.old volume (length bytes.now) }
-        requires refused { (refused : List Refused) → tried ≡ Tried.Nobody refused → AllZip (Refuses self.old.settings) (all_tries self.old.settings pair) refused }
+        requires refused { (refused : List Refused) → tried ≡ Tried.Nobody refused → AllZip (Refuses self.old.settings (length bytes.now)) (all_tries self.old.settings pair) refused }
         requires fits { (refused : List Refused) → tried ≡ Tried.Nobody refused → AllByRecursion FitsRefused refused }
         requires seen { (volume : ℕ) → tried ≡ Tried.Taker volume → IsTaker self.old.settings (store_seen self.old) pair (length bytes.now) volume }
         requires refused_seen { (refused : List Refused) → tried ≡ Tried.Nobody refused →

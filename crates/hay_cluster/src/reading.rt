@@ -146,7 +146,7 @@ impl<D: Disk, A: Arm<D::Piece>> Cluster<D, A> {
         requires up { IsUp self.old }
         ensures shown { D.Tells → (k : Known) → Stands D.files D.Piece.Tells D.fault_count D.fuse_count A.fault_count self.old k → home_of k pair ≡ Some volume →
             ShownAs D.files D.Piece.Tells D.fault_count D.fuse_count A.fault_count self.old.settings k tag start pair cookie result self.new }
-        ensures here { ShowsOf self.old.settings volume result ⊎ (result ≡ Reply.NoMem) }
+        ensures here { ShowsOf self.old.settings start volume result ⊎ (result ≡ Reply.NoMem) }
         ensures fits { FitsReply result }
         ensures causes { IsCaused self.old.settings (map D.fault_count (disks_of self.old)) (map D.fault_count (disks_of self.new)) result }
         ensures sure_arms { StaySure A.is_sure A.fault_count self.old.arms self.new.arms }

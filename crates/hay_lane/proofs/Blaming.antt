@@ -255,14 +255,14 @@ module _ (settings : Settings) (said : Reply) where
   closed_none : (v : ℕ) → IsReadOnlyAt settings v said → causes_told said ≡ []
   closed_none v (by, on, is) = is_none said (reply.ReadOnly (record { volume = v; machine = by } ∷ [])) is refl
 
-  put_none : (pair : Pair) → SuitsPut settings pair said → causes_told said ≡ []
-  put_none pair (inl (v, p, d, below, is)) = ap causes_told is
-  put_none pair (inr (inl (refused, by, wants, is))) = ap causes_told is
-  put_none pair (inr (inr (inl (closed, by, is)))) = ap causes_told is
-  put_none pair (inr (inr (inr (inl is)))) = ap causes_told is
-  put_none pair (inr (inr (inr (inr (inl (v, m, count, on, is)))))) = ap causes_told is
-  put_none pair (inr (inr (inr (inr (inr (inl (count, is))))))) = ap causes_told is
-  put_none pair (inr (inr (inr (inr (inr (inr is)))))) = ap causes_told is
+  put_none : (pair : Pair) (size : ℕ) → SuitsPut settings pair size said → causes_told said ≡ []
+  put_none pair size (inl (v, p, d, below, is)) = ap causes_told is
+  put_none pair size (inr (inl (refused, by, wants, is))) = ap causes_told is
+  put_none pair size (inr (inr (inl (closed, by, is)))) = ap causes_told is
+  put_none pair size (inr (inr (inr (inl is)))) = ap causes_told is
+  put_none pair size (inr (inr (inr (inr (inl (v, m, count, on, is)))))) = ap causes_told is
+  put_none pair size (inr (inr (inr (inr (inr (inl (count, is))))))) = ap causes_told is
+  put_none pair size (inr (inr (inr (inr (inr (inr is)))))) = ap causes_told is
 
   del_none : SuitsDel settings said → causes_told said ≡ []
   del_none (inl (v, p, d, below, is)) = ap causes_told is
@@ -315,7 +315,7 @@ module _ (settings : Settings) (said : Reply) where
 
   -- no command but a read and a get is told why replicas were passed over
   pub spared : (line : ℕ) (command : Command) → ReadsNone command → Suits settings line command said → causes_told said ≡ []
-  spared line (asks.Put pair photo) other suits = put_none pair suits
+  spared line (asks.Put pair photo) other suits = put_none pair (length photo) suits
   spared line (asks.Read pair cookie) other suits = absurd other
   spared line (asks.Get url) other suits = absurd other
   spared line (asks.Del pair) other suits = del_none suits

@@ -17,7 +17,7 @@ use Rattle.hay_legal.specs.Suiting.{AtReplica, IsOn, IsReadOnlyAt, IsRefusedBy, 
 use Rattle.hay_legal.specs.Suiting.{SuitsPut, SuitsRead, SuitsRun, SuitsUrl, start_at}
 use Rattle.hay_map.specs.declared.place.Place.{Place}
 use Rattle.hay_meeting.specs.Facts.{drained_in}
-use Rattle.hay_reader.specs.Causes.{ArmUse}
+use Rattle.hay_reader.specs.Causes.{ArmUse, tried_from}
 use Rattle.hay_reader.specs.Shown.{HasBytes, ReadsRow, ShowsAt}
 use Rattle.hay_reader.specs.declared.causes.PassedReplica.{PassedReplica}
 use Rattle.hay_reader.specs.declared.seat.ReadReply.{ReadReply}
@@ -46,7 +46,7 @@ use Rattle.hay_shared_volume.specs.Naming.{NamesBegin, NamesCompaction, NamesDel
 use Rattle.hay_lane.specs.declared.reads.Found.{Found}
 use Rattle.hay_lane.specs.declared.reads.Found.TheVariants as found
 use Rattle.hay_lane.specs.Puts.{IsPutReply, IsRefusal, room_refusal, settle_reply}
-use Rattle.hay_lane.specs.Reads.{FoundWithin, IsFoundAs, IsFoundReply, ShownWithin, passed_at}
+use Rattle.hay_lane.specs.Reads.{FoundWithin, IsFoundAs, IsFoundReply, ShownWithin, passed_at, replicas_in}
 use Rattle.hay_lane.specs.Replies.{IsBeginReply, IsCompactionReply, IsDeleteReply, IsFinishReply, IsFlushReply, IsReadOnly, IsStepReply}
 use Rattle.hay_legal.proofs.Finds.{map_found}
 use Rattle.hay_lane.proofs.Lists.{all_both}
@@ -75,17 +75,17 @@ one_more_refuses R settings pair n v refused more is refuses others =
     subst (λ vs. AllZip R vs (refused ++ more ∷ [])) (ap (λ u. first_tries settings pair n ++ u ∷ []) is ∙ sym (tries_parts settings pair n 0 (n + 1) e))
     (all_both R (first_tries settings pair n) (v ∷ []) refused (more ∷ []) others (refuses, tt))
 
-pub refusal_suits : (settings : Settings) (pair : Pair) (refused : List Refused) (said : Reply) → AllZip (Refuses settings) (all_tries settings pair) refused
-    → IsRefusal refused said → SuitsPut settings pair said
-refusal_suits settings pair refused said each (inl full) = inr (inl (refused, (all_tries settings pair, inl refl, each), full.1, full.0))
-refusal_suits settings pair refused said each (inr (inl closed)) =
-    inr (inr (inl (closed.0, subst (IsRefusedBy settings pair) (sym closed.2) (all_tries settings pair, inl refl, each), closed.1)))
-refusal_suits settings pair refused said each (inr (inr is)) = inr (inr (inr (inr (inr (inr is)))))
+pub refusal_suits : (settings : Settings) (pair : Pair) (size : ℕ) (refused : List Refused) (said : Reply) → AllZip (Refuses settings size) (all_tries settings pair) refused
+    → IsRefusal refused said → SuitsPut settings pair size said
+refusal_suits settings pair size refused said each (inl full) = inr (inl (refused, (all_tries settings pair, inl refl, each), full.1, full.0))
+refusal_suits settings pair size refused said each (inr (inl closed)) =
+    inr (inr (inl (closed.0, subst (IsRefusedBy settings pair size) (sym closed.2) (all_tries settings pair, inl refl, each), closed.1)))
+refusal_suits settings pair size refused said each (inr (inr is)) = inr (inr (inr (inr (inr (inr is)))))
 
-pub settle_suits : (settings : Settings) (pair : Pair) (fault : DirFault) → SuitsPut settings pair (settle_reply fault)
-settle_suits settings pair settling.Frozen = inr (inr (inr (inl refl)))
-settle_suits settings pair settling.NoMemory = inr (inr (inr (inr (inr (inr refl)))))
-settle_suits settings pair (settling.Failed count) = inr (inr (inr (inr (inr (inl (count, refl))))))
+pub settle_suits : (settings : Settings) (pair : Pair) (size : ℕ) (fault : DirFault) → SuitsPut settings pair size (settle_reply fault)
+settle_suits settings pair size settling.Frozen = inr (inr (inr (inl refl)))
+settle_suits settings pair size settling.NoMemory = inr (inr (inr (inr (inr (inr refl)))))
+settle_suits settings pair size (settling.Failed count) = inr (inr (inr (inr (inr (inl (count, refl))))))
 
 pub url_suits : (settings : Settings) (line : ℕ) (pair : Pair) (d v first machine : ℕ) (cookie : Cookie) → v < settings.volumes → first ≡ start_at settings line → machine ≡ machine_of settings v first
     → cookie ≡ cookie_of settings.secret pair.key → SuitsUrl settings (start_at settings line) pair (reply.Url d (record { machine = machine; volume = v; pair = pair; cookie = cookie }))
@@ -103,26 +103,27 @@ next_within n first passed j some is = omega (arith, some, is)
 
 pub shown_by_row : {P : Type 0} (Tells : Type 0) (arm : ArmUse) (n first : ℕ) (row : List (Place P)) (cookie : Cookie) (passed : List PassedReplica) (put : List ℕ)
     (what : ReadReply) → length row ≡ n → 0 < n
-    → ReadsRow Tells arm first row cookie passed put what → ShownWithin n what
+    → ReadsRow Tells arm first row cookie passed put what → ShownWithin first n what
 shown_by_row Tells arm n first row cookie passed put (read.Photo j) long some reads = next_within n first (length reads.0) j some (reads.1.next ∙ ap (λ m. (first + length reads.0) % m) long)
 shown_by_row Tells arm n first row cookie passed put (read.Gone j) long some reads = next_within n first (length reads.0) j some (reads.1.next ∙ ap (λ m. (first + length reads.0) % m) long)
 shown_by_row Tells arm n first row cookie passed put (read.WrongCookie j) long some reads = next_within n first (length reads.0) j some (reads.1.next ∙ ap (λ m. (first + length reads.0) % m) long)
 shown_by_row Tells arm n first row cookie passed put (read.Unseen j causes) long some reads = tt
-shown_by_row Tells arm n first row cookie passed put (read.Unreadable causes) long some reads = tt
+shown_by_row Tells arm n first row cookie passed put (read.Unreadable causes) long some reads =
+    reads.0.passes.order ∙ ap (tried_from first (length row)) reads.1 ∙ ap (λ m. tried_from first m m) long
 
-pub shown_at : (n j : ℕ) (what : ReadReply) → j < n → ShowsAt j what → ShownWithin n what
-shown_at n j (read.Photo i) within is = subst (λ k. k < n) (sym is) within
-shown_at n j (read.Gone i) within is = subst (λ k. k < n) (sym is) within
-shown_at n j (read.WrongCookie i) within is = subst (λ k. k < n) (sym is) within
-shown_at n j (read.Unseen i causes) within is = absurd is
-shown_at n j (read.Unreadable causes) within is = absurd is
+pub shown_at : (first n j : ℕ) (what : ReadReply) → j < n → ShowsAt j what → ShownWithin first n what
+shown_at first n j (read.Photo i) within is = subst (λ k. k < n) (sym is) within
+shown_at first n j (read.Gone i) within is = subst (λ k. k < n) (sym is) within
+shown_at first n j (read.WrongCookie i) within is = subst (λ k. k < n) (sym is) within
+shown_at first n j (read.Unseen i causes) within is = absurd is
+shown_at first n j (read.Unreadable causes) within is = absurd is
 
-pub found_within : (n : ℕ) (put : List ℕ) (what : ReadReply) (it : Found) → IsFoundAs what it → ShownWithin n what → HasBytes put what → FoundWithin n put it
-found_within n put (read.Photo j) it is within bytes = subst (FoundWithin n put) (sym is) (within, bytes)
-found_within n put (read.Gone j) it is within bytes = subst (FoundWithin n put) (sym is) within
-found_within n put (read.WrongCookie j) it is within bytes = subst (FoundWithin n put) (sym is) within
-found_within n put (read.Unreadable causes) it is within bytes = subst (FoundWithin n put) (sym is) tt
-found_within n put (read.Unseen j causes) it is within bytes = absurd is
+pub found_within : (first n : ℕ) (put : List ℕ) (what : ReadReply) (it : Found) → IsFoundAs what it → ShownWithin first n what → HasBytes put what → FoundWithin first n put it
+found_within first n put (read.Photo j) it is within bytes = subst (FoundWithin first n put) (sym is) (within, bytes)
+found_within first n put (read.Gone j) it is within bytes = subst (FoundWithin first n put) (sym is) within
+found_within first n put (read.WrongCookie j) it is within bytes = subst (FoundWithin first n put) (sym is) within
+found_within first n put (read.Unreadable causes) it is within bytes = subst (FoundWithin first n put) (sym is) within
+found_within first n put (read.Unseen j causes) it is within bytes = absurd is
 
 -- OF A VOLUME
 
@@ -140,45 +141,50 @@ module _ (settings : Settings) (v : ℕ) (fewer : settings.replicas ≤ settings
 
   -- PUTS
 
-  one_refuses : (pair : Pair) (one : Refused) → Refuses settings v one → IsRefusedBy settings pair (one ∷ [])
-  one_refuses pair one refuses = (v ∷ [], inr (v, below, refl), (refuses, tt))
+  one_refuses : (pair : Pair) (size : ℕ) (one : Refused) → Refuses settings size v one → IsRefusedBy settings pair size (one ∷ [])
+  one_refuses pair size one refuses = (v ∷ [], inr (v, below, refl), (refuses, tt))
 
-  pub closed_put : (pair : Pair) (by : ℕ) (said : Reply) → IsOn settings v by → IsReadOnly v by said → SuitsPut settings pair said
-  closed_put pair by said on (inl is) = inr (inr (inl (record { volume = v; machine = by } ∷ [], one_refuses pair (Closed v by) (refl, on), is)))
-  closed_put pair by said on (inr is) = inr (inr (inr (inr (inr (inr is)))))
+  pub closed_put : (pair : Pair) (size by : ℕ) (said : Reply) → IsOn settings v by → IsReadOnly v by said → SuitsPut settings pair size said
+  closed_put pair size by said on (inl is) = inr (inr (inl (record { volume = v; machine = by } ∷ [], one_refuses pair size (Closed v by) (refl, on), is)))
+  closed_put pair size by said on (inr is) = inr (inr (inr (inr (inr (inr is)))))
 
-  pub put_suits : (pair : Pair) (d : ℕ) (cookie : Cookie) (answer : Put) (said : Reply) → cookie ≡ cookie_of settings.secret pair.key → NamesPut settings v answer
-      → IsPutReply v d cookie answer said → SuitsPut settings pair said
-  put_suits pair d cookie (put.Stored p) said known names is = inl (v, p, d, below, is ∙ ap (reply.Stored v p d) known)
-  put_suits pair d cookie (put.Frozen m) said known names is = closed_put pair m said (on_machine m names) is
-  put_suits pair d cookie (put.Lacks m end need) said known names (inl is) =
-      inr (inl (NoRoom v m end need ∷ [], one_refuses pair (NoRoom v m end need) (refl, on_machine m names), refl, is))
-  put_suits pair d cookie (put.Lacks m end need) said known names (inr is) = inr (inr (inr (inr (inr (inr is)))))
-  put_suits pair d cookie (put.Failed m f) said known names is = inr (inr (inr (inr (inl (v, m, f, on_machine m names, is)))))
-  put_suits pair d cookie put.NoMemory said known names is = inr (inr (inr (inr (inr (inr is)))))
+  pub put_suits : (pair : Pair) (size d : ℕ) (cookie : Cookie) (answer : Put) (said : Reply) → cookie ≡ cookie_of settings.secret pair.key → NamesPut settings v size answer
+      → IsPutReply v d cookie answer said → SuitsPut settings pair size said
+  put_suits pair size d cookie (put.Stored p) said known names is = inl (v, p, d, below, is ∙ ap (reply.Stored v p d) known)
+  put_suits pair size d cookie (put.Frozen m) said known names is = closed_put pair size m said (on_machine m names) is
+  put_suits pair size d cookie (put.Lacks m end need) said known names (inl is) =
+      inr (inl (NoRoom v m end need ∷ [], one_refuses pair size (NoRoom v m end need) (refl, on_machine m names.0, names.1), refl, is))
+  put_suits pair size d cookie (put.Lacks m end need) said known names (inr is) = inr (inr (inr (inr (inr (inr is)))))
+  put_suits pair size d cookie (put.Failed m f) said known names is = inr (inr (inr (inr (inl (v, m, f, on_machine m names, is)))))
+  put_suits pair size d cookie put.NoMemory said known names is = inr (inr (inr (inr (inr (inr is)))))
 
-  pub room_refuses : (answer : Room) → NamesRoom settings v answer → IfSome (room_refusal v answer) (Refuses settings v)
-  room_refuses room.Fits names = tt
-  room_refuses (room.Frozen m) names = (refl, on_machine m names)
-  room_refuses (room.Lacks m end need) names = (refl, on_machine m names)
+  pub room_refuses : (size : ℕ) (answer : Room) → NamesRoom settings v size answer → IfSome (room_refusal v answer) (Refuses settings size v)
+  room_refuses size room.Fits names = tt
+  room_refuses size (room.Frozen m) names = (refl, on_machine m names)
+  room_refuses size (room.Lacks m end need) names = (refl, on_machine m names.0, names.1)
 
   -- READS
 
-  pub found_suits : (p d : ℕ) (put : List ℕ) (what : Found) (said : Reply) → FoundWithin settings.replicas put what → IsFoundReply settings v p d put what said
-      → ShowsOf settings v said ⊎ (said ≡ reply.NoMem)
-  found_suits p d put (found.Photo j) said within is = inl (inl (machine_of settings v j, p, d, put, on_replica j (machine_of settings v j) within.0 refl, within.1, is))
-  found_suits p d put (found.Gone j) said within is = inl (inr (inl (machine_of settings v j, p, d, on_replica j (machine_of settings v j) within refl, is)))
-  found_suits p d put (found.WrongCookie j) said within is = inl (inr (inr (inl (machine_of settings v j, p, d, on_replica j (machine_of settings v j) within refl, is))))
-  found_suits p d put (found.Unreadable causes) said within (inl is) = inl (inr (inr (inr (p, d, map (passed_at settings v) causes, is))))
-  found_suits p d put (found.Unreadable causes) said within (inr is) = inr is
+  machines_told : (causes : List PassedReplica) → map (λ over. over.machine) (map (passed_at settings v) causes) ≡ map (machine_of settings v) (replicas_in causes)
+  machines_told [] = refl
+  machines_told (over ∷ causes) = ap (λ (ms : List ℕ). machine_of settings v over.replica ∷ ms) (machines_told causes)
 
-  pub read_suits : (said : Reply) → ShowsOf settings v said ⊎ (said ≡ reply.NoMem) → SuitsRead settings said
-  read_suits said (inl shows) = inr (inl (v, below, shows))
-  read_suits said (inr is) = inr (inr is)
+  pub found_suits : (first p d : ℕ) (put : List ℕ) (what : Found) (said : Reply) → FoundWithin first settings.replicas put what → IsFoundReply settings v p d put what said
+      → ShowsOf settings first v said ⊎ (said ≡ reply.NoMem)
+  found_suits first p d put (found.Photo j) said within is = inl (inl (machine_of settings v j, p, d, put, on_replica j (machine_of settings v j) within.0 refl, within.1, is))
+  found_suits first p d put (found.Gone j) said within is = inl (inr (inl (machine_of settings v j, p, d, on_replica j (machine_of settings v j) within refl, is)))
+  found_suits first p d put (found.WrongCookie j) said within is = inl (inr (inr (inl (machine_of settings v j, p, d, on_replica j (machine_of settings v j) within refl, is))))
+  found_suits first p d put (found.Unreadable causes) said within (inl is) =
+      inl (inr (inr (inr (p, d, map (passed_at settings v) causes, machines_told causes ∙ ap (map (machine_of settings v)) within, is))))
+  found_suits first p d put (found.Unreadable causes) said within (inr is) = inr is
 
-  pub get_suits : (url : UrlParts) (said : Reply) → v ≡ url.volume → ShowsOf settings v said ⊎ (said ≡ reply.NoMem) → SuitsGet settings url said ⊎ (said ≡ reply.NoMem)
-  get_suits url said same (inl shows) = inl (inr (inr (subst (λ u. ShowsOf settings u said) same shows)))
-  get_suits url said same (inr is) = inr is
+  pub read_suits : (first : ℕ) (said : Reply) → ShowsOf settings first v said ⊎ (said ≡ reply.NoMem) → SuitsRead settings first said
+  read_suits first said (inl shows) = inr (inl (v, below, shows))
+  read_suits first said (inr is) = inr (inr is)
+
+  pub get_suits : (url : UrlParts) (first : ℕ) (said : Reply) → v ≡ url.volume → ShowsOf settings first v said ⊎ (said ≡ reply.NoMem) → SuitsGet settings url first said ⊎ (said ≡ reply.NoMem)
+  get_suits url first said same (inl shows) = inl (inr (inr (subst (λ u. ShowsOf settings first u said) same shows)))
+  get_suits url first said same (inr is) = inr is
 
   -- DELETES
 

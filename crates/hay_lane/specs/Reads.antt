@@ -21,7 +21,7 @@ use Rattle.hay_meeting.specs.Sights.{Sight}
 use Rattle.hay_holdings.specs.Lines.{Looking, PassedOver, Unchanged}
 use Rattle.hay_holdings.specs.Sights.{AtVolume}
 use Rattle.hay_holdings.specs.Volumes.{SightWanted}
-use Rattle.hay_reader.specs.Causes.{ComeFirst}
+use Rattle.hay_reader.specs.Causes.{ComeFirst, tried_from}
 use Rattle.hay_reader.specs.Shown.{MayMean}
 use Rattle.hay_reader.specs.declared.causes.PassedReplica.{PassedReplica}
 use Rattle.hay_reader.specs.declared.seat.ReadReply.{ReadReply}
@@ -62,20 +62,24 @@ StopsBehind first replicas n (read.Unreadable causes) = Unit {0}
 abbrev pub IsOther : Cookie → Outcome → Type 0
 IsOther cookie what = (photo : PhotoOf) × (photo.cookie ≢ cookie) × (what ≡ outcome.Photo photo)
 
--- one of so many replicas showed it
-abbrev pub ShownWithin : ℕ → ReadReply → Type 0
-ShownWithin replicas (read.Photo j) = j < replicas
-ShownWithin replicas (read.Gone j) = j < replicas
-ShownWithin replicas (read.WrongCookie j) = j < replicas
-ShownWithin replicas (read.Unseen j causes) = Unit {0}
-ShownWithin replicas (read.Unreadable causes) = Unit {0}
+-- these replicas are so many, each once, from `first` on
+abbrev pub AreAll : ℕ → ℕ → List PassedReplica → Type 0
+AreAll first replicas causes = replicas_in causes ≡ tried_from first replicas replicas
+
+-- One of so many replicas showed it, or each was passed over.
+abbrev pub ShownWithin : ℕ → ℕ → ReadReply → Type 0
+ShownWithin first replicas (read.Photo j) = j < replicas
+ShownWithin first replicas (read.Gone j) = j < replicas
+ShownWithin first replicas (read.WrongCookie j) = j < replicas
+ShownWithin first replicas (read.Unseen j causes) = Unit {0}
+ShownWithin first replicas (read.Unreadable causes) = AreAll first replicas causes
 
 -- so with what was found, and a photo has at most as many bytes as the largest
-abbrev pub FoundWithin : ℕ → List ℕ → Found → Type 0
-FoundWithin replicas put (found.Photo j) = (j < replicas) × (length put ≤ MAX_PHOTO)
-FoundWithin replicas put (found.Gone j) = j < replicas
-FoundWithin replicas put (found.WrongCookie j) = j < replicas
-FoundWithin replicas put (found.Unreadable causes) = Unit {0}
+abbrev pub FoundWithin : ℕ → ℕ → List ℕ → Found → Type 0
+FoundWithin first replicas put (found.Photo j) = (j < replicas) × (length put ≤ MAX_PHOTO)
+FoundWithin first replicas put (found.Gone j) = j < replicas
+FoundWithin first replicas put (found.WrongCookie j) = j < replicas
+FoundWithin first replicas put (found.Unreadable causes) = AreAll first replicas causes
 
 -- what was read is what was found
 abbrev pub IsFoundAs : ReadReply → Found → Type 0

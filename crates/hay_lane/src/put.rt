@@ -118,7 +118,7 @@ impl<D: Disk<Piece = P>, P: Piece, L: DirectoryCalls> Shared<SharedVolume<D, P>,
             → IsOf (WasAt D.Tells D.files P.Tells D.fault_count D.fuse_count) L.is_at self.now.settings start lane.new }
         ensures arm { lane.new.arm ≡ lane.old.arm }
         ensures within { (volume : ℕ) → result ≡ Tries.Taker volume → volume < self.now.settings.volumes }
-        ensures refuse { (refused : List Refused) → result ≡ Tries.Nobody refused → AllZip (Refuses self.now.settings) (all_tries self.now.settings pair) refused }
+        ensures refuse { (refused : List Refused) → result ≡ Tries.Nobody refused → AllZip (Refuses self.now.settings size) (all_tries self.now.settings pair) refused }
         ensures fits { (refused : List Refused) → result ≡ Tries.Nobody refused → AllByRecursion FitsRefused refused }
         ensures tried { (start : Start) (d : ℕ) (a : Sight) → IsOf (WasAt D.Tells D.files P.Tells D.fault_count D.fuse_count) L.is_at self.now.settings start lane.old →
             Sees self.now.settings start self.now.drained.items tag pair d None a (sight sight_of L.sight A.fault_count lane.old) →
@@ -156,7 +156,7 @@ impl<D: Disk<Piece = P>, P: Piece, L: DirectoryCalls> Shared<SharedVolume<D, P>,
         ensures arm { lane.new.arm ≡ lane.old.arm }
         ensures tells { (start : Start) → IsOf (WasAt D.Tells D.files P.Tells D.fault_count D.fuse_count) L.is_at self.now.settings start lane.old →
             TryTells self.now.settings start self.now.drained.items tag volume size result (sight sight_of L.sight A.fault_count lane.old) (sight sight_of L.sight A.fault_count lane.new) }
-        ensures refuses { IfSome result (Refuses self.now.settings volume) }
+        ensures refuses { IfSome result (Refuses self.now.settings size volume) }
         ensures fits { IfSome result FitsRefused }
     {
         let Some(machine) = drained_by(&self.settings, self.drained.as_slice(), volume) else {

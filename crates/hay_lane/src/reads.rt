@@ -145,7 +145,7 @@ impl<D: Disk<Piece = P>, P: Piece, L: DirectoryCalls> Shared<SharedVolume<D, P>,
         ensures tells { (start : Start) (a : Sight) → IsOf (WasAt D.Tells D.files P.Tells D.fault_count D.fuse_count) L.is_at self.now.settings start lane.old →
             Sees self.now.settings start self.now.drained.items tag pair rows (Some volume) a (sight sight_of L.sight A.fault_count lane.old) →
             ShowTells self.now.settings start self.now.drained.items tag pair cookie rows volume first result a (sight sight_of L.sight A.fault_count lane.new) }
-        ensures suits { ShowsOf self.now.settings volume result ⊎ (result ≡ reply.NoMem) }
+        ensures suits { ShowsOf self.now.settings first volume result ⊎ (result ≡ reply.NoMem) }
         ensures blames { Blames A.is_sure A.fault_count lane.old.arm lane.new.arm (causes_told result) }
         ensures fits { FitsReply result }
     {
@@ -186,7 +186,7 @@ impl<D: Disk<Piece = P>, P: Piece, L: DirectoryCalls> Shared<SharedVolume<D, P>,
         ensures same { (start : Start) → IsOf (WasAt D.Tells D.files P.Tells D.fault_count D.fuse_count) L.is_at self.now.settings start lane.old
             → IsOf (WasAt D.Tells D.files P.Tells D.fault_count D.fuse_count) L.is_at self.now.settings start lane.new }
         ensures arm { IsLaterArm A.is_sure A.fault_count lane.old.arm lane.new.arm }
-        ensures within { IfOk result (λ answer. FoundWithin self.now.settings.replicas photo.new.items answer.1) }
+        ensures within { IfOk result (λ answer. FoundWithin first self.now.settings.replicas photo.new.items answer.1) }
         ensures blames { IfOk result (λ answer. Blames A.is_sure A.fault_count lane.old.arm lane.new.arm (causes_found answer.1)) }
         ensures found { (start : Start) (d : ℕ) (a : Sight) → IsOf (WasAt D.Tells D.files P.Tells D.fault_count D.fuse_count) L.is_at self.now.settings start lane.old →
             Sees self.now.settings start self.now.drained.items tag pair d (Some volume) a (sight sight_of L.sight A.fault_count lane.old) →
@@ -234,7 +234,7 @@ impl<D: Disk<Piece = P>, P: Piece, L: DirectoryCalls> Shared<SharedVolume<D, P>,
         ensures arm { IsLaterArm A.is_sure A.fault_count lane.old.arm lane.new.arm }
         ensures long { length result.0.row ≡ self.now.settings.replicas }
         ensures stops { StopsBehind first self.now.settings.replicas 0 result.1 }
-        ensures shown { ShownWithin self.now.settings.replicas result.1 }
+        ensures shown { ShownWithin first self.now.settings.replicas result.1 }
         ensures blames { Blames A.is_sure A.fault_count lane.old.arm lane.new.arm (causes_read result.1) }
         ensures bytes { HasBytes photo.new.items result.1 }
         ensures room { MAX_PHOTO ≤ vec_capacity photo.new }
@@ -278,7 +278,7 @@ impl<D: Disk<Piece = P>, P: Piece, L: DirectoryCalls> Shared<SharedVolume<D, P>,
         ensures arm { IsLaterArm A.is_sure A.fault_count lane.old.arm lane.new.arm }
         ensures long { IfOk result (λ on. length on.0.row ≡ self.now.settings.replicas) }
         ensures stops { IfOk result (λ on. StopsBehind first self.now.settings.replicas (length causes + 1) on.1) }
-        ensures shown { IfOk result (λ on. ShownWithin self.now.settings.replicas on.1) }
+        ensures shown { IfOk result (λ on. ShownWithin first self.now.settings.replicas on.1) }
         ensures blames { IfOk result (λ on. BlamesOn A.is_sure A.fault_count lane.old.arm lane.new.arm (causes_in causes) (causes_read on.1)) }
         ensures bytes { IfOk result (λ on. HasBytes photo.new.items on.1) }
         ensures room { MAX_PHOTO ≤ vec_capacity photo.new }
@@ -342,7 +342,7 @@ fn read_seen<P: Piece, A: Arm<P>>(
     ensures stays_sure { StaysSure (A.is_sure arm.old) (A.is_sure arm.new) (A.fault_count arm.old) (A.fault_count arm.new) }
     ensures later { A.fault_count arm.old ≤ A.fault_count arm.new }
     ensures most { (A.fault_count arm.new ≡ A.fault_count arm.old) ⊎ (A.fault_count arm.new < 2 ^ 64) }
-    ensures shown { ShownWithin (length row.now) result }
+    ensures shown { ShownWithin first (length row.now) result }
     ensures blames { BlamesOn A.is_sure A.fault_count arm.old arm.new (causes_in passed) (causes_read result) }
     ensures bytes { HasBytes photo.new.items result }
     ensures room { MAX_PHOTO ≤ vec_capacity photo.new }

@@ -1,9 +1,10 @@
 -- What a reply may be to each command, over whatever disks: what of it the command, its line's number and the settings fix.
-use Rattle.std.specs.Prelude.{◌≡◌, ◌≢◌, ◌⊎◌, ℕ, ◌<◌, ◌≤◌, ◌%◌, true, List, [], ◌∷◌, length, map, Option, Some, None}
+use Rattle.std.specs.Prelude.{◌≡◌, ◌≢◌, ◌⊎◌, ℕ, ◌+◌, ◌<◌, ◌≤◌, ◌%◌, true, List, [], ◌∷◌, length, map, Option, Some, None}
 use Rattle.std.specs.List.{AllZip, list_any}
 use Rattle.hay_needle.specs.declared.needle.Pair.{Pair}
 use Rattle.hay_needle.specs.declared.settings.Settings.{Settings}
 use Rattle.hay_needle.specs.declared.total.TheConstants.{MAX_PHOTO}
+use Rattle.hay_needle.specs.Sizes.{needle_total}
 use Rattle.hay_url.specs.declared.Url.{Url as UrlParts}
 use Rattle.hay_url.specs.Url.{cookie_of}
 use Rattle.hay_script.specs.declared.Command.{Command}
@@ -19,7 +20,7 @@ use Rattle.hay_reply.specs.declared.Reply.TheVariants.{NoMem}
 use Rattle.hay_legal.specs.declared.turn.Item.{Item}
 use Rattle.hay_legal.specs.declared.turn.Item.TheVariants as item
 use Rattle.hay_legal.specs.Known.{all_tries, machine_of, replica_on}
-use Rattle.hay_legal.specs.Plain.{as_closed, wants_room}
+use Rattle.hay_legal.specs.Plain.{as_closed, order_from, wants_room}
 
 -- the volume has a replica on this machine
 abbrev pub IsOn : Settings → ℕ → ℕ → Type 0
@@ -40,19 +41,23 @@ AtReplica None suits said = (said ≡ Nowhere) ⊎ (said ≡ NoMem)
 abbrev pub MayTry : Settings → Pair → List ℕ → Type 0
 MayTry settings pair tries = (tries ≡ all_tries settings pair) ⊎ ((v : ℕ) × (v < settings.volumes) × (tries ≡ v ∷ []))
 
--- how one of them refuses: a replica lacks room, or a machine closes the volume
-abbrev pub Refuses : Settings → ℕ → Refused → Type 0
-Refuses settings v (NoRoom v' m end need) = (v' ≡ v) × IsOn settings v m
-Refuses settings v (Closed v' m) = (v' ≡ v) × IsOn settings v m
+-- behind this end there is no room for a photo of this size, whose needle needs so many bytes
+abbrev pub HasNoRoom : Settings → ℕ → ℕ → ℕ → Type 0
+HasNoRoom settings size end need = (need ≡ needle_total size) × (settings.capacity < end + needle_total size + 8)
 
-abbrev pub IsRefusedBy : Settings → Pair → List Refused → Type 0
-IsRefusedBy settings pair refused = (tries : List ℕ) × MayTry settings pair tries × AllZip (Refuses settings) tries refused
+-- how one of them refuses a photo of this size: a replica lacks room, or a machine closes the volume
+abbrev pub Refuses : Settings → ℕ → ℕ → Refused → Type 0
+Refuses settings size v (NoRoom v' m end need) = (v' ≡ v) × IsOn settings v m × HasNoRoom settings size end need
+Refuses settings size v (Closed v' m) = (v' ≡ v) × IsOn settings v m
 
-abbrev pub SuitsPut : Settings → Pair → Reply → Type 0
-SuitsPut settings pair said =
+abbrev pub IsRefusedBy : Settings → Pair → ℕ → List Refused → Type 0
+IsRefusedBy settings pair size refused = (tries : List ℕ) × MayTry settings pair tries × AllZip (Refuses settings size) tries refused
+
+abbrev pub SuitsPut : Settings → Pair → ℕ → Reply → Type 0
+SuitsPut settings pair size said =
     ((v : ℕ) × (p : ℕ) × (d : ℕ) × (v < settings.volumes) × (said ≡ Stored v p d (cookie_of settings.secret pair.key)))
-    ⊎ ((refused : List Refused) × IsRefusedBy settings pair refused × (list_any wants_room refused ≡ true) × (said ≡ Full refused))
-    ⊎ ((closed : List ClosedBy) × IsRefusedBy settings pair (map as_closed closed) × (said ≡ ReadOnly closed))
+    ⊎ ((refused : List Refused) × IsRefusedBy settings pair size refused × (list_any wants_room refused ≡ true) × (said ≡ Full refused))
+    ⊎ ((closed : List ClosedBy) × IsRefusedBy settings pair size (map as_closed closed) × (said ≡ ReadOnly closed))
     ⊎ (said ≡ ReadOnlyDir)
     ⊎ ((v : ℕ) × (m : ℕ) × (count : ℕ) × IsOn settings v m × (said ≡ Failed v m count))
     ⊎ ((count : ℕ) × (said ≡ FailedDir count))
@@ -60,26 +65,30 @@ SuitsPut settings pair said =
 
 -- READS
 
--- what is shown of a volume: a photo has at most as many bytes as the largest
-abbrev pub ShowsOf : Settings → ℕ → Reply → Type 0
-ShowsOf settings v said =
+-- each replica of a volume is named once, in the order of a read that starts at this one
+abbrev pub NamesEach : Settings → ℕ → ℕ → List Passed → Type 0
+NamesEach settings start v causes = map (λ passed. passed.machine) causes ≡ map (machine_of settings v) (order_from settings start)
+
+-- what a read that starts at this replica shows of a volume: a photo has at most as many bytes as the largest
+abbrev pub ShowsOf : Settings → ℕ → ℕ → Reply → Type 0
+ShowsOf settings start v said =
     ((m : ℕ) × (p : ℕ) × (d : ℕ) × (bytes : List ℕ) × IsOn settings v m × (length bytes ≤ MAX_PHOTO) × (said ≡ Photo v m p d bytes))
     ⊎ ((m : ℕ) × (p : ℕ) × (d : ℕ) × IsOn settings v m × (said ≡ Gone v m p d))
     ⊎ ((m : ℕ) × (p : ℕ) × (d : ℕ) × IsOn settings v m × (said ≡ WrongCookie v m p d))
-    ⊎ ((p : ℕ) × (d : ℕ) × (causes : List Passed) × (said ≡ Unreadable v p d causes))
+    ⊎ ((p : ℕ) × (d : ℕ) × (causes : List Passed) × NamesEach settings start v causes × (said ≡ Unreadable v p d causes))
 
-abbrev pub SuitsRead : Settings → Reply → Type 0
-SuitsRead settings said =
+abbrev pub SuitsRead : Settings → ℕ → Reply → Type 0
+SuitsRead settings start said =
     ((d : ℕ) × (said ≡ Unknown d))
-    ⊎ ((v : ℕ) × (v < settings.volumes) × ShowsOf settings v said)
+    ⊎ ((v : ℕ) × (v < settings.volumes) × ShowsOf settings start v said)
     ⊎ (said ≡ NoMem)
 
 -- a get shows the URL's volume, or names another
-abbrev pub SuitsGet : Settings → UrlParts → Reply → Type 0
-SuitsGet settings url said =
+abbrev pub SuitsGet : Settings → UrlParts → ℕ → Reply → Type 0
+SuitsGet settings url start said =
     ((d : ℕ) × (said ≡ Unknown d))
     ⊎ ((v : ℕ) × (d : ℕ) × (v < settings.volumes) × (v ≢ url.volume) × (said ≡ Moved v d))
-    ⊎ ShowsOf settings url.volume said
+    ⊎ ShowsOf settings start url.volume said
 
 -- DELETES AND URLS
 
@@ -147,9 +156,9 @@ SuitsFuse None done said = said ≡ Nowhere
 
 -- A reply is one that the command of this line may be given. A restart is not answered by one.
 abbrev pub Suits : Settings → ℕ → Command → Reply → Type 0
-Suits settings line (asks.Put pair photo) said = SuitsPut settings pair said
-Suits settings line (asks.Read pair cookie) said = SuitsRead settings said
-Suits settings line (asks.Get url) said = AtReplica (replica_on settings url.volume url.machine) (λ replica. SuitsGet settings url) said
+Suits settings line (asks.Put pair photo) said = SuitsPut settings pair (length photo) said
+Suits settings line (asks.Read pair cookie) said = SuitsRead settings (start_at settings line) said
+Suits settings line (asks.Get url) said = AtReplica (replica_on settings url.volume url.machine) (SuitsGet settings url) said
 Suits settings line (asks.Del pair) said = SuitsDel settings said
 Suits settings line (asks.Url pair) said = SuitsUrl settings (start_at settings line) pair said
 Suits settings line (asks.Flush v m) said = AtReplica (replica_on settings v m) (λ replica. SuitsFlush settings v m) said

@@ -989,7 +989,7 @@ photo_longer_than_the_largest Tells settings before after pair cookie v m f d nu
     read (inr (inl (w, below, inl (m', p, d', bytes, on, short, is)))) = let same : photo ≡ bytes = cc in omega (arith, longer, short, ap length same)
     read (inr (inl (w, below, inr (inl (m', p, d', on, is))))) = cc
     read (inr (inl (w, below, inr (inr (inl (m', p, d', on, is)))))) = cc
-    read (inr (inl (w, below, inr (inr (inr (p, d', causes, is)))))) = cc
+    read (inr (inl (w, below, inr (inr (inr (p, d', causes, each, is)))))) = cc
     read (inr (inr is)) = cc
 
 -- PLACES AND DAMAGE

@@ -2,10 +2,9 @@
 use Rattle.std.proofs.Common.{◌≡◌, ℕ, Bool, true, false, Option, Some, None, sym, subst}
 use Rattle.std.specs.Prelude.{Result, Ok, Err, IfErr, IfSome}
 use Rattle.hay_needle.specs.declared.settings.Settings.{Settings}
-use Rattle.hay_logical.specs.Answers.{IsRoomFault}
 use Rattle.hay_logical.specs.declared.fault.LogicalFault.{LogicalFault}
 use Rattle.hay_logical.specs.declared.fault.LogicalFault.TheVariants.{Busy, Damaged, Failed, Full, Gone, Idle, NoMemory, ReadOnly, Worn}
-use Rattle.hay_volume_lock.specs.Refusing.{RefusesBegin, RefusesDelete, RefusesEnd, RefusesFlush, RefusesPut, RefusesRun}
+use Rattle.hay_volume_lock.specs.Refusing.{RefusesBegin, RefusesDelete, RefusesEnd, RefusesFlush, RefusesPut, RefusesRoom, RefusesRun}
 use Rattle.hay_volume_lock.specs.declared.compactions.Examined.{Examined}
 use Rattle.hay_volume_lock.specs.declared.refusals.Finished.{Finished}
 use Rattle.hay_volume_lock.specs.declared.refusals.Uncompacted.{Uncompacted}
@@ -24,29 +23,29 @@ use Rattle.hay_shared_volume.specs.Answers.{IsBegin, IsCompaction, IsDelete, IsF
 use Rattle.hay_shared_volume.specs.Naming.{NamesBegin, NamesCompaction, NamesDelete, NamesFinish, NamesFlush, NamesPut, NamesRoom, NamesStep}
 
 module _ (settings : Settings) (v : ℕ) where
-  pub room_names : (answer : Result Unit LogicalFault) (r : Room) → IsRoom answer r → IfErr answer (IsRoomFault settings v) → NamesRoom settings v r
-  room_names (Ok done) r is from = subst (NamesRoom settings v) (sym is) tt
-  room_names (Err (ReadOnly m)) r is from = subst (NamesRoom settings v) (sym is) from
-  room_names (Err (Full m end need capacity)) r is from = subst (NamesRoom settings v) (sym is) from
-  room_names (Err (Gone front)) r is from = absurd from
-  room_names (Err (Failed m f)) r is from = absurd from
-  room_names (Err (Busy m g)) r is from = absurd from
-  room_names (Err (Worn m)) r is from = absurd from
-  room_names (Err Idle) r is from = absurd from
-  room_names (Err (Damaged m at)) r is from = absurd from
-  room_names (Err NoMemory) r is from = absurd from
+  pub room_names : (size : ℕ) (answer : Result Unit LogicalFault) (r : Room) → IsRoom answer r → IfErr answer (RefusesRoom settings v size) → NamesRoom settings v size r
+  room_names size (Ok done) r is from = subst (NamesRoom settings v size) (sym is) tt
+  room_names size (Err (ReadOnly m)) r is from = subst (NamesRoom settings v size) (sym is) from
+  room_names size (Err (Full m end need capacity)) r is from = subst (NamesRoom settings v size) (sym is) from
+  room_names size (Err (Gone front)) r is from = absurd from
+  room_names size (Err (Failed m f)) r is from = absurd from
+  room_names size (Err (Busy m g)) r is from = absurd from
+  room_names size (Err (Worn m)) r is from = absurd from
+  room_names size (Err Idle) r is from = absurd from
+  room_names size (Err (Damaged m at)) r is from = absurd from
+  room_names size (Err NoMemory) r is from = absurd from
 
-  pub put_names : (answer : Result ℕ LogicalFault) (r : Put) → IsPut answer r → IfErr answer (RefusesPut settings v) → NamesPut settings v r
-  put_names (Ok p) r is from = subst (NamesPut settings v) (sym is) tt
-  put_names (Err (ReadOnly m)) r is from = subst (NamesPut settings v) (sym is) from
-  put_names (Err (Full m end need capacity)) r is from = subst (NamesPut settings v) (sym is) from
-  put_names (Err (Gone front)) r is from = absurd from
-  put_names (Err (Failed m f)) r is from = subst (NamesPut settings v) (sym is) from
-  put_names (Err (Busy m g)) r is from = absurd from
-  put_names (Err (Worn m)) r is from = absurd from
-  put_names (Err Idle) r is from = absurd from
-  put_names (Err (Damaged m at)) r is from = absurd from
-  put_names (Err NoMemory) r is from = subst (NamesPut settings v) (sym is) tt
+  pub put_names : (size : ℕ) (answer : Result ℕ LogicalFault) (r : Put) → IsPut answer r → IfErr answer (RefusesPut settings v size) → NamesPut settings v size r
+  put_names size (Ok p) r is from = subst (NamesPut settings v size) (sym is) tt
+  put_names size (Err (ReadOnly m)) r is from = subst (NamesPut settings v size) (sym is) from
+  put_names size (Err (Full m end need capacity)) r is from = subst (NamesPut settings v size) (sym is) from
+  put_names size (Err (Gone front)) r is from = absurd from
+  put_names size (Err (Failed m f)) r is from = subst (NamesPut settings v size) (sym is) from
+  put_names size (Err (Busy m g)) r is from = absurd from
+  put_names size (Err (Worn m)) r is from = absurd from
+  put_names size (Err Idle) r is from = absurd from
+  put_names size (Err (Damaged m at)) r is from = absurd from
+  put_names size (Err NoMemory) r is from = subst (NamesPut settings v size) (sym is) tt
 
   pub delete_names : (answer : Result ℕ LogicalFault) (r : Delete) → IsDelete answer r → IfErr answer (RefusesDelete settings v) → NamesDelete settings v r
   delete_names (Ok p) r is from = subst (NamesDelete settings v) (sym is) tt

@@ -1,6 +1,8 @@
--- Which machines the answers of calls at a volume's lock name, whatever the disks tell: each has a replica of the volume.
+-- Which machines the answers of calls at a volume's lock name, whatever the disks tell: each has a replica of the volume. One that lacks
+-- room for a photo has an end behind which there is none.
 use Rattle.std.specs.Prelude.{ℕ}
 use Rattle.hay_needle.specs.declared.settings.Settings.{Settings}
+use Rattle.hay_legal.specs.Suiting.{HasNoRoom}
 use Rattle.hay_logical.specs.Volumes.{IsMachineOf}
 use Rattle.hay_shared_volume.specs.declared.answers.Room.{Room}
 use Rattle.hay_shared_volume.specs.declared.answers.Room.TheVariants as room
@@ -20,17 +22,17 @@ use Rattle.hay_shared_volume.specs.declared.answers.Compaction.{Compaction}
 use Rattle.hay_shared_volume.specs.declared.answers.Compaction.TheVariants as compaction
 
 module _ (settings : Settings) (v : ℕ) where
-  abbrev pub NamesRoom : Room → Type 0
-  NamesRoom room.Fits = Unit {0}
-  NamesRoom (room.Frozen m) = IsMachineOf settings v m
-  NamesRoom (room.Lacks m end need) = IsMachineOf settings v m
+  abbrev pub NamesRoom : ℕ → Room → Type 0
+  NamesRoom size room.Fits = Unit {0}
+  NamesRoom size (room.Frozen m) = IsMachineOf settings v m
+  NamesRoom size (room.Lacks m end need) = IsMachineOf settings v m × HasNoRoom settings size end need
 
-  abbrev pub NamesPut : Put → Type 0
-  NamesPut (put.Stored p) = Unit {0}
-  NamesPut (put.Frozen m) = IsMachineOf settings v m
-  NamesPut (put.Lacks m end need) = IsMachineOf settings v m
-  NamesPut (put.Failed m f) = IsMachineOf settings v m
-  NamesPut put.NoMemory = Unit {0}
+  abbrev pub NamesPut : ℕ → Put → Type 0
+  NamesPut size (put.Stored p) = Unit {0}
+  NamesPut size (put.Frozen m) = IsMachineOf settings v m
+  NamesPut size (put.Lacks m end need) = IsMachineOf settings v m × HasNoRoom settings size end need
+  NamesPut size (put.Failed m f) = IsMachineOf settings v m
+  NamesPut size put.NoMemory = Unit {0}
 
   abbrev pub NamesDelete : Delete → Type 0
   NamesDelete (delete.Deleted p) = Unit {0}

@@ -91,7 +91,7 @@ impl<D: Disk<Piece = P>, P: Piece> SharedVolume<D, P> {
         requires fits { (v : ℕ) × (settings : Settings) × IsSeatOf v self.now settings tag.lane seat.old }
         requires size { size ≤ MAX_PHOTO }
         ensures stays { (v : ℕ) → Stays (IsSeatOf v) (WasAt D.Tells D.files P.Tells D.fault_count D.fuse_count) self.now seat.old seat.new }
-        ensures names { (v : ℕ) (settings : Settings) → IsSeatOf v self.now settings tag.lane seat.old → NamesRoom settings v result }
+        ensures names { (v : ℕ) (settings : Settings) → IsSeatOf v self.now settings tag.lane seat.old → NamesRoom settings v size result }
         ensures tells { (volume : StoreVolume) → WasAt D.Tells D.files P.Tells D.fault_count D.fuse_count seat.old volume → RoomTells volume tag size result seat.old.sight seat.new.sight }
     {
         room_of(self.lock.room(rt, seat, size))
@@ -112,7 +112,7 @@ impl<D: Disk<Piece = P>, P: Piece> SharedVolume<D, P> {
         requires fits { (v : ℕ) × (settings : Settings) × IsSeatOf v self.now settings tag.lane seat.old }
         requires size { length bytes.now ≤ MAX_PHOTO }
         ensures stays { (v : ℕ) → Stays (IsSeatOf v) (WasAt D.Tells D.files P.Tells D.fault_count D.fuse_count) self.now seat.old seat.new }
-        ensures names { (v : ℕ) (settings : Settings) → IsSeatOf v self.now settings tag.lane seat.old → NamesPut settings v result }
+        ensures names { (v : ℕ) (settings : Settings) → IsSeatOf v self.now settings tag.lane seat.old → NamesPut settings v (length bytes.now) result }
         ensures tells { (volume : StoreVolume) → WasAt D.Tells D.files P.Tells D.fault_count D.fuse_count seat.old volume
             → PutTells volume tag pair cookie bytes.now result seat.old.sight seat.new.sight }
     {

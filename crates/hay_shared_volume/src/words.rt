@@ -1,8 +1,7 @@
 //! The answers of a volume's lock, in a lane's words.
 ghost use Rattle.std.specs.Prelude.{◌≡◌, ℕ, IfErr, IfSome};
 ghost use Rattle.hay_needle.specs.declared.settings.Settings.{Settings};
-ghost use Rattle.hay_logical.specs.Answers.{IsRoomFault};
-ghost use Rattle.hay_volume_lock.specs.Refusing.{RefusesBegin, RefusesDelete, RefusesEnd, RefusesFlush, RefusesPut, RefusesRun, RefusesSight};
+ghost use Rattle.hay_volume_lock.specs.Refusing.{RefusesBegin, RefusesDelete, RefusesEnd, RefusesFlush, RefusesPut, RefusesRoom, RefusesRun, RefusesSight};
 ghost use Rattle.hay_shared_volume.specs.Answers.{IsBegin, IsBeginRefused, IsCompaction, IsDelete, IsDeleteRefused, IsEndDone, IsEndRefused, IsFinish, IsFinishDone};
 ghost use Rattle.hay_shared_volume.specs.Answers.{IsFinishRefused, IsFlush, IsFlushRefused, IsLost, IsPut, IsPutRefused, IsRoom, IsRoomRefused, IsSightFault, IsStep, IsStepHalted};
 ghost use Rattle.hay_shared_volume.specs.Answers.{looked_as};
@@ -41,7 +40,7 @@ pub(crate) fn sight_fault_of(fault: LogicalFault) -> SightFault
 }
 
 fn room_refused(fault: LogicalFault) -> Room
-    requires { (settings : Settings) × (v : ℕ) × IsRoomFault settings v fault }
+    requires { (settings : Settings) × (v : ℕ) × (size : ℕ) × RefusesRoom settings v size fault }
     ensures { IsRoomRefused fault result }
 {
     match fault {
@@ -63,7 +62,7 @@ fn room_refused(fault: LogicalFault) -> Room
 }
 
 pub(crate) fn room_of(answer: Result<(), LogicalFault>) -> Room
-    requires { (settings : Settings) × (v : ℕ) × IfErr answer (IsRoomFault settings v) }
+    requires { (settings : Settings) × (v : ℕ) × (size : ℕ) × IfErr answer (RefusesRoom settings v size) }
     ensures { IsRoom answer result }
 {
     match answer {
@@ -73,7 +72,7 @@ pub(crate) fn room_of(answer: Result<(), LogicalFault>) -> Room
 }
 
 fn put_refused(fault: LogicalFault) -> Put
-    requires { (settings : Settings) × (v : ℕ) × RefusesPut settings v fault }
+    requires { (settings : Settings) × (v : ℕ) × (size : ℕ) × RefusesPut settings v size fault }
     ensures { IsPutRefused fault result }
 {
     match fault {
@@ -95,7 +94,7 @@ fn put_refused(fault: LogicalFault) -> Put
 }
 
 pub(crate) fn put_of(answer: Result<u64, LogicalFault>) -> Put
-    requires { (settings : Settings) × (v : ℕ) × IfErr answer (RefusesPut settings v) }
+    requires { (settings : Settings) × (v : ℕ) × (size : ℕ) × IfErr answer (RefusesPut settings v size) }
     ensures { IsPut answer result }
 {
     match answer {

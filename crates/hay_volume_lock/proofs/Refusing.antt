@@ -1,17 +1,21 @@
 -- What refuses a call, by the cause that the volume gives.
-use Rattle.std.proofs.Common.{◌≡◌, ℕ, List, Option, Some, None, subst}
+use Rattle.std.proofs.Common.{◌≡◌, ℕ, ◌+◌, ◌<◌, List, Option, Some, None, sym, subst}
 use Rattle.std.specs.Prelude.{Result, Ok, Err, IfErr, IfSome}
+use Rattle.hay_core.specs.declared.entry.CoreTag.{CoreTag}
 use Rattle.hay_disk.specs.Disk.{Files}
-use Rattle.hay_logical.specs.Answers.{IsBeginFault, IsDeleteFault, IsFlushFault, IsPutFault, IsRunFault, IsSightFault}
+use Rattle.hay_legal.specs.Suiting.{HasNoRoom}
+use Rattle.hay_logical.specs.Answers.{IsBeginFault, IsDeleteFault, IsFlushFault, IsPutFault, IsRoomFault, IsRunFault, IsSightFault}
 use Rattle.hay_logical.specs.declared.fault.LogicalFault.{LogicalFault}
 use Rattle.hay_logical.specs.declared.fault.LogicalFault.TheVariants.{Busy, Damaged, Failed, Full, Gone, Idle, NoMemory, ReadOnly, Worn}
+use Rattle.hay_logical.specs.Seen.{FullSeen, PutRefusedSeen, RoomRefusedSeen, VolumeSeen}
 use Rattle.hay_logical.specs.Volumes.{IsSame, Volume}
 use Rattle.hay_meeting.specs.declared.act.VolumeAct.{VolumeAct}
+use Rattle.hay_needle.specs.Sizes.{needle_total}
 use Rattle.hay_needle.specs.declared.settings.Settings.{Settings}
 use Rattle.hay_physical.specs.OpenCopies.{Copy}
 use Rattle.hay_turn.specs.Seats.{Holds, SeatState}
 use Rattle.hay_volume_lock.specs.Keeping.{IsKept}
-use Rattle.hay_volume_lock.specs.Refusing.{OfOpened, RefusesBegin, RefusesDelete, RefusesFlush, RefusesPut, RefusesRun, RefusesSight}
+use Rattle.hay_volume_lock.specs.Refusing.{OfOpened, RefusesBegin, RefusesDelete, RefusesFlush, RefusesPut, RefusesRoom, RefusesRun, RefusesSight}
 use Rattle.hay_volume_lock.specs.Seats.{IsSeated}
 use Rattle.hay_volume_lock.specs.Tries.{flush_answer}
 use Rattle.hay_volume_lock.specs.declared.guarded.Guarded.{Guarded}
@@ -29,20 +33,38 @@ of_opened Tells files PieceTells faults fuses {kept = kept} seated holds IsSo is
     subst (λ (o : Opened _ _). IsSo (o.volume).settings (o.volume).number) same
     (subst (λ (n : ℕ). IsSo ((seated.opened).volume).settings n) held.number (subst (λ (s : Settings). IsSo s (kept.logical).number) held.same_settings is))
 
+-- WANT OF ROOM, by what was seen of the volume
+
+module _ (settings : Settings) (v size : ℕ) where
+  no_room : (seen : VolumeSeen) (m end need capacity : ℕ) → FullSeen settings v size seen m end need capacity → HasNoRoom settings size end need
+  no_room seen m end need capacity full = (full.need_is, subst (λ (e : ℕ). settings.capacity < e + needle_total size + 8) (sym full.end_is) full.lacks)
+
+  pub refuses_room : (seen : VolumeSeen) (fault : LogicalFault) → IsRoomFault settings v fault → RoomRefusedSeen settings v size seen fault → RefusesRoom settings v size fault
+  refuses_room seen (ReadOnly m) cause refused = cause
+  refuses_room seen (Full m end need capacity) cause refused = (cause, no_room seen m end need capacity refused)
+  refuses_room seen (Failed m f) cause refused = absurd cause
+  refuses_room seen (Gone front) cause refused = absurd cause
+  refuses_room seen (Busy m g) cause refused = absurd cause
+  refuses_room seen (Worn m) cause refused = absurd cause
+  refuses_room seen Idle cause refused = absurd cause
+  refuses_room seen (Damaged m at) cause refused = absurd cause
+  refuses_room seen NoMemory cause refused = absurd cause
+
+  pub refuses_put : {D : Type 0} (faults : D → ℕ) (old new : List (Copy D)) (tag : CoreTag) (before after : VolumeSeen) (fault : LogicalFault)
+      → IsPutFault faults settings v old new fault → PutRefusedSeen settings v tag size before after fault → RefusesPut settings v size fault
+  refuses_put faults old new tag before after (Failed m f) cause refused = (cause.replica, cause.within, cause.machine)
+  refuses_put faults old new tag before after (ReadOnly m) cause refused = cause
+  refuses_put faults old new tag before after (Full m end need capacity) cause refused = (cause, no_room before m end need capacity refused.1)
+  refuses_put faults old new tag before after NoMemory cause refused = tt
+  refuses_put faults old new tag before after (Gone front) cause refused = absurd cause
+  refuses_put faults old new tag before after (Busy m g) cause refused = absurd cause
+  refuses_put faults old new tag before after (Worn m) cause refused = absurd cause
+  refuses_put faults old new tag before after Idle cause refused = absurd cause
+  refuses_put faults old new tag before after (Damaged m at) cause refused = absurd cause
+
 -- BY THE CAUSE of a refusal
 
 module _ (settings : Settings) (v : ℕ) {D : Type 0} (faults : D → ℕ) (old new : List (Copy D)) where
-  pub refuses_put : (fault : LogicalFault) → IsPutFault faults settings v old new fault → RefusesPut settings v fault
-  refuses_put (Failed m f) cause = (cause.replica, cause.within, cause.machine)
-  refuses_put (ReadOnly m) cause = cause
-  refuses_put (Full m end need capacity) cause = cause
-  refuses_put NoMemory cause = tt
-  refuses_put (Gone front) cause = absurd cause
-  refuses_put (Busy m g) cause = absurd cause
-  refuses_put (Worn m) cause = absurd cause
-  refuses_put Idle cause = absurd cause
-  refuses_put (Damaged m at) cause = absurd cause
-
   pub refuses_delete : (fault : LogicalFault) → IsDeleteFault faults settings v old new fault → RefusesDelete settings v fault
   refuses_delete (Failed m f) cause = (cause.replica, cause.within, cause.machine)
   refuses_delete (ReadOnly m) cause = cause
@@ -118,6 +140,11 @@ module _ (settings : Settings) (v : ℕ) {D : Type 0} (faults : D → ℕ) (old 
 pub err_refused : {A : Type 0} {P Q : LogicalFault → Type 0} → ((fault : LogicalFault) → P fault → Q fault) → (answer : Result A LogicalFault) → IfErr answer P → IfErr answer Q
 err_refused so (Ok done) is = tt
 err_refused so (Err fault) is = so fault is
+
+pub err_seen : {A : Type 0} {P Q R : LogicalFault → Type 0} → ((fault : LogicalFault) → P fault → Q fault → R fault) → (answer : Result A LogicalFault)
+    → IfErr answer P → IfErr answer Q → IfErr answer R
+err_seen so (Ok done) is seen = tt
+err_seen so (Err fault) is seen = so fault is seen
 
 pub some_refused : {P Q : LogicalFault → Type 0} → ((fault : LogicalFault) → P fault → Q fault) → (refused : Option LogicalFault) → IfSome refused P → IfSome refused Q
 some_refused so None is = tt

@@ -1,6 +1,7 @@
 -- What refuses each call, whatever the disks tell, and which machine it names.
 use Rattle.std.specs.Prelude.{◌≡◌, ℕ, Option, Some}
 use Rattle.hay_legal.specs.Known.{machine_of}
+use Rattle.hay_legal.specs.Suiting.{HasNoRoom}
 use Rattle.hay_logical.specs.declared.fault.LogicalFault.{LogicalFault}
 use Rattle.hay_logical.specs.declared.fault.LogicalFault.TheVariants.{Busy, Damaged, Failed, Full, Gone, Idle, NoMemory, ReadOnly, Worn}
 use Rattle.hay_logical.specs.Volumes.{IsMachineOf}
@@ -13,16 +14,29 @@ use Rattle.hay_volume_lock.specs.declared.refusals.Uncompacted.TheVariants as lo
 abbrev pub OfOpened : {D P : Type 0} → Option (Opened D P) → (Settings → ℕ → Type 0) → Type 0
 OfOpened {D} {P} start IsSo = (opened : Opened D P) → start ≡ Some opened → IsSo (opened.volume).settings (opened.volume).number
 
-abbrev pub RefusesPut : Settings → ℕ → LogicalFault → Type 0
-RefusesPut settings v (Failed m f) = IsMachineOf settings v m
-RefusesPut settings v (ReadOnly m) = IsMachineOf settings v m
-RefusesPut settings v (Full m end need capacity) = IsMachineOf settings v m
-RefusesPut settings v NoMemory = Unit {0}
-RefusesPut settings v (Gone front) = ⊥
-RefusesPut settings v (Busy m g) = ⊥
-RefusesPut settings v (Worn m) = ⊥
-RefusesPut settings v Idle = ⊥
-RefusesPut settings v (Damaged m at) = ⊥
+-- whether a photo of this size has room
+abbrev pub RefusesRoom : Settings → ℕ → ℕ → LogicalFault → Type 0
+RefusesRoom settings v size (ReadOnly m) = IsMachineOf settings v m
+RefusesRoom settings v size (Full m end need capacity) = IsMachineOf settings v m × HasNoRoom settings size end need
+RefusesRoom settings v size (Failed m f) = ⊥
+RefusesRoom settings v size (Gone front) = ⊥
+RefusesRoom settings v size (Busy m g) = ⊥
+RefusesRoom settings v size (Worn m) = ⊥
+RefusesRoom settings v size Idle = ⊥
+RefusesRoom settings v size (Damaged m at) = ⊥
+RefusesRoom settings v size NoMemory = ⊥
+
+-- a put of a photo of this size
+abbrev pub RefusesPut : Settings → ℕ → ℕ → LogicalFault → Type 0
+RefusesPut settings v size (Failed m f) = IsMachineOf settings v m
+RefusesPut settings v size (ReadOnly m) = IsMachineOf settings v m
+RefusesPut settings v size (Full m end need capacity) = IsMachineOf settings v m × HasNoRoom settings size end need
+RefusesPut settings v size NoMemory = Unit {0}
+RefusesPut settings v size (Gone front) = ⊥
+RefusesPut settings v size (Busy m g) = ⊥
+RefusesPut settings v size (Worn m) = ⊥
+RefusesPut settings v size Idle = ⊥
+RefusesPut settings v size (Damaged m at) = ⊥
 
 abbrev pub RefusesDelete : Settings → ℕ → LogicalFault → Type 0
 RefusesDelete settings v (Failed m f) = IsMachineOf settings v m

@@ -109,7 +109,7 @@ impl<D: Disk<Piece = P>, P: Piece> VolumeLock<D, P> {
         ensures put { IsTold D.Tells D.files P.Tells D.fault_count D.fuse_count seat.old.start (λ volume. PutAnswer volume tag pair cookie bytes.now result seat.old.sight seat.new.sight) }
         ensures causes { (m f : ℕ) → result ≡ Err (LogicalFault.Failed m f) →
             IsAlways D.fault_count D.fuse_count seat.old.start (λ volume. DiskFailed volume tag m f seat.old.sight seat.new.sight) }
-        ensures refusals { OfOpened seat.old.start (λ settings v. IfErr result (RefusesPut settings v)) }
+        ensures refusals { OfOpened seat.old.start (λ settings v. IfErr result (RefusesPut settings v (length bytes.now))) }
         ensures held { OneHolding tag seat.old.sight seat.new.sight }
         ensures same { IsSameSeat seat.old seat.new }
     {

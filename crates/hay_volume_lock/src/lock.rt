@@ -2,10 +2,9 @@
 ghost use Rattle.std.specs.Prelude.{◌≡◌, ℕ, Option, Err, IfErr, IfSome};
 ghost use Rattle.hay_core.specs.declared.entry.CoreTag.{CoreTag};
 ghost use Rattle.hay_holdings.specs.Volumes.{Fused};
-ghost use Rattle.hay_logical.specs.Answers.{IsRoomFault};
 ghost use Rattle.hay_logical.specs.Volumes.{IsMachineOf};
 ghost use Rattle.hay_volume_lock.specs.Answers.{BeginAnswer, FailedLook, FlushAnswer, FlushRefused, FrozenAnswer, IsAlways, IsTold, OneHolding, RoomAnswer};
-ghost use Rattle.hay_volume_lock.specs.Refusing.{OfOpened, RefusesBegin, RefusesFlush};
+ghost use Rattle.hay_volume_lock.specs.Refusing.{OfOpened, RefusesBegin, RefusesFlush, RefusesRoom};
 ghost use Rattle.hay_volume_lock.specs.Seats.{HasReplica, IsSameSeat, MayAct, Rests};
 
 use crate::act::{Act, Made};
@@ -59,7 +58,7 @@ impl<D: Disk<Piece = P>, P: Piece> VolumeLock<D, P> {
     ) -> Result<(), LogicalFault>
         requires rests { Rests self.now seat.old }
         ensures room { (tag : CoreTag) → IsTold D.Tells D.files P.Tells D.fault_count D.fuse_count seat.old.start (λ volume. RoomAnswer volume tag size result seat.old.sight seat.new.sight) }
-        ensures refusals { OfOpened seat.old.start (λ settings v. IfErr result (IsRoomFault settings v)) }
+        ensures refusals { OfOpened seat.old.start (λ settings v. IfErr result (RefusesRoom settings v size)) }
         ensures held { (tag : CoreTag) → OneHolding tag seat.old.sight seat.new.sight }
         ensures same { IsSameSeat seat.old seat.new }
     {

@@ -21,7 +21,7 @@ pub returns-clause-shown : goal.returns-clause-shown
 returns-clause-shown g c =
     let some = c.requires.first in
     let within : (c.args.first + length c.args.passed) % length c.args.row.now < length c.args.row.now = omega (arith, some) in
-    shown_at (length c.args.row.now) ((c.args.first + length c.args.passed) % length c.args.row.now) c.show_seen.result within c.show_seen.ensures.next
+    shown_at c.args.first (length c.args.row.now) ((c.args.first + length c.args.passed) % length c.args.row.now) c.show_seen.result within c.show_seen.ensures.next
 
 pub returns-then-is_empty-clause-blames : goal.returns-then-is_empty-clause-blames
 returns-then-is_empty-clause-blames g c =

@@ -14,7 +14,7 @@ use Rattle.hay_cluster.specs.Sights.{LeavesSights, PutSights, ReadSights, WorkSi
 use Rattle.hay_reply.specs.declared.Reply.{Reply}
 use Rattle.hay_reply.specs.declared.Reply.TheVariants.{Deleted, Drained, Fused, FusedDir, Undrained}
 use Rattle.hay_legal.specs.Known.{replica_on}
-use Rattle.hay_legal.specs.Suiting.{Suits}
+use Rattle.hay_legal.specs.Suiting.{Suits, SuitsPut}
 use Rattle.hay_cluster.proofs.cluster.Cluster.answer.Goals as goal
 
 pub returns-in-Drain-clause-causes : goal.returns-in-Drain-clause-causes
@@ -124,6 +124,11 @@ returns-in-Del-clause-causes g c = c.delete.ensures.causes
 
 pub returns-in-Url-clause-causes : goal.returns-in-Url-clause-causes
 returns-in-Url-clause-causes g c = c.url.ensures.causes
+
+pub returns-in-Put-clause-suits : goal.returns-in-Put-clause-suits
+returns-in-Put-clause-suits g c =
+    subst (λ (asked : Command). Suits (c.args.self.now).settings c.args.tag.line asked c.put.result) (sym c.in-Put.is)
+    (subst (λ (photo : List ℕ). SuitsPut (c.args.self.now).settings c.in-Put.pair (length photo) c.put.result) c.as_slice.ensures c.put.ensures.suits)
 
 pub returns-in-Drain-clause-suits : goal.returns-in-Drain-clause-suits
 returns-in-Drain-clause-suits g c = subst (λ (asked : Command). Suits (c.args.self.now).settings c.args.tag.line asked c.drain.result) (sym c.in-Drain.is) (c.drain.ensures.suits c.args.tag.line)

@@ -31,9 +31,9 @@ loop-turn-preserved g c = record {
       more ∙ ap (λ rs. map Some rs) (sym (c.in_ok-push-in-Some.ensures).ok);
   refuses =
       let same = ap (λ (st : Open g.row.D.Denot g.row.D-Piece.Denot g.row.A.Denot). st.settings) c.self.view_is in
-      subst (λ (rs : List Refused). AllZip (Refuses (c.args.self.now).settings) (map (try_at (c.args.self.now).settings c.args.pair) (range_with_len 0 (c.loop-turn.turn + 1))) rs)
+      subst (λ (rs : List Refused). AllZip (Refuses (c.args.self.now).settings c.args.size) (map (try_at (c.args.self.now).settings c.args.pair) (range_with_len 0 (c.loop-turn.turn + 1))) rs)
       (sym (c.in_ok-push-in-Some.ensures).ok)
-      (one_more_refuses (Refuses (c.args.self.now).settings) (c.args.self.now).settings c.args.pair c.loop-turn.turn c.tries-volume.result c.loop-turn.refused c.in-Some.refusal
+      (one_more_refuses (Refuses (c.args.self.now).settings c.args.size) (c.args.self.now).settings c.args.pair c.loop-turn.turn c.tries-volume.result c.loop-turn.refused c.in-Some.refusal
       (c.tries-volume.ensures.is c.args.pair refl ∙ ap (λ (s : Settings). try_at s c.args.pair c.loop-turn.turn) same) (c.in-Some.ensures).refuses c.loop-turn.invariant.refuses);
   fits =
       subst (λ (rs : List Refused). AllByRecursion FitsRefused rs) (sym (c.in_ok-push-in-Some.ensures).ok)
@@ -52,8 +52,9 @@ returns-clause-refused g c = λ refused is.
     let all : c.loop-turn.turn ≡ (c.args.self.now).settings.volumes =
     let volumes = ap (λ (s : Settings). s.volumes) same in omega (arith, volumes, c.loop-turn-test.false, c.loop-turn.auto.turn-end) in
     let these : c.loop-turn.refused ≡ refused = cc in
-    subst (λ (rs : List Refused). AllZip (Refuses (c.args.self.now).settings) (all_tries (c.args.self.now).settings c.args.pair) rs) these
-    (subst (λ n. AllZip (Refuses (c.args.self.now).settings) (map (try_at (c.args.self.now).settings c.args.pair) (range_with_len 0 n)) c.loop-turn.refused) all c.loop-turn.invariant.refuses)
+    subst (λ (rs : List Refused). AllZip (Refuses (c.args.self.now).settings c.args.size) (all_tries (c.args.self.now).settings c.args.pair) rs) these
+    (subst (λ n. AllZip (Refuses (c.args.self.now).settings c.args.size) (map (try_at (c.args.self.now).settings c.args.pair) (range_with_len 0 n)) c.loop-turn.refused) all
+    c.loop-turn.invariant.refuses)
 
 pub returns-clause-fits : goal.returns-clause-fits
 returns-clause-fits g c = λ refused is.

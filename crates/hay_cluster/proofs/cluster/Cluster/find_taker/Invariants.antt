@@ -13,7 +13,7 @@ abbrev pub invariant-loop-turn : goal.invariant-loop-turn
 invariant-loop-turn g l = record {
   known : g.D.Disk.Tells → (k : Known) → Stands g.D.Disk.files g.D.Piece.Piece.Tells g.D.Disk.fault_count g.D.Disk.fuse_count g.A.Arm.fault_count l.fn.self k →
       map (refusal_of l.fn.self.settings k l.size) (map (try_at l.fn.self.settings l.pair) (range_with_len 0 l.turn)) ≡ map Some l.refused;
-  refuses : AllZip (Refuses l.fn.self.settings) (map (try_at l.fn.self.settings l.pair) (range_with_len 0 l.turn)) l.refused;
+  refuses : AllZip (Refuses l.fn.self.settings l.size) (map (try_at l.fn.self.settings l.pair) (range_with_len 0 l.turn)) l.refused;
   fits : AllByRecursion FitsRefused l.refused;
   seen : AllZip (RefusesPhoto l.fn.self.settings (store_seen l.fn.self) l.size) (map (try_at l.fn.self.settings l.pair) (range_with_len 0 l.turn)) l.refused;
 }

@@ -99,7 +99,7 @@ returns-then-volume-url-clause-sure_arms g c = same_sure g.A.Arm.is_sure g.A.Arm
 pub returns-in_default-clause-suits : goal.returns-in_default-clause-suits
 returns-in_default-clause-suits g c =
     let same = ap (λ (st : Open g.row.D.Denot g.row.D-Piece.Denot g.row.A.Denot). st.settings) c.self.view_is in
-    at_none (replica_on (c.args.self.now).settings (c.args.url.now).volume (c.args.url.now).machine) (λ replica. SuitsGet (c.args.self.now).settings c.args.url.now)
+    at_none (replica_on (c.args.self.now).settings (c.args.url.now).volume (c.args.url.now).machine) (SuitsGet (c.args.self.now).settings c.args.url.now)
     (ap (λ (s : Settings). replica_on s (c.args.url.now).volume (c.args.url.now).machine) (sym same) ∙ sym c.replica_on.ensures.is ∙ c.in_default.is)
 
 pub returns-in_default-home-clause-suits : goal.returns-in_default-home-clause-suits
@@ -107,14 +107,14 @@ returns-in_default-home-clause-suits g c =
     let same = ap (λ (st : Open g.row.D.Denot g.row.D-Piece.Denot g.row.A.Denot). st.settings) c.self.view_is in
     let there : replica_on (c.args.self.now).settings (c.args.url.now).volume (c.args.url.now).machine ≡ Some c.in-Some.start =
     ap (λ (s : Settings). replica_on s (c.args.url.now).volume (c.args.url.now).machine) (sym same) ∙ sym c.replica_on.ensures.is ∙ c.in-Some.is in
-    at_replica _ (λ replica. SuitsGet (c.args.self.now).settings c.args.url.now) c.in-Some.start (reply.Unknown c.rows.result) there (inl (c.rows.result, refl))
+    at_replica _ (SuitsGet (c.args.self.now).settings c.args.url.now) c.in-Some.start (reply.Unknown c.rows.result) there (inl (c.rows.result, refl))
 
 pub returns-then-volume-url-clause-suits : goal.returns-then-volume-url-clause-suits
 returns-then-volume-url-clause-suits g c =
     let same = ap (λ (st : Open g.row.D.Denot g.row.D-Piece.Denot g.row.A.Denot). st.settings) c.self.view_is in
     let there : replica_on (c.args.self.now).settings (c.args.url.now).volume (c.args.url.now).machine ≡ Some c.in-Some.start =
     ap (λ (s : Settings). replica_on s (c.args.url.now).volume (c.args.url.now).machine) (sym same) ∙ sym c.replica_on.ensures.is ∙ c.in-Some.is in
-    at_replica _ (λ replica. SuitsGet (c.args.self.now).settings c.args.url.now) c.in-Some.start (reply.Moved c.in-Some-home.volume c.rows-then-volume-url.result) there
+    at_replica _ (SuitsGet (c.args.self.now).settings c.args.url.now) c.in-Some.start (reply.Moved c.in-Some-home.volume c.rows-then-volume-url.result) there
     (inr (inl (c.in-Some-home.volume, c.rows-then-volume-url.result, (c.in-Some-home.ensures).within, c.if-volume-url.true, refl)))
 
 pub returns-clause-suits : goal.returns-clause-suits
@@ -123,9 +123,9 @@ returns-clause-suits g c =
     let there : replica_on (c.args.self.now).settings (c.args.url.now).volume (c.args.url.now).machine ≡ Some c.in-Some.start =
     ap (λ (s : Settings). replica_on s (c.args.url.now).volume (c.args.url.now).machine) (sym same) ∙ sym c.replica_on.ensures.is ∙ c.in-Some.is in
     elim c.show.ensures.here [
-      | inl shows ↦ at_replica _ (λ replica. SuitsGet (c.args.self.now).settings c.args.url.now) c.in-Some.start c.show.result there
-          (inr (inr (subst (λ v. ShowsOf (c.args.self.now).settings v c.show.result) c.if-volume-url.false shows)))
-      | inr none ↦ at_no_memory _ (λ replica. SuitsGet (c.args.self.now).settings c.args.url.now) c.in-Some.start c.show.result there none
+      | inl shows ↦ at_replica _ (SuitsGet (c.args.self.now).settings c.args.url.now) c.in-Some.start c.show.result there
+          (inr (inr (subst (λ v. ShowsOf (c.args.self.now).settings c.in-Some.start v c.show.result) c.if-volume-url.false shows)))
+      | inr none ↦ at_no_memory _ (SuitsGet (c.args.self.now).settings c.args.url.now) c.in-Some.start c.show.result there none
     ]
 
 pub returns-in_default-home-clause-shows : goal.returns-in_default-home-clause-shows

@@ -37,8 +37,8 @@ returns-in-Err-clause-suits g c = inr (inr (inr (inr (inr (inr refl)))))
 pub returns-in-Some-refusal-clause-suits : goal.returns-in-Some-refusal-clause-suits
 returns-in-Some-refusal-clause-suits g c =
     let settings = (c.args.self.now).settings in
-    refusal_suits settings c.args.pair (c.in-Some-refusal.refused ∷ []) c.refuse_one.result
-    (one_refuses settings c.args.pair c.in-Some.volume c.in-Some-refusal.refused (c.in-Some.ensures).within (c.in-Some-refusal.ensures).refuses) c.refuse_one.ensures.is
+    refusal_suits settings c.args.pair (length c.args.bytes.now) (c.in-Some-refusal.refused ∷ []) c.refuse_one.result
+    (one_refuses settings c.args.pair (length c.args.bytes.now) c.in-Some.volume c.in-Some-refusal.refused (c.in-Some.ensures).within (c.in-Some-refusal.ensures).refuses) c.refuse_one.ensures.is
 
 pub put_tried-requires-clause-takes : goal.put_tried-requires-clause-takes
 put_tried-requires-clause-takes g c = λ volume is. c.find_taker.ensures.takes volume (c.in-Ok.is ∙ ap Ok is)

@@ -44,8 +44,8 @@ returns-in-Ok-clause-suits g c =
 
 pub returns-in-Err-clause-suits : goal.returns-in-Err-clause-suits
 returns-in-Err-clause-suits g c =
-    put_refusal_suits (c.args.self.now).settings c.args.pair c.args.volume _ _ c.in-Err.fault c.put_refusal.result c.requires.volume
-    (IfErr-at_err _ c.in-Err.is c.put_in.ensures.causes) c.put_refusal.ensures.is
+    put_refusal_suits (c.args.self.now).settings c.args.pair (length c.args.bytes.now) c.args.volume _ _ c.in-Err.fault c.put_refusal.result
+    (IfErr-at_err _ c.in-Err.is (c.put_in.ensures.takes c.requires.takes)) (IfErr-at_err _ c.in-Err.is c.put_in.ensures.causes) c.put_refusal.ensures.is
 
 pub returns-in-Ok-clause-replicas : goal.returns-in-Ok-clause-replicas
 returns-in-Ok-clause-replicas g c = λ tells.

@@ -67,11 +67,12 @@ returns-in-Err-clause-legal g c = λ tells k stands home taker.
     c.settle.ensures.causes)
 
 pub returns-in-Ok-clause-suits : goal.returns-in-Ok-clause-suits
-returns-in-Ok-clause-suits g c = subst (λ (s : Settings). SuitsPut s c.args.pair c.put_at.result) c.settle.ensures.settings c.put_at.ensures.suits
+returns-in-Ok-clause-suits g c = subst (λ (s : Settings). SuitsPut s c.args.pair (length c.args.bytes.now) c.put_at.result) c.settle.ensures.settings c.put_at.ensures.suits
 
 pub returns-in-Err-clause-suits : goal.returns-in-Err-clause-suits
 returns-in-Err-clause-suits g c =
-    subst (λ (r : Reply). SuitsPut (c.args.self.now).settings c.args.pair r) (sym c.settle_refusal.ensures.is) (settle_suits (c.args.self.now).settings c.args.pair c.in-Err.fault)
+    subst (λ (r : Reply). SuitsPut (c.args.self.now).settings c.args.pair (length c.args.bytes.now) r) (sym c.settle_refusal.ensures.is)
+    (settle_suits (c.args.self.now).settings c.args.pair (length c.args.bytes.now) c.in-Err.fault)
 
 taken : {D P A : Type 0} (old mid : Open D P A) (v size : ℕ) → mid.volumes ≡ old.volumes → TakesPhoto old v size → TakesPhoto mid v size
 taken {D} {P} {A} old mid v size same takes = λ volume at. takes volume (subst (λ (vs : List (Volume D P)). At vs v volume) same at)

@@ -35,7 +35,8 @@ returns-in-Nobody-clause-counts g c = none_falls (map g.D.Disk.fault_count (disk
 pub returns-in-Nobody-clause-suits : goal.returns-in-Nobody-clause-suits
 returns-in-Nobody-clause-suits g c =
     let settings = (c.args.self.now).settings in
-    refusal_suits settings c.args.pair c.in-Nobody.refused c.refuse.result (all_refuse settings c.args.pair c.in-Nobody.refused
+    refusal_suits settings c.args.pair (length c.args.bytes.now) c.in-Nobody.refused c.refuse.result
+    (all_refuse settings c.args.pair (length c.args.bytes.now) c.in-Nobody.refused
     (c.requires.refused c.in-Nobody.refused c.in-Nobody.is)) c.refuse.ensures.is
 
 pub returns-in-Nobody-clause-contents : goal.returns-in-Nobody-clause-contents

@@ -1,6 +1,7 @@
 use Rattle.std.proofs.Common.{◌≡◌, Some, refl, sym, subst, ◌∙◌, inl, inr}
 use Rattle.hay_legal.specs.Known.{home_of}
 use Rattle.hay_legal.specs.Plain.{LegalShow}
+use Rattle.hay_legal.specs.Suiting.{ShowsOf}
 use Rattle.hay_cluster.proofs.Answering.{answered}
 use Rattle.hay_cluster.proofs.Sure.{same_sure}
 use Rattle.hay_cluster.specs.Passing.{IsSureArm, TriesBefore}
@@ -29,7 +30,11 @@ returns-in_default-clause-suits g c = inl (c.rows.result, refl)
 pub returns-clause-suits : goal.returns-clause-suits
 returns-clause-suits g c =
     elim c.show.ensures.here [
-      | inl shows ↦ inr (inl (c.in-Some.volume, (c.in-Some.ensures).within, shows))
+      | inl shows ↦ inr (inl (
+        c.in-Some.volume,
+        (c.in-Some.ensures).within,
+        subst (λ start. ShowsOf (c.args.self.now).settings start c.in-Some.volume c.show.result) c.start_of-start.ensures.is shows,
+      ))
       | inr none ↦ inr (inr none)
     ]
 

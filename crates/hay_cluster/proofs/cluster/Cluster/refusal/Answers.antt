@@ -165,9 +165,13 @@ returns-in-Err g c = record {
       let was = volume_of store c.args.volume volume c.self.invariant at in
       let same = ap (λ (st : Open g.row.D.Denot g.row.D-Piece.Denot g.row.A.Denot). st.settings) c.self.view_is in
       let cause = subst (λ (s : Settings). IsRoomFault s volume.number c.in-Err.fault) (was.settings_are ∙ same) (IfErr-at_err _ c.in-Err.is c.room.ensures.causes) in
-      subst (λ (o : Option Refused). IfSome o (Refuses (c.args.self.now).settings c.args.volume)) c.lack_of.ensures.is
-      (lack_refuses (c.args.self.now).settings c.args.volume c.in-Err.fault (subst (λ (s : Settings). IsBuilt s) same c.self.invariant.built) c.requires.volume
-      (subst (λ n. IsRoomFault (c.args.self.now).settings n c.in-Err.fault) was.number cause));
+      let settings = (c.args.self.now).settings in
+      let room = IfErr-at_err _ c.in-Err.is c.room.ensures.refused_seen in
+      let full = subst (λ n. RoomRefusedSeen settings n c.args.size (volume_seen volume) c.in-Err.fault) was.number
+      (subst (λ (s : Settings). RoomRefusedSeen s volume.number c.args.size (volume_seen volume) c.in-Err.fault) (was.settings_are ∙ same) room) in
+      subst (λ (o : Option Refused). IfSome o (Refuses settings c.args.size c.args.volume)) c.lack_of.ensures.is
+      (lack_refuses settings c.args.size c.args.volume (volume_seen volume) c.in-Err.fault (subst (λ (s : Settings). IsBuilt s) same c.self.invariant.built) c.requires.volume
+      (subst (λ n. IsRoomFault settings n c.in-Err.fault) was.number cause) full);
   fits = c.lack_of.ensures.fits;
   takes_seen = tt;
   refuses_seen =
@@ -187,12 +191,12 @@ returns-in-Err g c = record {
       let same = ap (λ (st : Open g.row.D.Denot g.row.D-Piece.Denot g.row.A.Denot). st.settings) c.self.view_is in
       let settings = (c.args.self.now).settings in
       let cause = subst (λ (s : Settings). IsRoomFault s volume.number c.in-Err.fault) (was.settings_are ∙ same) (IfErr-at_err _ c.in-Err.is c.room.ensures.causes) in
-      let lacks = subst (λ (o : Option Refused). IfSome o (Refuses settings c.args.volume)) c.lack_of.ensures.is
-      (lack_refuses settings c.args.volume c.in-Err.fault (subst (λ (s : Settings). IsBuilt s) same c.self.invariant.built) c.requires.volume
-      (subst (λ n. IsRoomFault settings n c.in-Err.fault) was.number cause)) in
       let room = IfErr-at_err _ c.in-Err.is c.room.ensures.refused_seen in
       let full = subst (λ n. RoomRefusedSeen settings n c.args.size (volume_seen volume) c.in-Err.fault) was.number
-      (subst (λ (s : Settings). RoomRefusedSeen s volume.number c.args.size (volume_seen volume) c.in-Err.fault) (was.settings_are ∙ same) room) in (
+      (subst (λ (s : Settings). RoomRefusedSeen s volume.number c.args.size (volume_seen volume) c.in-Err.fault) (was.settings_are ∙ same) room) in
+      let lacks = subst (λ (o : Option Refused). IfSome o (Refuses settings c.args.size c.args.volume)) c.lack_of.ensures.is
+      (lack_refuses settings c.args.size c.args.volume (volume_seen volume) c.in-Err.fault (subst (λ (s : Settings). IsBuilt s) same c.self.invariant.built) c.requires.volume
+      (subst (λ n. IsRoomFault settings n c.in-Err.fault) was.number cause) full) in (
         lacks,
         lack_seen settings (store_seen c.args.self.now) c.args.size c.args.volume (volume_seen volume) c.in-Err.fault c.lack_of.result c.lack_of.ensures.is (c.in_default.ensures).opens
             (seen_at c.args.self.now store c.self.view_is c.args.volume volume at) full,

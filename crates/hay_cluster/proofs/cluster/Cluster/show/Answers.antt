@@ -11,7 +11,7 @@ use Rattle.hay_cluster.specs.Reads.{FoundPasses, FoundSays, NeverIn, counts_of, 
 use Rattle.hay_cluster.specs.Store.{IsBuilt, Open, contents_in, disks_of}
 use Rattle.hay_cluster.proofs.Answering.{stays}
 use Rattle.hay_cluster.proofs.Moves.{none_falls}
-use Rattle.hay_cluster.proofs.Showing.{read_shown, read_unreadable, to_below}
+use Rattle.hay_cluster.proofs.Showing.{names_each, read_shown, read_unreadable, to_below}
 use Rattle.hay_cluster.proofs.Sure.{same_sure}
 use Rattle.hay_cluster.proofs.Suiting.{on_machine}
 use Rattle.hay_cluster.proofs.Sighting.{keeps_photos, kept_home, looks_home}
@@ -212,7 +212,18 @@ returns-in-WrongCookie-clause-here g c =
     inl (inr (inr (inl (c.machine_of-in-WrongCookie.result, c.fetch-front.result.0, c.rows-rows.result, on, refl))))
 
 pub returns-in-Ok-passed_of-clause-here : goal.returns-in-Ok-passed_of-clause-here
-returns-in-Ok-passed_of-clause-here g c = inl (inr (inr (inr (c.fetch-front.result.0, c.rows-rows.result, c.in-Ok-passed_of.causes, refl))))
+returns-in-Ok-passed_of-clause-here g c =
+    let same : c.self.inside.settings ≡ (c.args.self.now).settings = ap (λ (st : Open g.row.D.Denot g.row.D-Piece.Denot g.row.A.Denot). st.settings) c.self.view_is ∙ c.fetch-front.ensures.settings in
+    let passes =
+    subst (λ (f : Found). FoundPasses (NeverIn g.D.Disk.Tells g.D.Disk.files g.D.Piece.Piece.Tells g.D.Disk.fault_count g.D.Disk.fuse_count g.A.Arm.fault_count g.A.Arm.is_sure
+    c.args.self.now c.args.tag.lane) (c.args.self.now).settings c.args.tag.lane c.args.volume c.args.start (counts_of g.D.Disk.fault_count g.A.Arm.fault_count c.args.self.now)
+    (counts_of g.D.Disk.fault_count g.A.Arm.fault_count c.fetch-front.new.self) (IsOfPlace g.D.Disk.Tells (c.args.self.now).settings
+    (contents_in g.D.Disk.files c.fetch-front.new.self) (store_seen c.fetch-front.new.self) c.args.volume c.args.pair) f) c.in-Unreadable.is c.fetch-front.ensures.passes in
+    let is : c.in-Ok-passed_of.causes ≡ map (passed_at (c.args.self.now).settings c.args.volume) c.in-Unreadable.causes =
+    c.in-Ok-passed_of.ensures.is ∙ ap (λ (over : List PassedReplica). map (passed_at c.self.inside.settings c.args.volume) over) c.as_slice.ensures.is
+    ∙ ap (λ (s : Settings). map (passed_at s c.args.volume) c.in-Unreadable.causes) same in
+    let each = names_each (c.args.self.now).settings c.args.start c.args.volume c.in-Unreadable.causes c.in-Ok-passed_of.causes is passes.passes.order passes.all in
+    inl (inr (inr (inr (c.fetch-front.result.0, c.rows-rows.result, c.in-Ok-passed_of.causes, each, refl))))
 
 pub returns-in-Unreadable-clause-here : goal.returns-in-Unreadable-clause-here
 returns-in-Unreadable-clause-here g c = inr refl

@@ -41,7 +41,7 @@ returns-in-FuseDir-clause-arm g c = later_same c.fuse_dir.ensures.arm
 
 pub returns-in-Put-clause-blames : goal.returns-in-Put-clause-blames
 returns-in-Put-clause-blames g c =
-    blames_none g.A.Arm.is_sure g.A.Arm.fault_count _ _ _ (spared c.args.self.now.settings c.put.result c.args.tag.line (asks.Put c.in-Put.pair c.in-Put.photo) tt c.put.ensures.suits)
+    blames_none g.A.Arm.is_sure g.A.Arm.fault_count _ _ _ (spared c.args.self.now.settings c.put.result c.args.tag.line (asks.Put c.in-Put.pair c.as_slice.result.now) tt c.put.ensures.suits)
 
 pub returns-in-Del-clause-blames : goal.returns-in-Del-clause-blames
 returns-in-Del-clause-blames g c =

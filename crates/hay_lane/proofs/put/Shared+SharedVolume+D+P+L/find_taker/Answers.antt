@@ -15,7 +15,7 @@ use Rattle.hay_lane.proofs.put.Shared+SharedVolume+D+P+L.find_taker.Goals as goa
 pub loop-turn-init : goal.loop-turn-init
 loop-turn-init g c = record {
   fits = subst (λ l. AllByRecursion FitsRefused l) (sym c.new-refused.ensures) tt;
-  refuse = subst (λ l. AllZip (Refuses c.args.self.now.settings) [] l) (sym c.new-refused.ensures) tt;
+  refuse = subst (λ l. AllZip (Refuses c.args.self.now.settings c.args.size) [] l) (sym c.new-refused.ensures) tt;
   seated = c.requires.seated;
   same = λ start of. of;
   arm = refl;
@@ -53,8 +53,8 @@ pub loop-turn-preserved : goal.loop-turn-preserved
 loop-turn-preserved g c = record {
   fits =
       subst (λ l. AllByRecursion FitsRefused l) (sym c.in-Ok.ensures.ok) (each_append FitsRefused c.loop-turn.refused (c.in-Some.refusal ∷ []) c.loop-turn.invariant.fits (c.in-Some.ensures.fits, tt));
-  refuse = subst (λ l. AllZip (Refuses c.args.self.now.settings) (first_tries c.args.self.now.settings c.args.pair (c.loop-turn.turn + 1)) l) (sym c.in-Ok.ensures.ok)
-      (one_more_refuses (Refuses c.args.self.now.settings) c.args.self.now.settings c.args.pair c.loop-turn.turn c.tries-volume.result c.loop-turn.refused c.in-Some.refusal
+  refuse = subst (λ l. AllZip (Refuses c.args.self.now.settings c.args.size) (first_tries c.args.self.now.settings c.args.pair (c.loop-turn.turn + 1)) l) (sym c.in-Ok.ensures.ok)
+      (one_more_refuses (Refuses c.args.self.now.settings c.args.size) c.args.self.now.settings c.args.pair c.loop-turn.turn c.tries-volume.result c.loop-turn.refused c.in-Some.refusal
       (c.tries-volume.ensures.is c.args.pair refl) c.in-Some.ensures.refuses c.loop-turn.invariant.refuse);
   seated = c.refusal.ensures.seated;
   same = λ start of. c.refusal.ensures.same start (c.loop-turn.invariant.same start of);
@@ -85,5 +85,5 @@ pub returns-clause-refuse : goal.returns-clause-refuse
 returns-clause-refuse g c refused is =
     let all : c.loop-turn.turn ≡ c.args.self.now.settings.volumes = omega (arith, c.loop-turn-test.false, c.loop-turn.auto.turn-end) in
     let same : c.loop-turn.refused ≡ refused = cc in
-    subst (λ l. AllZip (Refuses c.args.self.now.settings) (first_tries c.args.self.now.settings c.args.pair c.args.self.now.settings.volumes) l) same
-    (subst (λ n. AllZip (Refuses c.args.self.now.settings) (first_tries c.args.self.now.settings c.args.pair n) c.loop-turn.refused) all c.loop-turn.invariant.refuse)
+    subst (λ l. AllZip (Refuses c.args.self.now.settings c.args.size) (first_tries c.args.self.now.settings c.args.pair c.args.self.now.settings.volumes) l) same
+    (subst (λ n. AllZip (Refuses c.args.self.now.settings c.args.size) (first_tries c.args.self.now.settings c.args.pair n) c.loop-turn.refused) all c.loop-turn.invariant.refuse)

@@ -13,7 +13,7 @@ use Rattle.hay_shared_volume.specs.Seats.{IsSeatOf, WasAt, sight_of}
 abbrev pub invariant-loop-turn : goal.invariant-loop-turn
 invariant-loop-turn g l = record {
   fits : AllByRecursion FitsRefused l.refused;
-  refuse : AllZip (Refuses l.fn.self.settings) (first_tries l.fn.self.settings l.pair l.turn) l.refused;
+  refuse : AllZip (Refuses l.fn.self.settings l.size) (first_tries l.fn.self.settings l.pair l.turn) l.refused;
   seated : IsSeated IsSeatOf g.L.DirectoryCalls.fits l.fn.self l.fn.tag.lane l.lane;
   same : (start : Start) → IsOf (WasAt g.D.Disk.Tells g.D.Disk.files g.P.Piece.Tells g.D.Disk.fault_count g.D.Disk.fuse_count) g.L.DirectoryCalls.is_at l.fn.self.settings start
       l.fn.lane → IsOf (WasAt g.D.Disk.Tells g.D.Disk.files g.P.Piece.Tells g.D.Disk.fault_count g.D.Disk.fuse_count) g.L.DirectoryCalls.is_at l.fn.self.settings start l.lane;

@@ -32,7 +32,8 @@ returns-in-NoMemory-clause-answered g c start d a of sees =
 
 pub returns-in-Nobody-clause-suits : goal.returns-in-Nobody-clause-suits
 returns-in-Nobody-clause-suits g c =
-    refusal_suits c.args.self.now.settings c.args.pair c.in-Nobody.refused c.refuse.result (c.find_taker.ensures.refuse c.in-Nobody.refused c.in-Nobody.is) c.refuse.ensures.is
+    refusal_suits c.args.self.now.settings c.args.pair (length c.args.bytes.now) c.in-Nobody.refused c.refuse.result
+    (c.find_taker.ensures.refuse c.in-Nobody.refused c.in-Nobody.is) c.refuse.ensures.is
 
 pub returns-in-NoMemory-clause-suits : goal.returns-in-NoMemory-clause-suits
 returns-in-NoMemory-clause-suits g c = inr (inr (inr (inr (inr (inr refl)))))

@@ -1,4 +1,4 @@
-use Rattle.std.proofs.Common.{sym, ap, ◌∙◌}
+use Rattle.std.proofs.Common.{length, sym, ap, ◌∙◌}
 use Rattle.hay_meeting.specs.Facts.{drained_in}
 use Rattle.hay_lane.proofs.Putting.{put_answered, put_closed_answered}
 use Rattle.hay_lane.proofs.Suiting.{closed_put, put_suits}
@@ -18,10 +18,10 @@ returns-clause-answered g c start a of settled =
 
 pub returns-in_default-clause-suits : goal.returns-in_default-clause-suits
 returns-in_default-clause-suits g c =
-    put_suits c.args.self.now.settings c.args.volume c.requires.seated.fewer c.requires.volume c.args.pair c.args.rows c.cookie_of-cookie.result c.put_at-answer.result
+    put_suits c.args.self.now.settings c.args.volume c.requires.seated.fewer c.requires.volume c.args.pair (length c.args.bytes.now) c.args.rows c.cookie_of-cookie.result c.put_at-answer.result
     c.put_reply.result c.cookie_of-cookie.ensures c.put_at-answer.ensures.names c.put_reply.ensures.is
 
 pub returns-clause-suits : goal.returns-clause-suits
 returns-clause-suits g c =
-    closed_put c.args.self.now.settings c.args.volume c.requires.seated.fewer c.requires.volume c.args.pair c.closed_at-machine.result c.read_only.result
+    closed_put c.args.self.now.settings c.args.volume c.requires.seated.fewer c.requires.volume c.args.pair (length c.args.bytes.now) c.closed_at-machine.result c.read_only.result
     c.closed_at-machine.ensures.on c.read_only.ensures.is

@@ -1,4 +1,4 @@
-use Rattle.std.proofs.Common.{subst, sym}
+use Rattle.std.proofs.Common.{length, subst, sym}
 use Rattle.hay_holdings.specs.Sights.{AtDirectory}
 use Rattle.hay_lane.specs.Lanes.{sight}
 use Rattle.hay_lane.specs.Tellings.{SettleTells}
@@ -24,4 +24,6 @@ returns-in-Err-clause-answered g c start a of has =
     c.in-Err.is (c.settle_home.ensures.tells start of)) c.settle_refusal.ensures.is
 
 pub returns-in-Err-clause-suits : goal.returns-in-Err-clause-suits
-returns-in-Err-clause-suits g c = subst (SuitsPut c.args.self.now.settings c.args.pair) (sym c.settle_refusal.ensures.is) (settle_suits c.args.self.now.settings c.args.pair c.in-Err.fault)
+returns-in-Err-clause-suits g c =
+    subst (SuitsPut c.args.self.now.settings c.args.pair (length c.args.bytes.now)) (sym c.settle_refusal.ensures.is)
+    (settle_suits c.args.self.now.settings c.args.pair (length c.args.bytes.now) c.in-Err.fault)

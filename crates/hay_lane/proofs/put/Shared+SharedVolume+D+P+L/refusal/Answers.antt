@@ -24,8 +24,8 @@ returns-clause-tells g c start of =
 
 pub returns-in_default-clause-refuses : goal.returns-in_default-clause-refuses
 returns-in_default-clause-refuses g c =
-    subst (λ o. IfSome o (Refuses c.args.self.now.settings c.args.volume)) (sym c.refusal_for.ensures.is)
-    (room_refuses c.args.self.now.settings c.args.volume c.requires.seated.fewer c.requires.volume c.room_at-room.result c.room_at-room.ensures.names)
+    subst (λ o. IfSome o (Refuses c.args.self.now.settings c.args.size c.args.volume)) (sym c.refusal_for.ensures.is)
+    (room_refuses c.args.self.now.settings c.args.volume c.requires.seated.fewer c.requires.volume c.args.size c.room_at-room.result c.room_at-room.ensures.names)
 
 pub returns-clause-refuses : goal.returns-clause-refuses
 returns-clause-refuses g c = (refl, c.closed_at-machine.ensures.on)

@@ -9,7 +9,8 @@ returns-clause-found g c start d a of sees =
     (c.loop.invariant.tells start d a of sees)
 
 pub returns-clause-within : goal.returns-clause-within
-returns-clause-within g c = found_within c.args.self.now.settings.replicas c.loop.photo.items c.loop.read c.found_of.result c.found_of.ensures.is c.loop.invariant.shown c.loop.invariant.bytes
+returns-clause-within g c =
+    found_within c.args.first c.args.self.now.settings.replicas c.loop.photo.items c.loop.read c.found_of.result c.found_of.ensures.is c.loop.invariant.shown c.loop.invariant.bytes
 
 pub returns-clause-blames : goal.returns-clause-blames
 returns-clause-blames g c =

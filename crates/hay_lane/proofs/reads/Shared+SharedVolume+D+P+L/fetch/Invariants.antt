@@ -19,7 +19,7 @@ invariant-loop g l = record {
   arm : IsLaterArm g.A.Arm.is_sure g.A.Arm.fault_count l.fn.lane.arm l.lane.arm;
   long : length l.looked.row ≡ l.self.settings.replicas;
   stops : StopsBehind l.first l.self.settings.replicas l.counter l.read;
-  shown : ShownWithin l.self.settings.replicas l.read;
+  shown : ShownWithin l.first l.self.settings.replicas l.read;
   blames : Blames g.A.Arm.is_sure g.A.Arm.fault_count l.fn.lane.arm l.lane.arm (causes_read l.read);
   bytes : HasBytes l.photo.items l.read;
   room : MAX_PHOTO ≤ vec_capacity l.photo;

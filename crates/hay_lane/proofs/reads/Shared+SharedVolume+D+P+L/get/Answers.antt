@@ -59,16 +59,16 @@ returns-clause-arm g c = later_on (later_same c.home_in_view-rows.ensures.arm) c
 
 pub returns-in_default-clause-suits : goal.returns-in_default-clause-suits
 returns-in_default-clause-suits g c =
-    nowhere (replica_on c.args.self.now.settings c.args.url.now.volume c.args.url.now.machine) (λ replica. SuitsGet c.args.self.now.settings c.args.url.now) c.in_default.ensures.is
+    nowhere (replica_on c.args.self.now.settings c.args.url.now.volume c.args.url.now.machine) (SuitsGet c.args.self.now.settings c.args.url.now) c.in_default.ensures.is
 
 pub returns-in_default-home-clause-suits : goal.returns-in_default-home-clause-suits
 returns-in_default-home-clause-suits g c =
-    at_replica (replica_on c.args.self.now.settings c.args.url.now.volume c.args.url.now.machine) (λ replica. SuitsGet c.args.self.now.settings c.args.url.now) c.in-Some.first
+    at_replica (replica_on c.args.self.now.settings c.args.url.now.volume c.args.url.now.machine) (SuitsGet c.args.self.now.settings c.args.url.now) c.in-Some.first
     (reply.Unknown c.home_in_view-rows.result.0) c.in-Some.ensures.is (inl (inl (c.home_in_view-rows.result.0, refl)))
 
 pub returns-then-volume-url-clause-suits : goal.returns-then-volume-url-clause-suits
 returns-then-volume-url-clause-suits g c =
-    at_replica (replica_on c.args.self.now.settings c.args.url.now.volume c.args.url.now.machine) (λ replica. SuitsGet c.args.self.now.settings c.args.url.now) c.in-Some.first
+    at_replica (replica_on c.args.self.now.settings c.args.url.now.volume c.args.url.now.machine) (SuitsGet c.args.self.now.settings c.args.url.now) c.in-Some.first
     (reply.Moved c.in-Some-home.volume c.home_in_view-rows.result.0) c.in-Some.ensures.is
     (inl (inr (inl (
       c.in-Some-home.volume,
@@ -81,10 +81,10 @@ returns-then-volume-url-clause-suits g c =
 
 pub returns-clause-suits : goal.returns-clause-suits
 returns-clause-suits g c =
-    at_replica (replica_on c.args.self.now.settings c.args.url.now.volume c.args.url.now.machine) (λ replica. SuitsGet c.args.self.now.settings c.args.url.now) c.in-Some.first
+    at_replica (replica_on c.args.self.now.settings c.args.url.now.volume c.args.url.now.machine) (SuitsGet c.args.self.now.settings c.args.url.now) c.in-Some.first
     c.show.result c.in-Some.ensures.is
     (get_suits c.args.self.now.settings c.in-Some-home.volume c.requires.seated.fewer
-    (subst (λ o. IfSome o (λ home. home < c.args.self.now.settings.volumes)) c.in-Some-home.is c.home_in_view-rows.ensures.below) c.args.url.now c.show.result
+    (subst (λ o. IfSome o (λ home. home < c.args.self.now.settings.volumes)) c.in-Some-home.is c.home_in_view-rows.ensures.below) c.args.url.now c.in-Some.first c.show.result
     c.if-volume-url.false c.show.ensures.suits)
 
 pub returns-in_default-clause-blames : goal.returns-in_default-clause-blames

@@ -7,6 +7,7 @@ use Rattle.hay_lane.proofs.Arms.{later_on, later_same}
 use Rattle.hay_lane.proofs.Changed.{saw}
 use Rattle.hay_lane.proofs.Showing.{read_shown}
 use Rattle.hay_shared_volume.specs.Seats.{sight_of}
+use Rattle.hay_legal.specs.Suiting.{SuitsRead}
 use Rattle.hay_lane.proofs.Suiting.{read_suits}
 use Rattle.hay_lane.specs.Blames.{Blames, causes_told}
 use Rattle.hay_lane.proofs.Blaming.{blames_none}
@@ -40,8 +41,9 @@ returns-in_default-clause-suits g c = inl (c.home_in_view-rows.result.0, refl)
 
 pub returns-clause-suits : goal.returns-clause-suits
 returns-clause-suits g c =
-    read_suits c.args.self.now.settings c.in-Some.volume c.requires.seated.fewer (subst (λ o. IfSome o (λ home. home < c.args.self.now.settings.volumes)) c.in-Some.is
-    c.home_in_view-rows.ensures.below) c.show.result c.show.ensures.suits
+    subst (λ first. SuitsRead c.args.self.now.settings first c.show.result) c.start_of-first.ensures.is
+    (read_suits c.args.self.now.settings c.in-Some.volume c.requires.seated.fewer (subst (λ o. IfSome o (λ home. home < c.args.self.now.settings.volumes)) c.in-Some.is
+    c.home_in_view-rows.ensures.below) c.start_of-first.result c.show.result c.show.ensures.suits)
 
 pub returns-in_default-clause-blames : goal.returns-in_default-clause-blames
 returns-in_default-clause-blames g c = blames_none g.A.Arm.is_sure g.A.Arm.fault_count _ _ _ refl

@@ -73,7 +73,7 @@ pub returns-in_err-cause-in-Err-clause-arm : goal.returns-in_err-cause-in-Err-cl
 returns-in_err-cause-in-Err-clause-arm g c = later_same c.see_at.ensures.arm
 
 pub returns-in-Ok-clause-shown : goal.returns-in-Ok-clause-shown
-returns-in-Ok-clause-shown g c = subst (λ n. ShownWithin n c.read_seen-read.result) c.in-Ok.ensures.long c.read_seen-read.ensures.shown
+returns-in-Ok-clause-shown g c = subst (λ n. ShownWithin c.args.first n c.read_seen-read.result) c.in-Ok.ensures.long c.read_seen-read.ensures.shown
 
 pub returns-in_ok-cause-in-Err-clause-shown : goal.returns-in_ok-cause-in-Err-clause-shown
 returns-in_ok-cause-in-Err-clause-shown g c =

@@ -1,5 +1,5 @@
 use Rattle.std.proofs.Common.{◌∙◌}
-use Rattle.std.specs.Prelude.{IfErr}
+use Rattle.std.specs.Prelude.{IfErr, length}
 use Rattle.hay_volume_lock.specs.Refusing.{RefusesPut}
 use Rattle.hay_shared_volume.proofs.Naming.{put_names}
 use Rattle.hay_shared_volume.proofs.Seats.{may_act, of_volume, stays_there, told}
@@ -20,7 +20,9 @@ returns-clause-tells g c volume at =
 pub put_of-requires : goal.put_of-requires
 put_of-requires g c =
     let fits = c.requires.fits.2 in
-    (fits.opened.volume.settings, fits.opened.volume.number, c.put.ensures.refusals fits.opened (fits.start ∙ fits.is))
+    (fits.opened.volume.settings, fits.opened.volume.number, length c.args.bytes.now, c.put.ensures.refusals fits.opened (fits.start ∙ fits.is))
 
 pub returns-clause-names : goal.returns-clause-names
-returns-clause-names g c v settings fits = put_names settings v c.put.result c.put_of.result c.put_of.ensures (of_volume fits (λ s n. IfErr c.put.result (RefusesPut s n)) c.put.ensures.refusals)
+returns-clause-names g c v settings fits =
+    put_names settings v (length c.args.bytes.now) c.put.result c.put_of.result c.put_of.ensures
+    (of_volume fits (λ s n. IfErr c.put.result (RefusesPut s n (length c.args.bytes.now))) c.put.ensures.refusals)

@@ -1,6 +1,6 @@
 use Rattle.std.proofs.Common.{◌∙◌}
 use Rattle.std.specs.Prelude.{IfErr}
-use Rattle.hay_logical.specs.Answers.{IsRoomFault}
+use Rattle.hay_volume_lock.specs.Refusing.{RefusesRoom}
 use Rattle.hay_shared_volume.proofs.Naming.{room_names}
 use Rattle.hay_shared_volume.proofs.Seats.{of_volume, stays_there, told}
 use Rattle.hay_shared_volume.proofs.Telling.{room_tells}
@@ -20,8 +20,8 @@ returns-clause-tells g c volume at =
 pub room_of-requires : goal.room_of-requires
 room_of-requires g c =
     let fits = c.requires.fits.2 in
-    (fits.opened.volume.settings, fits.opened.volume.number, c.room.ensures.refusals fits.opened (fits.start ∙ fits.is))
+    (fits.opened.volume.settings, fits.opened.volume.number, c.args.size, c.room.ensures.refusals fits.opened (fits.start ∙ fits.is))
 
 pub returns-clause-names : goal.returns-clause-names
 returns-clause-names g c v settings fits =
-    room_names settings v c.room.result c.room_of.result c.room_of.ensures (of_volume fits (λ s n. IfErr c.room.result (IsRoomFault s n)) c.room.ensures.refusals)
+    room_names settings v c.args.size c.room.result c.room_of.result c.room_of.ensures (of_volume fits (λ s n. IfErr c.room.result (RefusesRoom s n c.args.size)) c.room.ensures.refusals)

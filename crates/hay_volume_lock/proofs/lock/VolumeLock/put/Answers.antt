@@ -1,7 +1,8 @@
-use Rattle.std.proofs.Common.{[], ◌∷◌, ℕ, Bool, false, List, Option, Some, Ok, Err, refl, sym, ap, subst, ◌∙◌}
+use Rattle.std.proofs.Common.{[], ◌∷◌, ℕ, Bool, false, List, length, Option, Some, Ok, Err, refl, sym, ap, subst, ◌∙◌}
 use Rattle.hay_core.specs.declared.entry.Entry.{Entry}
 use Rattle.hay_core.specs.declared.entry.Entry.TheVariants as change
 use Rattle.hay_logical.specs.declared.fault.LogicalFault.TheVariants.{NoMemory, ReadOnly}
+use Rattle.hay_logical.specs.Seen.{volume_seen}
 use Rattle.hay_meeting.specs.Acts.{nobody}
 use Rattle.hay_turn.specs.Seats.{after_free}
 use Rattle.hay_turn.specs.Slots.{acts_in}
@@ -577,14 +578,15 @@ returns-clause-held g c =
 
 pub returns-in-Some-clause-refusals : goal.returns-in-Some-clause-refusals
 returns-in-Some-clause-refusals g c =
-    subst (λ (s : Seated g.row.D.Denot g.row.P.Denot). OfOpened s.start (λ settings v. RefusesPut settings v (ReadOnly c.in-Some.machine))) c.seat.view_is
+    subst (λ (s : Seated g.row.D.Denot g.row.P.Denot). OfOpened s.start (λ settings v. RefusesPut settings v (length c.args.bytes.now) (ReadOnly c.in-Some.machine))) c.seat.view_is
     (of_opened g.D.Disk.Tells g.D.Disk.files g.P.Piece.Tells g.D.Disk.fault_count g.D.Disk.fuse_count c.seat.invariant c.hold-kept.ensures
-    (λ settings v. RefusesPut settings v (ReadOnly c.in-Some.machine))
+    (λ settings v. RefusesPut settings v (length c.args.bytes.now) (ReadOnly c.in-Some.machine))
     c.in-Some.ensures.on)
 
 pub returns-in-Err-clause-refusals : goal.returns-in-Err-clause-refusals
 returns-in-Err-clause-refusals g c =
-    subst (λ (s : Seated g.row.D.Denot g.row.P.Denot). OfOpened s.start (λ settings v. RefusesPut settings v c.in-Err.fault)) c.seat.view_is
-    (of_opened g.D.Disk.Tells g.D.Disk.files g.P.Piece.Tells g.D.Disk.fault_count g.D.Disk.fuse_count c.seat.invariant c.hold-kept.ensures (λ settings v. RefusesPut settings v c.in-Err.fault)
-    (refuses_put c.hold-kept.result.logical.settings c.hold-kept.result.logical.number g.D.Disk.fault_count c.hold-kept.result.logical.replicas c.write.new.self.replicas
-    c.in-Err.fault c.in-Err.ensures.causes))
+    subst (λ (s : Seated g.row.D.Denot g.row.P.Denot). OfOpened s.start (λ settings v. RefusesPut settings v (length c.args.bytes.now) c.in-Err.fault)) c.seat.view_is
+    (of_opened g.D.Disk.Tells g.D.Disk.files g.P.Piece.Tells g.D.Disk.fault_count g.D.Disk.fuse_count c.seat.invariant c.hold-kept.ensures
+    (λ settings v. RefusesPut settings v (length c.args.bytes.now) c.in-Err.fault)
+    (refuses_put c.hold-kept.result.logical.settings c.hold-kept.result.logical.number (length c.args.bytes.now) g.D.Disk.fault_count c.hold-kept.result.logical.replicas
+    c.write.new.self.replicas c.args.tag (volume_seen c.hold-kept.result.logical) (volume_seen c.write.new.self) c.in-Err.fault c.in-Err.ensures.causes c.in-Err.ensures.refused_seen))

@@ -6,9 +6,9 @@ use Rattle.hay_volume_lock.specs.Answers.{RoomAnswer, IsTold, OneHolding}
 use Rattle.hay_volume_lock.specs.Seats.{IsSameSeat, Seated}
 use Rattle.hay_volume_lock.proofs.Finding.{room_found}
 use Rattle.hay_volume_lock.proofs.Holding.{quiet_free, quiet_held, quiet_same, quiet_seated, quiet_told, seat_of}
-use Rattle.hay_logical.specs.Answers.{IsRoomFault}
-use Rattle.hay_volume_lock.specs.Refusing.{OfOpened}
-use Rattle.hay_volume_lock.proofs.Refusing.{of_opened}
+use Rattle.hay_logical.specs.Seen.{volume_seen}
+use Rattle.hay_volume_lock.specs.Refusing.{OfOpened, RefusesRoom}
+use Rattle.hay_volume_lock.proofs.Refusing.{err_seen, of_opened, refuses_room}
 use Rattle.hay_volume_lock.proofs.lock.VolumeLock.room.Goals as goal
 
 pub show_all-requires : goal.show_all-requires
@@ -56,7 +56,8 @@ invariant_of-seat g c =
 
 pub returns-clause-refusals : goal.returns-clause-refusals
 returns-clause-refusals g c =
-    subst (λ (s : Seated g.row.D.Denot g.row.P.Denot). OfOpened s.start (λ settings v. IfErr c.room-answer.result (IsRoomFault settings v))) c.seat.view_is
+    subst (λ (s : Seated g.row.D.Denot g.row.P.Denot). OfOpened s.start (λ settings v. IfErr c.room-answer.result (RefusesRoom settings v c.args.size))) c.seat.view_is
     (of_opened g.D.Disk.Tells g.D.Disk.files g.P.Piece.Tells g.D.Disk.fault_count g.D.Disk.fuse_count c.seat.invariant c.hold-kept.ensures
-    (λ settings v. IfErr c.room-answer.result (IsRoomFault settings v))
-    c.room-answer.ensures.causes)
+    (λ settings v. IfErr c.room-answer.result (RefusesRoom settings v c.args.size))
+    (err_seen (refuses_room c.hold-kept.result.logical.settings c.hold-kept.result.logical.number c.args.size (volume_seen c.hold-kept.result.logical)) c.room-answer.result
+    c.room-answer.ensures.causes c.room-answer.ensures.refused_seen))
