@@ -1,5 +1,5 @@
 -- A block, from its lines to what stands behind it.
-use Rattle.std.proofs.Common.{◌≡◌, ◌≢◌, ◌⊎◌, inr, ℕ, ◌<◌, ◌≤◌, List, [], ◌∷◌, map, length, Option, refl, sym, subst, arith}
+use Rattle.std.proofs.Common.{◌≡◌, ◌≢◌, ◌⊎◌, inl, ℕ, ◌<◌, ◌≤◌, List, [], ◌∷◌, map, length, Option, Some, None, refl, sym, ap, subst, arith, append-nil}
 use Rattle.std.specs.Prelude.{slice_index, Result, Ok, Err, IfOk, OnOk, OnErr, Vec}
 use Rattle.std.specs.Global.{Global}
 use Rattle.std.specs.List.{AllByRecursion as Each, AllZip}
@@ -32,9 +32,9 @@ use Rattle.hay_run.specs.declared.deal.Place.{Place}
 use Rattle.hay_run.specs.declared.stops.Stop.{Stop}
 use Rattle.hay_run.specs.declared.stops.Stop.TheVariants as stop
 use Rattle.hay_run.specs.Blocks.{AreAnswered, AreJobs, ArePlaces, IsBlockOf, IsBlockText, answered_text, job_of, lane_causes}
-use Rattle.hay_run.specs.Causing.{Caused, HasSureArm, IsLaterTally, StopCaused, Tally, WantedBlock}
+use Rattle.hay_run.specs.Causing.{Caused, HasSureArm, IsLaterTally, StopCaused, Tally}
 use Rattle.hay_run.specs.Turns.{AnswersAll, AnswersPart, AnyTurn, IsGoingOn}
-use Rattle.hay_run.proofs.Blocked.{NotesOf, block_ran, block_told, err_here, notes_of_told, ok_by, ok_here}
+use Rattle.hay_run.proofs.Blocked.{NotesOf, block_ran, block_told, err_here, notes_of_told, ok_by, ok_here, wanted_line, wanted_text}
 use Rattle.hay_run.proofs.Causing.{caused_one, part_stops}
 use Rattle.hay_run.proofs.Dealing.{answered_by, are_items, distinct_items, each_job, each_mapped, each_reply, jobs_long, zip_mapped}
 use Rattle.hay_run.proofs.RowsAsked.{rows_asked}
@@ -174,8 +174,15 @@ module _ (Tells : Type 0) (settings : Settings) (before after : Tally) (lines : 
       part_stops Tells settings before after (Block lines ∷ []) written written' r why stopped kinds
       (on_err_weaker r (λ part. caused_one Tells WrotePart settings before after (Block lines) text written written' later is part) wrote)
 
--- memory was wanting before
+-- Memory was wanting before any line was answered: so it may have been for each.
 pub wanted_stops : (Tells : Type 0) (settings : Settings) (before after : Tally) (lines : List InBlock) (written : Option (List ℕ)) (why : Stop) → stop.NoMemory ≡ why
-    → WantedBlock before after (Block lines ∷ []) → StopCaused Tells settings before after why (Block lines ∷ []) written written
-wanted_stops Tells settings before after lines written why same wanted =
-    subst (λ (w : Stop). StopCaused Tells settings before after w (Block lines ∷ []) written written) same (inr (inr (inr (wanted, refl))))
+    → Each (λ line. IsServed line.item) lines → IsLaterTally before after → StopCaused Tells settings before after why (Block lines ∷ []) written written
+wanted_stops Tells settings before after lines written why same served later =
+    let text = answered_text (map wanted_line lines) [] in
+    let is = wanted_text settings (HasSureArm before) before.counts after.counts (home_seen after.seen) lines served in
+    subst (λ (w : Stop). StopCaused Tells settings before after w (Block lines ∷ []) written written) same
+    (inl (caused_one Tells WrotePart settings before after (Block lines) text written written later is (nothing_written written text)))
+  where
+    nothing_written : (written : Option (List ℕ)) (text : List ℕ) → WrotePart written text written
+    nothing_written None text = (0, tt)
+    nothing_written (Some old) text = (0, ap (λ (l : List ℕ). Some l) (sym (append-nil old)))

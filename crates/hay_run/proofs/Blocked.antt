@@ -1,17 +1,20 @@
 -- A block that was answered, and one that wanted memory before.
-use Rattle.std.proofs.Common.{◌≡◌, ℕ, List, [], ◌∷◌, ◌++◌, map, length, Option, refl, sym, ap, subst, ◌∙◌, append_assoc}
-use Rattle.std.specs.Prelude.{Bool, slice_index, Result, Ok, Err, IfOk, OnOk, OnErr, Vec, flat_map}
+use Rattle.std.proofs.Common.{◌≡◌, ◌==◌, inl, inr, ℕ, Bool, true, false, List, [], ◌∷◌, ◌++◌, map, length, Option, Some, None, refl, sym, ap, subst, ◌∙◌, append_assoc}
+use Rattle.std.specs.Prelude.{slice_index, Result, Ok, Err, IfOk, OnOk, OnErr, Vec, flat_map}
 use Rattle.std.specs.Global.{Global}
 use Rattle.std.specs.List.{AllByRecursion as Each, AllZip}
 use Rattle.hay_base.specs.declared.memory.NoMemory.{NoMemory}
 use Rattle.hay_needle.specs.declared.needle.Pair.{Pair}
 use Rattle.hay_needle.specs.declared.settings.Settings.{Settings}
 use Rattle.hay_disk.specs.Disk.{Files}
+use Rattle.hay_script.specs.declared.Command.TheVariants as asks
+use Rattle.hay_reply.specs.declared.Cause.{Cause}
 use Rattle.hay_reply.specs.declared.Note.{Note}
 use Rattle.hay_reply.specs.declared.Reply.{Reply}
-use Rattle.hay_reply.specs.declared.Reply.TheVariants.{BadLine}
+use Rattle.hay_reply.specs.declared.Reply.TheVariants.{BadLine, NoMem}
 use Rattle.hay_reply.specs.Fits.{FitsNote, FitsReply}
 use Rattle.hay_legal.specs.declared.known.Known.{Known}
+use Rattle.hay_legal.specs.declared.turn.Item.{Item}
 use Rattle.hay_legal.specs.declared.turn.Item.TheVariants as item
 use Rattle.hay_legal.specs.declared.turn.LaneItem.{LaneItem}
 use Rattle.hay_legal.specs.declared.turn.LogNote.{LogNote}
@@ -20,18 +23,18 @@ use Rattle.hay_legal.specs.declared.turn.Turn.{Turn}
 use Rattle.hay_legal.specs.declared.turn.Turn.TheVariants.{Lanes}
 use Rattle.hay_legal.specs.Items.{InBlock, line_asked}
 use Rattle.hay_legal.specs.Items.Asked.{Block}
-use Rattle.hay_legal.specs.Suiting.{SuitsItem}
+use Rattle.hay_legal.specs.Known.{replica_on}
+use Rattle.hay_legal.specs.Suiting.{AtReplica, SuitsCompact, SuitsFlush, SuitsGet, SuitsItem}
 use Rattle.hay_legal.specs.Transcript.{answered_line, log_line, row_line, turn_text}
-use Rattle.hay_lane.specs.Blames.{BlamesArm}
+use Rattle.hay_lane.specs.Blames.{BlamesArm, causes_told}
 use Rattle.hay_block.specs.declared.worker.Job.{Job}
-use Rattle.hay_block.specs.Lines.{AnswersBad, AnswersSuited}
+use Rattle.hay_block.specs.Lines.{AnswersBad, AnswersSuited, IsServed}
 use Rattle.hay_cluster.specs.Causes.{Counts}
-use Rattle.hay_cluster.specs.Store.{Open, disks_of}
-use Rattle.hay_cluster_block.specs.Blocks.{RanBlock, StaysAs}
+use Rattle.hay_cluster.specs.Store.{Open}
+use Rattle.hay_cluster_block.specs.Blocks.{RanBlock}
 use Rattle.hay_cluster_block.specs.Notes.{AreBlockNotes, TellsRowsOf, block_notes}
 use Rattle.hay_cluster_block.proofs.Noting.{notes_text}
-use Rattle.hay_run.specs.Blocks.{AreAnswered, AreJobs, IsBlockText, answered_text, job_of, lane_causes}
-use Rattle.hay_run.specs.Causing.{WantedBlock, tally_of}
+use Rattle.hay_run.specs.Blocks.{AreAnswered, AreJobs, FitsLine, IsBlockText, answered_text, job_of, lane_causes}
 use Rattle.hay_run.specs.Turns.{AnswersTurns, Standing, Writing}
 use Rattle.hay_run.proofs.Dealing.{each_answer, each_reply}
 use Rattle.hay_run.proofs.Turning.{answers_block}
@@ -114,27 +117,76 @@ block_told settings Sure before after home lanes lines jobs replies items told a
 
 -- BEFORE A BLOCK
 
-pub wanted_block : {D P A : Type 0} (DiskTells : Type 0) (files : D → Files) (Tells : Type 0) (drawn : D → ℕ → ℕ) (faults fuses : D → ℕ) (arm_faults : A → ℕ) (sure : A → Bool)
-    (lines : List InBlock) (store store' : Open D P A)
-    → StaysAs DiskTells files Tells faults fuses arm_faults store store' → WantedBlock (tally_of files drawn faults fuses arm_faults sure store)
-    (tally_of files drawn faults fuses arm_faults sure store') (Block lines ∷ [])
-wanted_block DiskTells files Tells drawn faults fuses arm_faults sure lines store store' same = record {
-  lines = lines;
-  block = refl;
-  counts =
-      let by_disks : List ℕ → Counts = λ disks. record { disks = disks; arms = map arm_faults store'.arms } in
-      let by_arms : List ℕ → Counts = λ arms. record { disks = map faults (disks_of store); arms = arms } in
-      ap by_disks same.faults_are ∙ ap by_arms (ap (λ arms. map arm_faults arms) same.arms_are);
-  fuses = same.fuses_are;
-  sure = ap (λ arms. map sure arms) same.arms_are;
-}
+abbrev pub wanted_reply : Item → Reply
+wanted_reply (item.Command command) = NoMem
+wanted_reply item.Bad = BadLine
 
-pub same_block : {D P A : Type 0} (files : D → Files) (drawn : D → ℕ → ℕ) (faults fuses : D → ℕ) (arm_faults : A → ℕ) (sure : A → Bool) (lines : List InBlock) (store : Open D P A)
-    → WantedBlock (tally_of files drawn faults fuses arm_faults sure store) (tally_of files drawn faults fuses arm_faults sure store) (Block lines ∷ [])
-same_block files drawn faults fuses arm_faults sure lines store = record {
-  lines = lines;
-  block = refl;
-  counts = refl;
-  fuses = refl;
-  sure = refl;
+-- a line that is told that memory is wanting, where it is a command
+abbrev pub wanted_line : InBlock → LaneItem
+wanted_line line = record { line = line.line; lane = line.lane; item = line.item; reply = wanted_reply line.item }
+
+wanted_asked : (lines : List InBlock) → map line_asked (map wanted_line lines) ≡ lines
+wanted_asked [] = refl
+wanted_asked (line ∷ lines) = ap (λ (l : List InBlock). line ∷ l) (wanted_asked lines)
+
+wanted_at : (at : Option ℕ) (suits : ℕ → Reply → Type 0) → AtReplica at suits NoMem
+wanted_at (Some replica) suits = inr refl
+wanted_at None suits = inr refl
+
+wanted_fits : (settings : Settings) (line : ℕ) (asked : Item) → IsServed asked → FitsReply (wanted_reply asked) × SuitsItem settings line asked (wanted_reply asked)
+    × (asked ≡ item.Bad → wanted_reply asked ≡ BadLine)
+wanted_fits settings line item.Bad served = (tt, tt, λ is. refl)
+wanted_fits settings line (item.Command (asks.Put pair photo)) served = (tt, inr (inr (inr (inr (inr (inr refl))))), λ is. absurd cc)
+wanted_fits settings line (item.Command (asks.Read pair cookie)) served = (tt, inr (inr refl), λ is. absurd cc)
+wanted_fits settings line (item.Command (asks.Get url)) served = (tt, wanted_at (replica_on settings url.volume url.machine) (SuitsGet settings url), λ is. absurd cc)
+wanted_fits settings line (item.Command (asks.Del pair)) served = (tt, inr (inr (inr (inr (inr (inr refl))))), λ is. absurd cc)
+wanted_fits settings line (item.Command (asks.Url pair)) served = (tt, inr (inr refl), λ is. absurd cc)
+wanted_fits settings line (item.Command (asks.Flush v m)) served = (tt, wanted_at (replica_on settings v m) (λ replica. SuitsFlush settings v m), λ is. absurd cc)
+wanted_fits settings line (item.Command (asks.Compact v m)) served = (tt, wanted_at (replica_on settings v m) (λ replica. SuitsCompact settings v m), λ is. absurd cc)
+wanted_fits settings line (item.Command (asks.Begin v m)) served = absurd served.1
+wanted_fits settings line (item.Command (asks.Step v m cells)) served = absurd served.1
+wanted_fits settings line (item.Command (asks.Finish v m)) served = absurd served.1
+wanted_fits settings line (item.Command (asks.Drain m)) served = absurd served.1
+wanted_fits settings line (item.Command (asks.Undrain m)) served = absurd served.1
+wanted_fits settings line (item.Command (asks.Fuse v m calls)) served = absurd served.1
+wanted_fits settings line (item.Command (asks.FuseDir calls)) served = absurd served.1
+wanted_fits settings line (item.Command (asks.Restart pick)) served = absurd served.1
+
+wanted_each : (settings : Settings) (lines : List InBlock) → Each (λ line. IsServed line.item) lines → Each (FitsLine settings) (map wanted_line lines)
+wanted_each settings [] served = tt
+wanted_each settings (line ∷ lines) served = (wanted_fits settings line.line line.item served.0, wanted_each settings lines served.1)
+
+no_cause : (asked : Item) → causes_told (wanted_reply asked) ≡ []
+no_cause (item.Command command) = refl
+no_cause item.Bad = refl
+
+one_more : (lane : ℕ) (item : LaneItem) (items : List LaneItem) (b : Bool) → (item.lane == lane) ≡ b → causes_told item.reply ≡ [] → lane_causes lane items ≡ []
+    → lane_causes lane (item ∷ items) ≡ []
+one_more lane item items true is none others = rw is (ap (λ (l : List Cause). l ++ lane_causes lane items) none ∙ others)
+one_more lane item items false is none others = rw is others
+
+none_told : (lane : ℕ) (items : List LaneItem) → Each (λ answered. causes_told answered.reply ≡ []) items → lane_causes lane items ≡ []
+none_told lane [] each = refl
+none_told lane (item ∷ items) each = one_more lane item items (item.lane == lane) refl each.0 (none_told lane items each.1)
+
+wanted_none : (lines : List InBlock) → Each (λ answered. causes_told answered.reply ≡ []) (map wanted_line lines)
+wanted_none [] = tt
+wanted_none (line ∷ lines) = (no_cause line.item, wanted_none lines)
+
+no_causes : (lane : ℕ) (lines : List InBlock) → lane_causes lane (map wanted_line lines) ≡ []
+no_causes lane lines = none_told lane (map wanted_line lines) (wanted_none lines)
+
+-- these lines may have been told so
+pub wanted_text : (settings : Settings) (Sure : ℕ → Type 0) (before after : Counts) (home : Pair → Option ℕ) (lines : List InBlock) → Each (λ line. IsServed line.item) lines
+    → IsBlockText settings Sure before after home lines (answered_text (map wanted_line lines) [])
+wanted_text settings Sure before after home lines served = record {
+  items = map wanted_line lines;
+  asked = wanted_asked lines;
+  fits = wanted_each settings lines served;
+  blames = λ lane. subst (BlamesArm (Sure lane) (slice_index before.arms lane) (slice_index after.arms lane)) (sym (no_causes lane lines)) (record { each = tt; rises = tt });
+  notes = [];
+  told = record { logs = []; rows = record { from = 0; rows = [] }; upwards = record { upwards = tt; within = tt; some = tt }; are = refl };
+  rows = tt;
+  fit = tt;
+  is = refl;
 }

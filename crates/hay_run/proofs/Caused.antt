@@ -100,21 +100,12 @@ module _ (Tells : Type 0) where
   part_of settings before after last base written' (inr (inr (not, (note, fits, cause, (n, wrote))))) =
       (take n (note_line note), wrote, inr (inr (not, (note, fits, cause, front_take n (note_line note)))))
 
-  -- a run that wants memory, perhaps for a block before any of its lines was answered
-  memory_part : (settings : Settings) (before after : Tally) (last : List Asked) (base : List ℕ) (written' : Option (List ℕ))
-      → StopCaused Tells settings before after stop.NoMemory last (Some base) written' → PartOf NoMemory settings before after last base written'
-  memory_part settings before after last base written' (inl c) = let p = part_of settings before after last base written' (inl c) in (p.0, p.1, inl p.2)
-  memory_part settings before after last base written' (inr (inl c)) = let p = part_of settings before after last base written' (inr (inl c)) in (p.0, p.1, inl p.2)
-  memory_part settings before after last base written' (inr (inr (inl c))) = let p = part_of settings before after last base written' (inr (inr c)) in (p.0, p.1, inl p.2)
-  memory_part settings before after last base written' (inr (inr (inr (wanted, same)))) =
-      ([], same ∙ ap (λ (l : List ℕ). Some l) (sym (append-nil base)), inr (wanted, refl))
-
   pub stop_part : (why : Stop) (settings : Settings) (before after : Tally) (last : List Asked) (base : List ℕ) (written' : Option (List ℕ))
       → StopCaused Tells settings before after why last (Some base) written' → PartOf (ending_of why) settings before after last base written'
   stop_part stop.Input settings before after last base written' (none, same, wrote) = ([], wrote ∙ ap (λ (l : List ℕ). Some l) (sym (append-nil base)), (refl, same))
   stop_part stop.TooLong settings before after last base written' (none, same, wrote) = ([], wrote ∙ ap (λ (l : List ℕ). Some l) (sym (append-nil base)), (refl, same))
   stop_part stop.Output settings before after last base written' c = part_of settings before after last base written' c
-  stop_part stop.NoMemory settings before after last base written' c = memory_part settings before after last base written' c
+  stop_part stop.NoMemory settings before after last base written' c = part_of settings before after last base written' c
   stop_part stop.Store settings before after last base written' (not, (note, fits, cause, wrote)) = (note_line note, wrote, (not, (note, fits, cause, refl)))
 
   -- what stands behind the header

@@ -178,11 +178,6 @@ module _ (Tells : Type 0) where
         Caused Tells WrotePart settings before after RestartAsked written written' ⊎ ToldWanting before after RestartAsked written written'
         ⊎ ToldRefusal Tells WrotePart settings before after RestartAsked written written'
 
-    wanting_told : Told → StopCaused Tells settings before after stop.NoMemory RestartAsked written written'
-    wanting_told (inl c) = inl c
-    wanting_told (inr (inl c)) = inr (inl c)
-    wanting_told (inr (inr c)) = inr (inr (inl c))
-
     refusal_part : (note : Note) → why ≢ stop.Store → FitsNote note → IsNoteCaused Tells settings before after note → PartOf note → Told
     refusal_part note other fits cause (inl is) = absurd (other is)
     refusal_part note other fits cause (inr wrote) = inr (inr (back, (note, fits, cause, wrote)))
@@ -207,7 +202,7 @@ module _ (Tells : Type 0) where
     refused_stops fault fits cause lowest place wanting told part (inl e) =
         subst (λ (w : Stop). StopCaused Tells settings before after w RestartAsked written written') (sym e) (part_refused fault fits cause lowest place (λ is. cc) wanting part)
     refused_stops fault fits cause lowest place wanting told part (inr (inl e)) =
-        subst (λ (w : Stop). StopCaused Tells settings before after w RestartAsked written written') (sym e) (wanting_told (part_refused fault fits cause lowest place (λ is. cc) wanting part))
+        subst (λ (w : Stop). StopCaused Tells settings before after w RestartAsked written written') (sym e) (part_refused fault fits cause lowest place (λ is. cc) wanting part)
     refused_stops fault fits cause lowest place wanting told part (inr (inr e)) =
         let note = told e in
         subst (λ (w : Stop). StopCaused Tells settings before after w RestartAsked written written') (sym e)

@@ -52,8 +52,7 @@ module _ (Tells : Type 0) (settings : Settings) where
     stopped_none stop.Output (inr (inr (not, note))) = absurd (no_restart not.restart)
     stopped_none stop.NoMemory (inl caused) = caused.answers.1
     stopped_none stop.NoMemory (inr (inl (not, part))) = absurd (no_restart not.restart)
-    stopped_none stop.NoMemory (inr (inr (inl (not, note)))) = absurd (no_restart not.restart)
-    stopped_none stop.NoMemory (inr (inr (inr (wanted, same)))) = let none = wanted.block in cc
+    stopped_none stop.NoMemory (inr (inr (not, note))) = absurd (no_restart not.restart)
     stopped_none stop.Store (not, note) = absurd (no_restart not.restart)
 
   -- no item was read of a script that has none

@@ -169,14 +169,6 @@ abbrev pub ToldWanting : Tally → Tally → List Asked → Option (List ℕ) �
 ToldWanting before after asked written written' =
     (not : NotReopened before after asked) × WrotePart written (numbered_line not.restart.0 NoMem) written'
 
--- A block wanted memory before any of its lines was answered: no count changed, no fuse was set, and the arms are as they were.
-pub record WantedBlock (before after : Tally) (asked : List Asked) : Type 0 where
-  pub lines : List InBlock
-  pub block : asked ≡ Block lines ∷ []
-  pub counts : after.counts ≡ before.counts
-  pub fuses : after.fuses ≡ before.fuses
-  pub sure : after.sure ≡ before.sure
-
 -- what a run that stops has written of the last item
 abbrev pub StopCaused : Type 0 → Settings → Tally → Tally → Stop → List Asked → Option (List ℕ) → Option (List ℕ) → Type 0
 StopCaused Tells settings before after stop.Input asked written written' = (asked ≡ []) × (after ≡ before) × (written' ≡ written)
@@ -185,7 +177,6 @@ StopCaused Tells settings before after stop.Output asked written written' =
     Caused Tells WrotePart settings before after asked written written' ⊎ ToldWanting before after asked written written' ⊎ ToldRefusal Tells WrotePart settings before after asked written written'
 StopCaused Tells settings before after stop.NoMemory asked written written' =
     Caused Tells WrotePart settings before after asked written written' ⊎ ToldWanting before after asked written written' ⊎ ToldRefusal Tells WrotePart settings before after asked written written'
-    ⊎ (WantedBlock before after asked × (written' ≡ written))
 StopCaused Tells settings before after stop.Store asked written written' = ToldRefusal Tells Wrote settings before after asked written written'
 
 -- what it has read of it: the item, or lines that ask for nothing whole
@@ -256,8 +247,7 @@ StandsBehind Tells ReadAll settings before after last part = (part ≡ []) × (a
 StandsBehind Tells InputFault settings before after last part = (part ≡ []) × (after ≡ before)
 StandsBehind Tells TooLong settings before after last part = (part ≡ []) × (after ≡ before)
 StandsBehind Tells OutputFault settings before after last part = IsPartBehind Tells settings before after last part
-StandsBehind Tells NoMemory settings before after last part =
-    IsPartBehind Tells settings before after last part ⊎ (WantedBlock before after last × (part ≡ []))
+StandsBehind Tells NoMemory settings before after last part = IsPartBehind Tells settings before after last part
 StandsBehind Tells NotOpened settings before after last part =
     NotReopened before after last × ((note : Note) × FitsNote note × IsNoteCaused Tells settings before after note × (part ≡ note_line note))
 

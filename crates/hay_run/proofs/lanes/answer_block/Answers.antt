@@ -15,7 +15,7 @@ use Rattle.hay_run.specs.Turns.{AnswersPart}
 use Rattle.hay_run.proofs.Answering.{Dealt, answered, block_caused, block_part, block_stops, block_whole, dealt, few_jobs, items_are, items_differ, items_fit, low_lines}
 use Rattle.hay_run.proofs.Answering.{notes_told, served_jobs, some_jobs, text_told, wanted_stops}
 use Rattle.hay_run.proofs.Blamed.{lanes_blame}
-use Rattle.hay_run.proofs.Blocked.{err_here, same_block, wanted_block}
+use Rattle.hay_run.proofs.Blocked.{err_here}
 use Rattle.hay_run.proofs.Counting.{NoneFalls-same, StaySure-lanes}
 use Rattle.hay_run.proofs.lanes.answer_block.Goals as goal
 
@@ -252,13 +252,15 @@ pub returns-clause-stop_caused : goal.returns-clause-stop_caused
 returns-clause-stop_caused g c =
     let D = g.D.Disk in
     let A = g.A.Arm in
-    let K = g.K.Sink in
-    let kept = rw c.in-Err.is at c.run_block-cluster.ensures.refused in
     λ why is.
     let same : stop.NoMemory ≡ why = cc in
     wanted_stops D.Tells c.args.cluster.settings (tally_of D.files D.drawn D.fault_count D.fuse_count A.fault_count A.is_sure c.args.cluster)
-    (tally_of D.files D.drawn D.fault_count D.fuse_count A.fault_count A.is_sure c.run_block-cluster.result.0) c.args.block.lines (K.written c.args.sink.now) why same
-    (wanted_block D.Tells D.files g.D.Piece.Piece.Tells D.drawn D.fault_count D.fuse_count A.fault_count A.is_sure c.args.block.lines c.args.cluster c.run_block-cluster.result.0 kept)
+    (tally_of D.files D.drawn D.fault_count D.fuse_count A.fault_count A.is_sure c.run_block-cluster.result.0) c.args.block.lines (g.K.Sink.written c.args.sink.now) why same
+    c.requires.block.served (
+      c.run_block-cluster.ensures.counts,
+      c.run_block-cluster.ensures.arm_counts,
+      StaySure-lanes A.is_sure A.fault_count c.args.cluster.arms c.run_block-cluster.result.0.arms c.run_block-cluster.ensures.sure_arms,
+    )
 
 pub returns-clause-formatted : goal.returns-clause-formatted
 returns-clause-formatted g c =
@@ -280,12 +282,12 @@ pub returns-in_default-clause-stop_caused : goal.returns-in_default-clause-stop_
 returns-in_default-clause-stop_caused g c =
     let D = g.D.Disk in
     let A = g.A.Arm in
-    let K = g.K.Sink in
     λ why is.
     let same : stop.NoMemory ≡ why = cc in
     wanted_stops D.Tells c.args.cluster.settings (tally_of D.files D.drawn D.fault_count D.fuse_count A.fault_count A.is_sure c.args.cluster)
-    (tally_of D.files D.drawn D.fault_count D.fuse_count A.fault_count A.is_sure c.args.cluster) c.args.block.lines (K.written c.args.sink.now) why same
-    (same_block D.files D.drawn D.fault_count D.fuse_count A.fault_count A.is_sure c.args.block.lines c.args.cluster)
+    (tally_of D.files D.drawn D.fault_count D.fuse_count A.fault_count A.is_sure c.args.cluster) c.args.block.lines (g.K.Sink.written c.args.sink.now) why same
+    c.requires.block.served
+    (NoneFalls-same (map D.fault_count (disks_of c.args.cluster)), NoneFalls-same (map A.fault_count c.args.cluster.arms), λ lane sure. sure)
 
 pub returns-in_default-clause-faults : goal.returns-in_default-clause-faults
 returns-in_default-clause-faults g c =
