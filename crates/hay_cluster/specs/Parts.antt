@@ -1,11 +1,9 @@
 -- What a call of one of the store's parts makes of the known state.
-use Rattle.std.specs.Prelude.{ℕ, Bool, List}
+use Rattle.std.specs.Prelude.{ℕ}
 use Rattle.hay_disk.specs.Disk.{Files}
-use Rattle.hay_legal.specs.declared.known.DirKnown.{DirKnown}
 use Rattle.hay_legal.specs.declared.known.Known.{Known}
 use Rattle.hay_legal.specs.declared.known.VolumeKnown.{VolumeKnown}
 use Rattle.hay_legal.specs.Known.{Leaves, volume_at, with_volume}
-use Rattle.hay_directory.specs.State as directory
 use Rattle.hay_logical.specs.Fits.{At}
 use Rattle.hay_logical.specs.Stands as logical
 use Rattle.hay_logical.specs.Volumes.{Volume}
@@ -29,8 +27,3 @@ pub record InVolume {D P A : Type 0} (files : D → Files) (Tells : Type 0) (fau
   pub stood : logical.Stands files Tells before (volume_at k v)
   pub does : Does before after
   pub comes : (known : VolumeKnown) → logical.Stands files Tells after known → Comes files Tells faults fuses arm_faults k (with_volume k v known) new
-
--- The Directory was called, which did this: whatever it now stands for, the store stands for besides what was known.
-pub record InDirectory {D P A : Type 0} (files : D → Files) (Tells : Type 0) (faults fuses : D → ℕ) (arm_faults : A → ℕ) (k : Known) (new : Open D P A) : Type 0 where
-  pub comes : (known : DirKnown) (drained : List Bool) → directory.Stands files new.directory known drained →
-      Comes files Tells faults fuses arm_faults k (record k { directory = known; drained = drained }) new
