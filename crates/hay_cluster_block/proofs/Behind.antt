@@ -33,7 +33,7 @@ use Rattle.hay_cluster_block.proofs.Named.{rows_found}
 use Rattle.hay_cluster_block.proofs.Noting.{notes_text}
 use Rattle.hay_cluster_block.proofs.Standing.{made, store_stands}
 use Rattle.hay_cluster_block.specs.Blocks.{RanBlock}
-use Rattle.hay_cluster_block.specs.Notes.{AreBlockNotes, block_notes, entered_notes}
+use Rattle.hay_cluster_block.specs.Notes.{AreBlockNotes, AreWithin, block_notes, entered_notes, entered_rows}
 use Rattle.hay_cluster_block.specs.Rows.{all_jobs, rows_at}
 
 -- the homes are those of the rows
@@ -65,21 +65,14 @@ text_of logs rows (Err error) are = tt
 
 -- whatever the disks tell, they are notes of a block
 pub notes_of_block : (volumes : ℕ) (home : Pair → Option ℕ) (jobs : List (Vec Job Global)) (entered : Result BlockNotes NoMemory) (told : Result (Vec Note Global) NoMemory)
-    → IfOk entered (λ e. AreUpwards volumes e.logs.items)
+    → IfOk entered (λ e. AreUpwards volumes e.logs.items) → IfOk entered (λ e. IfOk told (λ notes. AreWithin volumes (entered_rows home jobs e)))
     → IfOk entered (λ e. IfOk told (λ notes. notes.items ≡ entered_notes home jobs e)) → OnErr entered (IsErr told) → IfOk told (λ notes. AllByRecursion FitsNote notes.items)
     → IfOk told (λ notes. AreBlockNotes volumes notes.items × AllByRecursion FitsNote notes.items)
-notes_of_block volumes home jobs (Ok e) (Ok notes) upwards are wanted fit = (
-  record {
-    logs = e.logs.items;
-    rows = record { from = e.rows; rows = rows_at home (all_jobs jobs) (map line_of_tag e.added.items) };
-    upwards = upwards;
-    are = are;
-  },
-  fit,
-)
-notes_of_block volumes home jobs (Ok e) (Err error) upwards are wanted fit = tt
-notes_of_block volumes home jobs (Err error) (Ok notes) upwards are wanted fit = absurd cc
-notes_of_block volumes home jobs (Err error) (Err other) upwards are wanted fit = tt
+notes_of_block volumes home jobs (Ok e) (Ok notes) upwards within are wanted fit =
+    (record { logs = e.logs.items; rows = record { from = e.rows; rows = entered_rows home jobs e }; upwards = upwards; within = within; are = are }, fit)
+notes_of_block volumes home jobs (Ok e) (Err error) upwards within are wanted fit = tt
+notes_of_block volumes home jobs (Err error) (Ok notes) upwards within are wanted fit = absurd cc
+notes_of_block volumes home jobs (Err error) (Err other) upwards within are wanted fit = tt
 
 module _ {D P A : Type 0} (DiskTells : Type 0) (files : D → Files) (Tells : Type 0) (faults fuses : D → ℕ) (arm_faults : A → ℕ) (settings : Settings)
     (jobs : List (Vec Job Global)) (replies : List (Vec Reply Global)) where

@@ -1,5 +1,6 @@
 -- The home of a line, and the homes of pairs that got one.
-use Rattle.std.proofs.Common.{◌≡◌, ◌≢◌, ◌⊎◌, ℕ, true, false, List, [], ◌∷◌, ◌++◌, Contains, Option, Some, None, inl, inr, refl, sym, ap, ◌∙◌, take, drop, length}
+use Rattle.std.proofs.Common.{◌≡◌, ◌≢◌, ◌⊎◌, ℕ, ◌<◌, ◌==◌, Bool, true, false, List, [], ◌∷◌, ◌++◌, Contains, Option, Some, None, inl, inr, refl, sym, ap, subst, ◌∙◌, take, drop, length}
+use Rattle.std.specs.Prelude.{Result, Ok, Err, IfSome, OnOk, if◌then◌else◌}
 use Rattle.std.specs.List.{AllByRecursion as Each}
 use Rattle.std.specs.Option.{option_or}
 use Rattle.std.proofs.lemmas.Bool.{cases_Bool, cond-true, cond-false, eq-eqb, ne_eqb}
@@ -14,7 +15,17 @@ use Rattle.hay_legal.specs.Known.{EachPair, home_in}
 use Rattle.hay_history.proofs.Lists.{each_both, first_or_rest, in_rest, is_first, none_in}
 use Rattle.hay_directory.proofs.HomeLaws.{home_in-append}
 use Rattle.hay_block.specs.declared.worker.Job.{Job}
-use Rattle.hay_cluster_block.specs.Rows.{home_at, home_by, home_if}
+use Rattle.hay_cluster_block.specs.Rows.{KeptWithin, home_at, home_by, home_if, home_kept}
+
+-- one home more is kept
+pub kept_more : {E : Type 0} (kept : Result Unit E) (volumes line volume : ℕ) (old new : List (ℕ × ℕ)) → volume < volumes → KeptWithin volumes old
+    → OnOk kept ((other : ℕ) → home_kept new other ≡ (if line == other then Some volume else home_kept old other)) → OnOk kept (KeptWithin volumes new)
+kept_more (Err e) volumes line volume old new low within is = tt
+kept_more (Ok done) volumes line volume old new low within is = λ other. subst (λ (o : Option ℕ). IfSome o (λ v. v < volumes)) (sym (is other)) (chosen other (line == other))
+  where
+    chosen : (other : ℕ) (b : Bool) → IfSome (if b then Some volume else home_kept old other) (λ v. v < volumes)
+    chosen other true = low
+    chosen other false = within other
 
 -- BY LINES
 

@@ -1,6 +1,6 @@
 -- The rows that the notes behind a block tell, whatever the disks tell.
-use Rattle.std.proofs.Common.{◌≡◌, ℕ, List, [], ◌∷◌, Vec, Global, map, Option, Some, None, Result, Ok, Err, refl, sym, subst, ◌∙◌}
-use Rattle.std.specs.Prelude.{IfOk, IsErr, OnErr}
+use Rattle.std.proofs.Common.{◌≡◌, ◌<◌, ℕ, List, [], ◌∷◌, Vec, Global, filter_map, map, Option, Some, None, Result, Ok, Err, refl, sym, subst, ◌∙◌}
+use Rattle.std.specs.Prelude.{IfOk, IfSome, IsErr, OnErr}
 use Rattle.std.specs.List.{AllByRecursion as Each, cons_option}
 use Rattle.std.specs.Option.{option_and_then, option_or}
 use Rattle.std.proofs.lemmas.Bool.{eq-eqb, ne_eqb}
@@ -17,8 +17,8 @@ use Rattle.hay_directory.specs.State.{State, home_of}
 use Rattle.hay_block.specs.declared.store.BlockNotes.{BlockNotes}
 use Rattle.hay_block.specs.declared.worker.Job.{Job}
 use Rattle.hay_block.specs.Stores.{line_of_tag}
-use Rattle.hay_cluster_block.specs.Notes.{IsRowOf, TellsRowsOf, block_notes, entered_notes, notes_of_rows}
-use Rattle.hay_cluster_block.specs.Rows.{all_jobs, home_at, home_by, pair_of, row_by, rows_at}
+use Rattle.hay_cluster_block.specs.Notes.{AreWithin, IsRowOf, TellsRowsOf, block_notes, entered_notes, notes_of_rows}
+use Rattle.hay_cluster_block.specs.Rows.{KeptWithin, all_jobs, home_at, home_by, home_kept, pair_of, row_by, rows_at}
 
 module _ (home : Pair → Option ℕ) where
   put_by : (asked : Option Pair) (v : ℕ) → option_and_then home asked ≡ Some v → (pair : Pair) × (asked ≡ Some pair) × (home pair ≡ Some v)
@@ -78,6 +78,16 @@ module _ (home : Pair → Option ℕ) where
   told_of jobs (Ok e) (Err error) are wanted = tt
   told_of jobs (Err error) (Ok notes) are wanted = absurd cc
   told_of jobs (Err error) (Err other) are wanted = tt
+
+-- where the homes that are kept are of so many volumes, the rows are
+kept_row : (volumes line : ℕ) (home : Option ℕ) (rows : List LineVolume) → IfSome home (λ volume. volume < volumes) → AreWithin volumes rows → AreWithin volumes (cons_option (row_by line home) rows)
+kept_row volumes line None rows low within = within
+kept_row volumes line (Some v) rows low within = (low, within)
+
+pub kept_rows : (volumes : ℕ) (homes : List (ℕ × ℕ)) → KeptWithin volumes homes → (lines : List ℕ) → AreWithin volumes (filter_map (λ line. row_by line (home_kept homes line)) lines)
+kept_rows volumes homes kept [] = tt
+kept_rows volumes homes kept (line ∷ lines) =
+    kept_row volumes line (home_kept homes line) (filter_map (λ (line : ℕ). row_by line (home_kept homes line)) lines) (kept line) (kept_rows volumes homes kept lines)
 
 -- each row is of a line that put a pair, whose home behind the block is the row's volume
 pub rows_told : {D : Type 0} (directory behind : State D) (jobs : List (Vec Job Global)) → behind ≡ directory → (entered : Result BlockNotes NoMemory) (told : Result (Vec Note Global) NoMemory)

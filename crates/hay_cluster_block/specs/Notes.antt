@@ -1,5 +1,5 @@
 -- The notes behind a block.
-use Rattle.std.specs.Prelude.{◌≡◌, ℕ, List, [], ◌∷◌, ◌++◌, map, Contains, Option, Some, Vec}
+use Rattle.std.specs.Prelude.{◌≡◌, ℕ, ◌<◌, List, [], ◌∷◌, ◌++◌, map, Contains, Option, Some, Vec}
 use Rattle.std.specs.Global.{Global}
 use Rattle.std.specs.List.{AllByRecursion as Each}
 use Rattle.hay_needle.specs.declared.needle.Pair.{Pair}
@@ -26,16 +26,24 @@ notes_of_rows from (row ∷ rows) = Rows from (row ∷ rows) ∷ []
 abbrev pub block_notes : List LogNote → RowNote → List Note
 block_notes logs rows = map note_of_log logs ++ notes_of_rows rows.from rows.rows
 
--- these are such notes of a store of so many volumes
+-- each of these rows is of one of so many volumes
+abbrev pub AreWithin : ℕ → List LineVolume → Type 0
+AreWithin volumes rows = Each (λ row. row.volume < volumes) rows
+
+-- these are such notes of a store of so many volumes, each row of one of them
 pub record AreBlockNotes (volumes : ℕ) (notes : List Note) : Type 0 where
   pub logs : List LogNote
   pub rows : RowNote
   pub upwards : AreUpwards volumes logs
+  pub within : AreWithin volumes rows.rows
   pub are : notes ≡ block_notes logs rows
 
 -- those of what was entered by these lines, where pairs have these homes behind them
+abbrev pub entered_rows : (Pair → Option ℕ) → List (Vec Job Global) → BlockNotes → List LineVolume
+entered_rows home jobs entered = rows_at home (all_jobs jobs) (map line_of_tag (entered.added).items)
+
 abbrev pub entered_notes : (Pair → Option ℕ) → List (Vec Job Global) → BlockNotes → List Note
-entered_notes home jobs entered = block_notes (entered.logs).items (record { from = entered.rows; rows = rows_at home (all_jobs jobs) (map line_of_tag (entered.added).items) })
+entered_notes home jobs entered = block_notes (entered.logs).items (record { from = entered.rows; rows = entered_rows home jobs entered })
 
 -- ROWS, WHATEVER THE DISKS TELL
 

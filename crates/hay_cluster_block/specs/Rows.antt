@@ -1,5 +1,5 @@
 -- The new rows of a block by their lines: each is of the pair that its line put, and the pair's home is the row's volume.
-use Rattle.std.specs.Prelude.{ℕ, ◌==◌, nat_eq, List, [], ◌∷◌, filter_map, flat_map, Option, Some, None, if◌then◌else◌, Vec}
+use Rattle.std.specs.Prelude.{ℕ, ◌<◌, ◌==◌, nat_eq, List, [], ◌∷◌, filter_map, flat_map, Option, Some, None, IfSome, if◌then◌else◌, Vec}
 use Rattle.std.specs.Global.{Global}
 use Rattle.std.specs.Map.{lookup}
 use Rattle.std.specs.Option.{option_and_then, option_map, option_or}
@@ -44,6 +44,10 @@ row_by line home = option_map (λ volume. record { line = line; volume = volume 
 -- the home that is kept of a line
 abbrev pub home_kept : List (ℕ × ℕ) → ℕ → Option ℕ
 home_kept homes line = lookup (nat_eq line) homes
+
+-- each home that is kept is one of so many volumes
+abbrev pub KeptWithin : ℕ → List (ℕ × ℕ) → Type 0
+KeptWithin volumes homes = (line : ℕ) → IfSome (home_kept homes line) (λ volume. volume < volumes)
 
 module _ (home : Pair → Option ℕ) where
   -- the home of the pair that a line puts

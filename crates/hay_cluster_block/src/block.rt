@@ -11,7 +11,7 @@ ghost use Rattle.hay_cluster.specs.Causes.{StaySure};
 ghost use Rattle.hay_cluster.specs.State.{Stands};
 ghost use Rattle.hay_cluster.specs.Store.{IsShaped, IsUp, disks_of};
 ghost use Rattle.hay_cluster_block.specs.Blocks.{RanBlock, StaysAs};
-ghost use Rattle.hay_cluster_block.specs.Notes.{AreBlockNotes, TellsRowsOf, entered_notes};
+ghost use Rattle.hay_cluster_block.specs.Notes.{AreBlockNotes, AreWithin, TellsRowsOf, entered_notes, entered_rows};
 ghost use Rattle.hay_cluster_block.specs.Rows.{all_jobs};
 
 use crate::arms::{apart, read_counts, together};
@@ -47,6 +47,7 @@ fn told<D: Disk>(
 ) -> BlockReplies
     ensures replies { result.replies ≡ answers.replies }
     ensures notes { IfOk answers.notes (λ entered. IfOk result.notes (λ notes. notes.items ≡ entered_notes (home_of directory.now) jobs.now entered)) }
+    ensures within { IfOk answers.notes (λ entered. IfOk result.notes (λ notes. AreWithin directory.now.settings.volumes (entered_rows (home_of directory.now) jobs.now entered))) }
     ensures wanted { OnErr answers.notes (IsErr result.notes) }
     ensures fits { IfOk result.notes (λ notes. AllByRecursion FitsNote notes.items) }
 {
@@ -115,7 +116,7 @@ where
     requires served { AllByRecursion (λ js. AllByRecursion (λ job. IsServed job.item) js.items) jobs.now }
     ensures up { IsUp result.0 }
     ensures settings { result.0.settings ≡ cluster.settings }
-    // Whatever the disks tell, each line is answered by a reply that suits it, each row that a note tells is of a line that put its pair,
+    // Whatever the disks tell, each line is answered by a reply that suits it, each row that a note tells is of a volume of the store and of a line that put its pair,
     // no count falls, the arm of a lane that the block has not is as it was, and a sure arm stays sure and is told as no cause.
     ensures replies { IfOk result.1 (λ answers. AllZip (λ js rs. length js.items ≡ length rs.items) jobs.now answers.replies.items) }
     ensures suits { IfOk result.1 (λ answers. AllZip (λ js rs. AllZip (AnswersSuited cluster.settings) js.items rs.items) jobs.now answers.replies.items) }

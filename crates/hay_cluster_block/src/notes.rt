@@ -3,7 +3,7 @@ ghost use Rattle.std.specs.Prelude.{◌≡◌, ◌++◌, map, IfOk, OnOk};
 ghost use Rattle.std.specs.List.{AllByRecursion};
 ghost use Rattle.hay_reply.specs.Fits.{FitsNote, FitsRow, IsLarge};
 ghost use Rattle.hay_directory.specs.State.{home_of};
-ghost use Rattle.hay_cluster_block.specs.Notes.{entered_notes, note_of_log, notes_of_rows};
+ghost use Rattle.hay_cluster_block.specs.Notes.{AreWithin, entered_notes, entered_rows, note_of_log, notes_of_rows};
 
 use crate::rows::added_rows;
 use hay_base::{Listed, NoMemory};
@@ -76,6 +76,7 @@ pub(crate) fn notes_of<D: Disk>(
     entered: BlockNotes,
 ) -> Result<Vec<Note>, NoMemory>
     ensures are { IfOk result (λ notes. notes.items ≡ entered_notes (home_of directory.now) jobs.now entered) }
+    ensures within { IfOk result (λ notes. AreWithin directory.now.settings.volumes (entered_rows (home_of directory.now) jobs.now entered)) }
     ensures fits { IfOk result (λ notes. AllByRecursion FitsNote notes.items) }
 {
     let BlockNotes { logs, rows, added } = entered;

@@ -1,11 +1,12 @@
 //! The rows that were added in a block, with their volumes.
-ghost use Rattle.std.specs.Prelude.{◌≡◌, ◌==◌, ℕ, None, Some, map, filter_map, IfOk, IfSome, OnOk, if◌then◌else◌};
+ghost use Rattle.std.specs.Prelude.{◌≡◌, ◌<◌, ◌==◌, ℕ, None, Some, map, filter_map, IfOk, IfSome, OnOk, if◌then◌else◌};
 ghost use Rattle.std.specs.List.{AllByRecursion};
 ghost use Rattle.std.specs.Option.{option_or};
 ghost use Rattle.hay_reply.specs.Fits.{FitsRow};
 ghost use Rattle.hay_block.specs.Stores.{line_of_tag};
 ghost use Rattle.hay_directory.specs.State.{home_of};
-ghost use Rattle.hay_cluster_block.specs.Rows.{all_jobs, home_at, home_by, home_if, home_kept, pair_put, row_by, rows_at};
+ghost use Rattle.hay_cluster_block.specs.Notes.{AreWithin};
+ghost use Rattle.hay_cluster_block.specs.Rows.{KeptWithin, all_jobs, home_at, home_by, home_if, home_kept, pair_put, row_by, rows_at};
 
 use hay_base::NoMemory;
 use hay_block::Job;
@@ -59,7 +60,8 @@ fn put_of(command: &Command) -> Option<Pair>
 
 // The home of the pair that a line puts.
 fn home_of_item<D: Disk>(directory: &Directory<D>, item: &Item) -> Option<u32>
-    ensures { result ≡ home_by (home_of directory.now) item.now }
+    ensures is { result ≡ home_by (home_of directory.now) item.now }
+    ensures below { IfSome result (λ volume. volume < directory.now.settings.volumes) }
 {
     match item {
         Item::Command(command) => directory.home(put_of(command)?),
@@ -91,7 +93,8 @@ impl LineHomes {
 
     // Adds a line behind the others: one of its number that has a home keeps it.
     fn add<D: Disk>(&mut self, directory: &Directory<D>, job: &Job) -> Result<(), NoMemory>
-        ensures { OnOk result ((line : ℕ) → home_kept self.new line ≡ option_or (home_kept self.old line) (home_if (home_of directory.now) job.now line)) }
+        ensures homes { OnOk result ((line : ℕ) → home_kept self.new line ≡ option_or (home_kept self.old line) (home_if (home_of directory.now) job.now line)) }
+        ensures within { KeptWithin directory.now.settings.volumes self.old → OnOk result (KeptWithin directory.now.settings.volumes self.new) }
     {
         if self.get(job.line).is_some() {
             return Ok(());
@@ -104,7 +107,8 @@ impl LineHomes {
 
     // Adds the lines of a lane.
     fn add_lane<D: Disk>(&mut self, directory: &Directory<D>, jobs: &[Job]) -> Result<(), NoMemory>
-        ensures { OnOk result ((line : ℕ) → home_kept self.new line ≡ option_or (home_kept self.old line) (home_at (home_of directory.now) jobs.now line)) }
+        ensures homes { OnOk result ((line : ℕ) → home_kept self.new line ≡ option_or (home_kept self.old line) (home_at (home_of directory.now) jobs.now line)) }
+        ensures within { KeptWithin directory.now.settings.volumes self.old → OnOk result (KeptWithin directory.now.settings.volumes self.new) }
     {
         for job in jobs {
             self.add(directory, job)?;
@@ -118,7 +122,8 @@ impl LineHomes {
         directory: &Directory<D>,
         jobs: &[Vec<Job>],
     ) -> Result<LineHomes, NoMemory>
-        ensures { IfOk result (λ homes. (line : ℕ) → home_kept homes line ≡ home_at (home_of directory.now) (all_jobs jobs.now) line) }
+        ensures homes { IfOk result (λ homes. (line : ℕ) → home_kept homes line ≡ home_at (home_of directory.now) (all_jobs jobs.now) line) }
+        ensures within { IfOk result (KeptWithin directory.now.settings.volumes) }
     {
         let mut homes = LineHomes::new(alloc);
         for own in jobs {
@@ -158,6 +163,7 @@ pub(crate) fn added_rows<D: Disk>(
     added: &[Tag],
 ) -> Result<Vec<LineVolume>, NoMemory>
     ensures rows { IfOk result (λ rows. rows.items ≡ rows_at (home_of directory.now) (all_jobs jobs.now) (map line_of_tag added.now)) }
+    ensures within { IfOk result (λ rows. AreWithin directory.now.settings.volumes rows.items) }
     ensures fits { IfOk result (λ rows. AllByRecursion FitsRow rows.items) }
 {
     if added.is_empty() {

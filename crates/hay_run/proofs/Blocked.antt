@@ -83,7 +83,7 @@ notes_of_told volumes home jobs (Ok own) is rows = record { notes = own.items; a
 notes_of_told volumes home jobs (Err e) is rows = record {
   notes = [];
   are = tt;
-  kinds = record { logs = []; rows = record { from = 0; rows = [] }; upwards = record { upwards = tt; within = tt; some = tt }; are = refl };
+  kinds = record { logs = []; rows = record { from = 0; rows = [] }; upwards = record { upwards = tt; within = tt; some = tt }; within = tt; are = refl };
   rows = tt;
   fit = tt;
 }
@@ -185,7 +185,7 @@ wanted_text settings Sure before after home lines served = record {
   fits = wanted_each settings lines served;
   blames = λ lane. subst (BlamesArm (Sure lane) (slice_index before.arms lane) (slice_index after.arms lane)) (sym (no_causes lane lines)) (record { each = tt; rises = tt });
   notes = [];
-  told = record { logs = []; rows = record { from = 0; rows = [] }; upwards = record { upwards = tt; within = tt; some = tt }; are = refl };
+  told = record { logs = []; rows = record { from = 0; rows = [] }; upwards = record { upwards = tt; within = tt; some = tt }; within = tt; are = refl };
   rows = tt;
   fit = tt;
   is = refl;

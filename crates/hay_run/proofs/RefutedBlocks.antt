@@ -21,7 +21,7 @@ use Rattle.hay_legal.specs.Known.{EachPair}
 use Rattle.hay_history.proofs.Lists.{each_in, first_or_rest, none_in}
 use Rattle.hay_lane.specs.Blames.{MayBlame, causes_told}
 use Rattle.hay_block.specs.declared.worker.Job.{Job}
-use Rattle.hay_cluster_block.specs.Notes.{AreBlockNotes, IsRowOf, TellsRowsOf, block_notes, notes_of_rows}
+use Rattle.hay_cluster_block.specs.Notes.{AreBlockNotes, AreWithin, IsRowOf, TellsRowsOf, block_notes, notes_of_rows}
 use Rattle.hay_cluster_block.specs.Rows.{pair_of}
 use Rattle.hay_cluster.specs.Causes.{Counts}
 use Rattle.hay_run.specs.Blocks.{FitsLine, IsBlockText, job_of, lane_causes}
@@ -125,6 +125,18 @@ in_logs (log ∷ logs) rows zero v from lines at =
     (log, refl, volume_is, lines_are)
 in_logs (log ∷ logs) rows (suc i) v from lines at = in_logs logs rows i v from lines at
 
+-- and a note on rows is of the new ones
+in_last : (first from : ℕ) (rows told : List LineVolume) → Contains (notes_of_rows first rows) (Rows from told) → rows ≡ told
+in_last first from [] told among = absurd (none_in (Rows from told) among)
+in_last first from (row ∷ rows) told among = elim (first_or_rest (Rows first (row ∷ rows)) [] (Rows from told) among) [ inl same ↦ cc | inr more ↦ absurd (none_in (Rows from told) more) ]
+
+in_rows : (logs : List LogNote) (rows : RowNote) (from : ℕ) (told : List LineVolume) → Contains (block_notes logs rows) (Rows from told) → rows.rows ≡ told
+in_rows [] rows from told among = in_last rows.from from rows.rows told among
+in_rows (log ∷ logs) rows from told among = elim (first_or_rest (Log log.volume log.from log.lines) (block_notes logs rows) (Rows from told) among) [
+  | inl same ↦ cc
+  | inr more ↦ in_rows logs rows from told more
+]
+
 pairs_at : {X : Type 0} (R : X → X → Type 0) (xs : List X) (i j : ℕ) (a b : X) → EachPair R xs → i < j → slice_get xs i ≡ Some a → slice_get xs j ≡ Some b → R a b
 pairs_at R [] i j a b pairs below at_a at_b = absurd cc
 pairs_at R (x ∷ xs) i zero a b pairs below at_a at_b = absurd (omega (arith, below))
@@ -158,6 +170,13 @@ module _ (settings : Settings) (Sure : ℕ → Type 0) (before after : Counts) (
       each_at (λ (log : LogNote). log.volume < settings.volumes) (block.told).logs i a.0 ((block.told).upwards).within a.1 in
       let volume_is : (a.0).volume ≡ v = a.2 in
       omega (arith, low, volume_is, high)
+
+  -- a row of a volume that the store has not
+  pub row_of_no_volume : (from : ℕ) (rows : List LineVolume) (row : LineVolume) → Contains block.notes (Rows from rows) → Contains rows row → settings.volumes ≤ row.volume → ⊥
+  row_of_no_volume from rows row among told high =
+      let same = in_rows (block.told).logs (block.told).rows from rows (subst (λ (notes : List Note). Contains notes (Rows from rows)) (block.told).are among) in
+      let low = each_in (λ (r : LineVolume). r.volume < settings.volumes) rows row (subst (AreWithin settings.volumes) same (block.told).within) told in
+      absurd (omega (arith, low, high))
 
   -- a note on a volume where nothing was entered
   pub log_of_nothing : (i v from : ℕ) → slice_get block.notes i ≡ Some (Log v from []) → ⊥

@@ -2,6 +2,7 @@ use Rattle.std.proofs.Common.{◌≡◌, ◌≤◌, ◌++◌, ◌-◌, ◌^◌, 
 use Rattle.std.specs.Prelude.{IfOk}
 use Rattle.std.specs.List.{AllByRecursion, AllZip}
 use Rattle.hay_needle.specs.declared.settings.Settings.{Settings}
+use Rattle.hay_reply.specs.declared.Note.{Note}
 use Rattle.hay_reply.specs.declared.Reply.{Reply}
 use Rattle.hay_legal.specs.Known.{NoneFalls}
 use Rattle.hay_directory.specs.State.{home_of}
@@ -18,6 +19,7 @@ use Rattle.hay_cluster_block.proofs.Rising.{all_arms, all_split, arms_sure, blam
 use Rattle.hay_cluster_block.proofs.Standing.{made, made_of}
 use Rattle.hay_cluster_block.proofs.Whole.{arms_later, arms_stay, counts_rise, is_up, many_behind, ran, room_again, shape_again, stays, stays_self, were}
 use Rattle.hay_cluster_block.specs.Blocks.{StaysAs}
+use Rattle.hay_cluster_block.specs.Notes.{AreWithin, entered_rows}
 use Rattle.hay_cluster_block.proofs.block.run_block.Goals as goal
 
 pub run_on_locks-parts-requires-clause-volumes : goal.run_on_locks-parts-requires-clause-volumes
@@ -197,7 +199,17 @@ returns-in-Ok-answer-clause-notes g c =
     let q = c.run_on_locks-parts in
     let upwards =
     subst (λ (s : Settings). IfOk c.in-Ok-answer.answers.notes (λ (notes : BlockNotes). AreUpwards s.volumes notes.logs.items)) p.ensures.settings (rw c.in-Ok-answer.is at q.ensures.upwards) in
-    notes_of_block c.args.cluster.settings.volumes (home_of q.result.0.directory) c.args.jobs.now c.in-Ok-answer.answers.notes c.told-replies.result.notes upwards
+    let was =
+    made_of c.args.cluster p.result.settings p.result.directory p.result.volumes.items p.result.arms.items (sym p.ensures.settings) (sym p.ensures.directory)
+    (sym p.ensures.volumes) (sym p.ensures.arms) in
+    let shape =
+    shape_again was p.ensures.shape c.requires.up q.result.0.directory q.result.0.volumes.items (length c.args.jobs.now) c.in-Ok.arms.items c.in-Ok.others.items
+    q.result.0.arms.items c.in-Ok.ensures.first c.in-Ok.ensures.others c.requires.few q.ensures.arms
+    q.ensures.volumes q.ensures.directory in
+    let within =
+    subst (λ (s : Settings). IfOk c.in-Ok-answer.answers.notes (λ (e : BlockNotes). IfOk c.told-replies.result.notes
+    (λ (notes : Vec Note Global). AreWithin s.volumes (entered_rows (home_of q.result.0.directory) c.args.jobs.now e)))) (shape.directory ∙ p.ensures.settings) c.told-replies.ensures.within in
+    notes_of_block c.args.cluster.settings.volumes (home_of q.result.0.directory) c.args.jobs.now c.in-Ok-answer.answers.notes c.told-replies.result.notes upwards within
     c.told-replies.ensures.notes c.told-replies.ensures.wanted c.told-replies.ensures.fits
 
 pub returns-in-Ok-answer-clause-rows : goal.returns-in-Ok-answer-clause-rows
