@@ -12,7 +12,7 @@ pub const MAX_PHOTOS: usize = 64;
 pub const MAX_TOTAL: u64 = 67_108_864;
 
 /// A photo to store under a pair.
-#[derive(Debug, Drop)]
+#[derive(Drop)]
 pub struct NewPhoto {
     pub pair: Pair,
     pub cookie: Cookie,

@@ -12,7 +12,7 @@ use hay_url::cookie_of;
 use std::alloc::Global;
 
 /// Puts that are gathered into a batch, and the number of the line of the first.
-#[derive(Debug, Drop)]
+#[derive(Drop)]
 pub struct Gathered {
     pub line: u64,
     pub photos: Vec<NewPhoto>,

@@ -8,7 +8,7 @@ use hay_disk::{Arm, Failed};
 use std::alloc::Global;
 
 /// An arm that fails at the fetches that it was told to.
-#[derive(Debug, Drop)]
+#[derive(Drop)]
 pub struct MemArm {
     failures: Failures,
 }

@@ -20,7 +20,7 @@ use std::alloc::Global;
 /// by a choice drawn from the pick, the bytes of the last sync, those that the last write was asked to put there, or
 /// drawn bytes, and each file a drawn length that it had since its last sync. The same pick on the same history leaves
 /// the same. A removed file stays away.
-#[derive(Debug, Drop)]
+#[derive(Drop)]
 pub struct MemDisk {
     disk: SureDisk,
     failures: Failures,

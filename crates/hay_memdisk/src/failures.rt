@@ -6,7 +6,7 @@ use hay_base::NoMemory;
 use std::alloc::Global;
 
 /// The calls that were made, those that are to fail, by their numbers from 1, and how many did.
-#[derive(Debug, Drop)]
+#[derive(Drop)]
 pub(crate) struct Failures {
     alloc: Global,
     listed: Vec<u64>,

@@ -8,7 +8,7 @@ use crate::place::{Place, Written, draw_between, grow, image_rng, mark, restore,
 use std::alloc::{AllocError, Global};
 
 /// Where a piece was given out: its range, and the place of its hole in this.
-#[derive(Clone, Copy, Debug)]
+#[derive(Clone, Copy)]
 pub(crate) struct Seal {
     pub(crate) at: usize,
     pub(crate) len: usize,
@@ -16,7 +16,7 @@ pub(crate) struct Seal {
 }
 
 /// The bytes that reads give, and what is kept beside them in room that is taken when the file grows.
-#[derive(Debug, Drop)]
+#[derive(Drop)]
 pub(crate) struct MemFile {
     bytes: Vec<u8>,
     places: Vec<Place>,

@@ -8,7 +8,7 @@ use std::alloc::AllocError;
 
 /// What is kept beside a byte: its value at the last sync, the byte that was last asked for, and whether a stop may
 /// change it.
-#[derive(Clone, Copy, Debug)]
+#[derive(Clone, Copy)]
 pub(crate) struct Place {
     pub(crate) solid: u8,
     pub(crate) asked: u8,
@@ -25,7 +25,7 @@ impl Place {
 }
 
 /// A range that has the places written since the last sync: from its first place to that after its last.
-#[derive(Clone, Copy, Debug)]
+#[derive(Clone, Copy)]
 pub(crate) struct Written {
     pub(crate) from: usize,
     pub(crate) to: usize,
@@ -51,7 +51,7 @@ impl Written {
 }
 
 /// What a stop leaves of a range of loose bytes.
-#[derive(Clone, Copy, Debug)]
+#[derive(Clone, Copy)]
 enum Left {
     Solid,
     Asked,

@@ -11,7 +11,7 @@ use std::alloc::Global;
 
 /// A shelf of disks and arms in memory. It makes an empty disk for a slot that has none, and an arm that never fails
 /// for a lane that has none.
-#[derive(Debug, Drop)]
+#[derive(Drop)]
 pub struct MemShelf {
     alloc: Global,
     disks: Slots<MemDisk>,

@@ -5,7 +5,7 @@ use std::alloc::{AllocError, Global};
 use std::collections::BTreeMap;
 
 /// A slot holds nothing yet, a value, or the room of a value that is out.
-#[derive(Debug, Drop)]
+#[derive(Drop)]
 pub(crate) struct Slots<T> {
     slots: BTreeMap<u32, Option<T>>,
 }

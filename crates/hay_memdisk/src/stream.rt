@@ -7,7 +7,7 @@ use hay_disk::{Failed, Sink, Source};
 use std::alloc::Global;
 
 /// Gives bytes of its own, a step at a time, and fails at the reads that it was told to.
-#[derive(Debug, Drop)]
+#[derive(Drop)]
 pub struct MemSource {
     bytes: Vec<u8>,
     taken: usize,
@@ -70,7 +70,7 @@ impl Source for MemSource {
 
 /// Keeps bytes, and fails at the writes that it was told to, and where it finds no room. A write that was told to fail
 /// keeps the first half of its bytes.
-#[derive(Debug, Drop)]
+#[derive(Drop)]
 pub struct MemSink {
     bytes: Vec<u8>,
     failures: Failures,

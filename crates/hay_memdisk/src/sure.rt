@@ -12,7 +12,7 @@ use std::collections::BTreeMap;
 
 /// A disk in memory that tells what it holds and never fails. It ignores fuses, but counts them. Its power cycle
 /// leaves what that of a `MemDisk` does.
-#[derive(Debug, Drop)]
+#[derive(Drop)]
 pub struct SureDisk {
     alloc: Global,
     files: BTreeMap<u32, MemFile>,

@@ -10,7 +10,7 @@ use std::alloc::Global;
 
 /// A shelf of disks and arms in memory that never fail. It makes an empty disk for a slot that has none, and an arm
 /// that never fails for a lane that has none.
-#[derive(Debug, Drop)]
+#[derive(Drop)]
 pub struct SureShelf {
     alloc: Global,
     disks: Slots<SureDisk>,
