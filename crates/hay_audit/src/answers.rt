@@ -17,6 +17,9 @@ pub(crate) struct Answer {
     pub behind: usize,
 }
 
+/// Ends an answer. A place in another function that drops one costs its proof seconds.
+pub(crate) fn drop_answer(_answer: Answer) {}
+
 pub(crate) fn find_feed(text: &[u8]) -> Option<usize>
     ensures is { feeds.feed_at text.now ≡ result }
     ensures within { IfSome result (λ n. n < length text.now) }

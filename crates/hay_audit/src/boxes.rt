@@ -1,6 +1,6 @@
 //! States of which some sizes are known by their ranges.
 
-ghost use Rattle.std.specs.Prelude.{◌≡◌, ◌++◌, map, replicate, slice_set, slice_index_or, length, IfOk, OnOk, []};
+ghost use Rattle.std.specs.Prelude.{◌≡◌, ◌∷◌, ◌++◌, map, replicate, slice_set, slice_index_or, length, IfOk, OnOk, []};
 ghost use Rattle.hay_audit_steps.specs.BoxPlain as box_plain;
 ghost use Rattle.hay_audit_steps.specs.Boxes as boxes;
 ghost use Rattle.hay_audit_steps.specs.Slacks as slacks;
@@ -54,11 +54,10 @@ impl Model for BoxState {
 
 impl Duplicate for BoxState {
     fn duplicate(&self, alloc: Global) -> Result<BoxState, NoMemory> {
-        Ok(BoxState {
-            base: self.base.duplicate(alloc)?,
-            low: self.low.duplicate(alloc)?,
-            high: self.high.duplicate(alloc)?,
-        })
+        let low = self.low.duplicate(alloc)?;
+        let high = self.high.duplicate(alloc)?;
+        let base = self.base.duplicate(alloc)?;
+        Ok(BoxState { base, low, high })
     }
 }
 
@@ -128,6 +127,43 @@ pub(crate) fn set_slack(
     Listed::from_vec(ranges)
 }
 
+/// Adds a state with copies of these ranges above it.
+fn push_ranged(
+    alloc: Global,
+    base: State,
+    low: &Listed<Listed<Slack>>,
+    high: &Listed<Listed<Slack>>,
+    out: &mut Listed<BoxState>,
+) -> Result<(), NoMemory>
+    ensures { OnOk result (out.new ≡ out.old ++ ranging.ranging low.now high.now base ∷ []) }
+{
+    let Ok(low) = low.duplicate(alloc) else {
+        drop_state(base);
+        return Err(NoMemory);
+    };
+    let Ok(high) = high.duplicate(alloc) else {
+        drop_state(base);
+        return Err(NoMemory);
+    };
+    out.push(BoxState { base, low, high })
+}
+
+/// Adds each of the states so.
+fn push_ranged_each(
+    alloc: Global,
+    states: Vec<State>,
+    low: &Listed<Listed<Slack>>,
+    high: &Listed<Listed<Slack>>,
+    out: &mut Listed<BoxState>,
+) -> Result<(), NoMemory>
+    ensures { OnOk result (out.new ≡ out.old ++ map (ranging.ranging low.now high.now) states.items) }
+{
+    for base in states {
+        push_ranged(alloc, base, low, high, out)?;
+    }
+    Ok(())
+}
+
 /// Each of the states, with the same ranges above it.
 pub(crate) fn ranged_all(
     alloc: Global,
@@ -142,13 +178,10 @@ pub(crate) fn ranged_all(
     let Some(last) = states.pop() else {
         return Ok(made);
     };
-    for base in states {
-        made.push(BoxState {
-            base,
-            low: low.duplicate(alloc)?,
-            high: high.duplicate(alloc)?,
-        })?;
-    }
+    let Ok(()) = push_ranged_each(alloc, states, &low, &high, &mut made) else {
+        drop_state(last);
+        return Err(NoMemory);
+    };
     made.push(BoxState {
         base: last,
         low,

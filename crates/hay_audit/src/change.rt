@@ -10,7 +10,7 @@ ghost use Rattle.hay_audit_steps.specs.Next as next;
 
 use crate::freezes::frozen_by;
 use crate::pairs::{Log, Rows};
-use crate::state::{Directory, ReplicaState, State, VolumeState};
+use crate::state::{Directory, ReplicaState, State, VolumeState, drop_state, with_volumes};
 use hay_base::{Listed, NoMemory};
 use hay_core::{CoreTag, Entry, Logged};
 use hay_legal::known::{HomeRow, Pending, PendingRow, Run};
@@ -163,26 +163,13 @@ pub fn stored(
     requires grow { Each VolumeMayGrow state.volumes }
     ensures { IfOk result (λ after. after ≡ next.stored state tag pair bytes number cookie) }
 {
-    let State {
-        volumes,
-        directory,
-        drained,
-        faults,
-        arms,
-        fuses,
-    } = state;
-    Ok(State {
-        volumes: put_on(alloc, volumes, tag, pair, bytes, size, number, cookie)?,
-        directory: Directory {
-            rows: settle(directory.rows, pair, number)?,
-            frozen: directory.frozen,
-            pending: directory.pending,
-        },
-        drained,
-        faults,
-        arms,
-        fuses,
-    })
+    let mut state = state;
+    let volumes = mem::replace(&mut state.volumes, Listed::new(alloc));
+    let Ok(volumes) = put_on(alloc, volumes, tag, pair, bytes, size, number, cookie) else {
+        drop_state(state);
+        return Err(NoMemory);
+    };
+    with_home(with_volumes(state, volumes), pair, number)
 }
 
 /// The state, with the pair's home if it has none.

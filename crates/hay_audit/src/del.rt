@@ -19,7 +19,7 @@ use crate::plain::{keep_if, next_unknown};
 use crate::puts::is_at;
 use crate::replicas::{Change, changed};
 use crate::spread::{replica_on, slot_of};
-use crate::state::{ReplicaState, State, VolumeState, drop_state};
+use crate::state::{ReplicaState, State, VolumeState, drop_state, with_volumes};
 use hay_base::{Duplicate, Listed, NoMemory};
 use hay_core::{CoreTag, Entry, Logged};
 use hay_legal::known::Pending;
@@ -211,22 +211,13 @@ fn without_photo(
 ) -> Result<State, NoMemory>
     ensures { IfOk result (λ after. after ≡ plain.change_volume state volume (plain.with_del ended.now tag pair)) }
 {
-    let State {
-        volumes,
-        directory,
-        drained,
-        faults,
-        arms,
-        fuses,
-    } = state;
-    Ok(State {
-        volumes: del_in(alloc, volumes, volume, ended, tag, pair)?,
-        directory,
-        drained,
-        faults,
-        arms,
-        fuses,
-    })
+    let mut state = state;
+    let volumes = mem::replace(&mut state.volumes, Listed::new(alloc));
+    let Ok(volumes) = del_in(alloc, volumes, volume, ended, tag, pair) else {
+        drop_state(state);
+        return Err(NoMemory);
+    };
+    Ok(with_volumes(state, volumes))
 }
 
 #[tactic(auto, using(crate::proofs::Endings::raise_beyond))]

@@ -39,11 +39,12 @@ fn fresh_replicas(alloc: Global, count: u32) -> Result<Listed<ReplicaState>, NoM
 fn fresh_volume(alloc: Global, settings: &Settings) -> Result<VolumeState, NoMemory>
     ensures { IfOk result (λ volume. volume ≡ known.fresh_volume settings.now) }
 {
+    let replicas = fresh_replicas(alloc, settings.replicas)?;
     Ok(VolumeState {
         log: Log::new(alloc),
         frozen: None,
         pending: None,
-        replicas: fresh_replicas(alloc, settings.replicas)?,
+        replicas,
     })
 }
 
@@ -75,16 +76,21 @@ pub(crate) fn fresh_state(alloc: Global, settings: &Settings) -> Result<State, N
     ensures { IfOk result (λ state. state ≡ known.fresh_unharmed settings.now) }
 {
     let disks = 1 + settings.volumes as usize * settings.replicas as usize;
+    let volumes = fresh_volumes(alloc, settings)?;
+    let drained = undrained(alloc, settings.machines as usize)?;
+    let faults = zeros(alloc, disks)?;
+    let arms = zeros(alloc, 8)?;
+    let fuses = zeros(alloc, disks)?;
     Ok(State {
-        volumes: fresh_volumes(alloc, settings)?,
+        volumes,
         directory: Directory {
             rows: Rows::new(alloc),
             frozen: false,
             pending: None,
         },
-        drained: undrained(alloc, settings.machines as usize)?,
-        faults: zeros(alloc, disks)?,
-        arms: zeros(alloc, 8)?,
-        fuses: zeros(alloc, disks)?,
+        drained,
+        faults,
+        arms,
+        fuses,
     })
 }

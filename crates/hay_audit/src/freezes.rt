@@ -7,7 +7,7 @@ ghost use Rattle.hay_audit.specs.Frozen as frozen;
 
 use crate::change::no_volume;
 use crate::replicas::{Change, change_replica, changed};
-use crate::state::{ReplicaState, State, VolumeState};
+use crate::state::{ReplicaState, State, VolumeState, drop_state, with_volumes};
 use hay_base::{Listed, NoMemory};
 use hay_legal::known::Pending;
 use std::alloc::Global;
@@ -89,22 +89,13 @@ pub(crate) fn frozen_by(
 ) -> Result<State, NoMemory>
     ensures { IfOk result (λ after. after ≡ plain.change_volume state volume (frozen.frozen_by machine pending)) }
 {
-    let State {
-        volumes,
-        directory,
-        drained,
-        faults,
-        arms,
-        fuses,
-    } = state;
-    Ok(State {
-        volumes: freeze_in(alloc, volumes, volume, machine, pending)?,
-        directory,
-        drained,
-        faults,
-        arms,
-        fuses,
-    })
+    let mut state = state;
+    let volumes = mem::replace(&mut state.volumes, Listed::new(alloc));
+    let Ok(volumes) = freeze_in(alloc, volumes, volume, machine, pending) else {
+        drop_state(state);
+        return Err(NoMemory);
+    };
+    Ok(with_volumes(state, volumes))
 }
 
 /// The state behind a head switch that failed.

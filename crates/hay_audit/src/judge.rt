@@ -1,10 +1,11 @@
 //! Whether a transcript is one that legal turns of a script may have written.
 
 ghost use Rattle.std.specs.Prelude.{◌≡◌, ◌<◌, ◌≤◌, ◌+◌, ◌^◌};
-ghost use Rattle.std.specs.Prelude.{ℕ, List, ◌++◌, length, map, IfOk, OnOk, IsTrue, IsFalse};
+ghost use Rattle.std.specs.Prelude.{ℕ, List, ◌++◌, length, map, ◌≢◌, IfOk, IfSome, IfNone, OnOk, IsTrue, IsFalse};
 ghost use Rattle.hay_script.specs.Script.{IsWithin, IsWithinLine};
 ghost use Rattle.hay_script.specs.declared.Line.{Line as LineOf};
 ghost use Rattle.hay_script.specs.declared.Line.TheVariants as line;
+ghost use Rattle.hay_reply.specs.declared.Reply.TheVariants as reply_of;
 ghost use Rattle.hay_legal.specs.Items.Asked.{Alone};
 ghost use Rattle.hay_audit_steps.specs.Boxes.{Has};
 ghost use Rattle.hay_audit_steps.specs.Judged.{Begins, IsOpenItem, IsUsed, JudgementOf};
@@ -15,7 +16,7 @@ ghost use Rattle.hay_audit.specs.Outside.{IsRestart, IsWithinItem};
 ghost use Rattle.hay_audit.specs.Sizes.{IsSmall};
 ghost use Rattle.hay_audit.specs.Wants.{AreWanting};
 
-use crate::answers::read_answer;
+use crate::answers::{drop_answer, read_answer};
 use crate::boxes::{BoxState, drop_box, exact_box};
 use crate::counts::note_count;
 use crate::first::fresh_state;
@@ -127,13 +128,28 @@ fn tell_restart(
     ensures { OnOk result (Tells settings.now text.now state rows at out.old out.new) }
 {
     let count = note_count(&state.base);
-    let Some(told) = read_notes(alloc, text, count)? else {
+    let Ok(read) = read_notes(alloc, text, count) else {
+        drop_box(state);
+        return Err(NoMemory);
+    };
+    let Some(told) = read else {
         drop_box(state);
         return Ok(());
     };
     let states = restart_boxes(alloc, settings, state, rows, told.notes.as_slice())?;
     push_all(states, at + told.behind, out)?;
     Ok(())
+}
+
+/// The rows of a reply to a restart. A place in another function that drops a reply costs its proof seconds.
+fn rows_told(reply: Reply) -> Option<u64>
+    ensures some { IfSome result (λ rows. reply ≡ reply_of.Restarted rows) }
+    ensures none { IfNone result ((rows : ℕ) → reply ≢ reply_of.Restarted rows) }
+{
+    match reply {
+        Reply::Restarted { rows } => Some(rows),
+        _ => None,
+    }
 }
 
 /// Adds what a candidate comes to behind a restart.
@@ -155,16 +171,20 @@ fn advance_restart(
     ensures kept { OnOk result (AreKept settings.now transcript.now out.old → AreKept settings.now transcript.now out.new) }
 {
     let Candidate { state, at } = candidate;
-    let Some(answer) = read_answer(alloc, line, &transcript[at..])? else {
+    let Ok(read) = read_answer(alloc, line, &transcript[at..]) else {
+        drop_box(state);
+        return Err(NoMemory);
+    };
+    let Some(answer) = read else {
         drop_box(state);
         return Ok(());
     };
     fits(&answer.reply);
-    let Reply::Restarted { rows } = answer.reply else {
+    let behind = at + answer.behind;
+    let Some(rows) = rows_told(answer.reply) else {
         drop_box(state);
         return Ok(());
     };
-    let behind = at + answer.behind;
     tell_restart(
         alloc,
         settings,
@@ -199,13 +219,20 @@ fn advance_plain(
     ensures kept { OnOk result (AreKept settings.now transcript.now out.old → AreKept settings.now transcript.now out.new) }
 {
     let Candidate { state, at } = candidate;
-    let Some(answer) = read_answer(alloc, line, &transcript[at..])? else {
+    let Ok(read) = read_answer(alloc, line, &transcript[at..]) else {
+        drop_box(state);
+        return Err(NoMemory);
+    };
+    let Some(answer) = read else {
         drop_box(state);
         return Ok(());
     };
     fits(&answer.reply);
-    let states = next_boxes(alloc, settings, state, line, item, &answer.reply)?;
-    push_all(states, at + answer.behind, out)?;
+    let behind = at + answer.behind;
+    let made = next_boxes(alloc, settings, state, line, item, &answer.reply);
+    drop_answer(answer);
+    let states = made?;
+    push_all(states, behind, out)?;
     Ok(())
 }
 

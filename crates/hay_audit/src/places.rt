@@ -404,7 +404,10 @@ pub(crate) fn finished_boxes(
     }
     let most = most_end(&state, spot);
     let many = most_cells(&state, spot);
-    let sizes = tight_sizes(alloc, &state.base, spot)?;
+    let Ok(sizes) = tight_sizes(alloc, &state.base, spot) else {
+        drop_box(state);
+        return Err(NoMemory);
+    };
     if !fits_file(sizes, most, many) {
         drop_box(state);
         return Ok(Listed::new(alloc));

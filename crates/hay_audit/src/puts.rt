@@ -271,7 +271,10 @@ fn put_box(
             refused_boxes(alloc, settings, pair, size, refused, rest, state)
         }
         Reply::ReadOnly { tries } => {
-            let refused = as_closed(alloc, tries.as_slice())?;
+            let Ok(refused) = as_closed(alloc, tries.as_slice()) else {
+                drop_box(state);
+                return Err(NoMemory);
+            };
             refused_boxes(alloc, settings, pair, size, refused.as_slice(), true, state)
         }
         _ => taken_boxes(alloc, settings, state, tag, pair, photo, reply),

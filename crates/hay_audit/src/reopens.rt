@@ -294,7 +294,11 @@ pub(crate) fn restart_boxes(
     requires small { IsSmall state }
     ensures { IfOk result (λ made. made ≡ box_reopen.restart_boxes settings.now state (reply_of.Restarted rows) notes.now) }
 {
-    let Some(all) = reopened_stores(alloc, settings, &state, notes)? else {
+    let Ok(found) = reopened_stores(alloc, settings, &state, notes) else {
+        drop_box(state);
+        return Err(NoMemory);
+    };
+    let Some(all) = found else {
         drop_box(state);
         return Ok(Listed::new(alloc));
     };

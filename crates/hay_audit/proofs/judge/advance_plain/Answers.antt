@@ -12,14 +12,14 @@ use Rattle.hay_audit.proofs.Opening.{reply_starts}
 use Rattle.hay_audit.proofs.Placing.{goes_nowhere, goes_to, placed_kept, told_so}
 use Rattle.hay_audit.proofs.judge.advance_plain.Goals as goal
 
-pub returns-in_default-clause-went : goal.returns-in_default-clause-went
-returns-in_default-clause-went c =
+pub returns-in_default-read-clause-went : goal.returns-in_default-read-clause-went
+returns-in_default-read-clause-went c =
     goes_nowhere c.args.settings.now c.args.line c.args.item.now c.args.transcript.now
     (take (length c.args.transcript.now - c.args.candidate.at) (drop c.args.candidate.at c.args.transcript.now)) c.args.candidate c.args.out.now
     (all_behind c.args.transcript.now c.args.candidate.at)
     (subst (λ (o : Option Answer). IfNone o ((r : Reply) (rest : List ℕ) → FitsReply r
-    → numbered_line c.args.line r ++ rest ≢ take (length c.args.transcript.now - c.args.candidate.at) (drop c.args.candidate.at c.args.transcript.now))) c.in_default.is
-    c.in_ok-answer.ensures.none)
+    → numbered_line c.args.line r ++ rest ≢ take (length c.args.transcript.now - c.args.candidate.at) (drop c.args.candidate.at c.args.transcript.now))) c.in_default-read.is
+    c.in-Ok.ensures.none)
 
 pub returns-clause-went : goal.returns-clause-went
 returns-clause-went c =
@@ -27,7 +27,7 @@ returns-clause-went c =
     subst (λ (o : Option Answer). IfSome o (λ answer. (answer.behind ≤ length (take (length c.args.transcript.now - c.args.candidate.at)
     (drop c.args.candidate.at c.args.transcript.now))) × (numbered_line c.args.line answer.reply
     ++ drop answer.behind (take (length c.args.transcript.now - c.args.candidate.at) (drop c.args.candidate.at c.args.transcript.now))
-    ≡ take (length c.args.transcript.now - c.args.candidate.at) (drop c.args.candidate.at c.args.transcript.now)))) c.in-Some.is c.in_ok-answer.ensures.some in
+    ≡ take (length c.args.transcript.now - c.args.candidate.at) (drop c.args.candidate.at c.args.transcript.now)))) c.in-Some.is c.in-Ok.ensures.some in
     goes_to c.args.settings.now c.args.line c.args.item.now c.args.transcript.now (take (length c.args.transcript.now - c.args.candidate.at)
     (drop c.args.candidate.at c.args.transcript.now)) c.args.candidate c.args.out.now c.push_all.new.out
     (c.in-Some.answer).reply (c.in-Some.answer).behind c.in_ok-states.states (all_behind c.args.transcript.now c.args.candidate.at) c.requires.plain c.fits.ensures
@@ -42,7 +42,7 @@ returns-clause-kept c = λ h.
     subst (λ (o : Option Answer). IfSome o (λ answer. (answer.behind ≤ length (take (length c.args.transcript.now - c.args.candidate.at)
     (drop c.args.candidate.at c.args.transcript.now))) × (numbered_line c.args.line answer.reply
     ++ drop answer.behind (take (length c.args.transcript.now - c.args.candidate.at) (drop c.args.candidate.at c.args.transcript.now))
-    ≡ take (length c.args.transcript.now - c.args.candidate.at) (drop c.args.candidate.at c.args.transcript.now)))) c.in-Some.is c.in_ok-answer.ensures.some in
+    ≡ take (length c.args.transcript.now - c.args.candidate.at) (drop c.args.candidate.at c.args.transcript.now)))) c.in-Some.is c.in-Ok.ensures.some in
     placed_kept c.args.settings.now c.args.transcript.now (take (length c.args.transcript.now - c.args.candidate.at) (drop c.args.candidate.at c.args.transcript.now))
     c.args.candidate.at (c.in-Some.answer).behind c.args.out.now c.push_all.new.out c.in_ok-states.states
     (all_behind c.args.transcript.now c.args.candidate.at) (c.requires.kept).within read.0

@@ -22,24 +22,25 @@ behind_place transcript at = take (length transcript - at) (drop at transcript)
 abbrev IsAnswer : ℕ → List ℕ → Answer → Type 0
 IsAnswer line text answer = (answer.behind ≤ length text) × (numbered_line line answer.reply ++ drop answer.behind text ≡ text)
 
-pub returns-in_default-clause-went : goal.returns-in_default-clause-went
-returns-in_default-clause-went c =
+pub returns-in_default-read-clause-went : goal.returns-in_default-read-clause-went
+returns-in_default-read-clause-went c =
     goes_nowhere c.args.settings.now c.args.line c.args.item.now c.args.transcript.now (behind_place c.args.transcript.now c.args.candidate.at) c.args.candidate c.args.out.now
     (all_behind c.args.transcript.now c.args.candidate.at)
     (subst (λ (o : Option Answer). IfNone o ((r : Reply) (rest : List ℕ) → FitsReply r
-    → numbered_line c.args.line r ++ rest ≢ (behind_place c.args.transcript.now c.args.candidate.at))) c.in_default.is c.in_ok-answer.ensures.none)
+    → numbered_line c.args.line r ++ rest ≢ (behind_place c.args.transcript.now c.args.candidate.at))) c.in_default-read.is c.in-Ok.ensures.none)
 
-pub returns-in_default-reply-clause-went : goal.returns-in_default-reply-clause-went
-returns-in_default-reply-clause-went c =
+pub returns-in_default-rows_told-clause-went : goal.returns-in_default-rows_told-clause-went
+returns-in_default-rows_told-clause-went c =
+    let none = subst (λ (o : Option ℕ). IfNone o ((rows : ℕ) → (c.in-Some.answer).reply ≢ Restarted rows)) c.in_default-rows_told.is c.rows_told.ensures.none in
     let read : IsAnswer c.args.line (behind_place c.args.transcript.now c.args.candidate.at) c.in-Some.answer =
-    subst (λ (o : Option Answer). IfSome o (IsAnswer c.args.line (behind_place c.args.transcript.now c.args.candidate.at))) c.in-Some.is c.in_ok-answer.ensures.some in
+    subst (λ (o : Option Answer). IfSome o (IsAnswer c.args.line (behind_place c.args.transcript.now c.args.candidate.at))) c.in-Some.is c.in-Ok.ensures.some in
     unread_goes c.args.settings.now c.args.line c.args.item.now c.args.transcript.now (behind_place c.args.transcript.now c.args.candidate.at) c.args.candidate c.args.out.now
     (c.in-Some.answer).reply (c.in-Some.answer).behind c.requires.restart (all_behind c.args.transcript.now c.args.candidate.at) c.fits.ensures
     (λ wants. is_no_bad c.args.item.now c.requires.restart
     (reply_told c.args.transcript.now (behind_place c.args.transcript.now c.args.candidate.at) c.args.line c.args.item.now c.args.candidate.at (c.in-Some.answer).behind
     (c.in-Some.answer).reply c.ranges.line.fits c.requires.shut (c.requires.kept).start
     (all_behind c.args.transcript.now c.args.candidate.at) read.1 wants))
-    read.1 (λ d notes rest is. absurd (c.in_default-reply.not-Restarted d is))
+    read.1 (λ d notes rest is. absurd (none d is))
 
 pub tell_restart-requires-clause-many : goal.tell_restart-requires-clause-many
 tell_restart-requires-clause-many c = (so_many c.args.settings.now c.args.candidate.state (c.requires.kept).of).volumes
@@ -52,30 +53,32 @@ tell_restart-requires-clause-highs c = (so_many c.args.settings.now c.args.candi
 
 pub returns-clause-went : goal.returns-clause-went
 returns-clause-went c =
+    let is_restart : (c.in-Some.answer).reply ≡ Restarted c.in-Some-rows_told.rows =
+    subst (λ (o : Option ℕ). IfSome o (λ rows. (c.in-Some.answer).reply ≡ Restarted rows)) c.in-Some-rows_told.is c.rows_told.ensures.some in
     let read : IsAnswer c.args.line (behind_place c.args.transcript.now c.args.candidate.at) c.in-Some.answer =
-    subst (λ (o : Option Answer). IfSome o (IsAnswer c.args.line (behind_place c.args.transcript.now c.args.candidate.at))) c.in-Some.is c.in_ok-answer.ensures.some in
+    subst (λ (o : Option Answer). IfSome o (IsAnswer c.args.line (behind_place c.args.transcript.now c.args.candidate.at))) c.in-Some.is c.in-Ok.ensures.some in
     let more = behind_place c.args.transcript.now (c.args.candidate.at + (c.in-Some.answer).behind) in
     let rest : more ≡ drop (c.args.candidate.at + (c.in-Some.answer).behind) c.args.transcript.now = all_behind c.args.transcript.now (c.args.candidate.at + (c.in-Some.answer).behind) in
     elim (c.in_ok-tell_restart.ensures) [
       | inl told ↦
           restart_goes c.args.settings.now c.args.line c.args.item.now c.args.transcript.now (behind_place c.args.transcript.now c.args.candidate.at) more c.args.candidate
           c.args.out.now c.tell_restart.new.out
-          (c.in-Some.answer).reply c.in-Restarted.rows (c.in-Some.answer).behind told.behind told.notes
-          (restart_boxes c.args.settings.now c.args.candidate.state (Restarted c.in-Restarted.rows) told.notes)
-          c.requires.restart (c.requires.kept).of (all_behind c.args.transcript.now c.args.candidate.at) c.in-Restarted.is c.fits.ensures read.1 rest
+          (c.in-Some.answer).reply c.in-Some-rows_told.rows (c.in-Some.answer).behind told.behind told.notes
+          (restart_boxes c.args.settings.now c.args.candidate.state (Restarted c.in-Some-rows_told.rows) told.notes)
+          c.requires.restart (c.requires.kept).of (all_behind c.args.transcript.now c.args.candidate.at) is_restart c.fits.ensures read.1 rest
           (record { many = told.many; fits = told.fits; parts = told.parts }) refl told.added
       | inr untold ↦
           subst (λ (new : List Candidate). Goes c.args.settings.now c.args.line c.args.item.now c.args.transcript.now c.args.candidate c.args.out.now new) (sym untold.same)
           (unread_goes c.args.settings.now c.args.line c.args.item.now c.args.transcript.now (behind_place c.args.transcript.now c.args.candidate.at) c.args.candidate c.args.out.now
           (c.in-Some.answer).reply (c.in-Some.answer).behind c.requires.restart (all_behind c.args.transcript.now c.args.candidate.at) c.fits.ensures
-          (λ wanted. absurd (let lie : Restarted c.in-Restarted.rows ≡ NoMem = sym c.in-Restarted.is ∙ wanted in cc)) read.1
+          (λ wanted. absurd (let lie : Restarted c.in-Some-rows_told.rows ≡ NoMem = sym is_restart ∙ wanted in cc)) read.1
           (λ d notes after is many fits stands. untold.none notes after many fits (stands ∙ sym rest)))
     ]
 
 pub returns-clause-kept : goal.returns-clause-kept
 returns-clause-kept c = λ h.
     let read : IsAnswer c.args.line (behind_place c.args.transcript.now c.args.candidate.at) c.in-Some.answer =
-    subst (λ (o : Option Answer). IfSome o (IsAnswer c.args.line (behind_place c.args.transcript.now c.args.candidate.at))) c.in-Some.is c.in_ok-answer.ensures.some in
+    subst (λ (o : Option Answer). IfSome o (IsAnswer c.args.line (behind_place c.args.transcript.now c.args.candidate.at))) c.in-Some.is c.in-Ok.ensures.some in
     let more = behind_place c.args.transcript.now (c.args.candidate.at + (c.in-Some.answer).behind) in
     let rest : more ≡ drop (c.args.candidate.at + (c.in-Some.answer).behind) c.args.transcript.now = all_behind c.args.transcript.now (c.args.candidate.at + (c.in-Some.answer).behind) in
     let first =
@@ -87,11 +90,11 @@ returns-clause-kept c = λ h.
     elim (c.in_ok-tell_restart.ensures) [
       | inl told ↦
           placed_kept c.args.settings.now c.args.transcript.now more (c.args.candidate.at + (c.in-Some.answer).behind) told.behind c.args.out.now c.tell_restart.new.out
-          (restart_boxes c.args.settings.now c.args.candidate.state (Restarted c.in-Restarted.rows) told.notes) rest
+          (restart_boxes c.args.settings.now c.args.candidate.state (Restarted c.in-Some-rows_told.rows) told.notes) rest
           (further_within c.args.transcript.now c.args.candidate.at (c.in-Some.answer).behind (c.requires.kept).within read.0) told.within
           (notes_start c.args.transcript.now first.0 (drop told.behind more) told.notes (first.1 ∙ ap (λ (xs : List ℕ). first.0 ++ 10 ∷ xs) (on ∙ sym told.parts)))
-          (restart_keeps c.args.settings.now c.args.candidate.state c.in-Restarted.rows told.notes
-          (restart_boxes c.args.settings.now c.args.candidate.state (Restarted c.in-Restarted.rows) told.notes) (c.requires.kept).of refl)
+          (restart_keeps c.args.settings.now c.args.candidate.state c.in-Some-rows_told.rows told.notes
+          (restart_boxes c.args.settings.now c.args.candidate.state (Restarted c.in-Some-rows_told.rows) told.notes) (c.requires.kept).of refl)
           told.added h
       | inr untold ↦ subst (λ (new : List Candidate). AreKept c.args.settings.now c.args.transcript.now new) (sym untold.same) h
     ]

@@ -16,17 +16,17 @@ use Rattle.hay_audit.proofs.judge.tell_restart.Goals as goal
 abbrev AreTold : ℕ → List ℕ → Notes → Type 0
 AreTold count text told = (told.behind ≤ length text) × (length told.notes ≡ count) × Each FitsNote told.notes × (flat_map note_line told.notes ++ drop told.behind text ≡ text)
 
-pub returns-in_default : goal.returns-in_default
-returns-in_default c =
+pub returns-in_default-read : goal.returns-in_default-read
+returns-in_default-read c =
     let none =
     subst (λ (o : Option Notes). IfNone o ((notes : List Note) (rest : List ℕ) → length notes ≡ c.note_count-count.result → Each FitsNote notes
-    → flat_map note_line notes ++ rest ≢ c.args.text.now)) c.in_default.is c.in_ok-told.ensures.none in
+    → flat_map note_line notes ++ rest ≢ c.args.text.now)) c.in_default-read.is c.in-Ok.ensures.none in
     inr (record { none = λ notes rest many fits. none notes rest (many ∙ sym (c.note_count-count.ensures ∙ ap (λ (b : Box). note_count b.base) c.state.view_is)) fits; same = refl })
 
 pub returns : goal.returns
 returns c =
     let told : AreTold c.note_count-count.result c.args.text.now c.in-Some.told =
-    subst (λ (o : Option Notes). IfSome o (AreTold c.note_count-count.result c.args.text.now)) c.in-Some.is c.in_ok-told.ensures.some in
+    subst (λ (o : Option Notes). IfSome o (AreTold c.note_count-count.result c.args.text.now)) c.in-Some.is c.in-Ok.ensures.some in
     let boxes : c.in_ok-states.states ≡ restart_boxes c.args.settings.now c.args.state (Restarted c.args.rows) (c.in-Some.told).notes =
     c.in_ok-states.ensures ∙ ap (λ (notes : List Note). restart_boxes c.args.settings.now c.args.state (Restarted c.args.rows) notes) c.as_slice.ensures in
     let pushed : c.push_all.new.out ≡ c.args.out.now ++ map (placed (c.args.at + (c.in-Some.told).behind)) c.in_ok-states.states = c.in_ok-push_all.ensures in

@@ -7,10 +7,10 @@ use Rattle.hay_audit.proofs.places.finished_boxes.Goals as goal
 
 pub returns : goal.returns
 returns c =
-    finish_made c.args.state c.args.spot.volume c.args.spot.machine c.args.spot.replica c.args.volume c.args.machine c.args.generation c.in_ok-sizes.sizes.end
-    c.as_number-end.result c.in_ok-sizes.sizes.cells c.most_end-most.result c.most_cells-many.result
+    finish_made c.args.state c.args.spot.volume c.args.spot.machine c.args.spot.replica c.args.volume c.args.machine c.args.generation c.in-Ok.sizes.end
+    c.as_number-end.result c.in-Ok.sizes.cells c.most_end-most.result c.most_cells-many.result
     _ _ _ _
     (c.if-not-is_finish.ensures ∙ ap (λ (b : Box). is_finish b.base c.args.spot.volume c.args.spot.machine c.args.spot.replica c.args.volume c.args.machine c.args.generation) c.state.view_is) refl
-    (c.in_ok-sizes.ensures.end ∙ ap (λ (b : Box). least_end b.base c.args.spot.volume c.args.spot.replica) c.state.view_is)
-    (c.in_ok-sizes.ensures.cells ∙ ap (λ (b : Box). least_cells b.base c.args.spot.volume c.args.spot.replica) c.state.view_is)
+    (c.in-Ok.ensures.end ∙ ap (λ (b : Box). least_end b.base c.args.spot.volume c.args.spot.replica) c.state.view_is)
+    (c.in-Ok.ensures.cells ∙ ap (λ (b : Box). least_cells b.base c.args.spot.volume c.args.spot.replica) c.state.view_is)
     c.most_end-most.ensures c.most_cells-many.ensures c.if-not-fits_file.ensures.same refl c.as_number-end.ensures c.no_slack.ensures c.in_ok-made.ensures

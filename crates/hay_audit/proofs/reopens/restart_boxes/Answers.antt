@@ -30,7 +30,7 @@ returns c =
     boxes_made c.args.state.base c.in_ok-frame.frame c.args.rows (c.in-Some.all).stores (row_list c.in-Some-new_row.row) (drop (c.in-Some.all).used c.args.notes.now)
     (reopened_stores c.args.settings.now 0 c.args.state.base.volumes c.args.state.low c.args.state.high c.args.notes.now) c.in_ok-made.made
     (subst (λ (o : Option Stores). IfSome o (λ all. reopened_stores c.args.settings.now 0 c.args.state.base.volumes c.args.state.low c.args.state.high c.args.notes.now
-    ≡ Some (record { value = all.stores; rest = drop all.used c.args.notes.now }))) c.in-Some.is c.in_ok-all.ensures.some)
+    ≡ Some (record { value = all.stores; rest = drop all.used c.args.notes.now }))) c.in-Some.is c.in-Ok.ensures.some)
     (sym (ap (λ (o : Option (Option HomeRow)). option_map row_list o) c.in-Some-new_row.is) ∙ c.new_row.ensures
     ∙ ap (λ (p : Option PendingRow). new_rows p (take (length c.args.notes.now - (c.in-Some.all).used) (drop (c.in-Some.all).used c.args.notes.now))) pending_is
     ∙ ap (λ (ns : List Note). new_rows c.args.state.base.directory.pending ns) (all_behind c.args.notes.now (c.in-Some.all).used))
