@@ -49,37 +49,52 @@ fn stands_after(alloc: Global, calls: u64, pick: u64) -> Result<bool, Fail> {
 
 #[test]
 fn a_stop_takes_what_was_not_synced(rt: HostRuntime) -> Result<(), Fail> {
-    let alloc = rt.alloc();
-    let mut disk = written(alloc)?;
-    disk.power_cycle(0);
-    assert_eq!(rt; disk.bytes(1), [0; 8].as_slice());
+    for (pick, bytes) in [
+        (0, &[0_u8; 8] as &[u8]),
+        (
+            1,
+            &[0xff, 0xff, 0xff, 0xff, 0, 0, 0, 0, 0xff, 0xff, 0xff, 0xff],
+        ),
+    ] {
+        let mut disk = written(rt.alloc())?;
+        disk.power_cycle(pick);
+        assert_eq!(rt; disk.bytes(1), bytes, "at {pick}");
+    }
+    Ok(())
+}
 
+// Marks what a stop with this pick leaves of the first half: the zeros, what was written, or other bytes. The second half stays,
+// the end is one that the file had, and another stop with the pick leaves the same.
+fn mark_left(rt: &impl Abort, alloc: Global, pick: u64, kinds: &mut [u8; 3]) -> Result<(), Fail> {
     let mut disk = written(alloc)?;
-    disk.power_cycle(1);
-    assert_eq!(rt;
-        disk.bytes(1),
-        [0xff, 0xff, 0xff, 0xff, 0, 0, 0, 0, 0xff, 0xff, 0xff, 0xff].as_slice()
-    );
+    disk.power_cycle(pick);
+    let mut again = written(alloc)?;
+    again.power_cycle(pick);
+    let left = disk.bytes(1);
+    assert_eq!(rt; left, again.bytes(1));
+    assert!(rt; 8 <= left.len() && left.len() <= 12);
+    assert_eq!(rt; &left[4..8], [0; 4].as_slice());
+    let kind = match &left[..4] {
+        [0, 0, 0, 0] => 0,
+        [0xff, 0xff, 0xff, 0xff] => 1,
+        _ => 2,
+    };
+    kinds[kind] = 1;
+    Ok(())
+}
 
+#[test]
+fn a_stop_leaves_the_same_by_the_same_pick(rt: HostRuntime) -> Result<(), Fail> {
     let mut kinds = [0; 3];
     for pick in 2..60 {
-        let mut disk = written(alloc)?;
-        disk.power_cycle(pick);
-        let mut again = written(alloc)?;
-        again.power_cycle(pick);
-        assert_eq!(rt; disk.bytes(1), again.bytes(1));
-        let left = disk.bytes(1);
-        assert!(rt; 8 <= left.len() && left.len() <= 12);
-        assert_eq!(rt; &left[4..8], [0; 4].as_slice());
-        let kind = match &left[..4] {
-            [0, 0, 0, 0] => 0,
-            [0xff, 0xff, 0xff, 0xff] => 1,
-            _ => 2,
-        };
-        kinds[kind] = 1;
+        mark_left(&rt, rt.alloc(), pick, &mut kinds)?;
     }
     assert_eq!(rt; kinds, [1; 3]);
+    Ok(())
+}
 
+#[test]
+fn a_stop_keeps_a_record_or_loses_it(rt: HostRuntime) -> Result<(), Fail> {
     for (calls, pick, stands) in [
         (0, 0, false),
         (0, 1, false),
@@ -90,7 +105,7 @@ fn a_stop_takes_what_was_not_synced(rt: HostRuntime) -> Result<(), Fail> {
         (4, 0, true),
     ] {
         assert_eq!(rt;
-            stands_after(alloc, calls, pick)?,
+            stands_after(rt.alloc(), calls, pick)?,
             stands,
             "at {calls} {pick}"
         );
@@ -123,9 +138,10 @@ fn reads_are_counted_until_the_power_cycle(rt: HostRuntime) -> Result<(), Fail> 
     Ok(())
 }
 
-#[test]
-fn a_sync_keeps_what_was_written_since_the_last(rt: HostRuntime) -> Result<(), Fail> {
-    let alloc = rt.alloc();
+// A disk behind two syncs of three writes, and a stop that takes a fourth: behind six calls.
+fn stopped(alloc: Global) -> Result<MemDisk, Fail>
+    ensures { IfOk result (λ disk. IsFree (mem_files disk 1)) }
+{
     let mut disk = MemDisk::new(alloc);
     disk.write(1, 0, b"aaaaaaaa")?;
     disk.sync(1)?;
@@ -134,8 +150,13 @@ fn a_sync_keeps_what_was_written_since_the_last(rt: HostRuntime) -> Result<(), F
     disk.sync(1)?;
     disk.write(1, 0, b"dddddddddd")?;
     disk.power_cycle(0);
-    assert_eq!(rt; disk.bytes(1), b"aabaaaca".as_slice());
+    Ok(disk)
+}
 
+#[test]
+fn a_sync_keeps_what_was_written_since_the_last(rt: HostRuntime) -> Result<(), Fail> {
+    let mut disk = stopped(rt.alloc())?;
+    assert_eq!(rt; disk.bytes(1), b"aabaaaca".as_slice());
     disk.fail(&[7])?;
     assert_eq!(rt; disk.write(1, 0, b"eeee"), Err(DiskFault::Failed));
     disk.sync(1)?;
@@ -145,25 +166,27 @@ fn a_sync_keeps_what_was_written_since_the_last(rt: HostRuntime) -> Result<(), F
     Ok(())
 }
 
+// A fuse lets a sync pass and makes a remove fail, until the power cycle.
+fn fuse_blows(rt: &impl Abort, disk: &mut MemDisk) {
+    disk.fuse(1);
+    assert_eq!(rt; (disk.sync(1), disk.remove(1)), (Ok(()), Err(Failed)));
+    assert_eq!(rt; disk.faults(), 3);
+    disk.power_cycle(0);
+    assert_eq!(rt; (disk.remove(1), disk.size(1)), (Ok(()), Ok(0)));
+}
+
 // A write that fails stores its first half, and each fault is counted.
 fn disk_fails(rt: &impl Abort, alloc: Global) -> Result<(), Fail> {
     let mut disk = MemDisk::new(alloc);
     disk.set_bytes(1, b"abcdefgh")?;
     disk.fail(&[2, 4])?;
-    assert_eq!(rt; disk.size(1), Ok(8));
-    assert_eq!(rt; disk.size(1), Err(Failed));
+    assert_eq!(rt; [disk.size(1), disk.size(1)], [Ok(8), Err(Failed)]);
     let mut out = [0; 3];
-    assert_eq!(rt; disk.read_into(1, 6, &mut out), Ok(2));
-    assert_eq!(rt; out, [b'g', b'h', 0]);
+    let read = disk.read_into(1, 6, &mut out);
+    assert_eq!(rt; (read, out), (Ok(2), [b'g', b'h', 0]));
     assert_eq!(rt; disk.write(1, 2, b"1234"), Err(DiskFault::Failed));
     assert_eq!(rt; disk.bytes(1), b"ab12efgh".as_slice());
-    disk.fuse(1);
-    assert_eq!(rt; disk.sync(1), Ok(()));
-    assert_eq!(rt; disk.remove(1), Err(Failed));
-    assert_eq!(rt; disk.faults(), 3);
-    disk.power_cycle(0);
-    assert_eq!(rt; disk.remove(1), Ok(()));
-    assert_eq!(rt; disk.size(1), Ok(0));
+    fuse_blows(rt, &mut disk);
     Ok(())
 }
 
@@ -249,32 +272,43 @@ fn arm_fails(rt: &impl Abort, alloc: Global) -> Result<(), Fail> {
     let mut arm = MemArm::new(alloc);
     arm.fail(&[2])?;
     let mut out = [0; 4];
-    assert_eq!(rt; arm.fetch(&piece, &mut out), Ok(4));
-    assert_eq!(rt; &out, b"cdef");
-    assert_eq!(rt; arm.fetch(&copy, &mut out), Err(Failed));
-    assert_eq!(rt; arm.fetch(&copy, &mut out), Ok(4));
-    assert_eq!(rt; arm.faults(), 1);
+    let fetched = arm.fetch(&piece, &mut out);
+    assert_eq!(rt; (fetched, out), (Ok(4), *b"cdef"));
+    let again = [arm.fetch(&copy, &mut out), arm.fetch(&copy, &mut out)];
+    assert_eq!(rt; (again, arm.faults()), ([Err(Failed), Ok(4)], 1));
     Ok(())
 }
 
-// A source gives its bytes a step at a time, a sink keeps half of what fails, and each fails at the calls listed.
-fn stream_fails(rt: &impl Abort, alloc: Global) -> Result<(), Fail> {
+// A source gives its bytes a step at a time, and fails at the reads listed.
+fn source_fails(rt: &impl Abort, alloc: Global) -> Result<(), Fail> {
     let mut source = MemSource::new(alloc, b"hello".to_vec(alloc)?, 2);
     source.fail(&[2])?;
     let mut out = [0; 8];
-    assert_eq!(rt; source.read(&mut out), Ok(2));
-    assert_eq!(rt; source.read(&mut out), Err(Failed));
-    assert_eq!(rt; source.read(&mut out[2..]), Ok(2));
-    assert_eq!(rt; source.read(&mut out[4..]), Ok(1));
-    assert_eq!(rt; source.read(&mut out[5..]), Ok(0));
-    assert_eq!(rt; &out, b"hello\0\0\0");
-    assert_eq!(rt; source.faults(), 1);
+    for (from, answer) in [
+        (0, Ok(2)),
+        (0, Err(Failed)),
+        (2, Ok(2)),
+        (4, Ok(1)),
+        (5, Ok(0)),
+    ] {
+        let room = out.get_mut(from..).ok_or("no room")?;
+        assert_eq!(rt; source.read(room), answer, "from {from}");
+    }
+    assert_eq!(rt; (out, source.faults()), (*b"hello\0\0\0", 1));
+    Ok(())
+}
 
+// A sink keeps half of what fails, and fails at the writes listed.
+fn sink_fails(rt: &impl Abort, alloc: Global) -> Result<(), Fail> {
     let mut sink = MemSink::new(alloc);
     sink.fail(&[2])?;
-    assert_eq!(rt; sink.write(b"one "), Ok(()));
-    assert_eq!(rt; sink.write(b"two "), Err(Failed));
-    assert_eq!(rt; sink.write(b"three"), Ok(()));
+    for (bytes, answer) in [
+        (b"one ".as_slice(), Ok(())),
+        (b"two ", Err(Failed)),
+        (b"three", Ok(())),
+    ] {
+        assert_eq!(rt; sink.write(bytes), answer);
+    }
     assert_eq!(rt; sink.bytes(), b"one twthree".as_slice());
     assert_eq!(rt; sink.faults(), 1);
     Ok(())
@@ -293,6 +327,19 @@ fn fill(shelf: &mut MemShelf, slot: u32) -> Result<(), Fail>
     }
 }
 
+// A shelf hands out what was put on it.
+fn shelf_takes(rt: &impl Abort, alloc: Global, shelf: &mut MemShelf) -> Result<(), Fail> {
+    shelf.put_disk(4, MemDisk::new(alloc))?;
+    fill(shelf, 4)?;
+    assert_eq!(rt; shelf.take_disk(4)?.bytes(1), b"de".as_slice());
+    let mut arm = MemArm::new(alloc);
+    arm.fail(&[1])?;
+    shelf.put_arm(2, arm)?;
+    assert!(rt; shelf.arm(2).is_some());
+    assert_eq!(rt; shelf.take_arm(2)?.faults(), 0);
+    Ok(())
+}
+
 // A shelf hands out what it was given, with nothing loose.
 fn shelf_hands_out(rt: &impl Abort, alloc: Global) -> Result<(), Fail> {
     let mut shelf = MemShelf::new(alloc);
@@ -304,25 +351,18 @@ fn shelf_hands_out(rt: &impl Abort, alloc: Global) -> Result<(), Fail> {
     disk.power_cycle(0);
     assert_eq!(rt; disk.bytes(1), b"abc".as_slice());
     shelf.give_disk(3, disk);
+    shelf_takes(rt, alloc, &mut shelf)
+}
 
-    shelf.put_disk(4, MemDisk::new(alloc))?;
-    fill(&mut shelf, 4)?;
-    assert_eq!(rt; shelf.take_disk(4)?.bytes(1), b"de".as_slice());
-
-    let mut arm = MemArm::new(alloc);
-    arm.fail(&[1])?;
-    shelf.put_arm(2, arm)?;
-    assert!(rt; shelf.arm(2).is_some());
-    assert_eq!(rt; shelf.take_arm(2)?.faults(), 0);
-
-    let mut sure = SureShelf::new(alloc);
-    let mut disk = sure.take_disk(0)?;
+fn sure_shelf_hands_out(rt: &impl Abort, alloc: Global) -> Result<(), Fail> {
+    let mut shelf = SureShelf::new(alloc);
+    let mut disk = shelf.take_disk(0)?;
     disk.write(1, 0, b"abc")?;
-    sure.give_disk(0, disk);
-    assert!(rt; sure.disk(0).is_some());
-    assert_eq!(rt; sure.take_disk(0)?.bytes(1), b"abc".as_slice());
-    let arm = sure.take_arm(0)?;
-    sure.give_arm(0, arm);
+    shelf.give_disk(0, disk);
+    assert!(rt; shelf.disk(0).is_some());
+    assert_eq!(rt; shelf.take_disk(0)?.bytes(1), b"abc".as_slice());
+    let arm = shelf.take_arm(0)?;
+    shelf.give_arm(0, arm);
     Ok(())
 }
 
@@ -331,6 +371,8 @@ fn calls_fail_where_they_were_told_to(rt: HostRuntime) -> Result<(), Fail> {
     let alloc = rt.alloc();
     disk_fails(&rt, alloc)?;
     arm_fails(&rt, alloc)?;
-    stream_fails(&rt, alloc)?;
-    shelf_hands_out(&rt, alloc)
+    source_fails(&rt, alloc)?;
+    sink_fails(&rt, alloc)?;
+    shelf_hands_out(&rt, alloc)?;
+    sure_shelf_hands_out(&rt, alloc)
 }
