@@ -14,7 +14,7 @@ mod words;
 use hay_needle::{Bytes, Cookie, Pair};
 use hay_url::Url;
 pub use read::read_line;
-pub use words::MAX_LINE;
+pub use words::{MAX_LINE, MAX_SCRIPT};
 
 /// A command of a script.
 #[derive(Debug, Drop)]

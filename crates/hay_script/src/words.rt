@@ -5,6 +5,9 @@ ghost use Rattle.hay_script.specs.Script as grammar;
 
 use memchr::memchr2;
 
+/// A script has at most so many bytes.
+pub const MAX_SCRIPT: u64 = 1_073_741_824;
+
 /// The most bytes that a line has, without its line feed.
 pub const MAX_LINE: usize = 33_554_560;
 
