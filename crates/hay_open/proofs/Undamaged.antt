@@ -102,7 +102,7 @@ fresh_front sup contents end file at short fits head begins index (inr (other, a
     index_whole (index_super sup 0) (contents 2) [] end at (of_index sup fits) (short 2) index (subst (λ n. IsDamagedIndex (index_super sup n) (contents (index_file n)) at) one damage.2)
 
 -- nothing of it is damaged
-fresh_whole : {P : Type 0} (Tells : Type 0) (sup : Super) (files : Files) (opened : Opened P) → OpenedAs sup files opened fresh_stored → opened.cells.items ≡ []
+pub fresh_whole : {P : Type 0} (Tells : Type 0) (sup : Super) (files : Files) (opened : Opened P) → OpenedAs sup files opened fresh_stored → opened.cells.items ≡ []
     → ReadsWhole Tells sup (λ n. (files n).now) opened
 fresh_whole Tells sup files opened o none = record {
   records = [];

@@ -75,6 +75,13 @@ pub record HasOrphans (volume : List ℕ) (records : List Record) (orphans : Lis
   pub has : HasCells (place_behind 64 records) volume orphans end
   pub closed : IsClosed needle_magic end volume
 
+-- An opening reads so of a disk, whatever else the disk has: its head names the generation, the index has these records, and behind the
+-- last recorded needle the volume file has these cells without a record, up to the end.
+pub record ReadsAs (sup : Super) (contents : ℕ → List ℕ) (generation : ℕ) (records : List Record) (orphans : List Cell) (end : ℕ) : Type 0 where
+  pub index_end : ℕ
+  pub recorded : IsRecorded sup contents generation records index_end
+  pub behind : HasOrphans (contents (volume_file generation)) records orphans end
+
 -- THE FIRST DAMAGE
 
 -- Up to the index: of the head file, of the superblock of the volume file, or of the index file.

@@ -6,7 +6,7 @@ ghost use Rattle.hay_disk.specs.Counts.{IsCounted};
 ghost use Rattle.hay_disk.specs.Disk.{IsFree, IsSolid, MayLeave};
 ghost use Rattle.hay_needle.specs.Sizes.{needle_total};
 ghost use Rattle.hay_open.specs.Damage.{IsReadingDamage};
-ghost use Rattle.hay_open.specs.Finds.{ArePlacesWithin, OpenedAs};
+ghost use Rattle.hay_open.specs.Finds.{ArePlacesWithin, OpenedAs, ReadsWhole};
 ghost use Rattle.hay_open.specs.Stored.{IsVoid, OpensAs, Stored, fresh_stored};
 ghost use Rattle.hay_open.specs.Stored as stored;
 
@@ -42,6 +42,7 @@ pub(crate) fn format_disk<D: Disk>(
     ensures void { D.Tells → IsErrOf result Refusal.NoMemory → D.files disk.new 0 ≡ D.files disk.old 0 }
     ensures nothing { D.Tells → IsVoid (λ n. (D.files disk.old n).now) → (image : ℕ → List ℕ) → MayLeave (D.files disk.new) image →
         (other : Super) (s : Stored) → OpensAs other image s → s ≡ fresh_stored }
+    ensures reads { D.Tells → IfOk result (ReadsWhole D.Piece.Tells sup.now (λ n. (D.files disk.new n).now)) }
     ensures whole { D.Tells → OnOk result ((file at : ℕ) → IsReadingDamage sup.now (λ n. (D.files disk.new n).now) file at → ⊥) }
     ensures drawn { D.Tells → OnOk result ((n : ℕ) → D.drawn disk.new n ≡ D.drawn disk.old n) }
     ensures undamaged { (file at : ℕ) → result ≡ Err (Refusal.Damaged file at) → ⊥ }

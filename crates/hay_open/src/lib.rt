@@ -66,6 +66,8 @@ pub fn open_replica<D: Disk>(
     // What is opened was void, or all that the opening reads of it is of the format.
     ensures whole { D.Tells → IfOk result (λ opened.
         IsVoid (λ n. (D.files disk.old n).now) ⊎ ReadsWhole D.Piece.Tells sup.now (λ n. (D.files disk.old n).now) opened) }
+    // So it is of each disk as it is then: one that was void is formatted.
+    ensures reads { D.Tells → IfOk result (ReadsWhole D.Piece.Tells sup.now (λ n. (D.files disk.new n).now)) }
     ensures undamaged { D.Tells → OnOk result ((file at : ℕ) → IsOpeningDamage sup.now (λ n. (D.files disk.old n).now) file at → ⊥) }
     ensures undamaged_now { D.Tells → OnOk result ((file at : ℕ) → IsOpeningDamage sup.now (λ n. (D.files disk.new n).now) file at → ⊥) }
 

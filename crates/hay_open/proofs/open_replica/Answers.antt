@@ -43,6 +43,11 @@ pub returns-in-Ok-read_disk-clause-whole : goal.returns-in-Ok-read_disk-clause-w
 returns-in-Ok-read_disk-clause-whole g c = λ tells.
     inr (subst (λ (fs : Files). ReadsWhole g.D.Piece.Piece.Tells c.args.sup.now (λ n. (fs n).now) c.in-Ok-read_disk.opened) (c.size.ensures.same tells) (c.in-Ok-read_disk.ensures.whole tells))
 
+pub returns-in-Ok-read_disk-clause-reads : goal.returns-in-Ok-read_disk-clause-reads
+returns-in-Ok-read_disk-clause-reads g c = λ tells.
+    subst (λ (contents : ℕ → List ℕ). ReadsWhole g.D.Piece.Piece.Tells c.args.sup.now contents c.in-Ok-read_disk.opened) (sym (fun_ext (c.read_disk.ensures.kept tells)))
+    (c.in-Ok-read_disk.ensures.whole tells)
+
 pub returns-in-Ok-read_disk-clause-undamaged : goal.returns-in-Ok-read_disk-clause-undamaged
 unfolding IsOpeningDamage
 returns-in-Ok-read_disk-clause-undamaged g c = λ tells file at damage.

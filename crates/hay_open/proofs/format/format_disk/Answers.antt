@@ -7,7 +7,7 @@ use Rattle.hay_index.specs.declared.index.IndexFile.{IndexFile}
 use Rattle.hay_index.specs.Records.{IsIndex}
 use Rattle.hay_needle.specs.Super.{SuperFits, super_bytes}
 use Rattle.hay_open.proofs.Formatting.{Frames, frames, all_solid, fresh_head, fresh_index, fresh_volume, new_left, still_free, void_left}
-use Rattle.hay_open.proofs.Undamaged.{fresh_undamaged}
+use Rattle.hay_open.proofs.Undamaged.{fresh_undamaged, fresh_whole}
 use Rattle.hay_open.proofs.format.format_disk.Goals as goal
 
 pub format-requires-3 : goal.format-requires-3
@@ -173,6 +173,10 @@ returns-clause-nothing g c = λ tells void image leaves other s opens.
     (subst (λ n. IsVolume (super_bytes c.volume_super.result) (f c.format.new.disk n).now [] 64) v (c.in_ok-volume.ensures.empty tells))
     (subst (λ n. Keeps (f c.format.new.disk n) (f c.sync.new.self n)) v (c.sync.ensures.keeps tells))
     (subst (λ n. IsSolid (f c.sync.new.self n)) v (c.in_ok-sync.ensures.solid tells)) by.volume_stays (c.format-3.ensures.changes tells) leaves opens
+
+pub returns-clause-reads : goal.returns-clause-reads
+returns-clause-reads g c = λ tells.
+    fresh_whole g.D.Piece.Piece.Tells c.args.sup.now (g.D.Disk.files c.format-3.new.disk) _ (returns-clause-opened g c tells) c.new.ensures.items
 
 pub returns-clause-whole : goal.returns-clause-whole
 returns-clause-whole g c = λ tells file at.
