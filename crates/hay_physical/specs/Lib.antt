@@ -3,3 +3,4 @@ pub mod Faults
 pub mod Replicas
 pub mod CompactionRuns
 pub mod Draws
+pub mod Readings

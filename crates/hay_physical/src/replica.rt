@@ -20,6 +20,7 @@ ghost use Rattle.std.specs.Option.{option_map};
 ghost use Rattle.hay_physical.specs.OpenCopies.{EndedAt, HasCapacity, IsFrozen, IsOpenCopy, IsUp, KeepsEnd, KeepsHead, bare_of, capacity_of, contents_of, end_of, generation_of, volume_bytes};
 ghost use Rattle.hay_physical.specs.OpenCopies.{goal_of, is_frozen, is_stuck, next_of};
 ghost use Rattle.hay_physical.specs.Draws.{DrewRecorded};
+ghost use Rattle.hay_physical.specs.Readings.{IsReadOn};
 ghost use Rattle.hay_physical.specs.Faults.{IsDeleteFault, IsFlushFault, IsPutFault};
 ghost use Rattle.hay_needle.specs.Tables.{pair_eq};
 ghost use Rattle.hay_physical.specs.Replicas.{Anywhere, ApartFrom, ArePlacesApart, HasLive, HasLiveNeedle, HasWholeNeedle, Holds, IsApart, IsIdleCopy, IsLike, IsWholeNeedle};
@@ -76,6 +77,8 @@ impl<D: Disk> Replica<D> {
         ensures opened { D.Tells → (s : Stored) → OpensAs self.old.sup (contents_of D.files self.old.disk) s → IfOk result (λ cells.
             Stands D.files self.new s
             × ((pair : Pair) → PlaceOf D.Piece.Tells (last_cell s.cells pair) (last_place cells.items pair place.None))) }
+        // On any disk the generation, the end, the cells without a record and the places are those that its files give.
+        ensures reads { D.Tells → IfOk result (λ cells. IsReadOn D.files D.Piece.Tells self.new cells.items) }
         // Behind a stop that is what the stop may have left.
         ensures reopened { D.Tells → (stuck : Bool) (s t : Stored) → Holds D.files self.old stuck s t → IfOk result (λ cells. (found : Stored)
             × (IsLike stuck s found ⊎ IsLike stuck t found) × Stands D.files self.new found

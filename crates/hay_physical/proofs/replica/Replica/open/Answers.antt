@@ -1,7 +1,8 @@
-use Rattle.std.proofs.Common.{◌≡◌, ap, arith, refl, subst, Err, sym}
+use Rattle.std.proofs.Common.{◌≡◌, ◌∙◌, ap, arith, length, refl, subst, Err, sym}
+use Rattle.std.proofs.lemmas.List.{length-map}
 use Rattle.std.proofs.lemmas.Result.{err_from_is_err_and}
 use Rattle.hay_open.specs.Damage.{IsOpeningDamage}
-use Rattle.hay_open.specs.Stored.{IsVoid, fresh_stored, volume_file}
+use Rattle.hay_open.specs.Stored.{IsVoid, cell_record, fresh_stored, volume_file}
 use Rattle.hay_physical.specs.OpenCopies.{Copy}
 use Rattle.hay_physical.proofs.Apartness.{found_apart}
 use Rattle.hay_physical.proofs.Whole.{found_live, found_whole}
@@ -70,6 +71,17 @@ returns-clause-opened g c = λ tells s opens.
       open_stands files was.sup c.open_replica.new.disk _ s refl (opened_stands was.sup (files c.open_replica.new.disk) c.in_ok-head.field-0 s (done.opened tells s here) done.open),
       done.places tells s here,
     )
+
+pub returns-clause-reads : goal.returns-clause-reads
+returns-clause-reads g c = λ tells.
+    let read = c.in_ok-head.ensures.reads tells in
+    record {
+      records = read.records;
+      orphans = read.orphans;
+      reads = record { index_end = c.in_ok-head.field-0.index.end; recorded = read.recorded; behind = read.behind };
+      bare = ap length read.noted ∙ length-map read.orphans cell_record;
+      cells = read.cells;
+    }
 
 pub returns-clause-reopened : goal.returns-clause-reopened
 returns-clause-reopened g c = λ tells stuck s t holds.
