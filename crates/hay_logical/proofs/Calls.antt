@@ -1,6 +1,7 @@
 -- What the calls of the replicas in order do.
 use Rattle.std.proofs.Common.{◌≡◌, ◌≢◌, ◌⊎◌, inl, inr, ℕ, zero, suc, ◌+◌, ◌<◌, ◌≤◌, Bool, true, false, List, [], ◌∷◌, ◌++◌, length, replicate, refl, sym, ap, subst, ◌∙◌, arith}
 use Rattle.std.specs.Prelude.{slice_set, None, Result, Ok, Err, OnOk, IfErr}
+use Rattle.std.proofs.Math.Path.{fun_ext}
 use Rattle.std.proofs.lemmas.Bool.{cases_Bool, cases_eq, cases_lt}
 use Rattle.std.proofs.lemmas.List.{get_or-set_same, get_or-set_other}
 use Rattle.hay_needle.specs.declared.needle.Cookie.{Cookie}
@@ -31,9 +32,11 @@ use Rattle.hay_physical.proofs.Laws.{stands_hold}
 use Rattle.hay_physical.specs.Faults as physical_faults
 use Rattle.hay_logical.specs.Fits.{At, PhotoAt}
 use Rattle.hay_logical.specs.Needles.{HasLiveNeedle}
+use Rattle.hay_logical.specs.Readings.{IsReadAs}
+use Rattle.hay_logical.specs.Seen.{replica_seen}
 use Rattle.hay_logical.specs.Volumes.{CanReach, KeepsCounts, ReachesPlaces}
 use Rattle.hay_logical.specs.ReplicaCalls.{DeletesAt, FollowsAt, IsFlushFault, IsOpenFault, IsPutFault, KeepsDisk, KeepsReach, KeepsRun, LeftAt, LosesRun, OpensAt, PutsAt, RoomFor, StaysBeside}
-use Rattle.hay_logical.specs.Sights.{IsSightOfLast, LiesWithin, sight}
+use Rattle.hay_logical.specs.Sights.{IsSightOfLast, LiesWithin, Sight, sight}
 use Rattle.hay_logical.proofs.Lists.{Went, at_below, at_same, at_set_other, at_set_same, at_there, length-slice_set}
 
 -- PHASES
@@ -355,7 +358,7 @@ none_in (suc n) (suc i) = none_in n i
 pub opens_on : {D P : Type 0} (DiskTells : Type 0) (files : D → Files) (Tells : Type 0) (rows rows' : MapRows P) (j : ℕ) (r r' : Copy D)
     → ((pair : Pair) → place_in (row_at rows' pair) j ≡ place_in (row_at rows pair) j)
     → OpensAt DiskTells files Tells rows j r r' → OpensAt DiskTells files Tells rows' j r r'
-opens_on DiskTells files Tells rows rows' j r r' same h = record {
+opens_on {P = P} DiskTells files Tells rows rows' j r r' same h = record {
   up = h.up;
   sup = h.sup;
   loose = h.loose;
@@ -375,6 +378,8 @@ opens_on DiskTells files Tells rows rows' j r r' same h = record {
   reach = λ tells. reaches_same files rows rows' j r' same (h.reach tells);
   found = λ tells s opens pair. subst (λ p. IsSightOfLast (last_cell s.cells pair) (sight p)) (sym (same pair)) (h.found tells s opens pair);
   live = λ tells pair. subst (λ p. HasLiveNeedle (volume_bytes files r') (sight p)) (sym (same pair)) (h.live tells pair);
+  read = λ tells.
+      subst (λ (sights : Pair → Sight). IsReadAs r'.sup (contents_of files r'.disk) (replica_seen r') sights) (fun_ext (λ pair. ap (λ (p : Place P). sight p) (sym (same pair)))) (h.read tells);
 }
 
 -- a disk that was not called, and is solid

@@ -16,7 +16,7 @@ use Rattle.hay_compact.specs.Finishing.{IsSeen}
 use Rattle.hay_physical.specs.declared.fault.ReplicaFault.{ReplicaFault}
 use Rattle.hay_physical.specs.declared.fault.ReplicaFault.TheVariants as fault
 use Rattle.hay_physical.specs.declared.state.Phase.{Phase}
-use Rattle.hay_physical.specs.OpenCopies.{Copy, HasFrozen, IsOpenCopy, IsOpenPhase, bare_of, end_of, generation_of, goal_of, is_frozen, is_stuck, volume_bytes}
+use Rattle.hay_physical.specs.OpenCopies.{Copy, HasFrozen, IsOpenCopy, IsOpenPhase, bare_of, contents_of, end_of, generation_of, goal_of, is_frozen, is_stuck, volume_bytes}
 use Rattle.hay_physical.specs.Replicas as physical
 use Rattle.hay_open.specs.declared.fault.OpenFault.{OpenFault}
 use Rattle.hay_open.specs.declared.fault.OpenFault.TheVariants as open_fault
@@ -24,6 +24,8 @@ use Rattle.hay_logical.specs.Fits.{At}
 use Rattle.hay_logical.specs.declared.fault.Unopened.{Unopened}
 use Rattle.hay_logical.specs.Needles.{HasLiveNeedle, HasLiveNeedles, IsToldBy, LacksSeen, TellsNeedle}
 use Rattle.hay_logical.specs.Notes.{IsToldPlace, ToldUnsure}
+use Rattle.hay_logical.specs.Readings.{IsReadAs, last_record}
+use Rattle.hay_logical.specs.Seen.{replica_seen}
 use Rattle.hay_logical.specs.Sights.{AwaitsLook, LiesWithinAt, SeesPair, Sight, sight, sights_of}
 use Rattle.hay_logical.specs.Sights as sighting
 use Rattle.hay_logical.specs.Sights.Sight.{Gone, Live, Never, Unseen}
@@ -33,7 +35,7 @@ use Rattle.hay_logical.specs.Volumes.{CanReach, KeepsCounts}
 use Rattle.hay_logical.proofs.Calls.{counted_same, keeps_counts, up_open, up_thawed}
 use Rattle.hay_logical.proofs.Examining.{rose_later}
 use Rattle.hay_logical.proofs.Lists.{at_below, at_same, at_there}
-use Rattle.hay_logical.proofs.Finding.{looked_sight}
+use Rattle.hay_logical.proofs.Finding.{looked_pair, looked_sight}
 use Rattle.hay_logical.proofs.Methods.{one_after}
 use Rattle.hay_logical.proofs.Sighting.{looks_one, looks_still, other_places, place_seen}
 use Rattle.hay_logical.proofs.Bytes.{bytes_more, looked_bytes}
@@ -247,6 +249,20 @@ module _ {D P : Type 0} (DiskTells : Type 0) (files : D → Files) (Tells : Type
     live = λ tells pair.
         subst (λ (l : List ℕ). HasLiveNeedle l (sights_of rows' pair j)) (sym (file_looked DiskTells files Tells rows rows' j x y tells looks))
         (looked_live (volume_bytes files x) (sights_of rows pair j) (sights_of rows' pair j) (looks.looks pair) (looks.told tells pair) (opens.live tells pair));
+    read = λ tells.
+        let was = opens.read tells in
+        let looked : IsReadAs x.sup (contents_of files x.disk) (replica_seen x) (λ pair. sights_of rows' pair j) = record {
+          records = was.records;
+          orphans = was.orphans;
+          reads = was.reads;
+          bare = was.bare;
+          places = λ pair.
+              looked_pair (volume_bytes files x) (last_cell was.orphans pair) (last_record was.records pair) (sights_of rows pair j) (sights_of rows' pair j) (looks.looks pair)
+              (looks.told tells pair) (was.places pair);
+        } in
+        let kept : IsReadAs x.sup (contents_of files y.disk) (replica_seen x) (λ pair. sights_of rows' pair j) =
+        subst (λ (contents : ℕ → List ℕ). IsReadAs x.sup contents (replica_seen x) (λ pair. sights_of rows' pair j)) (sym (fun_ext (λ n. (looks.keeps tells).now n))) looked in
+        subst (λ (z : Copy D). IsReadAs z.sup (contents_of files y.disk) (replica_seen z) (λ pair. sights_of rows' pair j)) (sym looks.copy) kept;
   }
 
   pub left_looked : (rows rows' : MapRows P) (j : ℕ) (r x y : Copy D) → LeftAt DiskTells files r x → LooksAt DiskTells files Tells rows rows' j x y → LeftAt DiskTells files r y

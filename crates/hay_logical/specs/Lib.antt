@@ -10,3 +10,4 @@ pub mod Draws
 pub mod Unshown
 pub mod Seen
 pub mod Sights
+pub mod Readings

@@ -44,6 +44,7 @@ use Rattle.hay_logical.specs.declared.runs.Unswapped.TheVariants.{Refused, Unsur
 use Rattle.hay_logical.specs.Answers.{HasSizes}
 use Rattle.hay_logical.specs.Fits.{At, PhotoAt, PlaceStands}
 use Rattle.hay_logical.specs.Needles.{HasLiveNeedles, IsToldBy}
+use Rattle.hay_logical.specs.Readings.{IsReadAs}
 use Rattle.hay_logical.specs.Refusals.{IsUntouched}
 use Rattle.hay_logical.specs.Seen.{CanBegin, MeetsDamage, MeetsDamageLeft, ReplicaSeen, begun, replica_seen}
 use Rattle.hay_logical.specs.Sights.{AreSightsOf, AwaitsLook, AwaitsLookAt, LiesWithinAt, Looks, SeesPair, Sight, SwapsSights, sight, sights_of}
@@ -564,6 +565,7 @@ pub record OpensAt {D P : Type 0} (DiskTells : Type 0) (files : D → Files) (Te
   pub reach : DiskTells → ReachesPlaces files Tells rows j r'
   pub found : DiskTells → (s : Stored) → OpensAs r.sup (contents_of files r.disk) s → AreSightsOf s (sights_of rows) j
   pub live : DiskTells → HasLiveNeedles (sights_of rows) j (volume_bytes files r')
+  pub read : DiskTells → IsReadAs r'.sup (contents_of files r'.disk) (replica_seen r') (λ pair. sights_of rows pair j)
 
 -- what an opening that was refused has left of a replica
 pub record LeftAt {D : Type 0} (DiskTells : Type 0) (files : D → Files) (r r' : Copy D) : Type 0 where

@@ -23,6 +23,7 @@ ghost use Rattle.hay_compact.specs.Finishing.{IsSeen};
 ghost use Rattle.hay_logical.specs.Draws.{DrewAt, HasDrawnNothing, looked_pair};
 ghost use Rattle.hay_logical.specs.Fits.{At, PlaceStands, super_of};
 ghost use Rattle.hay_logical.specs.Notes.{NotesTell, ToldUnsure};
+ghost use Rattle.hay_logical.specs.Readings.{IsReadAs};
 ghost use Rattle.hay_logical.specs.Refusals.{IsUntouchedBy};
 ghost use Rattle.hay_logical.specs.Seen.{AreEnds, BeginRefusedSeen, BeginSeen, ChangesAt, CompactRefusedSeen, CompactSeen, DeleteRefusedSeen, EraseSeen, FinishRefusedSeen};
 ghost use Rattle.hay_logical.specs.Seen.{FinishSeen, FlushRefusedSeen, FlushSeen, FreezesSeen, HideSeen, IsEnded, IsFoundAs, OpenSeen, PutRefusedSeen, PutSeen, ReplicaSeen};
@@ -190,6 +191,9 @@ impl<D: Disk> Logical<D> {
         // A disk that is void or whole is found as what it has, whatever the others have.
         ensures finds { D.Tells → OnOk result ((j : ℕ) (r r' : Copy D) (s : Stored) → At self.old.replicas j r → At self.new.replicas j r' →
             OpensAs r.sup (contents_of D.files r.disk) s → IsFoundAs s (replica_seen r') × AreSightsOf s (sights_of self.new.rows) j) }
+        // Any disk that tells is found as its files say, as far as they were read.
+        ensures read { D.Tells → OnOk result ((j : ℕ) (r : Copy D) → At self.new.replicas j r →
+            IsReadAs r.sup (contents_of D.files r.disk) (replica_seen r) (λ pair. sights_of self.new.rows pair j)) }
         // On any disk that tells the needle of each place that is a photo's stands, and is not deleted.
         ensures live { D.Tells → OnOk result ((j : ℕ) (r : Copy D) → At self.new.replicas j r →
             HasLiveNeedles (sights_of self.new.rows) j (volume_bytes D.files r)) }

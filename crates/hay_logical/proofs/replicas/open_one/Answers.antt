@@ -6,11 +6,12 @@ use Rattle.hay_map.specs.declared.place.Place.TheVariants as place
 use Rattle.hay_open.specs.Stored.{PlaceOf, last_cell}
 use Rattle.hay_physical.specs.OpenCopies.{contents_of, end_of, phase_frozen, volume_bytes}
 use Rattle.hay_logical.specs.Needles.{HasLiveNeedle}
+use Rattle.hay_logical.specs.Readings.{IsSightOfPair, last_record}
 use Rattle.hay_logical.specs.Sights.{IsSightOfLast, LiesWithin, sight}
 use Rattle.hay_logical.proofs.Within.{last_lies}
 use Rattle.hay_logical.proofs.Calls.{loaded, loaded_other, open_cause, opened_holds, reaches_loaded, reaches_none, up_thawed}
 use Rattle.hay_logical.proofs.Compacting.{photo_at}
-use Rattle.hay_logical.proofs.Finding.{found_sight}
+use Rattle.hay_logical.proofs.Finding.{found_sight, read_sight}
 use Rattle.hay_logical.proofs.Lists.{length-slice_set}
 use Rattle.hay_logical.proofs.Needles.{live_sight}
 use Rattle.hay_logical.proofs.Formatting.{opened_formatted}
@@ -59,6 +60,18 @@ returns-in-Ok-load-clause-opened g c =
       live = λ tells pair.
           let file = volume_bytes g.D.Disk.files c.open.new.self in
           subst (λ p. HasLiveNeedle file (sight p)) (sym (there pair)) (live_sight file (last_place c.in-Ok.cells.items pair place.None) (c.in-Ok.ensures.live tells pair));
+      read = λ tells.
+          let by = c.in-Ok.ensures.reads tells in
+          let file = volume_bytes g.D.Disk.files c.open.new.self in
+          record {
+            records = by.records;
+            orphans = by.orphans;
+            reads = by.reads;
+            bare = by.bare;
+            places = λ pair.
+                subst (λ p. IsSightOfPair file (last_cell by.orphans pair) (last_record by.records pair) (sight p)) (sym (there pair))
+                (read_sight g.D.Piece.Piece.Tells pair file by.records by.orphans c.in-Ok.cells.items by.cells);
+          };
     }
 
 pub returns-in-Ok-load-clause-left : goal.returns-in-Ok-load-clause-left

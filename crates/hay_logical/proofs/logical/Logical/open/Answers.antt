@@ -426,3 +426,15 @@ returns-clause-live g c = λ tells j r' here.
     let old = at_there olds j (let h = at_below news j r' f in let less : j < length olds = omega (arith, h, count) in less) in
     let e = subst (λ xs. At xs j old.0) (sym now) old.1 in
     (c.in-Ok.ensures.opened j old.0 r' e f).live tells
+
+pub returns-clause-read : goal.returns-clause-read
+returns-clause-read g c = λ tells j r' here.
+    let now = c.as_mut_slice.ensures.value in
+    let kept = with_items_is c.self.inside.replicas c.open_all.new.replicas (c.open_all.auto.replicas ∙ c.as_mut_slice.ensures.len) in
+    let olds = c.self.inside.replicas.items in
+    let news = c.open_all.new.replicas in
+    let count = c.open_all.ensures.counts.count ∙ ap length now in
+    let f : At news j r' = subst (λ xs. At xs j r') kept here in
+    let old = at_there olds j (let h = at_below news j r' f in let less : j < length olds = omega (arith, h, count) in less) in
+    let e = subst (λ xs. At xs j old.0) (sym now) old.1 in
+    (c.in-Ok.ensures.opened j old.0 r' e f).read tells
