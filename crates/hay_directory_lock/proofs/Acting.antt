@@ -29,6 +29,7 @@ use Rattle.hay_views.specs.HomeLooks.{HomesShown}
 use Rattle.hay_directory_lock.specs.Begun.{BegunAt}
 use Rattle.hay_directory_lock.specs.Acts.{add_tag, mode_behind, mode_by, tag_of, tags_of}
 use Rattle.hay_directory_lock.specs.Standing.{HomeFront, KeptFor, MayBeKnown}
+use Rattle.hay_directory_lock.proofs.Unfused.{unfused_more}
 
 follow_on : (start : RowsStanding) (xs : List DirAct) (act : DirAct) → FollowsRows start (replayed row_lock start xs)
     → FollowsRows (left row_lock start xs) (replayed row_lock (left row_lock start xs) (act ∷ [])) → FollowsRows start (replayed row_lock start (xs ++ act ∷ []))
@@ -113,6 +114,7 @@ module _ {D : Type 0} (Tells : Type 0) (files : D → Files) (faults fuses : D �
                 tt,
               );
           rises = (let before = (k.of).rises in omega (arith, before, m.later, m.faults_are));
+          fuses_stay = λ none. m.fuses_are ∙ unfused_more acts act (fuses (begun.directory).disk) (fuses d.disk) act.fuses m.fused (k.of).fuses_stay none;
         };
         front_is = ap (λ (w : HomesShown). w.front) m.front_is ∙ k.front_is;
         base = ap (λ (w : HomesShown). w.base) m.front_is ∙ k.base;

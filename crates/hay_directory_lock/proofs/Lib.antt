@@ -4,3 +4,4 @@ pub mod Calling
 pub mod Knowing
 pub mod Opening
 pub mod Showing
+pub mod Unfused

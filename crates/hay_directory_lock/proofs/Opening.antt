@@ -62,6 +62,7 @@ module _ {D : Type 0} (Tells : Type 0) (files : D → Files) (faults fuses : D �
           counted = λ s is. is;
           follows = λ s at. tt;
           rises = omega arith;
+          fuses_stay = λ none. refl;
         };
         front_is = refl;
         base = refl;

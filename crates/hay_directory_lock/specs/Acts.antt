@@ -1,5 +1,6 @@
 -- What acts leave of the mode of a Directory, and of the log of its front.
-use Rattle.std.specs.Prelude.{List, [], ◌∷◌, Option, Some, None}
+use Rattle.std.specs.Prelude.{◌≢◌, List, [], ◌∷◌, Option, Some, None}
+use Rattle.std.specs.List.{AllByRecursion as Each}
 use Rattle.hay_core.specs.declared.entry.CoreTag.{CoreTag}
 use Rattle.hay_legal.specs.declared.known.HomeRow.{HomeRow}
 use Rattle.hay_front.specs.declared.front.Tag.{Tag}
@@ -35,3 +36,7 @@ add_tag (Some row) tag rest = tag ∷ rest
 abbrev pub tags_of : List DirAct → List Tag
 tags_of [] = []
 tags_of (act ∷ acts) = add_tag (row_of act.did) (tag_of act) (tags_of acts)
+
+-- none of these acts set a fuse
+abbrev pub SetNoFuse : List DirAct → Type 0
+SetNoFuse acts = Each (λ act. act.did ≢ did.FusesRow) acts

@@ -13,6 +13,7 @@ use Rattle.hay_holdings.specs.Rows.{DirectoryCall, FailedRow, MadeNoRow, MadeRow
 use Rattle.hay_meeting.specs.Sights.{rows_stood}
 use Rattle.hay_directory.specs.declared.fault.DirFault.{DirFault}
 use Rattle.hay_directory.specs.declared.fault.DirFault.TheVariants as refusal
+use Rattle.hay_directory_lock.specs.Acts.{SetNoFuse}
 use Rattle.hay_directory_lock.specs.Begun.{BegunAt}
 use Rattle.hay_directory_lock.specs.Seats.{DirectorySeatState, IsSeated, LockState}
 use Rattle.hay_directory_lock.specs.Standing.{StandsAt}
@@ -25,6 +26,10 @@ IsTold {D} faults fuses lock seat IsSo =
 -- one holding, whatever it found
 abbrev pub OneHolding : CoreTag → DirectoryCall
 OneHolding tag = Called row_lock tag (λ held made. Unit {0})
+
+-- and it set no fuse
+abbrev pub UnfusedHolding : CoreTag → DirectoryCall
+UnfusedHolding tag = Called row_lock tag (λ held made. SetNoFuse (acts_in made))
 
 -- a look without the lock
 abbrev pub OneLook : DirectoryCall

@@ -13,7 +13,7 @@ use Rattle.hay_meeting.specs.Acts.{row_lock}
 use Rattle.hay_meeting.specs.Locks.{entries, left, replayed}
 use Rattle.hay_directory.specs.State.{IsUp, State, Stands, home_of, is_frozen, mode_of}
 use Rattle.hay_views.specs.HomeLooks.{HomesAt}
-use Rattle.hay_directory_lock.specs.Acts.{mode_behind, tags_of}
+use Rattle.hay_directory_lock.specs.Acts.{SetNoFuse, mode_behind, tags_of}
 use Rattle.hay_directory_lock.specs.Begun.{BegunAt, IsBegun}
 
 abbrev pub HomeFront : Type 0
@@ -58,6 +58,7 @@ module _ {D : Type 0} (Tells : Type 0) (files : D → Files) (faults fuses : D �
     pub follows : (s : RowsStanding) → StandsAt faults fuses begun.directory s → FollowsRows s (replayed row_lock s acts)
     -- the count of its disk never fell, whatever it tells
     pub rises : faults (begun.directory).disk ≤ faults directory.disk
+    pub fuses_stay : SetNoFuse acts → fuses directory.disk ≡ fuses (begun.directory).disk
 
   -- and its front has published the rows that they added
   pub record KeptFor (begun : BegunAt D) (acts : List DirAct) (directory : State D) (front : HomeFront) : Type 0 where

@@ -13,6 +13,7 @@ ghost use Rattle.hay_directory.specs.State.{IsUp, Stands};
 ghost use Rattle.hay_directory_lock.specs.Standing.{KeptFor, StandsAt};
 ghost use Rattle.hay_directory_lock.specs.Begun.{BegunAt};
 ghost use Rattle.hay_directory_lock.specs.Answers.{Settles};
+ghost use Rattle.hay_directory_lock.specs.Acts.{SetNoFuse};
 
 use crate::act::RowAct;
 use hay_core::CoreTag;
@@ -99,6 +100,7 @@ impl<D: Disk> KeptDirectory<D> {
         ensures from { IsBehind view.old self.old.front.shown }
         ensures shown { view.new ≡ self.new.front.shown }
         ensures act { AllByRecursion (λ act. (act.tag ≡ tag) × (act.seat ≡ tag.lane)) (acts_in result.1) }
+        ensures unfused { SetNoFuse (acts_in result.1) }
         ensures below { IfOk result.0 (λ answer. answer.0 < self.old.directory.settings.volumes) }
         ensures settles { (start : Start) (begun : BegunAt D) (acts : List DirAct) → KeptFor D.Tells D.files D.fault_count D.fuse_count begun acts self.old.directory self.old.front →
             StandsAt D.fault_count D.fuse_count begun.directory start.directory → Settles start (home_row row) result.0 acts result.1 }

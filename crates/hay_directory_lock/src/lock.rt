@@ -6,7 +6,7 @@ ghost use Rattle.hay_directory.specs.State.{IsUp, Stands};
 ghost use Rattle.hay_directory_lock.specs.Opening.{AreNewSeats, AreSeated, Closes};
 ghost use Rattle.hay_directory_lock.specs.Seats.{IsSeated, sight};
 ghost use Rattle.hay_directory_lock.specs.Standing.{StandsAt, standing_of};
-ghost use Rattle.hay_directory_lock.specs.Answers.{IsTold, OneHolding, OneLook, SettlesAs};
+ghost use Rattle.hay_directory_lock.specs.Answers.{IsTold, OneHolding, OneLook, SettlesAs, UnfusedHolding};
 ghost use Rattle.hay_directory_lock.specs.Begun.{BegunAt};
 
 use crate::kept::KeptDirectory;
@@ -177,7 +177,7 @@ impl<D: Disk> DirectoryLock<D> {
         ensures seated { (begun : BegunAt D) (lane : ℕ) → IsSeated self.now begun lane seat.old → IsSeated self.now begun lane seat.new }
         ensures below { IfOk result (λ answer. answer.0 < self.now.settings.volumes) }
         ensures settles { IsTold D.fault_count D.fuse_count self.now seat.old (λ start. SettlesAs start (record { pair = pair; volume = volume }) tag result (sight seat.old) (sight seat.new)) }
-        ensures held { OneHolding tag (sight seat.old) (sight seat.new) }
+        ensures held { UnfusedHolding tag (sight seat.old) (sight seat.new) }
     {
         let mut kept = self.turn.hold(rt, &mut seat.turn);
         let (answer, made) = kept.settle(rt, &mut seat.view, tag, DirRow { pair, volume });
@@ -194,7 +194,7 @@ impl<D: Disk> DirectoryLock<D> {
         requires machine { machine < self.now.settings.machines }
         ensures seated { (begun : BegunAt D) (lane : ℕ) → IsSeated self.now begun lane seat.old → IsSeated self.now begun lane seat.new }
         ensures drained { IsTold D.fault_count D.fuse_count self.now seat.old (λ start. Drained start tag machine true (sight seat.old) (sight seat.new)) }
-        ensures held { OneHolding tag (sight seat.old) (sight seat.new) }
+        ensures held { UnfusedHolding tag (sight seat.old) (sight seat.new) }
     {
         self.set_drained(rt, seat, tag, machine, true);
     }
@@ -205,7 +205,7 @@ impl<D: Disk> DirectoryLock<D> {
         requires machine { machine < self.now.settings.machines }
         ensures seated { (begun : BegunAt D) (lane : ℕ) → IsSeated self.now begun lane seat.old → IsSeated self.now begun lane seat.new }
         ensures drained { IsTold D.fault_count D.fuse_count self.now seat.old (λ start. Drained start tag machine false (sight seat.old) (sight seat.new)) }
-        ensures held { OneHolding tag (sight seat.old) (sight seat.new) }
+        ensures held { UnfusedHolding tag (sight seat.old) (sight seat.new) }
     {
         self.set_drained(rt, seat, tag, machine, false);
     }
@@ -223,7 +223,7 @@ impl<D: Disk> DirectoryLock<D> {
         requires machine { machine < self.now.settings.machines }
         ensures seated { (begun : BegunAt D) (lane : ℕ) → IsSeated self.now begun lane seat.old → IsSeated self.now begun lane seat.new }
         ensures drained { IsTold D.fault_count D.fuse_count self.now seat.old (λ start. Drained start tag machine is_drained (sight seat.old) (sight seat.new)) }
-        ensures held { OneHolding tag (sight seat.old) (sight seat.new) }
+        ensures held { UnfusedHolding tag (sight seat.old) (sight seat.new) }
     {
         let mut kept = self.turn.hold(rt, &mut seat.turn);
         let act = kept.set_drained(rt, &mut seat.view, tag, machine, is_drained);

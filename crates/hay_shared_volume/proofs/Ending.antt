@@ -105,5 +105,6 @@ module _ {D P : Type 0} {shared : SharedVolume D P} {settings : Settings} {numbe
           faults_are = λ known j below. kept.fault_counts known j;
           fuses_are = λ known j below. kept.fuse_counts known j;
           rises = λ j below. kept.rises j;
+          fuses_stay = λ none j below. kept.fuses_stay none j;
           small = low;
         }))))

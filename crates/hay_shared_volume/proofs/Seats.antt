@@ -1,11 +1,16 @@
 -- Seats of a volume's lock that lanes share.
-use Rattle.std.proofs.Common.{◌≡◌, ◌<◌, ℕ, sym, ap, subst, ◌∙◌, Some}
+use Rattle.std.proofs.Common.{◌≡◌, ◌<◌, ◌++◌, ℕ, List, [], ◌∷◌, sym, ap, subst, ◌∙◌, Some}
 use Rattle.hay_needle.specs.declared.settings.Settings.{Settings}
 use Rattle.hay_disk.specs.Disk.{Files}
 use Rattle.hay_core.specs.declared.entry.CoreTag.{CoreTag}
+use Rattle.hay_core.specs.declared.entry.Entry.{Entry}
+use Rattle.hay_meeting.specs.declared.act.VolumeAct.{VolumeAct}
+use Rattle.hay_meeting.specs.Locks.{LockSight}
+use Rattle.hay_turn.specs.Slots.{acts_in}
 use Rattle.hay_shared_volume.specs.Tellings.{Stays, StoreVolume}
 use Rattle.hay_volume_lock.specs.Answers as locks
-use Rattle.hay_volume_lock.specs.Answers.{IsAlways, IsTold}
+use Rattle.hay_volume_lock.specs.Acts.{SetNoFuse}
+use Rattle.hay_volume_lock.specs.Answers.{IsAlways, IsTold, OneLook, UnfusedHolding}
 use Rattle.hay_volume_lock.specs.Refusing.{OfOpened}
 use Rattle.hay_volume_lock.specs.Seats.{HasReplica, IsSameSeat, MayAct, Seated}
 use Rattle.hay_volume_lock.specs.declared.guarded.Opened.{Opened}
@@ -73,3 +78,15 @@ module _ {D P : Type 0} (Tells : Type 0) (files : D → Files) (PieceTells : Typ
   pub replicas_at : {v : ℕ} {shared : SharedVolume D P} {settings : Settings} {lane : ℕ} {seat : Seated D P} {volume : StoreVolume}
       → WasAt Tells files PieceTells faults fuses seat volume → IsSeatOf v shared settings lane seat → volume.settings ≡ settings
   replicas_at at fits = (at.at).settings ∙ of_settings fits at.opened at.is
+
+-- A CALL THAT SETS NO FUSE
+
+both_unfused : (xs ys : List VolumeAct) → SetNoFuse xs → SetNoFuse ys → SetNoFuse (xs ++ ys)
+both_unfused [] ys some more = more
+both_unfused (x ∷ xs) ys some more = (some.0, both_unfused xs ys some.1 more)
+
+pub still_unfused : {tag : CoreTag} {a b : LockSight VolumeAct Entry} → UnfusedHolding tag a b → SetNoFuse a.own → SetNoFuse b.own
+still_unfused {tag} {a} held none = subst SetNoFuse (sym (held.holding).own) (both_unfused a.own (acts_in held.made) none held.is)
+
+pub looked_unfused : {a b : LockSight VolumeAct Entry} → OneLook a b → SetNoFuse a.own → SetNoFuse b.own
+looked_unfused looked none = subst SetNoFuse (sym looked.own) none

@@ -14,6 +14,7 @@ use Rattle.hay_history.specs.LaneSteps.{Follows, Standing}
 use Rattle.hay_meeting.specs.declared.act.VolumeAct.{VolumeAct}
 use Rattle.hay_meeting.specs.Acts.{IsSized, Start, volume_lock}
 use Rattle.hay_meeting.specs.Locks.{LockSight, left, replayed}
+use Rattle.hay_volume_lock.specs.Acts.{SetNoFuse}
 use Rattle.hay_volume_lock.specs.Keeping.{IsOpened, count_at}
 use Rattle.hay_volume_lock.specs.declared.guarded.Opened.{Opened}
 use Rattle.hay_shared_volume.specs.Ends.{Ended, entered_lines, unseen}
@@ -99,4 +100,5 @@ module _ {S W : Type 0} (of : S → LockSight VolumeAct Entry) (stands : W → V
     pub faults_are : (known : VolumeKnown) (j : ℕ) → j < settings.replicas → (stood_by volume known history).faults j ≡ faults after j
     pub fuses_are : (known : VolumeKnown) (j : ℕ) → j < settings.replicas → (stood_by volume known history).fuses j ≡ fuses after j
     pub rises : (j : ℕ) → j < settings.replicas → faults volume j ≤ faults after j
+    pub fuses_stay : SetNoFuse history → (j : ℕ) → j < settings.replicas → fuses after j ≡ fuses volume j
     pub small : (j : ℕ) → j < settings.replicas → faults after j ≤ 2 ^ 64 - 1

@@ -4,6 +4,7 @@ ghost use Rattle.hay_map.specs.Places.{place_in};
 ghost use Rattle.hay_needle.specs.declared.settings.Settings.{Settings};
 ghost use Rattle.hay_logical.specs.Volumes.{IsMachineOf};
 ghost use Rattle.hay_reader.specs.Tried.{CanShow};
+ghost use Rattle.hay_volume_lock.specs.Acts.{SetNoFuse};
 ghost use Rattle.hay_shared_volume.specs.Looks.{LookTells, SeeTells, WasSeen};
 ghost use Rattle.hay_shared_volume.specs.Naming.{NamesBegin, NamesCompaction, NamesDelete, NamesFinish, NamesFlush, NamesPut, NamesRoom, NamesStep};
 ghost use Rattle.hay_shared_volume.specs.Seats.{IsSeatOf, WasAt};
@@ -32,12 +33,13 @@ pub struct SharedVolume<D: Disk<Piece = P>, P: Piece> {
     pub first: Snapshot<VolumeSeat<D, P>>,
 }
 
-/// Each call holds the volume once, for a line of the seat's lane.
+/// Each call holds the volume once, for a line of the seat's lane. But for `fuse`, none sets a fuse.
 impl<D: Disk<Piece = P>, P: Piece> SharedVolume<D, P> {
     /// The places of a pair's photo that the seat is shown, without the lock.
     pub fn look<R: Wait>(&self, rt: &R, seat: &mut VolumeSeat<D, P>, pair: Pair) -> Looked<P>
         requires fits { (v : ℕ) × (settings : Settings) × (lane : ℕ) × IsSeatOf v self.now settings lane seat.old }
         ensures stays { (v : ℕ) → Stays (IsSeatOf v) (WasAt D.Tells D.files P.Tells D.fault_count D.fuse_count) self.now seat.old seat.new }
+        ensures unfused { SetNoFuse seat.old.sight.own → SetNoFuse seat.new.sight.own }
         ensures long { (v : ℕ) (settings : Settings) (lane : ℕ) → IsSeatOf v self.now settings lane seat.old → length result.row ≡ settings.replicas }
         ensures tells { (volume : StoreVolume) → WasAt D.Tells D.files P.Tells D.fault_count D.fuse_count seat.old volume → LookTells P.Tells volume pair result seat.old.sight seat.new.sight }
     {
@@ -58,6 +60,7 @@ impl<D: Disk<Piece = P>, P: Piece> SharedVolume<D, P> {
         requires fits { (v : ℕ) × (settings : Settings) × IsSeatOf v self.now settings tag.lane seat.old × (replica < settings.replicas) }
         requires empty { out.old.items ≡ [] }
         ensures stays { (v : ℕ) → Stays (IsSeatOf v) (WasAt D.Tells D.files P.Tells D.fault_count D.fuse_count) self.now seat.old seat.new }
+        ensures unfused { SetNoFuse seat.old.sight.own → SetNoFuse seat.new.sight.own }
         ensures long { (v : ℕ) (settings : Settings) (lane : ℕ) → IsSeatOf v self.now settings lane seat.old → IfOk result (λ looked. length looked.row ≡ settings.replicas) }
         ensures seen { IfOk result (λ looked. WasSeen (place_in looked.row replica)) }
         ensures needle { IfOk result (λ looked. (out.new.items ≡ []) ⊎ CanShow out.new.items (place_in looked.row replica)) }
@@ -74,6 +77,7 @@ impl<D: Disk<Piece = P>, P: Piece> SharedVolume<D, P> {
     pub fn frozen<R: Wait>(&self, rt: &R, seat: &mut VolumeSeat<D, P>, tag: CoreTag) -> Option<u32>
         requires fits { (v : ℕ) × (settings : Settings) × IsSeatOf v self.now settings tag.lane seat.old }
         ensures stays { (v : ℕ) → Stays (IsSeatOf v) (WasAt D.Tells D.files P.Tells D.fault_count D.fuse_count) self.now seat.old seat.new }
+        ensures unfused { SetNoFuse seat.old.sight.own → SetNoFuse seat.new.sight.own }
         ensures names { (v : ℕ) (settings : Settings) → IsSeatOf v self.now settings tag.lane seat.old → IfSome result (IsMachineOf settings v) }
         ensures tells { (volume : StoreVolume) → WasAt D.Tells D.files P.Tells D.fault_count D.fuse_count seat.old volume → FrozenTells volume tag result seat.old.sight seat.new.sight }
     {
@@ -91,6 +95,7 @@ impl<D: Disk<Piece = P>, P: Piece> SharedVolume<D, P> {
         requires fits { (v : ℕ) × (settings : Settings) × IsSeatOf v self.now settings tag.lane seat.old }
         requires size { size ≤ MAX_PHOTO }
         ensures stays { (v : ℕ) → Stays (IsSeatOf v) (WasAt D.Tells D.files P.Tells D.fault_count D.fuse_count) self.now seat.old seat.new }
+        ensures unfused { SetNoFuse seat.old.sight.own → SetNoFuse seat.new.sight.own }
         ensures names { (v : ℕ) (settings : Settings) → IsSeatOf v self.now settings tag.lane seat.old → NamesRoom settings v size result }
         ensures tells { (volume : StoreVolume) → WasAt D.Tells D.files P.Tells D.fault_count D.fuse_count seat.old volume → RoomTells volume tag size result seat.old.sight seat.new.sight }
     {
@@ -112,6 +117,7 @@ impl<D: Disk<Piece = P>, P: Piece> SharedVolume<D, P> {
         requires fits { (v : ℕ) × (settings : Settings) × IsSeatOf v self.now settings tag.lane seat.old }
         requires size { length bytes.now ≤ MAX_PHOTO }
         ensures stays { (v : ℕ) → Stays (IsSeatOf v) (WasAt D.Tells D.files P.Tells D.fault_count D.fuse_count) self.now seat.old seat.new }
+        ensures unfused { SetNoFuse seat.old.sight.own → SetNoFuse seat.new.sight.own }
         ensures names { (v : ℕ) (settings : Settings) → IsSeatOf v self.now settings tag.lane seat.old → NamesPut settings v (length bytes.now) result }
         ensures tells { (volume : StoreVolume) → WasAt D.Tells D.files P.Tells D.fault_count D.fuse_count seat.old volume
             → PutTells volume tag pair cookie bytes.now result seat.old.sight seat.new.sight }
@@ -133,6 +139,7 @@ impl<D: Disk<Piece = P>, P: Piece> SharedVolume<D, P> {
     ) -> Delete
         requires fits { (v : ℕ) × (settings : Settings) × IsSeatOf v self.now settings tag.lane seat.old }
         ensures stays { (v : ℕ) → Stays (IsSeatOf v) (WasAt D.Tells D.files P.Tells D.fault_count D.fuse_count) self.now seat.old seat.new }
+        ensures unfused { SetNoFuse seat.old.sight.own → SetNoFuse seat.new.sight.own }
         ensures names { (v : ℕ) (settings : Settings) → IsSeatOf v self.now settings tag.lane seat.old → NamesDelete settings v result }
         ensures tells { (volume : StoreVolume) → WasAt D.Tells D.files P.Tells D.fault_count D.fuse_count seat.old volume → DeleteTells volume tag pair result seat.old.sight seat.new.sight }
     {
@@ -150,6 +157,7 @@ impl<D: Disk<Piece = P>, P: Piece> SharedVolume<D, P> {
     ) -> Flush
         requires fits { (v : ℕ) × (settings : Settings) × IsSeatOf v self.now settings tag.lane seat.old × (replica < settings.replicas) }
         ensures stays { (v : ℕ) → Stays (IsSeatOf v) (WasAt D.Tells D.files P.Tells D.fault_count D.fuse_count) self.now seat.old seat.new }
+        ensures unfused { SetNoFuse seat.old.sight.own → SetNoFuse seat.new.sight.own }
         ensures names { (v : ℕ) (settings : Settings) → IsSeatOf v self.now settings tag.lane seat.old → NamesFlush settings v result }
         ensures tells { (volume : StoreVolume) → WasAt D.Tells D.files P.Tells D.fault_count D.fuse_count seat.old volume → FlushTells volume tag replica result seat.old.sight seat.new.sight }
     {
@@ -183,6 +191,7 @@ impl<D: Disk<Piece = P>, P: Piece> SharedVolume<D, P> {
     ) -> Begin
         requires fits { (v : ℕ) × (settings : Settings) × IsSeatOf v self.now settings tag.lane seat.old × (replica < settings.replicas) }
         ensures stays { (v : ℕ) → Stays (IsSeatOf v) (WasAt D.Tells D.files P.Tells D.fault_count D.fuse_count) self.now seat.old seat.new }
+        ensures unfused { SetNoFuse seat.old.sight.own → SetNoFuse seat.new.sight.own }
         ensures names { (v : ℕ) (settings : Settings) → IsSeatOf v self.now settings tag.lane seat.old → NamesBegin settings v result }
         ensures tells { (volume : StoreVolume) → WasAt D.Tells D.files P.Tells D.fault_count D.fuse_count seat.old volume → BeginTells volume tag replica result seat.old.sight seat.new.sight }
     {
@@ -200,6 +209,7 @@ impl<D: Disk<Piece = P>, P: Piece> SharedVolume<D, P> {
     ) -> Step
         requires fits { (v : ℕ) × (settings : Settings) × IsSeatOf v self.now settings tag.lane seat.old × (replica < settings.replicas) }
         ensures stays { (v : ℕ) → Stays (IsSeatOf v) (WasAt D.Tells D.files P.Tells D.fault_count D.fuse_count) self.now seat.old seat.new }
+        ensures unfused { SetNoFuse seat.old.sight.own → SetNoFuse seat.new.sight.own }
         ensures names { (v : ℕ) (settings : Settings) → IsSeatOf v self.now settings tag.lane seat.old → NamesStep settings v result }
         ensures tells { (volume : StoreVolume) → WasAt D.Tells D.files P.Tells D.fault_count D.fuse_count seat.old volume → StepTells volume tag replica cells result seat.old.sight seat.new.sight }
     {
@@ -216,6 +226,7 @@ impl<D: Disk<Piece = P>, P: Piece> SharedVolume<D, P> {
     ) -> Finish
         requires fits { (v : ℕ) × (settings : Settings) × IsSeatOf v self.now settings tag.lane seat.old × (replica < settings.replicas) }
         ensures stays { (v : ℕ) → Stays (IsSeatOf v) (WasAt D.Tells D.files P.Tells D.fault_count D.fuse_count) self.now seat.old seat.new }
+        ensures unfused { SetNoFuse seat.old.sight.own → SetNoFuse seat.new.sight.own }
         ensures names { (v : ℕ) (settings : Settings) → IsSeatOf v self.now settings tag.lane seat.old → NamesFinish settings v result }
         ensures tells { (volume : StoreVolume) → WasAt D.Tells D.files P.Tells D.fault_count D.fuse_count seat.old volume → FinishTells volume tag replica result seat.old.sight seat.new.sight }
     {
@@ -233,6 +244,7 @@ impl<D: Disk<Piece = P>, P: Piece> SharedVolume<D, P> {
     ) -> Compaction
         requires fits { (v : ℕ) × (settings : Settings) × IsSeatOf v self.now settings tag.lane seat.old × (replica < settings.replicas) }
         ensures stays { (v : ℕ) → Stays (IsSeatOf v) (WasAt D.Tells D.files P.Tells D.fault_count D.fuse_count) self.now seat.old seat.new }
+        ensures unfused { SetNoFuse seat.old.sight.own → SetNoFuse seat.new.sight.own }
         ensures names { (v : ℕ) (settings : Settings) → IsSeatOf v self.now settings tag.lane seat.old → NamesCompaction settings v result }
         ensures tells { (volume : StoreVolume) → WasAt D.Tells D.files P.Tells D.fault_count D.fuse_count seat.old volume → CompactionTells volume tag replica result seat.old.sight seat.new.sight }
     {

@@ -42,6 +42,7 @@ use Rattle.hay_volume_lock.specs.declared.guarded.Opened.{Opened}
 use Rattle.hay_volume_lock.proofs.Counting.{count_behind, count_each}
 use Rattle.hay_volume_lock.proofs.Doings.{begun_more, doings_more, ended_more}
 use Rattle.hay_volume_lock.proofs.Tightening.{since_more}
+use Rattle.hay_volume_lock.proofs.Unfused.{unfused_more}
 
 -- ONE ACT MORE
 
@@ -255,6 +256,8 @@ module _ {D P : Type 0} (Tells : Type 0) (files : D → Files) (PieceTells : Typ
       fault_counts = λ k j. ap (λ (z : Standing). z.faults j) (left_append volume_lock (standing_of faults fuses opened k) acts (this_act ∷ [])) ∙ faults_then h of k j;
       fuse_counts = λ k j. ap (λ (z : Standing). z.fuses j) (left_append volume_lock (standing_of faults fuses opened k) acts (this_act ∷ [])) ∙ fuses_then h of k j;
       rises = rises_more h of;
+      fuses_stay = unfused_more acts this_act (count_at fuses (opened.volume).replicas) (count_at fuses (old.logical).replicas) (count_at fuses (new.logical).replicas)
+          (fuses_lead _ _ (λ j. refl) (λ j. refl)) h.fuses_stay;
       front = ap (λ f. (f.shown).front) of.front ∙ h.front;
       base = ap (λ f. (f.shown).base) of.front ∙ h.base;
       entered = ap (λ f. entered_by (f.shown).deeds) of.front ∙ h.entered
@@ -303,6 +306,7 @@ module _ {D P : Type 0} (Tells : Type 0) (files : D → Files) (PieceTells : Typ
     fault_counts = λ k j. h.fault_counts k j ∙ ap (λ (l : List ℕ). slice_index_or l j 0) even;
     fuse_counts = λ k j. h.fuse_counts k j ∙ sym (count_each fuses (old.logical).replicas (new.logical).replicas of.count (λ a b. b ≡ a) refl stay j);
     rises = rises_more h of;
+    fuses_stay = λ none j. count_each fuses (old.logical).replicas (new.logical).replicas of.count (λ a b. b ≡ a) refl stay j ∙ h.fuses_stay none j;
     front = ap (λ f. (f.shown).front) of.front ∙ h.front;
     base = ap (λ f. (f.shown).base) of.front ∙ h.base;
     entered = ap (λ f. entered_by (f.shown).deeds) of.front ∙ h.entered;

@@ -23,7 +23,8 @@ use Rattle.hay_holdings.specs.Volumes.{VolumeCall}
 use Rattle.hay_turn.specs.Acts.{AllOf, acts_of}
 use Rattle.hay_turn.proofs.ActLists.{acts_of_all, acts_of_append}
 use Rattle.hay_turn.specs.Slots.{acts_in}
-use Rattle.hay_volume_lock.specs.Answers.{Found, FoundAlways, IsAlways, IsAt, IsTold, OneHolding, StoreVolume}
+use Rattle.hay_volume_lock.specs.Acts.{SetNoFuse}
+use Rattle.hay_volume_lock.specs.Answers.{Found, FoundAlways, IsAlways, IsAt, IsTold, OneHolding, StoreVolume, UnfusedHolding}
 use Rattle.hay_volume_lock.specs.Keeping.{GoesOn, IsKept, stood_of}
 use Rattle.hay_volume_lock.specs.Seats.{IsSameSeat, IsSeated, Seated, Takes, freed, holding}
 use Rattle.hay_volume_lock.specs.declared.guarded.Guarded.{Guarded}
@@ -80,6 +81,9 @@ module _ {D P : Type 0} (Tells : Type 0) (files : D → Files) (PieceTells : Typ
 
       pub one_holding : OneHolding tag old.sight new.sight
       one_holding = subst (λ (z : Seated D P). OneHolding tag old.sight z.sight) (sym is_new) (record { held = (mid.sight).seen; made = made; holding = holding_of; is = tt })
+
+      pub unfused_holding : SetNoFuse (acts_in made) → UnfusedHolding tag old.sight new.sight
+      unfused_holding none = subst (λ (z : Seated D P). UnfusedHolding tag old.sight z.sight) (sym is_new) (record { held = (mid.sight).seen; made = made; holding = holding_of; is = none })
 
       pub same_seat : old.holds ≡ false → IsSameSeat old new
       same_seat rests = let e : new ≡ freed (holding old (mid.sight).seen) (acts_in made) = is_new ∙ ap (λ (s : Seated D P). freed s (acts_in made)) takes.same in
@@ -181,6 +185,10 @@ module _ {D P : Type 0} (Tells : Type 0) (files : D → Files) (PieceTells : Typ
     made_held = one_holding Tells files PieceTells faults fuses tag (seat_of t v) (seat_of t' v') kept (took t t' v v' kept seated holds behind all) after made goes
         (seat_of t'' v') (ap (λ (z : SeatState (Opened D P) VolumeAct). seat_of z v') free)
 
+    pub made_unfused : SetNoFuse (acts_in made) → UnfusedHolding tag (seat_of t v).sight (seat_of t'' v').sight
+    made_unfused = unfused_holding Tells files PieceTells faults fuses tag (seat_of t v) (seat_of t' v') kept (took t t' v v' kept seated holds behind all) after made goes
+        (seat_of t'' v') (ap (λ (z : SeatState (Opened D P) VolumeAct). seat_of z v') free)
+
     pub made_same : t.holds ≡ false → IsSameSeat (seat_of t v) (seat_of t'' v')
     made_same = same_seat Tells files PieceTells faults fuses tag (seat_of t v) (seat_of t' v') kept (took t t' v v' kept seated holds behind all) after made goes
         (seat_of t'' v') (ap (λ (z : SeatState (Opened D P) VolumeAct). seat_of z v') free)
@@ -202,8 +210,8 @@ module _ {D P : Type 0} (Tells : Type 0) (files : D → Files) (PieceTells : Typ
         → IsTold Tells files PieceTells faults fuses t.start (λ volume. Is volume (seat_of t v).sight (seat_of t'' v').sight)
     quiet_told = made_told tag t t' t'' v v' kept kept None seated holds behind all nowhere free
 
-    pub quiet_held : OneHolding tag (seat_of t v).sight (seat_of t'' v').sight
-    quiet_held = made_held tag t t' t'' v v' kept kept None seated holds behind all nowhere free
+    pub quiet_held : UnfusedHolding tag (seat_of t v).sight (seat_of t'' v').sight
+    quiet_held = made_unfused tag t t' t'' v v' kept kept None seated holds behind all nowhere free tt
 
     pub quiet_same : t.holds ≡ false → IsSameSeat (seat_of t v) (seat_of t'' v')
     quiet_same = made_same tag t t' t'' v v' kept kept None seated holds behind all nowhere free

@@ -22,3 +22,4 @@ pub mod Stepping
 pub mod Swapping
 pub mod Telling
 pub mod Tightening
+pub mod Unfused

@@ -139,6 +139,7 @@ module _ {D P : Type 0} (Tells : Type 0) (files : D → Files) (PieceTells : Typ
         sized = tt;
         fault_counts = λ k j. refl;
         fuse_counts = λ k j. refl;
+        fuses_stay = λ none j. refl;
         rises = λ j. omega arith;
         front = refl;
         base = refl;

@@ -32,8 +32,8 @@ use Rattle.hay_turn.specs.Seats.{Holds, SeatState, after_free}
 use Rattle.hay_turn.specs.Slots.{acts_in}
 use Rattle.hay_views.specs.declared.places.Published.{Published}
 use Rattle.hay_views.specs.MapPasts.{MapPast, begun_at, entered_by}
-use Rattle.hay_volume_lock.specs.Acts.{act_of, counts, did_by}
-use Rattle.hay_volume_lock.specs.Answers.{Found, FoundAlways, IsAlways, IsTold, OneHolding, StoreVolume}
+use Rattle.hay_volume_lock.specs.Acts.{SetNoFuse, act_of, counts, did_by}
+use Rattle.hay_volume_lock.specs.Answers.{Found, FoundAlways, IsAlways, IsTold, StoreVolume, UnfusedHolding}
 use Rattle.hay_volume_lock.specs.Ended.{ended_at}
 use Rattle.hay_volume_lock.specs.Keeping.{EndsOwn, IsKept, IsOpened, add_tag, count_at, ended_in, ends_at, published_row, standing_of, stood_of, tag_of}
 use Rattle.hay_volume_lock.specs.Seats.{IsSameSeat, IsSeated}
@@ -45,6 +45,7 @@ use Rattle.hay_volume_lock.specs.declared.guarded.Opened.{Opened}
 use Rattle.hay_volume_lock.proofs.Counting.{count_behind, count_each}
 use Rattle.hay_volume_lock.proofs.Doings.{begun_more, doings_more, ended_more}
 use Rattle.hay_volume_lock.proofs.Tightening.{since_more}
+use Rattle.hay_volume_lock.proofs.Unfused.{unfused_more}
 use Rattle.hay_volume_lock.proofs.Growing.{EndsRuns, FusesStay, Keeps, LeadsFusesOf, LeadsTo, TightBehind, each_more, ends_none, follows_more, tags_more, tries_leads}
 use Rattle.hay_volume_lock.proofs.Holding.{all_mine, seat_of, seated_behind, took}
 use Rattle.hay_volume_lock.proofs.Published.{entered_more, row_more}
@@ -140,6 +141,8 @@ module _ {D P : Type 0} (Tells : Type 0) (files : D → Files) (PieceTells : Typ
       fault_counts = λ k j. ap (λ (z : Standing). z.faults j) (left_append volume_lock (standing_of faults fuses opened k) acts (this_act ∷ [])) ∙ faults_then h of k j;
       fuse_counts = λ k j. ap (λ (z : Standing). z.fuses j) (left_append volume_lock (standing_of faults fuses opened k) acts (this_act ∷ [])) ∙ fuses_then h of k j;
       rises = rises_more h of;
+      fuses_stay = unfused_more acts this_act (count_at fuses (opened.volume).replicas) (count_at fuses (old.logical).replicas) (count_at fuses (new.logical).replicas)
+          (fuses_lead _ _ (λ j. refl) (λ j. refl)) h.fuses_stay;
       front = shows.front ∙ h.front;
       base = shows.base ∙ h.base;
       entered = shows.more ∙ ap (λ (l : List Entry). l ++ add_shown (entry_of (did_by made)) []) h.entered ∙ sym (entries_append volume_lock acts (this_act ∷ []));
@@ -187,6 +190,7 @@ module _ {D P : Type 0} (Tells : Type 0) (files : D → Files) (PieceTells : Typ
     fault_counts = λ k j. h.fault_counts k j ∙ ap (λ (l : List ℕ). slice_index_or l j 0) even;
     fuse_counts = λ k j. h.fuse_counts k j ∙ sym (count_each fuses (old.logical).replicas (new.logical).replicas of.count (λ a b. b ≡ a) refl stay j);
     rises = rises_more h of;
+    fuses_stay = λ none j. count_each fuses (old.logical).replicas (new.logical).replicas of.count (λ a b. b ≡ a) refl stay j ∙ h.fuses_stay none j;
     front = shows.front ∙ h.front;
     base = shows.base ∙ h.base;
     entered = shows.more ∙ append-nil (entered_by ((old.front).shown).deeds) ∙ h.entered;
@@ -301,8 +305,8 @@ module _ {D P : Type 0} (Tells : Type 0) (files : D → Files) (PieceTells : Typ
         → IsAlways faults fuses t.start (λ volume. Is volume (seat_of t v).sight (seat_of t'' v'').sight)
     changed_always Is finds opened is k volume at = finds opened t'.seen (holds.stands_for opened is) k volume at (seat_of t v).sight (seat_of t'' v'').sight holding
 
-    pub changed_held : OneHolding tag (seat_of t v).sight (seat_of t'' v'').sight
-    changed_held = record { held = t'.seen; made = made; holding = holding; is = tt }
+    pub changed_held : SetNoFuse (acts_in made) → UnfusedHolding tag (seat_of t v).sight (seat_of t'' v'').sight
+    changed_held none = record { held = t'.seen; made = made; holding = holding; is = none }
 
     pub changed_same : t.holds ≡ false → IsSameSeat (seat_of t v) (seat_of t'' v'')
     changed_same rests =

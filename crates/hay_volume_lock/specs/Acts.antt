@@ -1,5 +1,6 @@
 -- The acts of holdings.
-use Rattle.std.specs.Prelude.{ℕ, List, map}
+use Rattle.std.specs.Prelude.{◌≢◌, ℕ, List, map}
+use Rattle.std.specs.List.{AllByRecursion as Each}
 use Rattle.hay_core.specs.declared.entry.CoreTag.{CoreTag}
 use Rattle.hay_meeting.specs.declared.act.VolumeAct.{VolumeAct}
 use Rattle.hay_meeting.specs.declared.act.VolumeDid.{VolumeDid}
@@ -31,3 +32,7 @@ did_by (made.Poises m j) = did.Poises m j
 abbrev pub act_of : {D : Type 0} → (D → ℕ) → (D → ℕ) → CoreTag → Made → List (Copy D) → VolumeAct
 act_of faults fuses tag made replicas =
     record { seat = tag.lane; tag = tag; did = did_by made; faults = counts faults replicas; fuses = counts fuses replicas }
+
+-- none of these acts set a fuse
+abbrev pub SetNoFuse : List VolumeAct → Type 0
+SetNoFuse acts = Each (λ act. (j : ℕ) → act.did ≢ did.Fuses j) acts

@@ -15,6 +15,8 @@ use Rattle.hay_meeting.specs.Locks.{LockSight}
 use Rattle.hay_core.specs.declared.entry.Entry.{Entry}
 use Rattle.hay_holdings.specs.Holdings.{Called, Holding, Looked}
 use Rattle.hay_holdings.specs.Volumes.{BeginFailed, Begun, ChangedNothing, FlushFailed, Flushed, MetBusy, MetFrozen, MetStuck, MetThawed, MetWorn, RoomFits, RoomLacks, SightFailed, VolumeCall}
+use Rattle.hay_turn.specs.Slots.{acts_in}
+use Rattle.hay_volume_lock.specs.Acts.{SetNoFuse}
 use Rattle.hay_volume_lock.specs.Keeping.{IsKept, standing_of}
 use Rattle.hay_volume_lock.specs.declared.guarded.Guarded.{Guarded}
 use Rattle.hay_volume_lock.specs.declared.guarded.Opened.{Opened}
@@ -60,6 +62,10 @@ module _ {D P : Type 0} (Tells : Type 0) (files : D → Files) (PieceTells : Typ
 -- one holding, whatever it found
 abbrev pub OneHolding : CoreTag → VolumeCall
 OneHolding tag = Called volume_lock tag (λ held made. Unit {0})
+
+-- and it set no fuse
+abbrev pub UnfusedHolding : CoreTag → VolumeCall
+UnfusedHolding tag = Called volume_lock tag (λ held made. SetNoFuse (acts_in made))
 
 -- a look without the lock
 abbrev pub OneLook : VolumeCall

@@ -26,7 +26,7 @@ use Rattle.hay_physical.specs.OpenCopies.{Copy}
 use Rattle.hay_turn.specs.Slots.{acts_in}
 use Rattle.hay_views.specs.declared.places.Published.{Published}
 use Rattle.hay_views.specs.MapPasts.{begun_at, entered_by, row_of, with_published}
-use Rattle.hay_volume_lock.specs.Acts.{counts}
+use Rattle.hay_volume_lock.specs.Acts.{SetNoFuse, counts}
 use Rattle.hay_volume_lock.specs.Ended.{ended_at}
 use Rattle.hay_volume_lock.specs.Since.{SinceBegun}
 use Rattle.hay_volume_lock.specs.declared.guarded.Guarded.{Guarded}
@@ -129,6 +129,7 @@ module _ {D P : Type 0} (Tells : Type 0) (files : D → Files) (PieceTells : Typ
     pub fault_counts : (k : VolumeKnown) (j : ℕ) → (stood_of faults fuses opened k acts).faults j ≡ count_at faults (kept.logical).replicas j
     pub fuse_counts : (k : VolumeKnown) (j : ℕ) → (stood_of faults fuses opened k acts).fuses j ≡ count_at fuses (kept.logical).replicas j
     pub rises : (j : ℕ) → count_at faults (opened.volume).replicas j ≤ count_at faults (kept.logical).replicas j
+    pub fuses_stay : SetNoFuse acts → (j : ℕ) → count_at fuses (kept.logical).replicas j ≡ count_at fuses (opened.volume).replicas j
     pub front : ((kept.front).shown).front ≡ (opened.view).front
     pub base : ((kept.front).shown).base ≡ (opened.view).base
     pub entered : entered_by ((kept.front).shown).deeds ≡ entries volume_lock acts

@@ -1,7 +1,7 @@
 //! Changes at a seat.
 ghost use Rattle.std.specs.Prelude.{◌≡◌, ◌≤◌, ◌∷◌, [], ℕ, length, IfOk, IfErr, Err};
 ghost use Rattle.hay_core.specs.declared.entry.Entry.TheVariants as change;
-ghost use Rattle.hay_volume_lock.specs.Answers.{IsAlways, IsTold, OneHolding};
+ghost use Rattle.hay_volume_lock.specs.Answers.{IsAlways, IsTold, UnfusedHolding};
 ghost use Rattle.hay_volume_lock.specs.Changes.{DiskFailed, PutAnswer, pends_by, put_made};
 ghost use Rattle.hay_volume_lock.specs.Refusing.{OfOpened, RefusesPut};
 ghost use Rattle.hay_volume_lock.specs.Seats.{IsSameSeat, MayAct};
@@ -110,7 +110,7 @@ impl<D: Disk<Piece = P>, P: Piece> VolumeLock<D, P> {
         ensures causes { (m f : ℕ) → result ≡ Err (LogicalFault.Failed m f) →
             IsAlways D.fault_count D.fuse_count seat.old.start (λ volume. DiskFailed volume tag m f seat.old.sight seat.new.sight) }
         ensures refusals { OfOpened seat.old.start (λ settings v. IfErr result (RefusesPut settings v (length bytes.now))) }
-        ensures held { OneHolding tag seat.old.sight seat.new.sight }
+        ensures held { UnfusedHolding tag seat.old.sight seat.new.sight }
         ensures same { IsSameSeat seat.old seat.new }
     {
         let mut kept = self.turn.hold(rt, &mut seat.turn);

@@ -9,7 +9,7 @@ ghost use Rattle.hay_logical.specs.Stands.{IsTightAt, Stands};
 ghost use Rattle.hay_logical.specs.Volumes.{IsOpenVolume, IsSame, KeepsCounts};
 ghost use Rattle.hay_physical.specs.OpenCopies.{Copy};
 ghost use Rattle.hay_volume_lock.specs.Acts.{act_of};
-ghost use Rattle.hay_volume_lock.specs.Answers.{IsAlways, IsTold, OneHolding};
+ghost use Rattle.hay_volume_lock.specs.Answers.{IsAlways, IsTold, UnfusedHolding};
 ghost use Rattle.hay_volume_lock.specs.Compactions.{Examines, FailedHere, IsBarred, MayGoOn, StepAnswer, StillGoes, step_made};
 ghost use Rattle.hay_volume_lock.specs.Refusing.{OfOpened, RefusesRun};
 ghost use Rattle.hay_volume_lock.specs.Seats.{HasReplica, IsSameSeat, MayAct};
@@ -130,7 +130,7 @@ impl<D: Disk<Piece = P>, P: Piece> VolumeLock<D, P> {
         ensures causes { (m f : ℕ) → result.refused ≡ Some (LogicalFault.Failed m f) →
             IsAlways D.fault_count D.fuse_count seat.old.start (λ volume. FailedHere volume tag replica m f seat.old.sight seat.new.sight) }
         ensures refusals { OfOpened seat.old.start (λ settings v. IfSome result.refused (RefusesRun settings v replica)) }
-        ensures held { OneHolding tag seat.old.sight seat.new.sight }
+        ensures held { UnfusedHolding tag seat.old.sight seat.new.sight }
         ensures same { IsSameSeat seat.old seat.new }
     {
         let mut kept = self.turn.hold(rt, &mut seat.turn);

@@ -5,7 +5,7 @@ ghost use Rattle.hay_legal.specs.Known.{replica_at};
 ghost use Rattle.hay_logical.specs.Answers.{IsRunning};
 ghost use Rattle.hay_logical.specs.Stands.{Stands};
 ghost use Rattle.hay_logical.specs.Volumes.{IsOpenVolume};
-ghost use Rattle.hay_volume_lock.specs.Answers.{IsAlways, IsTold, OneHolding};
+ghost use Rattle.hay_volume_lock.specs.Answers.{IsAlways, IsTold, UnfusedHolding};
 ghost use Rattle.hay_volume_lock.specs.Compactions.{FailedHere, MayGoOn};
 ghost use Rattle.hay_volume_lock.specs.Finishes.{CompactAnswer, IsLost};
 ghost use Rattle.hay_volume_lock.specs.Refusing.{OfOpened, RefusesEnd};
@@ -96,7 +96,7 @@ impl<D: Disk<Piece = P>, P: Piece> VolumeLock<D, P> {
         ensures causes { (m f : ℕ) (frozen : Option ℕ) → result ≡ Err (lost_as.Unfinished (record { fault = LogicalFault.Failed m f; frozen = frozen })) →
             IsAlways D.fault_count D.fuse_count seat.old.start (λ volume. FailedHere volume tag replica m f seat.old.sight seat.new.sight) }
         ensures refusals { OfOpened seat.old.start (λ settings v. IfErr result (RefusesEnd settings v replica)) }
-        ensures held { OneHolding tag seat.old.sight seat.new.sight }
+        ensures held { UnfusedHolding tag seat.old.sight seat.new.sight }
         ensures same { IsSameSeat seat.old seat.new }
     {
         let mut kept = self.turn.hold(rt, &mut seat.turn);

@@ -3,7 +3,7 @@ ghost use Rattle.std.specs.Prelude.{◌≡◌, ◌≤◌, ◌<◌, ◌∷◌, []
 ghost use Rattle.hay_core.specs.declared.entry.Entry.TheVariants as change;
 ghost use Rattle.hay_logical.specs.Answers.{has_ended};
 ghost use Rattle.hay_physical.specs.OpenCopies.{goal_of};
-ghost use Rattle.hay_volume_lock.specs.Answers.{IsAlways, IsTold, OneHolding};
+ghost use Rattle.hay_volume_lock.specs.Answers.{IsAlways, IsTold, UnfusedHolding};
 ghost use Rattle.hay_volume_lock.specs.Acts.{counts};
 ghost use Rattle.hay_volume_lock.specs.Changes.{DiskFailed};
 ghost use Rattle.hay_volume_lock.specs.Deletes.{DeleteAnswer, delete_made, noted, over_since};
@@ -151,7 +151,7 @@ impl<D: Disk<Piece = P>, P: Piece> VolumeLock<D, P> {
         ensures causes { (m f : ℕ) → result ≡ Err (LogicalFault.Failed m f) →
             IsAlways D.fault_count D.fuse_count seat.old.start (λ volume. DiskFailed volume tag m f seat.old.sight seat.new.sight) }
         ensures refusals { OfOpened seat.old.start (λ settings v. IfErr result (RefusesDelete settings v)) }
-        ensures held { OneHolding tag seat.old.sight seat.new.sight }
+        ensures held { UnfusedHolding tag seat.old.sight seat.new.sight }
         ensures same { IsSameSeat seat.old seat.new }
     {
         let mut kept = self.turn.hold(rt, &mut seat.turn);

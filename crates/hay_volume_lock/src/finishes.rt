@@ -1,7 +1,7 @@
 //! Compactions at a seat: how they end.
 ghost use Rattle.std.specs.Prelude.{◌≡◌, [], ℕ, Option, IfErr, Err};
 ghost use Rattle.hay_map.specs.declared.view.MapOp.TheVariants as change;
-ghost use Rattle.hay_volume_lock.specs.Answers.{IsAlways, IsTold, OneHolding};
+ghost use Rattle.hay_volume_lock.specs.Answers.{IsAlways, IsTold, UnfusedHolding};
 ghost use Rattle.hay_volume_lock.specs.Compactions.{FailedHere, unswapped_made};
 ghost use Rattle.hay_volume_lock.specs.Finishes.{FinishAnswer};
 ghost use Rattle.hay_volume_lock.specs.Refusing.{OfOpened, RefusesRun};
@@ -69,7 +69,7 @@ impl<D: Disk<Piece = P>, P: Piece> VolumeLock<D, P> {
         ensures causes { (m f : ℕ) (frozen : Option ℕ) → result ≡ Err (record { fault = LogicalFault.Failed m f; frozen = frozen }) →
             IsAlways D.fault_count D.fuse_count seat.old.start (λ volume. FailedHere volume tag replica m f seat.old.sight seat.new.sight) }
         ensures refusals { OfOpened seat.old.start (λ settings v. IfErr result (λ unfinished. RefusesRun settings v replica unfinished.fault)) }
-        ensures held { OneHolding tag seat.old.sight seat.new.sight }
+        ensures held { UnfusedHolding tag seat.old.sight seat.new.sight }
         ensures same { IsSameSeat seat.old seat.new }
     {
         let mut kept = self.turn.hold(rt, &mut seat.turn);

@@ -3,7 +3,7 @@ ghost use Rattle.std.specs.Prelude.{◌≡◌, ℕ, Option, Err, IfErr, IfSome};
 ghost use Rattle.hay_core.specs.declared.entry.CoreTag.{CoreTag};
 ghost use Rattle.hay_holdings.specs.Volumes.{Fused};
 ghost use Rattle.hay_logical.specs.Volumes.{IsMachineOf};
-ghost use Rattle.hay_volume_lock.specs.Answers.{BeginAnswer, FailedLook, FlushAnswer, FlushRefused, FrozenAnswer, IsAlways, IsTold, OneHolding, RoomAnswer};
+ghost use Rattle.hay_volume_lock.specs.Answers.{BeginAnswer, FailedLook, FlushAnswer, FlushRefused, FrozenAnswer, IsAlways, IsTold, OneHolding, RoomAnswer, UnfusedHolding};
 ghost use Rattle.hay_volume_lock.specs.Refusing.{OfOpened, RefusesBegin, RefusesFlush, RefusesRoom};
 ghost use Rattle.hay_volume_lock.specs.Seats.{HasReplica, IsSameSeat, MayAct, Rests};
 
@@ -39,7 +39,7 @@ impl<D: Disk<Piece = P>, P: Piece> VolumeLock<D, P> {
         requires rests { Rests self.now seat.old }
         ensures frozen { (tag : CoreTag) → IsTold D.Tells D.files P.Tells D.fault_count D.fuse_count seat.old.start (λ volume. FrozenAnswer volume tag result seat.old.sight seat.new.sight) }
         ensures on { OfOpened seat.old.start (λ settings v. IfSome result (IsMachineOf settings v)) }
-        ensures held { (tag : CoreTag) → OneHolding tag seat.old.sight seat.new.sight }
+        ensures held { (tag : CoreTag) → UnfusedHolding tag seat.old.sight seat.new.sight }
         ensures same { IsSameSeat seat.old seat.new }
     {
         let kept = self.turn.hold(rt, &mut seat.turn);
@@ -59,7 +59,7 @@ impl<D: Disk<Piece = P>, P: Piece> VolumeLock<D, P> {
         requires rests { Rests self.now seat.old }
         ensures room { (tag : CoreTag) → IsTold D.Tells D.files P.Tells D.fault_count D.fuse_count seat.old.start (λ volume. RoomAnswer volume tag size result seat.old.sight seat.new.sight) }
         ensures refusals { OfOpened seat.old.start (λ settings v. IfErr result (RefusesRoom settings v size)) }
-        ensures held { (tag : CoreTag) → OneHolding tag seat.old.sight seat.new.sight }
+        ensures held { (tag : CoreTag) → UnfusedHolding tag seat.old.sight seat.new.sight }
         ensures same { IsSameSeat seat.old seat.new }
     {
         let kept = self.turn.hold(rt, &mut seat.turn);
@@ -84,7 +84,7 @@ impl<D: Disk<Piece = P>, P: Piece> VolumeLock<D, P> {
         ensures causes { (m f : ℕ) (frozen : Option ℕ) → result ≡ Err (record { fault = LogicalFault.Failed m f; frozen = frozen }) →
             IsAlways D.fault_count D.fuse_count seat.old.start (λ volume. FlushRefused volume tag replica (LogicalFault.Failed m f) frozen seat.old.sight seat.new.sight) }
         ensures refusals { OfOpened seat.old.start (λ settings v. IfErr result (λ unflushed. RefusesFlush settings v replica unflushed.fault)) }
-        ensures held { OneHolding tag seat.old.sight seat.new.sight }
+        ensures held { UnfusedHolding tag seat.old.sight seat.new.sight }
         ensures same { IsSameSeat seat.old seat.new }
     {
         let mut kept = self.turn.hold(rt, &mut seat.turn);
@@ -114,7 +114,7 @@ impl<D: Disk<Piece = P>, P: Piece> VolumeLock<D, P> {
         ensures causes { (m f : ℕ) → result ≡ Err (LogicalFault.Failed m f) →
             IsAlways D.fault_count D.fuse_count seat.old.start (λ volume. FailedLook volume tag replica m f seat.old.sight seat.new.sight) }
         ensures refusals { OfOpened seat.old.start (λ settings v. IfErr result (RefusesBegin settings v replica)) }
-        ensures held { OneHolding tag seat.old.sight seat.new.sight }
+        ensures held { UnfusedHolding tag seat.old.sight seat.new.sight }
         ensures same { IsSameSeat seat.old seat.new }
     {
         let mut kept = self.turn.hold(rt, &mut seat.turn);

@@ -3,7 +3,7 @@ ghost use Rattle.std.specs.Prelude.{◌≡◌, ◌<◌, ◌↔◌, ◌⊎◌, []
 ghost use Rattle.hay_compact.specs.Finishing.{IsSeen};
 ghost use Rattle.hay_logical.specs.ReplicaCalls.{IsSeenBy};
 ghost use Rattle.hay_map.specs.Places.{place_in};
-ghost use Rattle.hay_volume_lock.specs.Answers.{FailedLook, IsAlways, IsTold, OneHolding};
+ghost use Rattle.hay_volume_lock.specs.Answers.{FailedLook, IsAlways, IsTold, UnfusedHolding};
 ghost use Rattle.hay_volume_lock.specs.Changes.{SeeAnswer, freezes_by};
 ghost use Rattle.hay_volume_lock.specs.Refusing.{OfOpened, RefusesSight};
 ghost use Rattle.hay_volume_lock.specs.Seats.{HasReplica, IsSameSeat, MayAct};
@@ -102,7 +102,7 @@ impl<D: Disk<Piece = P>, P: Piece> VolumeLock<D, P> {
         ensures sighted { IfOk result (λ looked. IsSeen (place_in looked.row replica)) }
         ensures needle { IfOk result (λ looked. (out.new.items ≡ out.old.items) ⊎ IsSeenBy D.Tells P.Tells out.new.items (place_in looked.row replica)) }
         ensures refusals { OfOpened seat.old.start (λ settings v. IfErr result (RefusesSight settings v)) }
-        ensures held { OneHolding tag seat.old.sight seat.new.sight }
+        ensures held { UnfusedHolding tag seat.old.sight seat.new.sight }
         ensures same { IsSameSeat seat.old seat.new }
     {
         let mut kept = self.turn.hold(rt, &mut seat.turn);

@@ -13,6 +13,8 @@ use Rattle.hay_views.proofs.HomeLaw.{may_publish}
 use Rattle.hay_directory_lock.specs.Standing.{HomeFront}
 use Rattle.hay_directory_lock.proofs.Acting.{added, pended, tried}
 use Rattle.hay_directory_lock.proofs.Answering.{failed_in, found_home, not_true, published}
+use Rattle.hay_meeting.specs.declared.act.DirDid.TheVariants as did
+use Rattle.hay_directory_lock.proofs.Unfused.{one_unfused}
 use Rattle.hay_directory_lock.proofs.kept.KeptDirectory.settle.Goals as goal
 
 pub returns-in-Some-clause-settles : goal.returns-in-Some-clause-settles
@@ -93,3 +95,16 @@ returns-clause-settles g c = λ start begun acts k at.
       published g.D.Disk.Tells files faults fuses (acts ++ c.of-act-2.result ∷ []) _ _ c.front-2.result (returns-clause-kept g c begun acts k) c.front-2.ensures.counted,
       inr (refl, ap (λ (a : DirAct). row_did_of a.did) c.of-act-2.ensures, found_home g.D.Disk.Tells files faults fuses start at acts _ _ c.args.row.pair None k homeless),
     )
+
+pub returns-in-Err-NoMemory-clause-unfused : goal.returns-in-Err-NoMemory-clause-unfused
+returns-in-Err-NoMemory-clause-unfused g c = one_unfused did.TriesRow c.of-act.result (λ e. cc e) (ap (λ (a : DirAct). a.did) c.of-act.ensures)
+
+pub returns-in-Err-Failed-clause-unfused : goal.returns-in-Err-Failed-clause-unfused
+returns-in-Err-Failed-clause-unfused g c = one_unfused (did.PendsRow (home_row c.args.row)) c.of-act-in-Err-Failed.result (λ e. cc e) (ap (λ (a : DirAct). a.did) c.of-act-in-Err-Failed.ensures)
+
+pub returns-in_default-publish-clause-unfused : goal.returns-in_default-publish-clause-unfused
+returns-in_default-publish-clause-unfused g c =
+    one_unfused (did.PendsRow (home_row c.args.row)) c.of-act-in_default-publish.result (λ e. cc e) (ap (λ (a : DirAct). a.did) c.of-act-in_default-publish.ensures)
+
+pub returns-clause-unfused : goal.returns-clause-unfused
+returns-clause-unfused g c = one_unfused (did.AddsRow (home_row c.args.row)) c.of-act-2.result (λ e. cc e) (ap (λ (a : DirAct). a.did) c.of-act-2.ensures)

@@ -2,6 +2,8 @@ use Rattle.std.proofs.Common.{◌<◌, Some, refl, sym, subst, ◌∙◌}
 use Rattle.hay_needle.specs.declared.settings.Settings.{Settings}
 use Rattle.hay_directory_lock.specs.Seats.{LockState}
 use Rattle.hay_directory_lock.proofs.Calling.{holding, kept_held, may_free, seated_in, seated_still, settings_held, view_held}
+use Rattle.hay_history.specs.LaneSteps.RowDid.{Drains}
+use Rattle.hay_directory_lock.proofs.Unfused.{step_unfused}
 use Rattle.hay_directory_lock.proofs.lock.DirectoryLock.set_drained.Goals as goal
 
 pub set_drained-act-requires-clause-kept : goal.set_drained-act-requires-clause-kept
@@ -53,5 +55,5 @@ returns-clause-held g c = rw (← c.seat.view_is) (record {
       (seated_in c.self.view_is c.seat.view_is c.requires.seated.1) c.hold-kept.ensures
       c.args.tag (Some c.set_drained-act.result) refl (c.set_drained-act.ensures.act, tt) c.set_drained-act.ensures.kept
       c.free.ensures c.set_drained-act.ensures.shown c.set_drained-act.ensures.from;
-  is = tt;
+  is = step_unfused (Drains c.args.machine c.args.is_drained) c.set_drained-act.result (λ e. cc e) c.set_drained-act.ensures.did;
 })

@@ -74,5 +74,5 @@ returns-clause-held g c = rw (← c.seat.view_is) (record {
       (seated_in c.self.view_is c.seat.view_is c.requires.seated.1) c.hold-kept.ensures
       c.args.tag c.settle-answer.result.1 refl c.settle-answer.ensures.act c.settle-answer.ensures.kept
       c.free.ensures c.settle-answer.ensures.shown c.settle-answer.ensures.from;
-  is = tt;
+  is = c.settle-answer.ensures.unfused;
 })

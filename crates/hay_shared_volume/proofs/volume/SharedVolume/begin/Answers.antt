@@ -2,7 +2,7 @@ use Rattle.std.proofs.Common.{◌∙◌}
 use Rattle.std.specs.Prelude.{IfErr}
 use Rattle.hay_volume_lock.specs.Refusing.{RefusesBegin}
 use Rattle.hay_shared_volume.proofs.Naming.{begin_names}
-use Rattle.hay_shared_volume.proofs.Seats.{has_replica, may_act, of_volume, stays_there, told}
+use Rattle.hay_shared_volume.proofs.Seats.{has_replica, may_act, of_volume, stays_there, still_unfused, told}
 use Rattle.hay_shared_volume.proofs.Telling.{begin_tells}
 use Rattle.hay_shared_volume.proofs.volume.SharedVolume.begin.Goals as goal
 
@@ -25,3 +25,6 @@ begin_of-requires g c =
 pub returns-clause-names : goal.returns-clause-names
 returns-clause-names g c v settings fits =
     begin_names settings v c.args.replica c.begin.result c.begin_of.result c.begin_of.ensures (of_volume fits (λ s n. IfErr c.begin.result (RefusesBegin s n c.args.replica)) c.begin.ensures.refusals)
+
+pub returns-clause-unfused : goal.returns-clause-unfused
+returns-clause-unfused g c = still_unfused c.begin.ensures.held

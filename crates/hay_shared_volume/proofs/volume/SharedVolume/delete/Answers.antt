@@ -2,7 +2,7 @@ use Rattle.std.proofs.Common.{◌∙◌}
 use Rattle.std.specs.Prelude.{IfErr}
 use Rattle.hay_volume_lock.specs.Refusing.{RefusesDelete}
 use Rattle.hay_shared_volume.proofs.Naming.{delete_names}
-use Rattle.hay_shared_volume.proofs.Seats.{may_act, of_volume, stays_there, told}
+use Rattle.hay_shared_volume.proofs.Seats.{may_act, of_volume, stays_there, still_unfused, told}
 use Rattle.hay_shared_volume.proofs.Telling.{delete_tells}
 use Rattle.hay_shared_volume.proofs.volume.SharedVolume.delete.Goals as goal
 
@@ -25,3 +25,6 @@ delete_of-requires g c =
 pub returns-clause-names : goal.returns-clause-names
 returns-clause-names g c v settings fits =
     delete_names settings v c.delete.result c.delete_of.result c.delete_of.ensures (of_volume fits (λ s n. IfErr c.delete.result (RefusesDelete s n)) c.delete.ensures.refusals)
+
+pub returns-clause-unfused : goal.returns-clause-unfused
+returns-clause-unfused g c = still_unfused c.delete.ensures.held

@@ -2,7 +2,7 @@ use Rattle.std.proofs.Common.{◌∙◌}
 use Rattle.std.specs.Prelude.{IfErr}
 use Rattle.hay_volume_lock.specs.Refusing.{RefusesFlush}
 use Rattle.hay_shared_volume.proofs.Naming.{flush_names}
-use Rattle.hay_shared_volume.proofs.Seats.{has_replica, may_act, of_volume, stays_there, told}
+use Rattle.hay_shared_volume.proofs.Seats.{has_replica, may_act, of_volume, stays_there, still_unfused, told}
 use Rattle.hay_shared_volume.proofs.Telling.{flush_tells}
 use Rattle.hay_shared_volume.proofs.volume.SharedVolume.flush.Goals as goal
 
@@ -26,3 +26,6 @@ pub returns-clause-names : goal.returns-clause-names
 returns-clause-names g c v settings fits =
     flush_names settings v c.args.replica c.flush.result c.flush_of.result c.flush_of.ensures
     (of_volume fits (λ s n. IfErr c.flush.result (λ unflushed. RefusesFlush s n c.args.replica unflushed.fault)) c.flush.ensures.refusals)
+
+pub returns-clause-unfused : goal.returns-clause-unfused
+returns-clause-unfused g c = still_unfused c.flush.ensures.held

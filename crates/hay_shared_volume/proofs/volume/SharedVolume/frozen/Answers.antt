@@ -1,6 +1,6 @@
 use Rattle.std.specs.Prelude.{IfSome}
 use Rattle.hay_logical.specs.Volumes.{IsMachineOf}
-use Rattle.hay_shared_volume.proofs.Seats.{of_volume, stays_there, told}
+use Rattle.hay_shared_volume.proofs.Seats.{of_volume, stays_there, still_unfused, told}
 use Rattle.hay_shared_volume.proofs.Telling.{frozen_tells}
 use Rattle.hay_shared_volume.proofs.volume.SharedVolume.frozen.Goals as goal
 
@@ -17,3 +17,6 @@ returns-clause-tells g c volume at =
 
 pub returns-clause-names : goal.returns-clause-names
 returns-clause-names g c v settings fits = of_volume fits (λ s n. IfSome c.frozen.result (IsMachineOf s n)) c.frozen.ensures.on
+
+pub returns-clause-unfused : goal.returns-clause-unfused
+returns-clause-unfused g c = still_unfused (c.frozen.ensures.held c.args.tag)

@@ -1,6 +1,6 @@
 use Rattle.std.proofs.Common.{ap, ◌∙◌}
 use Rattle.hay_needle.specs.declared.settings.Settings.{Settings}
-use Rattle.hay_shared_volume.proofs.Seats.{stays_there, told}
+use Rattle.hay_shared_volume.proofs.Seats.{looked_unfused, stays_there, told}
 use Rattle.hay_shared_volume.proofs.Telling.{look_tells}
 use Rattle.hay_shared_volume.proofs.volume.SharedVolume.look.Goals as goal
 
@@ -15,3 +15,6 @@ returns-clause-tells g c volume at =
     rw c.looked_of.ensures (look_tells volume c.args.seat.now.sight c.look.new.self.sight g.P.Piece.Tells c.args.pair c.look.result
     (told g.D.Disk.Tells g.D.Disk.files g.P.Piece.Tells g.D.Disk.fault_count g.D.Disk.fuse_count c.look.ensures.shown at)
     (told g.D.Disk.Tells g.D.Disk.files g.P.Piece.Tells g.D.Disk.fault_count g.D.Disk.fuse_count c.look.ensures.places at))
+
+pub returns-clause-unfused : goal.returns-clause-unfused
+returns-clause-unfused g c = looked_unfused c.look.ensures.looked

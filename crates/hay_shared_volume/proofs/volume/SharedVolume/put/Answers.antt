@@ -2,7 +2,7 @@ use Rattle.std.proofs.Common.{◌∙◌}
 use Rattle.std.specs.Prelude.{IfErr, length}
 use Rattle.hay_volume_lock.specs.Refusing.{RefusesPut}
 use Rattle.hay_shared_volume.proofs.Naming.{put_names}
-use Rattle.hay_shared_volume.proofs.Seats.{may_act, of_volume, stays_there, told}
+use Rattle.hay_shared_volume.proofs.Seats.{may_act, of_volume, stays_there, still_unfused, told}
 use Rattle.hay_shared_volume.proofs.Telling.{put_tells}
 use Rattle.hay_shared_volume.proofs.volume.SharedVolume.put.Goals as goal
 
@@ -26,3 +26,6 @@ pub returns-clause-names : goal.returns-clause-names
 returns-clause-names g c v settings fits =
     put_names settings v (length c.args.bytes.now) c.put.result c.put_of.result c.put_of.ensures
     (of_volume fits (λ s n. IfErr c.put.result (RefusesPut s n (length c.args.bytes.now))) c.put.ensures.refusals)
+
+pub returns-clause-unfused : goal.returns-clause-unfused
+returns-clause-unfused g c = still_unfused c.put.ensures.held

@@ -2,7 +2,7 @@ use Rattle.std.proofs.Common.{◌∙◌}
 use Rattle.std.specs.Prelude.{IfErr}
 use Rattle.hay_volume_lock.specs.Refusing.{RefusesRoom}
 use Rattle.hay_shared_volume.proofs.Naming.{room_names}
-use Rattle.hay_shared_volume.proofs.Seats.{of_volume, stays_there, told}
+use Rattle.hay_shared_volume.proofs.Seats.{of_volume, stays_there, still_unfused, told}
 use Rattle.hay_shared_volume.proofs.Telling.{room_tells}
 use Rattle.hay_shared_volume.proofs.volume.SharedVolume.room.Goals as goal
 
@@ -25,3 +25,6 @@ room_of-requires g c =
 pub returns-clause-names : goal.returns-clause-names
 returns-clause-names g c v settings fits =
     room_names settings v c.args.size c.room.result c.room_of.result c.room_of.ensures (of_volume fits (λ s n. IfErr c.room.result (RefusesRoom s n c.args.size)) c.room.ensures.refusals)
+
+pub returns-clause-unfused : goal.returns-clause-unfused
+returns-clause-unfused g c = still_unfused (c.room.ensures.held c.args.tag)

@@ -2,7 +2,7 @@ use Rattle.std.proofs.Common.{ap, ◌∙◌}
 use Rattle.hay_map.specs.Places.{place_in}
 use Rattle.hay_needle.specs.declared.settings.Settings.{Settings}
 use Rattle.hay_shared_volume.proofs.Places.{bytes_show, bytes_tell, was_seen}
-use Rattle.hay_shared_volume.proofs.Seats.{has_replica, may_act, stays_there, told}
+use Rattle.hay_shared_volume.proofs.Seats.{has_replica, may_act, stays_there, still_unfused, told}
 use Rattle.hay_shared_volume.proofs.Telling.{see_tells, sight_tells}
 use Rattle.hay_shared_volume.proofs.volume.SharedVolume.see.Goals as goal
 
@@ -41,3 +41,9 @@ pub sight_fault_of-requires : goal.sight_fault_of-requires
 sight_fault_of-requires g c =
     let fits = c.requires.fits.2 in
     (fits.opened.volume.settings, fits.opened.volume.number, c.in-Err.ensures.refusals fits.opened (fits.start ∙ fits.is))
+
+pub returns-in-Ok-clause-unfused : goal.returns-in-Ok-clause-unfused
+returns-in-Ok-clause-unfused g c = still_unfused c.in-Ok.ensures.held
+
+pub returns-in-Err-clause-unfused : goal.returns-in-Err-clause-unfused
+returns-in-Err-clause-unfused g c = still_unfused c.in-Err.ensures.held

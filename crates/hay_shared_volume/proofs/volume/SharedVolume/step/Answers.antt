@@ -2,7 +2,7 @@ use Rattle.std.proofs.Common.{◌∙◌}
 use Rattle.std.specs.Prelude.{IfSome}
 use Rattle.hay_volume_lock.specs.Refusing.{RefusesRun}
 use Rattle.hay_shared_volume.proofs.Naming.{step_names}
-use Rattle.hay_shared_volume.proofs.Seats.{has_replica, may_act, of_volume, stays_there, told}
+use Rattle.hay_shared_volume.proofs.Seats.{has_replica, may_act, of_volume, stays_there, still_unfused, told}
 use Rattle.hay_shared_volume.proofs.Telling.{step_tells}
 use Rattle.hay_shared_volume.proofs.volume.SharedVolume.step.Goals as goal
 
@@ -25,3 +25,6 @@ step_of-requires g c =
 pub returns-clause-names : goal.returns-clause-names
 returns-clause-names g c v settings fits =
     step_names settings v c.args.replica c.step.result c.step_of.result c.step_of.ensures (of_volume fits (λ s n. IfSome c.step.result.refused (RefusesRun s n c.args.replica)) c.step.ensures.refusals)
+
+pub returns-clause-unfused : goal.returns-clause-unfused
+returns-clause-unfused g c = still_unfused c.step.ensures.held

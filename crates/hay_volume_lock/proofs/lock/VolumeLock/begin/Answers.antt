@@ -1,14 +1,16 @@
-use Rattle.std.proofs.Common.{refl, sym, ap, subst, ◌∙◌}
-use Rattle.std.specs.Prelude.{IfErr}
+use Rattle.std.proofs.Common.{refl, sym, ap, subst, ◌∙◌, Option}
+use Rattle.std.specs.Prelude.{IfErr, IfSome}
 use Rattle.hay_turn.specs.Seats.{after_free}
 use Rattle.hay_turn.specs.Slots.{acts_in}
-use Rattle.hay_volume_lock.specs.Answers.{BeginAnswer, FailedLook, IsAlways, IsTold, OneHolding}
+use Rattle.hay_volume_lock.specs.Answers.{BeginAnswer, FailedLook, IsAlways, IsTold, UnfusedHolding}
 use Rattle.hay_volume_lock.specs.Seats.{IsSameSeat, Seated}
 use Rattle.hay_volume_lock.specs.declared.guarded.Guarded.{Guarded}
 use Rattle.hay_volume_lock.proofs.Finding.{begin_call}
-use Rattle.hay_volume_lock.proofs.Holding.{all_there, few_there, is_held, made_always, made_free, made_held, made_mine, made_same, made_seated, made_told, seat_of, within_it}
+use Rattle.hay_volume_lock.proofs.Holding.{all_there, few_there, is_held, made_always, made_free, made_mine, made_same, made_seated, made_told, seat_of, within_it, made_unfused}
 use Rattle.hay_volume_lock.specs.Refusing.{OfOpened, RefusesBegin}
 use Rattle.hay_volume_lock.proofs.Refusing.{err_refused, refuses_begin, of_opened}
+use Rattle.hay_volume_lock.proofs.Unfused.{IsNoFuse, begin_unfused, made_unfused_by}
+use Rattle.hay_volume_lock.specs.declared.act.Made.{Made}
 use Rattle.hay_volume_lock.proofs.lock.VolumeLock.begin.Goals as goal
 
 pub show_all-requires : goal.show_all-requires
@@ -154,10 +156,12 @@ returns-clause-held g c =
     c.args.replica within c.begin-answer.result c.faults_of-before.result.items c.faults_of-before.ensures c.begin_did-did.result c.act_made-made.result
     c.act_made-made.ensures.did c.act_made-made.ensures.tried c.note_begun.ensures c.begin-answer.ensures.others c.begin-answer.ensures.tight c.begin-answer.ensures.begun
     c.begin-answer.ensures.refused c.begin-answer.ensures.causes c.begin_did-did.ensures in
-    subst (λ (s : Seated g.row.D.Denot g.row.P.Denot). OneHolding c.args.tag s.sight (seat_of c.free.new.seat c.show_all.new.seat).sight) c.seat.view_is
-    (made_held g.D.Disk.Tells g.D.Disk.files g.P.Piece.Tells g.D.Disk.fault_count g.D.Disk.fuse_count c.args.tag c.seat.inside.turn c.hold-kept.new.seat c.free.new.seat
+    subst (λ (s : Seated g.row.D.Denot g.row.P.Denot). UnfusedHolding c.args.tag s.sight (seat_of c.free.new.seat c.show_all.new.seat).sight) c.seat.view_is
+    (made_unfused g.D.Disk.Tells g.D.Disk.files g.P.Piece.Tells g.D.Disk.fault_count g.D.Disk.fuse_count c.args.tag c.seat.inside.turn c.hold-kept.new.seat c.free.new.seat
     c.seat.inside.view c.show_all.new.seat c.hold-kept.result after c.act_made-made.result c.seat.invariant c.hold-kept.ensures c.show_all.ensures.seen.0 c.show_all.ensures.seen.1
-    found.0 c.free.ensures)
+    found.0 c.free.ensures
+    (made_unfused_by g.D.Disk.fault_count g.D.Disk.fuse_count c.args.tag _ _ c.begin_did-did.result c.act_made-made.result
+    (subst (λ (o : Option Made). IfSome o IsNoFuse) (sym c.begin_did-did.ensures) (begin_unfused _ _)) c.act_made-made.ensures.did c.act_made-made.ensures.tried))
 
 pub returns-clause-same : goal.returns-clause-same
 returns-clause-same g c =

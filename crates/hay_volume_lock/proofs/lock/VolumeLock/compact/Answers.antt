@@ -7,20 +7,21 @@ use Rattle.hay_needle.specs.declared.settings.Settings.{Settings}
 use Rattle.hay_turn.specs.Seats.{after_free}
 use Rattle.hay_turn.specs.Slots.{acts_in}
 use Rattle.hay_volume_lock.specs.Acts.{act_of}
-use Rattle.hay_volume_lock.specs.Answers.{IsAlways, IsTold, OneHolding}
+use Rattle.hay_volume_lock.specs.Answers.{IsAlways, IsTold, UnfusedHolding}
 use Rattle.hay_volume_lock.specs.Compactions.{FailedHere}
 use Rattle.hay_volume_lock.specs.Finishes.{CompactAnswer}
 use Rattle.hay_volume_lock.specs.Seats.{Seated}
 use Rattle.hay_volume_lock.specs.declared.refusals.Uncompacted.TheVariants as lost
 use Rattle.hay_volume_lock.proofs.Ending.{compact_failed, compact_lost, compact_refused, compact_shown, compact_unshown, finish_of, finish_shown, finish_unshown, none_frozen, uncompacted_same}
 use Rattle.hay_volume_lock.proofs.Finishing.{refused_failed, refused_found, refused_goes}
-use Rattle.hay_volume_lock.proofs.Holding.{few_there, is_held, made_always, made_free, made_held, made_mine, made_seated, quiet_free, quiet_held, quiet_seated, seat_of, within_it}
+use Rattle.hay_volume_lock.proofs.Holding.{few_there, is_held, made_always, made_free, made_mine, made_seated, quiet_free, quiet_held, quiet_seated, seat_of, within_it, made_unfused}
 use Rattle.hay_volume_lock.proofs.Moving.{swap_may}
 use Rattle.hay_volume_lock.proofs.Owning.{changed_owned, made_owned, quiet_owned}
 use Rattle.hay_volume_lock.proofs.Publishing.{changed_free, changed_held, changed_mine, changed_seated, later_deed, later_same}
 use Rattle.hay_volume_lock.proofs.Swapping.{is_swap, tight_swap}
 use Rattle.hay_volume_lock.specs.Refusing.{OfOpened, RefusesEnd, RefusesRun}
 use Rattle.hay_volume_lock.proofs.Refusing.{refuses_run, of_opened}
+use Rattle.hay_volume_lock.proofs.Unfused.{IsNoFuse, one_unfused, unswapped_unfused}
 use Rattle.hay_volume_lock.proofs.lock.VolumeLock.compact.Goals as goal
 
 pub show_all-requires : goal.show_all-requires
@@ -77,7 +78,7 @@ returns-in-Some-clause-causes g c = λ m f frozen is. absurd (c.in-Some.ensures.
 
 pub returns-in-Some-clause-held : goal.returns-in-Some-clause-held
 returns-in-Some-clause-held g c =
-    subst (λ (s : Seated g.row.D.Denot g.row.P.Denot). OneHolding c.args.tag s.sight (seat_of c.free.new.seat c.show_all.new.seat).sight) c.seat.view_is
+    subst (λ (s : Seated g.row.D.Denot g.row.P.Denot). UnfusedHolding c.args.tag s.sight (seat_of c.free.new.seat c.show_all.new.seat).sight) c.seat.view_is
     (quiet_held g.D.Disk.Tells g.D.Disk.files g.P.Piece.Tells g.D.Disk.fault_count g.D.Disk.fuse_count c.args.tag c.seat.inside.turn c.hold-kept.new.seat c.free.new.seat
     c.seat.inside.view c.show_all.new.seat c.hold-kept.result c.seat.invariant c.hold-kept.ensures c.show_all.ensures.seen.0 c.show_all.ensures.seen.1 c.free.ensures)
 
@@ -197,8 +198,8 @@ returns-in-Err-clause-causes g c = λ m f frozen is.
 
 pub returns-in-Err-clause-held : goal.returns-in-Err-clause-held
 returns-in-Err-clause-held g c =
-    subst (λ (s : Seated g.row.D.Denot g.row.P.Denot). OneHolding c.args.tag s.sight (seat_of c.free-in-Err.new.seat c.show_all.new.seat).sight) c.seat.view_is
-    (made_held g.D.Disk.Tells g.D.Disk.files g.P.Piece.Tells g.D.Disk.fault_count g.D.Disk.fuse_count c.args.tag c.seat.inside.turn c.hold-kept.new.seat c.free-in-Err.new.seat
+    subst (λ (s : Seated g.row.D.Denot g.row.P.Denot). UnfusedHolding c.args.tag s.sight (seat_of c.free-in-Err.new.seat c.show_all.new.seat).sight) c.seat.view_is
+    (made_unfused g.D.Disk.Tells g.D.Disk.files g.P.Piece.Tells g.D.Disk.fault_count g.D.Disk.fuse_count c.args.tag c.seat.inside.turn c.hold-kept.new.seat c.free-in-Err.new.seat
     c.seat.inside.view c.show_all.new.seat c.hold-kept.result (record c.hold-kept.result { logical = c.finish_files.new.self })
     (Some c.new-act.result) c.seat.invariant c.hold-kept.ensures c.show_all.ensures.seen.0 c.show_all.ensures.seen.1
     (refused_goes g.D.Disk.Tells g.D.Disk.files g.P.Piece.Tells g.D.Disk.fault_count g.D.Disk.fuse_count c.args.tag c.hold-kept.result
@@ -209,7 +210,8 @@ returns-in-Err-clause-held g c =
     c.in-Err.ensures.open c.in-Err.ensures.counts (λ m is. (c.in-Err.ensures.frozen m is).1) c.in-Err.ensures.kept) c.in-Err.ensures.counts.stay refl refl
     c.in-Err.ensures.others (ap (λ (t : CoreTag). t.lane) c.in_default.ensures.own) c.in_default.ensures.free c.frozen-frozen.result (sym c.frozen-frozen.ensures.is)
     c.in-Err.fault c.new-act.result c.in-Err.ensures.refused c.in-Err.ensures.causes (c.new-act.ensures
-    ∙ ap (λ m. act_of g.D.Disk.fault_count g.D.Disk.fuse_count c.args.tag m c.finish_files.new.self.replicas) c.unfinished_did-did.ensures)) c.free-in-Err.ensures)
+    ∙ ap (λ m. act_of g.D.Disk.fault_count g.D.Disk.fuse_count c.args.tag m c.finish_files.new.self.replicas) c.unfinished_did-did.ensures)) c.free-in-Err.ensures
+    (one_unfused g.D.Disk.fault_count g.D.Disk.fuse_count c.args.tag _ _ c.new-act.result c.new-act.ensures (subst IsNoFuse (sym c.unfinished_did-did.ensures) (unswapped_unfused _ _ _))))
 
 pub publish-requires-clause-open : goal.publish-requires-clause-open
 publish-requires-clause-open g c =
@@ -361,7 +363,7 @@ returns-in_default-publish-clause-compacted g c =
 
 pub returns-in_default-publish-clause-held : goal.returns-in_default-publish-clause-held
 returns-in_default-publish-clause-held g c =
-    subst (λ (s : Seated g.row.D.Denot g.row.P.Denot). OneHolding c.args.tag s.sight (seat_of c.free-in_default-publish.new.seat c.publish.new.seat).sight) c.seat.view_is
+    subst (λ (s : Seated g.row.D.Denot g.row.P.Denot). UnfusedHolding c.args.tag s.sight (seat_of c.free-in_default-publish.new.seat c.publish.new.seat).sight) c.seat.view_is
     (changed_held g.D.Disk.Tells g.D.Disk.files g.P.Piece.Tells g.D.Disk.fault_count g.D.Disk.fuse_count c.args.tag c.seat.inside.turn c.hold-kept.new.seat c.seat.inside.view
     c.show_all.new.seat c.publish.new.seat c.hold-kept.result (record c.hold-kept.result { logical = c.freeze.new.self; front = c.publish.new.self }) (Some c.new-act-in_default-publish.result)
     c.seat.invariant c.hold-kept.ensures c.show_all.ensures.seen.0 c.show_all.ensures.seen.1 c.in_default-publish.ensures.seen.1
@@ -382,7 +384,8 @@ returns-in_default-publish-clause-held g c =
     (ap (λ v. v.frozen) (c.freeze.ensures.still (c.in-Ok.ensures.still.1 ∙ (none_frozen c.hold-kept.result.logical.frozen
     (λ m is. let wrong = (c.in-Ok.ensures.frozen m is).0 in cc wrong))))) c.freeze.ensures.frozen (ap (λ f. f.shown) c.in_default-publish.ensures.refused)
     (ap (λ f. f.log) c.in_default-publish.ensures.refused)
-    c.frozen.result c.frozen.ensures.is c.new-act-in_default-publish.result c.new-act-in_default-publish.ensures).0 c.free-in_default-publish.new.seat c.free-in_default-publish.ensures)
+    c.frozen.result c.frozen.ensures.is c.new-act-in_default-publish.result c.new-act-in_default-publish.ensures).0 c.free-in_default-publish.new.seat c.free-in_default-publish.ensures
+    (one_unfused g.D.Disk.fault_count g.D.Disk.fuse_count c.args.tag _ _ c.new-act-in_default-publish.result c.new-act-in_default-publish.ensures (λ j e. cc e)))
 
 pub free-requires-2-clause-may : goal.free-requires-2-clause-may
 free-requires-2-clause-may g c = record {
@@ -498,7 +501,7 @@ returns-clause-compacted g c =
 
 pub returns-clause-held : goal.returns-clause-held
 returns-clause-held g c =
-    subst (λ (s : Seated g.row.D.Denot g.row.P.Denot). OneHolding c.args.tag s.sight (seat_of c.free-2.new.seat c.publish.new.seat).sight) c.seat.view_is
+    subst (λ (s : Seated g.row.D.Denot g.row.P.Denot). UnfusedHolding c.args.tag s.sight (seat_of c.free-2.new.seat c.publish.new.seat).sight) c.seat.view_is
     (changed_held g.D.Disk.Tells g.D.Disk.files g.P.Piece.Tells g.D.Disk.fault_count g.D.Disk.fuse_count c.args.tag c.seat.inside.turn c.hold-kept.new.seat c.seat.inside.view
     c.show_all.new.seat c.publish.new.seat c.hold-kept.result (record c.hold-kept.result { logical = c.finish_files.new.self; front = c.publish.new.self }) (Some c.new-act-2.result)
     c.seat.invariant c.hold-kept.ensures c.show_all.ensures.seen.0 c.show_all.ensures.seen.1 c.in-Ok-publish.ensures.seen.1
@@ -516,7 +519,8 @@ returns-clause-held g c =
     (c.requires.within c.seat.invariant.opened (sym (ap (λ (s : Seated g.row.D.Denot g.row.P.Denot). s.start) c.seat.view_is) ∙ c.seat.invariant.is))))
     (c.in-Ok.ensures.finished tells k s) (c.in-Ok.ensures.sizes tells)) c.in-Ok.ensures.same c.in-Ok.ensures.open c.in-Ok.ensures.counts
     (record c.hold-kept.result { logical = c.finish_files.new.self; front = c.publish.new.self }) refl refl refl c.in-Ok.ensures.others
-    (record { tag = c.front_tag.result; deed = c.moved-op.result }) c.in-Ok-publish.ensures.done.0 refl c.new-act-2.result c.new-act-2.ensures).0 c.free-2.new.seat c.free-2.ensures)
+    (record { tag = c.front_tag.result; deed = c.moved-op.result }) c.in-Ok-publish.ensures.done.0 refl c.new-act-2.result c.new-act-2.ensures).0 c.free-2.new.seat c.free-2.ensures
+    (one_unfused g.D.Disk.fault_count g.D.Disk.fuse_count c.args.tag _ _ c.new-act-2.result c.new-act-2.ensures (λ j e. cc e)))
 
 pub returns-in-Some-clause-refusals : goal.returns-in-Some-clause-refusals
 returns-in-Some-clause-refusals g c =

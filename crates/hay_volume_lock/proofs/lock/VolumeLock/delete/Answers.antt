@@ -17,7 +17,7 @@ use Rattle.hay_volume_lock.specs.Acts.{act_of, counts}
 use Rattle.hay_volume_lock.specs.declared.act.Made.TheVariants as made_is
 use Rattle.hay_volume_lock.specs.declared.guarded.Guarded.{Guarded}
 use Rattle.hay_volume_lock.specs.declared.guarded.Opened.{Opened}
-use Rattle.hay_volume_lock.specs.Answers.{IsAlways, IsTold, OneHolding}
+use Rattle.hay_volume_lock.specs.Answers.{IsAlways, IsTold, UnfusedHolding}
 use Rattle.hay_volume_lock.specs.Changes.{DiskFailed, freezes_by, pends_by}
 use Rattle.hay_volume_lock.specs.Deletes.{DeleteAnswer, delete_made, noted, over_since}
 use Rattle.hay_volume_lock.specs.Keeping.{IsKept}
@@ -26,10 +26,13 @@ use Rattle.hay_volume_lock.specs.Tries.{IsTried}
 use Rattle.hay_volume_lock.proofs.Deleting.{holds_more, over_long}
 use Rattle.hay_volume_lock.proofs.Erasing.{behind_itself, erase_may, erase_refused, erase_shown, erase_unshown, halts_refused, halts_wanted, later_more, made_act, met_frozen}
 use Rattle.hay_volume_lock.proofs.Erasing.{seen_next, seen_set, sees_still, serves_now, settings_now, since, thawed_now, unsure_kept}
-use Rattle.hay_volume_lock.proofs.Holding.{all_there, few_there, is_held, quiet_free, quiet_held, quiet_seated, quiet_told, seat_of}
+use Rattle.hay_volume_lock.proofs.Holding.{all_there, few_there, is_held, quiet_free, quiet_held, quiet_seated, quiet_told, seat_of, made_unfused}
 use Rattle.hay_volume_lock.proofs.Published.{Fact}
 use Rattle.hay_volume_lock.proofs.Publishing.{changed_always, changed_free, changed_held, changed_mine, changed_seated, changed_told, later_deed, later_same}
 use Rattle.hay_volume_lock.proofs.Seeing.{Sees, row_long, see_shown, seen_may, sees_more, sees_nothing}
+use Rattle.hay_volume_lock.proofs.Unfused.{IsNoFuse, delete_unfused, freezes_unfused, made_unfused_by, one_unfused, pends_unfused, tried_unfused}
+use Rattle.hay_volume_lock.specs.declared.act.Made.{Made}
+use Rattle.std.specs.Prelude.{IfSome}
 use Rattle.hay_volume_lock.proofs.lock.VolumeLock.delete.Goals.{else-not-is_seen, then-not-is_seen+in-Ok+in-Ok-publish+in-Live-1, then-not-is_seen+in-Ok+in-Ok-publish+in-None-1}
 use Rattle.hay_volume_lock.specs.Refusing.{OfOpened, RefusesDelete}
 use Rattle.hay_volume_lock.proofs.Refusing.{refuses_delete, refuses_look, of_opened, same_so}
@@ -66,7 +69,7 @@ returns-in-Some-clause-deleted g c =
 
 pub returns-in-Some-clause-held : goal.returns-in-Some-clause-held
 returns-in-Some-clause-held g c =
-    subst (λ (s : Seated g.row.D.Denot g.row.P.Denot). OneHolding c.args.tag s.sight (seat_of c.free.new.seat c.show_all.new.seat).sight) c.seat.view_is
+    subst (λ (s : Seated g.row.D.Denot g.row.P.Denot). UnfusedHolding c.args.tag s.sight (seat_of c.free.new.seat c.show_all.new.seat).sight) c.seat.view_is
     (quiet_held g.D.Disk.Tells g.D.Disk.files g.P.Piece.Tells g.D.Disk.fault_count g.D.Disk.fuse_count c.args.tag c.seat.inside.turn c.hold-kept.new.seat c.free.new.seat
     c.seat.inside.view c.show_all.new.seat c.hold-kept.result c.seat.invariant c.hold-kept.ensures c.show_all.ensures.seen.0 c.show_all.ensures.seen.1 c.free.ensures)
 
@@ -270,7 +273,7 @@ returns-in-Err-clause-causes g c = λ m f is.
 
 pub returns-in-Err-clause-held : goal.returns-in-Err-clause-held
 returns-in-Err-clause-held g c =
-    subst (λ (s : Seated g.row.D.Denot g.row.P.Denot). OneHolding c.args.tag s.sight (seat_of c.free-in-Err.new.seat c.loop-replica.seat-inside.view).sight) c.seat.view_is
+    subst (λ (s : Seated g.row.D.Denot g.row.P.Denot). UnfusedHolding c.args.tag s.sight (seat_of c.free-in-Err.new.seat c.loop-replica.seat-inside.view).sight) c.seat.view_is
     (changed_held g.D.Disk.Tells g.D.Disk.files g.P.Piece.Tells g.D.Disk.fault_count g.D.Disk.fuse_count c.args.tag c.seat.inside.turn c.loop-replica.seat-inside.turn
     c.seat.inside.view c.show_all.new.seat c.loop-replica.seat-inside.view c.hold-kept.result (record c.loop-replica.kept { logical = c.see.new.self }) c.act_made-made.result
     c.seat.invariant (subst (λ (t : SeatState (Opened g.row.D.Denot g.row.P.Denot) VolumeAct).
@@ -290,7 +293,9 @@ returns-in-Err-clause-held g c =
       tries = λ none. (subst (λ (l : List ℕ). IsTried g.D.Disk.fault_count g.D.Disk.fuse_count c.args.tag l
           (record c.loop-replica.kept { logical = c.see.new.self }).logical.replicas c.act_made-made.result) c.faults_of-before.ensures
           (c.act_made-made.ensures.tried (c.sight_did.ensures ∙ none)));
-    })).leaves c.free-in-Err.new.seat c.free-in-Err.ensures)
+    })).leaves c.free-in-Err.new.seat c.free-in-Err.ensures
+    (made_unfused_by g.D.Disk.fault_count g.D.Disk.fuse_count c.args.tag _ _ c.sight_did.result c.act_made-made.result
+    (subst (λ (o : Option Made). IfSome o IsNoFuse) (sym c.sight_did.ensures) (tried_unfused _)) c.act_made-made.ensures.did c.act_made-made.ensures.tried))
 
 pub sight_of-op-requires : goal.sight_of-op-requires
 sight_of-op-requires g c =
@@ -461,7 +466,7 @@ returns-in_default-publish-clause-deleted g c =
 
 pub returns-in_default-publish-clause-held : goal.returns-in_default-publish-clause-held
 returns-in_default-publish-clause-held g c =
-    subst (λ (s : Seated g.row.D.Denot g.row.P.Denot). OneHolding c.args.tag s.sight (seat_of c.free-in_default-publish.new.seat c.publish.new.seat).sight) c.seat.view_is
+    subst (λ (s : Seated g.row.D.Denot g.row.P.Denot). UnfusedHolding c.args.tag s.sight (seat_of c.free-in_default-publish.new.seat c.publish.new.seat).sight) c.seat.view_is
     (changed_held g.D.Disk.Tells g.D.Disk.files g.P.Piece.Tells g.D.Disk.fault_count g.D.Disk.fuse_count c.args.tag c.seat.inside.turn c.loop-replica.seat-inside.turn
     c.seat.inside.view c.show_all.new.seat c.publish.new.seat c.hold-kept.result (record c.loop-replica.kept { logical = c.freeze.new.self; front = c.publish.new.self })
     c.act_made-made-in_default-publish.result
@@ -484,7 +489,10 @@ returns-in_default-publish-clause-held g c =
           (record c.loop-replica.kept { logical = c.freeze.new.self; front = c.publish.new.self }).logical.replicas c.act_made-made-in_default-publish.result)
           c.faults_of-before.ensures (c.act_made-made-in_default-publish.ensures.tried ((c.freeze_did-did.ensures
           ∙ ap (λ (f : Option ℕ). freezes_by None f) c.frozen-in_default-publish.ensures.is) ∙ none)));
-    })).leaves c.free-in_default-publish.new.seat c.free-in_default-publish.ensures)
+    })).leaves c.free-in_default-publish.new.seat c.free-in_default-publish.ensures
+    (made_unfused_by g.D.Disk.fault_count g.D.Disk.fuse_count c.args.tag _ _ c.freeze_did-did.result c.act_made-made-in_default-publish.result
+    (subst (λ (o : Option Made). IfSome o IsNoFuse) (sym c.freeze_did-did.ensures) (freezes_unfused _ _)) c.act_made-made-in_default-publish.ensures.did
+    c.act_made-made-in_default-publish.ensures.tried))
 
 pub loop-replica-preserved : goal.loop-replica-preserved
 loop-replica-preserved g c =
@@ -813,7 +821,7 @@ returns-in-Err-erase_seen-clause-causes g c = λ m f is.
 
 pub returns-in-Err-erase_seen-clause-held : goal.returns-in-Err-erase_seen-clause-held
 returns-in-Err-erase_seen-clause-held g c =
-    subst (λ (s : Seated g.row.D.Denot g.row.P.Denot). OneHolding c.args.tag s.sight (seat_of c.free-in-Err-erase_seen.new.seat c.loop-replica.seat-inside.view).sight) c.seat.view_is
+    subst (λ (s : Seated g.row.D.Denot g.row.P.Denot). UnfusedHolding c.args.tag s.sight (seat_of c.free-in-Err-erase_seen.new.seat c.loop-replica.seat-inside.view).sight) c.seat.view_is
     (changed_held g.D.Disk.Tells g.D.Disk.files g.P.Piece.Tells g.D.Disk.fault_count g.D.Disk.fuse_count c.args.tag c.seat.inside.turn c.loop-replica.seat-inside.turn
     c.seat.inside.view c.show_all.new.seat c.loop-replica.seat-inside.view c.hold-kept.result (record c.loop-replica.kept { logical = c.erase_seen.new.self })
     c.act_made-made-in-Err-erase_seen.result
@@ -840,7 +848,10 @@ returns-in-Err-erase_seen-clause-held g c =
           (record c.loop-replica.kept { logical = c.erase_seen.new.self }).logical.replicas c.act_made-made-in-Err-erase_seen.result) c.faults_of-before.ensures
           (c.act_made-made-in-Err-erase_seen.ensures.tried ((c.delete_did-did.ensures ∙ ap (λ (f : Option ℕ). delete_made f (change.Del c.args.pair) c.in-Err-erase_seen.fault)
           c.frozen-in-Err-erase_seen.ensures.is) ∙ none)));
-    })).leaves c.free-in-Err-erase_seen.new.seat c.free-in-Err-erase_seen.ensures)
+    })).leaves c.free-in-Err-erase_seen.new.seat c.free-in-Err-erase_seen.ensures
+    (made_unfused_by g.D.Disk.fault_count g.D.Disk.fuse_count c.args.tag _ _ c.delete_did-did.result c.act_made-made-in-Err-erase_seen.result
+    (subst (λ (o : Option Made). IfSome o IsNoFuse) (sym c.delete_did-did.ensures) (delete_unfused _ _ _)) c.act_made-made-in-Err-erase_seen.ensures.did
+    c.act_made-made-in-Err-erase_seen.ensures.tried))
 
 pub publish-requires-2-clause-open : goal.publish-requires-2-clause-open
 publish-requires-2-clause-open g c =
@@ -996,7 +1007,7 @@ returns-in_default-publish-2-clause-deleted g c =
 
 pub returns-in_default-publish-2-clause-held : goal.returns-in_default-publish-2-clause-held
 returns-in_default-publish-2-clause-held g c =
-    subst (λ (s : Seated g.row.D.Denot g.row.P.Denot). OneHolding c.args.tag s.sight (seat_of c.free-in_default-publish-2.new.seat c.publish-2.new.seat).sight) c.seat.view_is
+    subst (λ (s : Seated g.row.D.Denot g.row.P.Denot). UnfusedHolding c.args.tag s.sight (seat_of c.free-in_default-publish-2.new.seat c.publish-2.new.seat).sight) c.seat.view_is
     (changed_held g.D.Disk.Tells g.D.Disk.files g.P.Piece.Tells g.D.Disk.fault_count g.D.Disk.fuse_count c.args.tag c.seat.inside.turn c.loop-replica.seat-inside.turn
     c.seat.inside.view c.show_all.new.seat c.publish-2.new.seat c.hold-kept.result (record c.loop-replica.kept { logical = c.give_up.new.self; front = c.publish-2.new.self })
     c.act_made-made-in_default-publish-2.result
@@ -1020,7 +1031,10 @@ returns-in_default-publish-2-clause-held g c =
           c.faults_of-before.ensures (c.act_made-made-in_default-publish-2.ensures.tried ((c.pended-did.ensures
           ∙ ap (λ (f : Option ℕ). pends_by f (change.Del c.args.pair) false) c.frozen-in_default-publish-2.ensures.is) ∙ none)));
     })).leaves c.free-in_default-publish-2.new.seat
-    c.free-in_default-publish-2.ensures)
+    c.free-in_default-publish-2.ensures
+    (made_unfused_by g.D.Disk.fault_count g.D.Disk.fuse_count c.args.tag _ _ c.pended-did.result c.act_made-made-in_default-publish-2.result
+    (subst (λ (o : Option Made). IfSome o IsNoFuse) (sym c.pended-did.ensures) (pends_unfused _ _ _)) c.act_made-made-in_default-publish-2.ensures.did
+    c.act_made-made-in_default-publish-2.ensures.tried))
 
 pub over_of-over-requires-clause-all : goal.over_of-over-requires-clause-all
 over_of-over-requires-clause-all g c =
@@ -1203,7 +1217,7 @@ returns-clause-deleted g c =
 
 pub returns-clause-held : goal.returns-clause-held
 returns-clause-held g c =
-    subst (λ (s : Seated g.row.D.Denot g.row.P.Denot). OneHolding c.args.tag s.sight (seat_of c.free-2.new.seat c.publish-2.new.seat).sight) c.seat.view_is
+    subst (λ (s : Seated g.row.D.Denot g.row.P.Denot). UnfusedHolding c.args.tag s.sight (seat_of c.free-2.new.seat c.publish-2.new.seat).sight) c.seat.view_is
     (changed_held g.D.Disk.Tells g.D.Disk.files g.P.Piece.Tells g.D.Disk.fault_count g.D.Disk.fuse_count c.args.tag c.seat.inside.turn c.loop-replica.seat-inside.turn
     c.seat.inside.view c.show_all.new.seat c.publish-2.new.seat c.hold-kept.result (record c.loop-replica.kept
     { logical = c.hide-position.new.self; front = c.publish-2.new.self; ended = c.note_ended.new.ended }) (Some c.new-act.result)
@@ -1231,7 +1245,8 @@ returns-clause-held g c =
     (record c.loop-replica.kept { logical = c.hide-position.new.self; front = c.publish-2.new.self; ended = c.note_ended.new.ended })
     (made_is.Enters (change.Del c.args.pair) c.past_of.result) c.new-act.result (c.new-act.ensures
     ∙ ap (λ (e : Entry). act_of g.D.Disk.fault_count g.D.Disk.fuse_count c.args.tag (made_is.Enters e c.past_of.result) c.hide-position.new.self.replicas)
-    c.of.ensures))).leaves c.free-2.new.seat c.free-2.ensures)
+    c.of.ensures))).leaves c.free-2.new.seat c.free-2.ensures
+    (one_unfused g.D.Disk.fault_count g.D.Disk.fuse_count c.args.tag _ _ c.new-act.result c.new-act.ensures (λ j e. cc e)))
 
 pub returns-in-Some-clause-refusals : goal.returns-in-Some-clause-refusals
 returns-in-Some-clause-refusals g c =

@@ -1,16 +1,18 @@
 use Rattle.std.proofs.Common.{ℕ, Option, refl, sym, ap, subst, ◌∙◌}
-use Rattle.std.specs.Prelude.{IfErr, Result}
+use Rattle.std.specs.Prelude.{IfErr, Result, IfSome}
 use Rattle.hay_logical.specs.declared.fault.LogicalFault.TheVariants.{Failed}
 use Rattle.hay_turn.specs.Seats.{after_free}
 use Rattle.hay_turn.specs.Slots.{acts_in}
-use Rattle.hay_volume_lock.specs.Answers.{FlushAnswer, FlushRefused, Found, FoundAlways, IsAlways, IsTold, OneHolding}
+use Rattle.hay_volume_lock.specs.Answers.{FlushAnswer, FlushRefused, Found, FoundAlways, IsAlways, IsTold, UnfusedHolding}
 use Rattle.hay_volume_lock.specs.Seats.{IsSameSeat, Seated}
 use Rattle.hay_volume_lock.specs.declared.guarded.Guarded.{Guarded}
 use Rattle.hay_volume_lock.specs.declared.refusals.Unflushed.{Unflushed}
 use Rattle.hay_volume_lock.proofs.Finding.{flush_call, flush_failed_by}
-use Rattle.hay_volume_lock.proofs.Holding.{all_there, few_there, is_held, made_always, made_free, made_held, made_mine, made_same, made_seated, made_told, seat_of, within_it}
+use Rattle.hay_volume_lock.proofs.Holding.{all_there, few_there, is_held, made_always, made_free, made_mine, made_same, made_seated, made_told, seat_of, within_it, made_unfused}
 use Rattle.hay_volume_lock.specs.Refusing.{OfOpened, RefusesFlush}
 use Rattle.hay_volume_lock.proofs.Refusing.{err_refused, flush_refused, refuses_flush, of_opened}
+use Rattle.hay_volume_lock.proofs.Unfused.{IsNoFuse, flush_unfused, made_unfused_by}
+use Rattle.hay_volume_lock.specs.declared.act.Made.{Made}
 use Rattle.hay_volume_lock.proofs.lock.VolumeLock.flush.Goals as goal
 
 pub show_all-requires : goal.show_all-requires
@@ -161,10 +163,12 @@ returns-clause-held g c =
     c.args.replica within c.flush-answer.result c.faults_of-before.result.items c.faults_of-before.ensures c.flush_did-did.result c.act_made-made.result
     c.act_made-made.ensures.did c.act_made-made.ensures.tried refl (λ tells thawed. c.flush-answer.ensures.tight tells) c.flush-answer.ensures.flushed
     c.flush-answer.ensures.refused c.flush-answer.ensures.causes c.flush_did-did.ensures c.frozen-frozen.result (sym c.frozen-frozen.ensures.is) in
-    subst (λ (s : Seated g.row.D.Denot g.row.P.Denot). OneHolding c.args.tag s.sight (seat_of c.free.new.seat c.show_all.new.seat).sight) c.seat.view_is
-    (made_held g.D.Disk.Tells g.D.Disk.files g.P.Piece.Tells g.D.Disk.fault_count g.D.Disk.fuse_count c.args.tag c.seat.inside.turn c.hold-kept.new.seat c.free.new.seat
+    subst (λ (s : Seated g.row.D.Denot g.row.P.Denot). UnfusedHolding c.args.tag s.sight (seat_of c.free.new.seat c.show_all.new.seat).sight) c.seat.view_is
+    (made_unfused g.D.Disk.Tells g.D.Disk.files g.P.Piece.Tells g.D.Disk.fault_count g.D.Disk.fuse_count c.args.tag c.seat.inside.turn c.hold-kept.new.seat c.free.new.seat
     c.seat.inside.view c.show_all.new.seat c.hold-kept.result after c.act_made-made.result c.seat.invariant c.hold-kept.ensures c.show_all.ensures.seen.0 c.show_all.ensures.seen.1
-    found.0 c.free.ensures)
+    found.0 c.free.ensures
+    (made_unfused_by g.D.Disk.fault_count g.D.Disk.fuse_count c.args.tag _ _ c.flush_did-did.result c.act_made-made.result
+    (subst (λ (o : Option Made). IfSome o IsNoFuse) (sym c.flush_did-did.ensures) (flush_unfused _ _)) c.act_made-made.ensures.did c.act_made-made.ensures.tried))
 
 pub returns-clause-same : goal.returns-clause-same
 returns-clause-same g c =

@@ -8,16 +8,19 @@ use Rattle.hay_turn.specs.Seats.{after_free}
 use Rattle.hay_turn.specs.Slots.{acts_in}
 use Rattle.hay_volume_lock.specs.Acts.{act_of}
 use Rattle.hay_volume_lock.specs.declared.act.Made.TheVariants as made_is
-use Rattle.hay_volume_lock.specs.Answers.{IsAlways, IsTold, OneHolding}
+use Rattle.hay_volume_lock.specs.Answers.{IsAlways, IsTold, UnfusedHolding}
 use Rattle.hay_volume_lock.specs.Changes.{DiskFailed, PutAnswer, pends_by, put_made}
 use Rattle.hay_volume_lock.specs.Tries.{IsTried}
 use Rattle.hay_volume_lock.specs.Seats.{Seated}
-use Rattle.hay_volume_lock.proofs.Holding.{all_there, few_there, is_held, made_always, made_free, made_held, made_mine, made_seated, made_told, quiet_free, quiet_held}
+use Rattle.hay_volume_lock.proofs.Holding.{all_there, few_there, is_held, made_always, made_free, made_mine, made_seated, made_told, quiet_free, quiet_held, made_unfused}
 use Rattle.hay_volume_lock.proofs.Holding.{quiet_seated, quiet_told, seat_of}
 use Rattle.hay_volume_lock.proofs.Publishing.{changed_free, changed_held, changed_mine, changed_seated, changed_told, later_deed, later_same}
 use Rattle.hay_volume_lock.proofs.Putting.{err_same, met_frozen, put_may, put_refused, put_shown, put_unshown, settled, wanted_nothing}
 use Rattle.hay_volume_lock.specs.Refusing.{OfOpened, RefusesPut}
 use Rattle.hay_volume_lock.proofs.Refusing.{refuses_put, of_opened}
+use Rattle.hay_volume_lock.proofs.Unfused.{IsNoFuse, made_unfused_by, one_unfused, pends_unfused, put_unfused}
+use Rattle.hay_volume_lock.specs.declared.act.Made.{Made}
+use Rattle.std.specs.Prelude.{IfSome}
 use Rattle.hay_volume_lock.proofs.lock.VolumeLock.put.Goals as goal
 
 pub show_all-requires : goal.show_all-requires
@@ -52,7 +55,7 @@ returns-in-Some-clause-put g c =
 
 pub returns-in-Some-clause-held : goal.returns-in-Some-clause-held
 returns-in-Some-clause-held g c =
-    subst (λ (s : Seated g.row.D.Denot g.row.P.Denot). OneHolding c.args.tag s.sight (seat_of c.free.new.seat c.show_all.new.seat).sight) c.seat.view_is
+    subst (λ (s : Seated g.row.D.Denot g.row.P.Denot). UnfusedHolding c.args.tag s.sight (seat_of c.free.new.seat c.show_all.new.seat).sight) c.seat.view_is
     (quiet_held g.D.Disk.Tells g.D.Disk.files g.P.Piece.Tells g.D.Disk.fault_count g.D.Disk.fuse_count c.args.tag c.seat.inside.turn c.hold-kept.new.seat c.free.new.seat
     c.seat.inside.view c.show_all.new.seat c.hold-kept.result c.seat.invariant c.hold-kept.ensures c.show_all.ensures.seen.0 c.show_all.ensures.seen.1 c.free.ensures)
 
@@ -83,7 +86,7 @@ returns-in_default-put_entry-clause-put g c =
 
 pub returns-in_default-put_entry-clause-held : goal.returns-in_default-put_entry-clause-held
 returns-in_default-put_entry-clause-held g c =
-    subst (λ (s : Seated g.row.D.Denot g.row.P.Denot). OneHolding c.args.tag s.sight (seat_of c.free-in_default-put_entry.new.seat c.show_all.new.seat).sight) c.seat.view_is
+    subst (λ (s : Seated g.row.D.Denot g.row.P.Denot). UnfusedHolding c.args.tag s.sight (seat_of c.free-in_default-put_entry.new.seat c.show_all.new.seat).sight) c.seat.view_is
     (quiet_held g.D.Disk.Tells g.D.Disk.files g.P.Piece.Tells g.D.Disk.fault_count g.D.Disk.fuse_count c.args.tag c.seat.inside.turn c.hold-kept.new.seat
     c.free-in_default-put_entry.new.seat c.seat.inside.view c.show_all.new.seat c.hold-kept.result c.seat.invariant c.hold-kept.ensures c.show_all.ensures.seen.0
     c.show_all.ensures.seen.1 c.free-in_default-put_entry.ensures)
@@ -297,8 +300,8 @@ returns-in-Err-clause-causes g c = λ m f is.
 
 pub returns-in-Err-clause-held : goal.returns-in-Err-clause-held
 returns-in-Err-clause-held g c =
-    subst (λ (s : Seated g.row.D.Denot g.row.P.Denot). OneHolding c.args.tag s.sight (seat_of c.free-in-Err.new.seat c.show_all.new.seat).sight) c.seat.view_is
-    (made_held g.D.Disk.Tells g.D.Disk.files g.P.Piece.Tells g.D.Disk.fault_count g.D.Disk.fuse_count c.args.tag c.seat.inside.turn c.hold-kept.new.seat c.free-in-Err.new.seat
+    subst (λ (s : Seated g.row.D.Denot g.row.P.Denot). UnfusedHolding c.args.tag s.sight (seat_of c.free-in-Err.new.seat c.show_all.new.seat).sight) c.seat.view_is
+    (made_unfused g.D.Disk.Tells g.D.Disk.files g.P.Piece.Tells g.D.Disk.fault_count g.D.Disk.fuse_count c.args.tag c.seat.inside.turn c.hold-kept.new.seat c.free-in-Err.new.seat
     c.seat.inside.view c.show_all.new.seat c.hold-kept.result (record c.hold-kept.result { logical = c.write.new.self })
     c.act_made-made.result c.seat.invariant c.hold-kept.ensures c.show_all.ensures.seen.0 c.show_all.ensures.seen.1
     (put_refused g.D.Disk.Tells g.D.Disk.files g.P.Piece.Tells g.D.Disk.fault_count g.D.Disk.fuse_count c.args.tag c.hold-kept.result
@@ -322,7 +325,9 @@ returns-in-Err-clause-held g c =
       tries = λ none. subst (λ (l : List ℕ). IsTried g.D.Disk.fault_count g.D.Disk.fuse_count c.args.tag l c.write.new.self.replicas c.act_made-made.result)
           c.faults_of-before.ensures (c.act_made-made.ensures.tried ((c.put_did-did.ensures ∙ ap (λ (e : Entry). put_made c.frozen-in-Err.result e c.in-Err.fault) c.in-Ok.ensures
           ∙ ap (λ (f : Option ℕ). put_made f (change.Put c.args.pair c.args.cookie c.args.bytes.now) c.in-Err.fault) c.frozen-in-Err.ensures.is) ∙ none));
-    })).goes c.free-in-Err.ensures)
+    })).goes c.free-in-Err.ensures
+    (made_unfused_by g.D.Disk.fault_count g.D.Disk.fuse_count c.args.tag _ _ c.put_did-did.result c.act_made-made.result
+    (subst (λ (o : Option Made). IfSome o IsNoFuse) (sym c.put_did-did.ensures) (put_unfused _ _ _)) c.act_made-made.ensures.did c.act_made-made.ensures.tried))
 
 pub publish-requires-clause-open : goal.publish-requires-clause-open
 publish-requires-clause-open g c =
@@ -456,7 +461,7 @@ returns-in_default-publish-clause-put g c =
 
 pub returns-in_default-publish-clause-held : goal.returns-in_default-publish-clause-held
 returns-in_default-publish-clause-held g c =
-    subst (λ (s : Seated g.row.D.Denot g.row.P.Denot). OneHolding c.args.tag s.sight (seat_of c.free-in_default-publish.new.seat c.publish.new.seat).sight) c.seat.view_is
+    subst (λ (s : Seated g.row.D.Denot g.row.P.Denot). UnfusedHolding c.args.tag s.sight (seat_of c.free-in_default-publish.new.seat c.publish.new.seat).sight) c.seat.view_is
     (changed_held g.D.Disk.Tells g.D.Disk.files g.P.Piece.Tells g.D.Disk.fault_count g.D.Disk.fuse_count c.args.tag c.seat.inside.turn c.hold-kept.new.seat c.seat.inside.view
     c.show_all.new.seat c.publish.new.seat c.hold-kept.result (record c.hold-kept.result { logical = c.give_up.new.self; front = c.publish.new.self }) c.act_made-made-in_default-publish.result
     c.seat.invariant c.hold-kept.ensures c.show_all.ensures.seen.0 c.show_all.ensures.seen.1 c.in_default-publish.ensures.seen.1
@@ -476,7 +481,9 @@ returns-in_default-publish-clause-held g c =
           ∙ ap (λ (e : Entry). pends_by c.frozen-in_default-publish.result e false) c.in-Ok.ensures
           ∙ ap (λ (f : Option ℕ). pends_by f (change.Put c.args.pair c.args.cookie c.args.bytes.now) false) c.frozen-in_default-publish.ensures.is) ∙ none));
     })).0
-    c.free-in_default-publish.new.seat c.free-in_default-publish.ensures)
+    c.free-in_default-publish.new.seat c.free-in_default-publish.ensures
+    (made_unfused_by g.D.Disk.fault_count g.D.Disk.fuse_count c.args.tag _ _ c.pended-did.result c.act_made-made-in_default-publish.result
+    (subst (λ (o : Option Made). IfSome o IsNoFuse) (sym c.pended-did.ensures) (pends_unfused _ _ _)) c.act_made-made-in_default-publish.ensures.did c.act_made-made-in_default-publish.ensures.tried))
 
 pub free-requires-2-clause-may : goal.free-requires-2-clause-may
 free-requires-2-clause-may g c = record {
@@ -561,7 +568,7 @@ returns-clause-put g c =
 
 pub returns-clause-held : goal.returns-clause-held
 returns-clause-held g c =
-    subst (λ (s : Seated g.row.D.Denot g.row.P.Denot). OneHolding c.args.tag s.sight (seat_of c.free-2.new.seat c.publish.new.seat).sight) c.seat.view_is
+    subst (λ (s : Seated g.row.D.Denot g.row.P.Denot). UnfusedHolding c.args.tag s.sight (seat_of c.free-2.new.seat c.publish.new.seat).sight) c.seat.view_is
     (changed_held g.D.Disk.Tells g.D.Disk.files g.P.Piece.Tells g.D.Disk.fault_count g.D.Disk.fuse_count c.args.tag c.seat.inside.turn c.hold-kept.new.seat c.seat.inside.view
     c.show_all.new.seat c.publish.new.seat c.hold-kept.result (record c.hold-kept.result { logical = c.show-position.new.self; front = c.publish.new.self }) (Some c.new-act.result)
     c.seat.invariant c.hold-kept.ensures c.show_all.ensures.seen.0 c.show_all.ensures.seen.1 c.in-Ok-publish.ensures.seen.1
@@ -574,7 +581,8 @@ returns-clause-held g c =
     c.show-position.ensures.rows c.show-position.ensures.still c.show-position.ensures.put c.new-act.result
     (c.new-act.ensures ∙ ap (λ (e : Entry). act_of g.D.Disk.fault_count g.D.Disk.fuse_count c.args.tag (made_is.Enters e c.new.result) c.show-position.new.self.replicas)
     (c.of.ensures ∙ c.in-Ok.ensures) ∙ ap (λ (l : List Bool). act_of g.D.Disk.fault_count g.D.Disk.fuse_count c.args.tag
-    (made_is.Enters (change.Put c.args.pair c.args.cookie c.args.bytes.now) l) c.show-position.new.self.replicas) c.new.ensures)).0 c.free-2.new.seat c.free-2.ensures)
+    (made_is.Enters (change.Put c.args.pair c.args.cookie c.args.bytes.now) l) c.show-position.new.self.replicas) c.new.ensures)).0 c.free-2.new.seat c.free-2.ensures
+    (one_unfused g.D.Disk.fault_count g.D.Disk.fuse_count c.args.tag _ _ c.new-act.result c.new-act.ensures (λ j e. cc e)))
 
 pub returns-in-Some-clause-refusals : goal.returns-in-Some-clause-refusals
 returns-in-Some-clause-refusals g c =

@@ -2,7 +2,7 @@ use Rattle.std.proofs.Common.{[], refl, sym, ap, subst, ◌∙◌}
 use Rattle.std.specs.Prelude.{IfErr}
 use Rattle.hay_meeting.specs.Acts.{nobody}
 use Rattle.hay_turn.specs.Seats.{after_free}
-use Rattle.hay_volume_lock.specs.Answers.{RoomAnswer, IsTold, OneHolding}
+use Rattle.hay_volume_lock.specs.Answers.{RoomAnswer, IsTold, UnfusedHolding}
 use Rattle.hay_volume_lock.specs.Seats.{IsSameSeat, Seated}
 use Rattle.hay_volume_lock.proofs.Finding.{room_found}
 use Rattle.hay_volume_lock.proofs.Holding.{quiet_free, quiet_held, quiet_same, quiet_seated, quiet_told, seat_of}
@@ -35,7 +35,7 @@ returns-clause-room g c = λ tag.
 
 pub returns-clause-held : goal.returns-clause-held
 returns-clause-held g c = λ tag.
-    subst (λ (s : Seated g.row.D.Denot g.row.P.Denot). OneHolding tag s.sight (seat_of c.free.new.seat c.show_all.new.seat).sight) c.seat.view_is
+    subst (λ (s : Seated g.row.D.Denot g.row.P.Denot). UnfusedHolding tag s.sight (seat_of c.free.new.seat c.show_all.new.seat).sight) c.seat.view_is
     (quiet_held g.D.Disk.Tells g.D.Disk.files g.P.Piece.Tells g.D.Disk.fault_count g.D.Disk.fuse_count tag c.seat.inside.turn c.hold-kept.new.seat c.free.new.seat
     c.seat.inside.view c.show_all.new.seat c.hold-kept.result c.seat.invariant c.hold-kept.ensures c.show_all.ensures.seen.0 c.show_all.ensures.seen.1 c.free.ensures)
 

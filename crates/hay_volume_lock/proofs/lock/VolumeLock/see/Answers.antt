@@ -6,11 +6,11 @@ use Rattle.hay_meeting.specs.Acts.{nobody}
 use Rattle.hay_turn.specs.Seats.{after_free}
 use Rattle.hay_turn.specs.Slots.{acts_in}
 use Rattle.hay_volume_lock.specs.Acts.{counts}
-use Rattle.hay_volume_lock.specs.Answers.{FailedLook, IsAlways, IsTold, OneHolding}
+use Rattle.hay_volume_lock.specs.Answers.{FailedLook, IsAlways, IsTold, UnfusedHolding}
 use Rattle.hay_volume_lock.specs.Changes.{SeeAnswer, freezes_by}
 use Rattle.hay_volume_lock.specs.Seats.{Seated}
 use Rattle.hay_volume_lock.specs.Tries.{IsTried}
-use Rattle.hay_volume_lock.proofs.Holding.{all_there, few_there, is_held, made_always, made_free, made_held, made_mine, made_seated, made_told, quiet_free, quiet_held}
+use Rattle.hay_volume_lock.proofs.Holding.{all_there, few_there, is_held, made_always, made_free, made_mine, made_seated, made_told, quiet_free, quiet_held, made_unfused}
 use Rattle.hay_volume_lock.proofs.Holding.{quiet_seated, quiet_told, seat_of, within_it}
 use Rattle.hay_volume_lock.proofs.Publishing.{changed_free, changed_held, changed_mine, changed_seated, changed_told, later_deed, later_same, shows_nothing}
 use Rattle.hay_volume_lock.proofs.Putting.{both_again, err_same, nothing_made}
@@ -18,6 +18,9 @@ use Rattle.hay_volume_lock.proofs.Seeing.{long_at, look_known, of_refused, row_l
 use Rattle.hay_volume_lock.proofs.Seeing.{sees_nothing, tried_quiet, unseen}
 use Rattle.hay_volume_lock.specs.Refusing.{OfOpened, RefusesSight}
 use Rattle.hay_volume_lock.proofs.Refusing.{refuses_sight, of_opened}
+use Rattle.hay_volume_lock.proofs.Unfused.{IsNoFuse, freezes_unfused, made_unfused_by, tried_unfused, tries_unfused}
+use Rattle.hay_volume_lock.specs.declared.act.Made.{Made}
+use Rattle.std.specs.Prelude.{IfSome}
 use Rattle.hay_volume_lock.proofs.lock.VolumeLock.see.Goals as goal
 
 pub show_all-requires : goal.show_all-requires
@@ -64,7 +67,7 @@ returns-then-is_seen-clause-seen g c =
 
 pub returns-then-is_seen-clause-held : goal.returns-then-is_seen-clause-held
 returns-then-is_seen-clause-held g c =
-    subst (λ (s : Seated g.row.D.Denot g.row.P.Denot). OneHolding c.args.tag s.sight (seat_of c.free.new.seat c.show_all.new.seat).sight) c.seat.view_is
+    subst (λ (s : Seated g.row.D.Denot g.row.P.Denot). UnfusedHolding c.args.tag s.sight (seat_of c.free.new.seat c.show_all.new.seat).sight) c.seat.view_is
     (quiet_held g.D.Disk.Tells g.D.Disk.files g.P.Piece.Tells g.D.Disk.fault_count g.D.Disk.fuse_count c.args.tag c.seat.inside.turn c.hold-kept.new.seat c.free.new.seat
     c.seat.inside.view c.show_all.new.seat c.hold-kept.result c.seat.invariant c.hold-kept.ensures c.show_all.ensures.seen.0 c.show_all.ensures.seen.1 c.free.ensures)
 
@@ -222,8 +225,8 @@ returns-in-Err-clause-causes g c = λ m f is.
 
 pub returns-in-Err-clause-held : goal.returns-in-Err-clause-held
 returns-in-Err-clause-held g c =
-    subst (λ (s : Seated g.row.D.Denot g.row.P.Denot). OneHolding c.args.tag s.sight (seat_of c.free-in-Err.new.seat c.show_all.new.seat).sight) c.seat.view_is
-    (made_held g.D.Disk.Tells g.D.Disk.files g.P.Piece.Tells g.D.Disk.fault_count g.D.Disk.fuse_count c.args.tag c.seat.inside.turn c.hold-kept.new.seat c.free-in-Err.new.seat
+    subst (λ (s : Seated g.row.D.Denot g.row.P.Denot). UnfusedHolding c.args.tag s.sight (seat_of c.free-in-Err.new.seat c.show_all.new.seat).sight) c.seat.view_is
+    (made_unfused g.D.Disk.Tells g.D.Disk.files g.P.Piece.Tells g.D.Disk.fault_count g.D.Disk.fuse_count c.args.tag c.seat.inside.turn c.hold-kept.new.seat c.free-in-Err.new.seat
     c.seat.inside.view c.show_all.new.seat c.hold-kept.result (record c.hold-kept.result { logical = c.see.new.self })
     c.act_made-made.result c.seat.invariant c.hold-kept.ensures c.show_all.ensures.seen.0 c.show_all.ensures.seen.1
     (see_refused g.D.Disk.Tells g.D.Disk.files g.P.Piece.Tells g.D.Disk.fault_count g.D.Disk.fuse_count c.args.tag c.args.pair c.args.replica c.hold-kept.result
@@ -239,7 +242,9 @@ returns-in-Err-clause-held g c =
       acts = λ m is. c.act_made-made.ensures.did m (c.sight_did.ensures ∙ is);
       tries = λ none. (subst (λ (l : List ℕ). IsTried g.D.Disk.fault_count g.D.Disk.fuse_count c.args.tag l c.see.new.self.replicas c.act_made-made.result)
           c.faults_of-before.ensures (c.act_made-made.ensures.tried (c.sight_did.ensures ∙ none)));
-    })).goes c.free-in-Err.ensures)
+    })).goes c.free-in-Err.ensures
+    (made_unfused_by g.D.Disk.fault_count g.D.Disk.fuse_count c.args.tag _ _ c.sight_did.result c.act_made-made.result
+    (subst (λ (o : Option Made). IfSome o IsNoFuse) (sym c.sight_did.ensures) (tried_unfused _)) c.act_made-made.ensures.did c.act_made-made.ensures.tried))
 
 pub act_made-made-requires-then-is_closed-clause-all : goal.act_made-made-requires-then-is_closed-clause-all
 act_made-made-requires-then-is_closed-clause-all g c =
@@ -356,7 +361,7 @@ returns-then-is_closed-clause-seen g c =
 
 pub returns-then-is_closed-clause-held : goal.returns-then-is_closed-clause-held
 returns-then-is_closed-clause-held g c =
-    subst (λ (s : Seated g.row.D.Denot g.row.P.Denot). OneHolding c.args.tag s.sight (seat_of c.free-then-is_closed.new.seat c.show_all.new.seat).sight) c.seat.view_is
+    subst (λ (s : Seated g.row.D.Denot g.row.P.Denot). UnfusedHolding c.args.tag s.sight (seat_of c.free-then-is_closed.new.seat c.show_all.new.seat).sight) c.seat.view_is
     (changed_held g.D.Disk.Tells g.D.Disk.files g.P.Piece.Tells g.D.Disk.fault_count g.D.Disk.fuse_count c.args.tag c.seat.inside.turn c.hold-kept.new.seat c.seat.inside.view
     c.show_all.new.seat c.show_all.new.seat c.hold-kept.result (record c.hold-kept.result { logical = c.see.new.self }) c.act_made-made-then-is_closed.result
     c.seat.invariant c.hold-kept.ensures c.show_all.ensures.seen.0 c.show_all.ensures.seen.1 c.show_all.ensures.seen.1
@@ -367,7 +372,8 @@ returns-then-is_closed-clause-held g c =
     (sym c.is_closed.ensures ∙ c.if-is_closed.true) (is_held g.D.Disk.Tells g.D.Disk.files g.P.Piece.Tells g.D.Disk.fault_count g.D.Disk.fuse_count c.seat.invariant
     c.hold-kept.ensures).serves) c.act_made-made-then-is_closed.result (subst (λ (l : List ℕ).
     IsTried g.D.Disk.fault_count g.D.Disk.fuse_count c.args.tag l c.see.new.self.replicas c.act_made-made-then-is_closed.result) c.faults_of-before.ensures
-    (c.act_made-made-then-is_closed.ensures.tried refl))) c.free-then-is_closed.new.seat c.free-then-is_closed.ensures)
+    (c.act_made-made-then-is_closed.ensures.tried refl))) c.free-then-is_closed.new.seat c.free-then-is_closed.ensures
+    (tries_unfused g.D.Disk.fault_count g.D.Disk.fuse_count c.args.tag _ _ c.act_made-made-then-is_closed.result (c.act_made-made-then-is_closed.ensures.tried refl)))
 
 pub free-requires-2-clause-may : goal.free-requires-2-clause-may
 free-requires-2-clause-may g c = record {
@@ -453,7 +459,7 @@ returns-clause-seen g c =
 
 pub returns-clause-held : goal.returns-clause-held
 returns-clause-held g c =
-    subst (λ (s : Seated g.row.D.Denot g.row.P.Denot). OneHolding c.args.tag s.sight (seat_of c.free-2.new.seat c.publish.new.seat).sight) c.seat.view_is
+    subst (λ (s : Seated g.row.D.Denot g.row.P.Denot). UnfusedHolding c.args.tag s.sight (seat_of c.free-2.new.seat c.publish.new.seat).sight) c.seat.view_is
     (changed_held g.D.Disk.Tells g.D.Disk.files g.P.Piece.Tells g.D.Disk.fault_count g.D.Disk.fuse_count c.args.tag c.seat.inside.turn c.hold-kept.new.seat c.seat.inside.view
     c.show_all.new.seat c.publish.new.seat c.hold-kept.result (record c.hold-kept.result { logical = c.see.new.self; front = c.publish.new.self }) c.act_made-made-2.result
     c.seat.invariant c.hold-kept.ensures c.show_all.ensures.seen.0 c.show_all.ensures.seen.1 c.in-Ok-publish.ensures.seen.1
@@ -466,7 +472,8 @@ returns-clause-held g c =
     c.sight_of-op.ensures (within_it g.D.Disk.Tells g.D.Disk.files g.P.Piece.Tells g.D.Disk.fault_count g.D.Disk.fuse_count c.seat.invariant c.hold-kept.ensures c.args.replica
     (c.requires.within c.seat.invariant.opened (sym (ap (λ (s : Seated g.row.D.Denot g.row.P.Denot). s.start) c.seat.view_is) ∙ c.seat.invariant.is))) c.in-Ok.ensures.row
     c.in-Ok-publish.ensures.done.0) c.act_made-made-2.result (subst (λ (l : List ℕ). IsTried g.D.Disk.fault_count g.D.Disk.fuse_count c.args.tag l c.see.new.self.replicas
-    c.act_made-made-2.result) c.faults_of-before.ensures (c.act_made-made-2.ensures.tried refl))) c.free-2.new.seat c.free-2.ensures)
+    c.act_made-made-2.result) c.faults_of-before.ensures (c.act_made-made-2.ensures.tried refl))) c.free-2.new.seat c.free-2.ensures
+    (tries_unfused g.D.Disk.fault_count g.D.Disk.fuse_count c.args.tag _ _ c.act_made-made-2.result (c.act_made-made-2.ensures.tried refl)))
 
 pub free-requires-in_default-clause-may : goal.free-requires-in_default-clause-may
 free-requires-in_default-clause-may g c = record {
@@ -593,7 +600,7 @@ returns-in_default-clause-seen g c =
 
 pub returns-in_default-clause-held : goal.returns-in_default-clause-held
 returns-in_default-clause-held g c =
-    subst (λ (s : Seated g.row.D.Denot g.row.P.Denot). OneHolding c.args.tag s.sight (seat_of c.free-in_default.new.seat c.publish.new.seat).sight) c.seat.view_is
+    subst (λ (s : Seated g.row.D.Denot g.row.P.Denot). UnfusedHolding c.args.tag s.sight (seat_of c.free-in_default.new.seat c.publish.new.seat).sight) c.seat.view_is
     (changed_held g.D.Disk.Tells g.D.Disk.files g.P.Piece.Tells g.D.Disk.fault_count g.D.Disk.fuse_count c.args.tag c.seat.inside.turn c.hold-kept.new.seat c.seat.inside.view
     c.show_all.new.seat c.publish.new.seat c.hold-kept.result (record c.hold-kept.result { logical = c.freeze.new.self; front = c.publish.new.self }) c.act_made-made-in_default.result
     c.seat.invariant c.hold-kept.ensures c.show_all.ensures.seen.0 c.show_all.ensures.seen.1 c.in_default.ensures.seen.1
@@ -614,7 +621,9 @@ returns-in_default-clause-held g c =
       tries = λ none. (subst (λ (l : List ℕ). IsTried g.D.Disk.fault_count g.D.Disk.fuse_count c.args.tag l c.freeze.new.self.replicas c.act_made-made-in_default.result)
           c.faults_of-before.ensures (c.act_made-made-in_default.ensures.tried ((c.freeze_did-did.ensures
           ∙ ap (λ (f : Option ℕ). freezes_by c.frozen-frozen.result f) c.frozen.ensures.is) ∙ none)));
-    })).0 c.free-in_default.new.seat c.free-in_default.ensures)
+    })).0 c.free-in_default.new.seat c.free-in_default.ensures
+    (made_unfused_by g.D.Disk.fault_count g.D.Disk.fuse_count c.args.tag _ _ c.freeze_did-did.result c.act_made-made-in_default.result
+    (subst (λ (o : Option Made). IfSome o IsNoFuse) (sym c.freeze_did-did.ensures) (freezes_unfused _ _)) c.act_made-made-in_default.ensures.did c.act_made-made-in_default.ensures.tried))
 
 pub returns-then-is_seen-clause-long : goal.returns-then-is_seen-clause-long
 returns-then-is_seen-clause-long g c = λ opened is.

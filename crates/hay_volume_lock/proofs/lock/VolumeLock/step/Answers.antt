@@ -3,14 +3,15 @@ use Rattle.std.specs.Prelude.{IfSome}
 use Rattle.hay_turn.specs.Seats.{after_free}
 use Rattle.hay_turn.specs.Slots.{acts_in}
 use Rattle.hay_volume_lock.specs.Acts.{act_of}
-use Rattle.hay_volume_lock.specs.Answers.{IsAlways, IsTold, OneHolding}
+use Rattle.hay_volume_lock.specs.Answers.{IsAlways, IsTold, UnfusedHolding}
 use Rattle.hay_volume_lock.specs.Compactions.{FailedHere, StepAnswer, StepHalted}
 use Rattle.hay_volume_lock.specs.Seats.{Seated}
 use Rattle.hay_volume_lock.proofs.Growing.{of_still}
-use Rattle.hay_volume_lock.proofs.Holding.{is_held, made_always, made_free, made_held, made_mine, made_seated, made_told, quiet_free, quiet_held, quiet_seated, quiet_told, seat_of, within_it}
+use Rattle.hay_volume_lock.proofs.Holding.{is_held, made_always, made_free, made_mine, made_seated, made_told, quiet_free, quiet_held, quiet_seated, quiet_told, seat_of, within_it, made_unfused}
 use Rattle.hay_volume_lock.proofs.Stepping.{barred_found, step_failed, step_found, step_goes}
 use Rattle.hay_volume_lock.specs.Refusing.{OfOpened, RefusesRun}
 use Rattle.hay_volume_lock.proofs.Refusing.{refuses_run, of_opened, some_refused}
+use Rattle.hay_volume_lock.proofs.Unfused.{IsNoFuse, one_unfused, step_unfused}
 use Rattle.hay_volume_lock.proofs.lock.VolumeLock.step.Goals as goal
 
 pub show_all-requires : goal.show_all-requires
@@ -54,7 +55,7 @@ returns-in-Some-clause-stepped g c =
 
 pub returns-in-Some-clause-held : goal.returns-in-Some-clause-held
 returns-in-Some-clause-held g c =
-    subst (λ (s : Seated g.row.D.Denot g.row.P.Denot). OneHolding c.args.tag s.sight (seat_of c.free.new.seat c.show_all.new.seat).sight) c.seat.view_is
+    subst (λ (s : Seated g.row.D.Denot g.row.P.Denot). UnfusedHolding c.args.tag s.sight (seat_of c.free.new.seat c.show_all.new.seat).sight) c.seat.view_is
     (quiet_held g.D.Disk.Tells g.D.Disk.files g.P.Piece.Tells g.D.Disk.fault_count g.D.Disk.fuse_count c.args.tag c.seat.inside.turn c.hold-kept.new.seat c.free.new.seat
     c.seat.inside.view c.show_all.new.seat c.hold-kept.result c.seat.invariant c.hold-kept.ensures c.show_all.ensures.seen.0 c.show_all.ensures.seen.1 c.free.ensures)
 
@@ -173,10 +174,11 @@ returns-clause-held g c =
     (record c.hold-kept.result { logical = c.examine-examined.new.logical }) of.0 of.1 refl refl c.in_default.ensures.own c.in_default.ensures.free
     c.examine-examined.ensures.others c.args.cells c.examine-examined.result c.new-act.result c.examine-examined.ensures.tight c.examine-examined.ensures.told
     (c.new-act.ensures ∙ ap (λ m. act_of g.D.Disk.fault_count g.D.Disk.fuse_count c.args.tag m c.examine-examined.new.logical.replicas) c.step_did.ensures) in
-    subst (λ (s : Seated g.row.D.Denot g.row.P.Denot). OneHolding c.args.tag s.sight (seat_of c.free-2.new.seat c.show_all.new.seat).sight) c.seat.view_is
-    (made_held g.D.Disk.Tells g.D.Disk.files g.P.Piece.Tells g.D.Disk.fault_count g.D.Disk.fuse_count c.args.tag c.seat.inside.turn c.hold-kept.new.seat c.free-2.new.seat
+    subst (λ (s : Seated g.row.D.Denot g.row.P.Denot). UnfusedHolding c.args.tag s.sight (seat_of c.free-2.new.seat c.show_all.new.seat).sight) c.seat.view_is
+    (made_unfused g.D.Disk.Tells g.D.Disk.files g.P.Piece.Tells g.D.Disk.fault_count g.D.Disk.fuse_count c.args.tag c.seat.inside.turn c.hold-kept.new.seat c.free-2.new.seat
     c.seat.inside.view c.show_all.new.seat c.hold-kept.result (record c.hold-kept.result { logical = c.examine-examined.new.logical }) (Some c.new-act.result)
-    c.seat.invariant c.hold-kept.ensures c.show_all.ensures.seen.0 c.show_all.ensures.seen.1 goes_on c.free-2.ensures)
+    c.seat.invariant c.hold-kept.ensures c.show_all.ensures.seen.0 c.show_all.ensures.seen.1 goes_on c.free-2.ensures
+    (one_unfused g.D.Disk.fault_count g.D.Disk.fuse_count c.args.tag _ _ c.new-act.result c.new-act.ensures (subst IsNoFuse (sym c.step_did.ensures) (step_unfused _ _))))
 
 pub returns-in-Some-clause-refusals : goal.returns-in-Some-clause-refusals
 returns-in-Some-clause-refusals g c =
