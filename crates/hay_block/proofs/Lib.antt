@@ -17,3 +17,4 @@ pub mod Slots
 pub mod Blocks
 pub mod Whole
 pub mod Sending
+pub mod Unfused

@@ -129,7 +129,7 @@ module _ {V D S T A W : Type 0} {fits : ℕ → V → Settings → ℕ → S →
     {seats_behind : List T} {arms_behind : List A}
     {jobs : List (List Job)} {replies : List (List Reply)}
     (all : RanAll fits fits_rows is_at is_at_rows of of_rows arm_sure arm_faults stands faults fuses settings lock drained volumes seats arms behind tags seats_behind arms_behind jobs replies) where
-  abbrev Gives : Lane S T A → ℕ → Job → Lane S T A → Reply → Type 0
+  abbrev pub Gives : Lane S T A → ℕ → Job → Lane S T A → Reply → Type 0
   Gives before lane job after reply = Answers fits fits_rows is_at is_at_rows of of_rows arm_sure arm_faults (shared_by settings all.locks lock drained) lane job before after reply
 
   -- no count of a disk fell
@@ -138,7 +138,7 @@ module _ {V D S T A W : Type 0} {fits : ℕ → V → Settings → ℕ → S →
       let t = all.took v (let low = slice_get_within volumes v a at_a in omega (arith, low, many)) in
       subst (λ z. faults z j ≤ faults b j) (same_item volumes v t.was at_a) (subst (λ z. faults t.before j ≤ faults z j) (same_item behind v t.is at_b) ((t.left).rises j within))
 
-  given_lanes : length jobs ≡ length arms → length jobs ≡ length all.lanes
+  pub given_lanes : length jobs ≡ length arms → length jobs ≡ length all.lanes
   given_lanes given = given ∙ (sym (ap length all.arms_are) ∙ length-map all.lanes (λ l. l.arm))
 
   -- no count of an arm fell, and sure ones are so still

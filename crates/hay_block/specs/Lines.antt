@@ -21,6 +21,7 @@ use Rattle.hay_meeting.specs.Replies.{AnsweredHere}
 use Rattle.hay_lane.specs.declared.lane.Lane.{Lane}
 use Rattle.hay_lane.specs.declared.lane.Shared.{Shared}
 use Rattle.hay_lane.specs.Blames.{Blames, causes_told}
+use Rattle.hay_lane.specs.Fuses.{IsUnfused}
 use Rattle.hay_lane.specs.Lanes.{IsLaterArm, IsOf, IsSeated, sight}
 use Rattle.hay_shared_volume.specs.Tellings.{StoreVolume}
 use Rattle.hay_block.specs.declared.worker.Job.{Job}
@@ -59,6 +60,7 @@ module _ {V D S T A : Type 0} (fits : ℕ → V → Settings → ℕ → S → T
     -- whatever the disks tell
     pub suits : AnswersSuited shared.settings job reply
     pub bad : AnswersBad job reply
+    pub unfused : IsUnfused of of_rows old → IsUnfused of of_rows new
     pub blames : Blames arm_sure arm_faults old.arm new.arm (causes_told reply)
     pub arm : IsLaterArm arm_sure arm_faults old.arm new.arm
 

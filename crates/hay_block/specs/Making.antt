@@ -10,6 +10,7 @@ use Rattle.hay_history.specs.LaneSteps.{FollowsRows, RowsStanding}
 use Rattle.hay_meeting.specs.declared.act.DirAct.{DirAct}
 use Rattle.hay_meeting.specs.Acts.{Start, row_lock}
 use Rattle.hay_meeting.specs.Locks.{LockSight, left, replayed}
+use Rattle.hay_lane.specs.Fuses.{SetNoRowFuse}
 use Rattle.hay_block.specs.Behind.{added_row}
 use Rattle.hay_shared_volume.specs.Ends.{Ended}
 
@@ -43,4 +44,5 @@ module _ {T F : Type 0} (of : T → LockSight DirAct HomeRow) (stands : F → Di
     pub fuses_are : (known : DirKnown) (drained : List Bool) → stands directory known drained → (rows_stood_by directory known drained history).fuses ≡ fuses after
     -- whatever its disk tells
     pub rises : faults directory ≤ faults after
+    pub fuses_stay : SetNoRowFuse history → fuses after ≡ fuses directory
     pub small : faults after ≤ 2 ^ 64 - 1

@@ -27,6 +27,11 @@ pub record CountsRise {W F : Type 0} (settings : Settings) (faults : W → ℕ �
   pub volumes : (v j : ℕ) (a b : W) → slice_get old v ≡ Some a → slice_get new v ≡ Some b → j < settings.replicas → faults a j ≤ faults b j
   pub rows : row_faults before ≤ row_faults after
 
+-- and no fuse was set on one
+pub record FusesStay {W F : Type 0} (settings : Settings) (fuses : W → ℕ → ℕ) (row_fuses : F → ℕ) (old : List W) (before : F) (new : List W) (after : F) : Type 0 where
+  pub volumes : (v j : ℕ) (a b : W) → slice_get old v ≡ Some a → slice_get new v ≡ Some b → j < settings.replicas → fuses b j ≡ fuses a j
+  pub rows : row_fuses after ≡ row_fuses before
+
 module _ {W : Type 0} (stands : W → VolumeKnown → Type 0) (faults fuses : W → ℕ → ℕ) (settings : Settings) where
   -- a volume stands for all that it stood for, with the same counts of its disks
   pub record IsStill (old new : W) : Type 0 where

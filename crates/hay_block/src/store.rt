@@ -14,7 +14,7 @@ ghost use Rattle.hay_block.specs.Frames.{AreFit, HasRoom};
 ghost use Rattle.hay_block.specs.Lines.{AnswersBad, AnswersSuited, AreItems, BlameArms, IsServed};
 ghost use Rattle.hay_shared_volume.specs.Making.{AreSeated, IsVolumeOf, VolumeStands, count_of};
 ghost use Rattle.hay_block.specs.Making.{LeavesDirectory};
-ghost use Rattle.hay_block.specs.Stores.{AreUpwards, AreVolumes, CountsRise, RanLegally, StoreStands, line_of_tag, notes_from};
+ghost use Rattle.hay_block.specs.Stores.{AreUpwards, AreVolumes, CountsRise, FusesStay, RanLegally, StoreStands, line_of_tag, notes_from};
 ghost use Rattle.hay_block.specs.Parts.{IsSameParts, NotesTell};
 
 use crate::block::{Locked, Rooms, run_locked};
@@ -194,7 +194,7 @@ where
     ensures directory { L.is_of result.0.directory settings }
     ensures arms { length result.0.arms.items ≡ length jobs.now }
     ensures refused { OnErr result.1 (IsSameParts (VolumeStands D.Tells D.files P.Tells) (count_of D.fault_count) (count_of D.fuse_count) settings parts result.0) }
-    // Whatever the disks tell, each line is answered, by a reply that suits it, and no count of a disk or of an arm falls. An arm that
+    // Whatever the disks tell, each line is answered, by a reply that suits it, no count of a disk or of an arm falls, and no fuse is set. An arm that
     // was sure is so still, with the same count, and is told as no cause.
     ensures replies { IfOk result.1 (λ answers. AllZip (λ js rs. length js.items ≡ length rs.items) jobs.now answers.replies.items) }
     ensures suits { IfOk result.1 (λ answers. AllZip (λ js rs. AllZip (AnswersSuited settings) js.items rs.items) jobs.now answers.replies.items) }
@@ -204,6 +204,7 @@ where
     ensures upwards { IfOk result.1 (λ answers. IfOk answers.notes (λ notes. AreUpwards settings.volumes notes.logs.items)) }
     ensures arms_rise { AllZip (IsLaterArm A.is_sure A.fault_count) parts.arms.items result.0.arms.items }
     ensures rises { CountsRise settings (count_of D.fault_count) L.faults parts.volumes.items parts.directory result.0.volumes.items result.0.directory }
+    ensures unfused { FusesStay settings (count_of D.fuse_count) L.fuses parts.volumes.items parts.directory result.0.volumes.items result.0.directory }
     // Where the disks tell, the lines are a legal block of what was known, in any order that keeps each lane's own, with these notes, and
     // the parts stand for what is known behind it.
     ensures legal { IfOk result.1 (λ answers. (k : Known) (others : List ℕ) →

@@ -16,7 +16,7 @@ use Rattle.hay_logical.specs.Volumes.{IsOpenVolume, Volume}
 use Rattle.hay_meeting.proofs.Closing.{there}
 use Rattle.hay_block.proofs.Lists.{each_at, each_by, zip_long}
 use Rattle.hay_block.specs.Frames.{AreFit}
-use Rattle.hay_block.specs.Stores.{AreStill, AreVolumes, CountsRise, StoreStands, by_slot}
+use Rattle.hay_block.specs.Stores.{AreStill, AreVolumes, CountsRise, FusesStay, StoreStands, by_slot}
 use Rattle.hay_locks.specs.Making.{DirectoryStands, IsDirectoryOf, rows_count_of}
 use Rattle.hay_shared_volume.specs.Making.{VolumeStands, count_of}
 use Rattle.hay_shared_volume.specs.Making as locks
@@ -149,6 +149,12 @@ module _ {D P : Type 0} (settings : Settings) where
         subst (λ z. NoneFalls z (map faults (new.disk ∷ flat_map volume_disks after))) (slots_before faults)
         (subst (λ z. NoneFalls (by_slot settings (rows_count_of faults old) (count_of faults) before) z) (slots_after faults)
         (slots_zip ◌≤◌ (count_of faults) settings (rows_count_of faults old) (rows_count_of faults new) before after as_many rise.rows rise.volumes))
+
+    pub none_set : (fuses : D → ℕ) → FusesStay settings (count_of fuses) (rows_count_of fuses) before old after new
+        → map fuses (new.disk ∷ flat_map volume_disks after) ≡ map fuses (old.disk ∷ flat_map volume_disks before)
+    none_set fuses stay =
+        sym (slots_after fuses)
+        ∙ (slots_same (count_of fuses) settings (rows_count_of fuses old) (rows_count_of fuses new) before after as_many stay.rows stay.volumes ∙ slots_before fuses)
 
     pub same_counts : (count : D → ℕ) → new ≡ old
         → ((v j : ℕ) (a b : Volume D P) → slice_get before v ≡ Some a → slice_get after v ≡ Some b → j < settings.replicas → count_of count b j ≡ count_of count a j)

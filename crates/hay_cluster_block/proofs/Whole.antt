@@ -19,7 +19,7 @@ use Rattle.hay_block.specs.declared.store.BlockNotes.{BlockNotes}
 use Rattle.hay_block.specs.declared.worker.Job.{Job}
 use Rattle.hay_block.specs.Lines.{AreItems}
 use Rattle.hay_block.specs.Parts.{NotesTell}
-use Rattle.hay_block.specs.Stores.{AreStill, AreVolumes, CountsRise, RanLegally}
+use Rattle.hay_block.specs.Stores.{AreStill, AreVolumes, CountsRise, FusesStay, RanLegally}
 use Rattle.hay_locks.specs.Making.{DirectoryStands, IsDirectoryOf, rows_count_of}
 use Rattle.hay_shared_volume.specs.Making.{VolumeStands, count_of}
 use Rattle.hay_shared_volume.specs.Making as locks
@@ -28,7 +28,7 @@ use Rattle.hay_cluster.specs.State.{Stands}
 use Rattle.hay_cluster.specs.Store.{IsShaped, IsUp, Open, disks_of}
 use Rattle.hay_cluster_block.proofs.Behind.{ran_block}
 use Rattle.hay_cluster_block.proofs.Rising.{all_many, arms_rise, arms_sure}
-use Rattle.hay_cluster_block.proofs.Standing.{AllStand, given_directory, given_volumes, made, none_falls, parts_stand, shape_behind, stays_as, up_behind}
+use Rattle.hay_cluster_block.proofs.Standing.{AllStand, given_directory, given_volumes, made, none_falls, none_set, parts_stand, shape_behind, stays_as, up_behind}
 use Rattle.hay_cluster_block.specs.Blocks.{RanBlock, StaysAs}
 use Rattle.hay_cluster_block.specs.Notes.{entered_notes}
 
@@ -79,6 +79,13 @@ module _ {D P A : Type 0} {settings : Settings} {directory : State D} {before : 
         subst (λ (z : Open D P A). NoneFalls (map faults (disks_of z)) (map faults (disks_of store))) (sym was)
         (subst (λ (z : Open D P A). NoneFalls (map faults (disks_of (made settings directory before arms))) (map faults (disks_of z))) (sym is)
         (none_falls settings directory new before after were are faults rise))
+
+    pub fuses_same : (fuses : D → ℕ) → FusesStay settings (count_of fuses) (rows_count_of fuses) before directory after new
+        → map fuses (disks_of store) ≡ map fuses (disks_of cluster)
+    fuses_same fuses stay =
+        subst (λ (z : Open D P A). map fuses (disks_of store) ≡ map fuses (disks_of z)) (sym was)
+        (subst (λ (z : Open D P A). map fuses (disks_of z) ≡ map fuses (disks_of (made settings directory before arms))) (sym is)
+        (none_set settings directory new before after were are fuses stay))
 
   module _ {new : State D} {after : List (Volume D P)} {whole : List A} {store : Open D P A} (is : store ≡ made settings new after whole) (is_sure : A → Bool) (arm_faults : A → ℕ)
       (later : AllZip (IsLaterArm is_sure arm_faults) arms whole) where

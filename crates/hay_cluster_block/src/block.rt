@@ -126,6 +126,7 @@ where
     ensures notes { IfOk result.1 (λ answers. IfOk answers.notes (λ notes. AreBlockNotes cluster.settings.volumes notes.items × AllByRecursion FitsNote notes.items)) }
     ensures rows { IfOk result.1 (λ answers. IfOk answers.notes (λ notes. AllByRecursion (TellsRowsOf (home_of result.0.directory) (all_jobs jobs.now)) notes.items)) }
     ensures counts { NoneFalls (map D.fault_count (disks_of cluster)) (map D.fault_count (disks_of result.0)) }
+    ensures fuses { map D.fuse_count (disks_of result.0) ≡ map D.fuse_count (disks_of cluster) }
     ensures arm_counts { NoneFalls (map A.fault_count cluster.arms) (map A.fault_count result.0.arms) }
     ensures other_arms { drop (length jobs.now) result.0.arms ≡ drop (length jobs.now) cluster.arms }
     ensures sure_arms { StaySure A.is_sure A.fault_count cluster.arms result.0.arms }

@@ -17,8 +17,10 @@ use Rattle.hay_holdings.specs.Sights.{AtArm, AtDirectory, AtVolume}
 use Rattle.hay_holdings.specs.Volumes.{VolumeCall}
 use Rattle.hay_lane.specs.declared.lane.Lane.{Lane}
 use Rattle.hay_lane.specs.declared.lane.Shared.{Shared}
+use Rattle.hay_lane.specs.Fuses.{IsUnfused, SetNoRowFuse}
 use Rattle.hay_lane.specs.Lanes.{IsOf, IsSeated, known_by, sight}
 use Rattle.hay_shared_volume.specs.Tellings.{Stays, StoreVolume}
+use Rattle.hay_volume_lock.specs.Acts.{SetNoFuse}
 use Rattle.hay_lane.proofs.Lists.{get_read, get_set, get_set_other, length_set}
 
 module _ {V D S T A : Type 0} (fits : ℕ → V → Settings → ℕ → S → Type 0) (fits_rows : D → Settings → ℕ → T → Type 0) (shared : Shared V D) (number : ℕ) (lane : Lane S T A)
@@ -92,6 +94,17 @@ module _ {V D S T A : Type 0} (fits : ℕ → V → Settings → ℕ → S → T
           rows = of.rows;
         }
 
+      -- a lane that set no fuse has set none
+      pub still_unfused : (of : S → LockSight VolumeAct Entry) (of_rows : T → LockSight DirAct HomeRow) → (SetNoFuse (of (slice_index_or seats v seat)).own → SetNoFuse (of new).own)
+          → IsUnfused of of_rows lane → IsUnfused of of_rows moved
+      still_unfused of of_rows unfused before = record {
+        volumes = λ u s has. dite (ℕ_discrete u v)
+            (λ same. subst (λ x. SetNoFuse (of x).own) (same_seat s (subst (λ w. slice_get (moved.volumes).items w ≡ Some s) same has))
+            (unfused (before.volumes v (slice_index_or seats v seat) seat_at)))
+            (λ differs. before.volumes u s (sym (still_at u differs) ∙ has));
+        rows = before.rows;
+      }
+
       -- what the call told is a step of the lane
       pub stepped : (of : S → LockSight VolumeAct Entry) (of_rows : T → LockSight DirAct HomeRow) (faults : A → ℕ) (Is : VolumeCall) → Is (of (slice_index_or seats v seat)) (of new)
           → AtVolume v Is (sight of of_rows faults lane) (sight of of_rows faults moved)
@@ -127,6 +140,10 @@ module _ {V D S T A : Type 0} (fits : ℕ → V → Settings → ℕ → S → T
       pub still_of_rows : (is_at : S → StoreVolume → Type 0) (settings : Settings) (start : Start) → IsOf is_at is_at_rows settings start lane → IsOf is_at is_at_rows settings start moved_rows
       still_of_rows is_at settings start of = record { each = of.each; rows = stays.at_still start of.rows }
 
+    pub unfused_rows : (of : S → LockSight VolumeAct Entry) (of_rows : T → LockSight DirAct HomeRow) → (SetNoRowFuse (of_rows lane.directory).own → SetNoRowFuse (of_rows new).own)
+        → IsUnfused of of_rows lane → IsUnfused of of_rows moved_rows
+    unfused_rows of of_rows unfused before = record { volumes = before.volumes; rows = unfused before.rows }
+
     pub stepped_rows : (of : S → LockSight VolumeAct Entry) (of_rows : T → LockSight DirAct HomeRow) (faults : A → ℕ) (Is : DirectoryCall) → Is (of_rows lane.directory) (of_rows new)
         → AtDirectory Is (sight of of_rows faults lane) (sight of of_rows faults moved_rows)
     stepped_rows of of_rows faults Is is = record { is = is; volumes = λ v. refl; arm = refl }
@@ -154,6 +171,9 @@ module _ {V D S T A : Type 0} (fits : ℕ → V → Settings → ℕ → S → T
     pub still_of_arm : (is_at : S → StoreVolume → Type 0) (is_at_rows : T → Start → Type 0) (settings : Settings) (start : Start) → IsOf is_at is_at_rows settings start lane
         → IsOf is_at is_at_rows settings start moved_arm
     still_of_arm is_at is_at_rows settings start of = record { each = of.each; rows = of.rows }
+
+    pub unfused_arm : (of : S → LockSight VolumeAct Entry) (of_rows : T → LockSight DirAct HomeRow) → IsUnfused of of_rows lane → IsUnfused of of_rows moved_arm
+    unfused_arm of of_rows before = record { volumes = before.volumes; rows = before.rows }
 
     pub fetched : (of : S → LockSight VolumeAct Entry) (of_rows : T → LockSight DirAct HomeRow) (faults : A → ℕ) → faults lane.arm ≤ faults new → (faults new ≡ faults lane.arm) ⊎ (faults new < 2 ^ 64)
         → AtArm (sight of of_rows faults lane) (sight of of_rows faults moved_arm)

@@ -1,6 +1,7 @@
-pub mod Tellings
+pub mod Blames
+pub mod Fuses
 pub mod Lanes
-pub mod Replies
 pub mod Puts
 pub mod Reads
-pub mod Blames
+pub mod Replies
+pub mod Tellings

@@ -6,6 +6,7 @@ ghost use Rattle.hay_meeting.specs.declared.act.DirAct.{DirAct};
 ghost use Rattle.hay_meeting.specs.Acts.{Start};
 ghost use Rattle.hay_meeting.specs.Locks.{LockSight};
 ghost use Rattle.hay_holdings.specs.Rows.{Drained, FusedDir, HomeShown};
+ghost use Rattle.hay_lane.specs.Fuses.{SetNoRowFuse};
 ghost use Rattle.hay_lane.specs.Tellings.{SettleTells};
 ghost use Rattle.hay_shared_volume.specs.Tellings.{Stays};
 
@@ -32,6 +33,7 @@ pub trait DirectoryCalls {
         requires fits { (settings : Settings) × (lane : ℕ) × fits self.now settings lane seat.old }
         ensures stays { Stays fits is_at self.now seat.old seat.new }
         ensures below { (settings : Settings) (lane : ℕ) → fits self.now settings lane seat.old → IfSome result.1 (λ home. home < settings.volumes) }
+        ensures unfused { SetNoRowFuse (sight seat.old).own → SetNoRowFuse (sight seat.new).own }
         ensures tells { (start : Start) → is_at seat.old start → HomeShown start pair result.0 result.1 (sight seat.old) (sight seat.new) };
 
     /// Gives a pair a home, unless it has one, and answers its home and how many rows there are.
@@ -46,6 +48,7 @@ pub trait DirectoryCalls {
         requires fits { (settings : Settings) × fits self.now settings tag.lane seat.old × (volume < settings.volumes) }
         ensures stays { Stays fits is_at self.now seat.old seat.new }
         ensures below { (settings : Settings) (lane : ℕ) → fits self.now settings lane seat.old → IfOk result (λ answer. answer.0 < settings.volumes) }
+        ensures unfused { SetNoRowFuse (sight seat.old).own → SetNoRowFuse (sight seat.new).own }
         ensures tells { (start : Start) → is_at seat.old start → SettleTells start tag (record { pair = pair; volume = volume }) result (sight seat.old) (sight seat.new) };
 
     /// Closes a machine to changes.

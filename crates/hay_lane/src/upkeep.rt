@@ -4,6 +4,7 @@ ghost use Rattle.hay_script.specs.declared.Command.TheVariants as asks;
 ghost use Rattle.hay_legal.specs.Suiting.{Suits};
 ghost use Rattle.hay_meeting.specs.Acts.{Start};
 ghost use Rattle.hay_holdings.specs.Lines.{IsAnswered};
+ghost use Rattle.hay_lane.specs.Fuses.{IsUnfused};
 ghost use Rattle.hay_lane.specs.Lanes.{IsOf, IsSeated, sight};
 ghost use Rattle.hay_reply.specs.Fits.{FitsReply};
 ghost use Rattle.hay_shared_volume.specs.Seats.{IsSeatOf, WasAt, sight_of};
@@ -35,6 +36,7 @@ impl<D: Disk<Piece = P>, P: Piece, L: DirectoryCalls> Shared<SharedVolume<D, P>,
         ensures seated { IsSeated IsSeatOf L.fits self.now tag.lane lane.new }
         ensures same { (start : Start) → IsOf (WasAt D.Tells D.files P.Tells D.fault_count D.fuse_count) L.is_at self.now.settings start lane.old
             → IsOf (WasAt D.Tells D.files P.Tells D.fault_count D.fuse_count) L.is_at self.now.settings start lane.new }
+        ensures unfused { IsUnfused sight_of L.sight lane.old → IsUnfused sight_of L.sight lane.new }
         ensures arm { lane.new.arm ≡ lane.old.arm }
         ensures answered { (start : Start) → IsOf (WasAt D.Tells D.files P.Tells D.fault_count D.fuse_count) L.is_at self.now.settings start lane.old →
             IsAnswered self.now.settings start self.now.drained.items tag (asks.Flush volume machine) result

@@ -1,5 +1,5 @@
 -- Seats of the Directory's lock that lanes share.
-use Rattle.std.proofs.Common.{◌≡◌, ℕ, sym, subst, ◌∙◌, Some}
+use Rattle.std.proofs.Common.{◌≡◌, ◌++◌, ℕ, List, [], ◌∷◌, sym, subst, ◌∙◌, Some}
 use Rattle.std.specs.Prelude.{Result, Ok, Err}
 use Rattle.hay_needle.specs.declared.settings.Settings.{Settings}
 use Rattle.hay_core.specs.declared.entry.CoreTag.{CoreTag}
@@ -9,9 +9,11 @@ use Rattle.hay_meeting.specs.Acts.{Start}
 use Rattle.hay_meeting.specs.Locks.{LockSight}
 use Rattle.hay_directory.specs.declared.fault.DirFault.{DirFault}
 use Rattle.hay_directory.specs.declared.fault.DirFault.TheVariants as refusal
+use Rattle.hay_turn.specs.Slots.{acts_in}
+use Rattle.hay_lane.specs.Fuses.{SetNoRowFuse}
 use Rattle.hay_lane.specs.Tellings.{SettleTells}
 use Rattle.hay_shared_volume.specs.Tellings.{Stays}
-use Rattle.hay_directory_lock.specs.Answers.{IsTold, SettlesAs}
+use Rattle.hay_directory_lock.specs.Answers.{IsTold, OneLook, SettlesAs, UnfusedHolding}
 use Rattle.hay_directory_lock.specs.Begun.{BegunAt}
 use Rattle.hay_directory_lock.specs.Seats.{DirectorySeatState, IsSeated, LockState}
 use Rattle.hay_locks.specs.declared.directory.SharedDirectory.{SharedDirectory}
@@ -46,3 +48,15 @@ settle_tells start tag row (Ok answer) a b x = x
 settle_tells start tag row (Err refusal.Frozen) a b x = x
 settle_tells start tag row (Err refusal.NoMemory) a b x = x
 settle_tells start tag row (Err (refusal.Failed faults)) a b x = x
+
+-- A CALL THAT SETS NO FUSE
+
+both_unfused : (xs ys : List DirAct) → SetNoRowFuse xs → SetNoRowFuse ys → SetNoRowFuse (xs ++ ys)
+both_unfused [] ys some more = more
+both_unfused (x ∷ xs) ys some more = (some.0, both_unfused xs ys some.1 more)
+
+pub rows_unfused : {tag : CoreTag} {a b : LockSight DirAct HomeRow} → UnfusedHolding tag a b → SetNoRowFuse a.own → SetNoRowFuse b.own
+rows_unfused {tag} {a} held none = subst SetNoRowFuse (sym (held.holding).own) (both_unfused a.own (acts_in held.made) none held.is)
+
+pub rows_looked : {a b : LockSight DirAct HomeRow} → OneLook a b → SetNoRowFuse a.own → SetNoRowFuse b.own
+rows_looked looked none = subst SetNoRowFuse (sym looked.own) none

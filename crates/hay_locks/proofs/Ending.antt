@@ -76,5 +76,6 @@ module _ {D P : Type 0} {shared : SharedDirectory D P} {settings : Settings} {ro
           fuses_are = λ known drained stands.
               sym (kept.counted (standing_of faults fuses (made.begun).directory known drained) (stands_at files faults fuses (made.begun).directory known drained stands.stands).counted).fuses_are;
           rises = kept.rises;
+          fuses_stay = kept.fuses_stay;
           small = small;
         })

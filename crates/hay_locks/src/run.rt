@@ -11,7 +11,7 @@ ghost use Rattle.hay_lane.specs.Lanes.{IsLaterArm};
 ghost use Rattle.hay_block.specs.Frames.{AreFit};
 ghost use Rattle.hay_block.specs.Lines.{AnswersBad, AnswersSuited, AreItems, BlameArms, IsServed};
 ghost use Rattle.hay_block.specs.Parts.{NotesTell};
-ghost use Rattle.hay_block.specs.Stores.{AreUpwards, AreVolumes, CountsRise};
+ghost use Rattle.hay_block.specs.Stores.{AreUpwards, AreVolumes, CountsRise, FusesStay};
 ghost use Rattle.hay_locks.specs.Blocks.{AreSameParts, PartsStand, RanOnParts};
 ghost use Rattle.hay_locks.specs.Making.{IsDirectoryOf, rows_count_of};
 ghost use Rattle.hay_shared_volume.specs.Making.{IsVolumeOf, count_of};
@@ -59,7 +59,7 @@ where
     ensures directory { IsDirectoryOf result.0.directory settings }
     ensures arms { length result.0.arms.items ≡ length jobs.now }
     ensures refused { OnErr result.1 (AreSameParts D.Tells D.files P.Tells D.fault_count D.fuse_count settings parts result.0) }
-    // Whatever the disks tell, each line is answered, by a reply that suits it, no count of a disk or of an arm falls, and a sure arm stays so
+    // Whatever the disks tell, each line is answered, by a reply that suits it, no count of a disk or of an arm falls, no fuse is set, and a sure arm stays so
     // and is told as no cause.
     ensures replies { IfOk result.1 (λ answers. AllZip (λ js rs. length js.items ≡ length rs.items) jobs.now answers.replies.items) }
     ensures fits { IfOk result.1 (λ answers. AllByRecursion (λ rs. AllByRecursion FitsReply rs.items) answers.replies.items) }
@@ -68,6 +68,7 @@ where
     ensures bad { IfOk result.1 (λ answers. AllZip (λ js rs. AllZip AnswersBad js.items rs.items) jobs.now answers.replies.items) }
     ensures blames { IfOk result.1 (λ answers. BlameArms A.is_sure A.fault_count parts.arms.items result.0.arms.items (map (λ rs. rs.items) answers.replies.items)) }
     ensures rises { CountsRise settings (count_of D.fault_count) (rows_count_of D.fault_count) parts.volumes.items parts.directory result.0.volumes.items result.0.directory }
+    ensures unfused { FusesStay settings (count_of D.fuse_count) (rows_count_of D.fuse_count) parts.volumes.items parts.directory result.0.volumes.items result.0.directory }
     ensures arms_rise { AllZip (IsLaterArm A.is_sure A.fault_count) parts.arms.items result.0.arms.items }
     // Where the disks tell, the lines are a legal block of what was known, in any order that keeps each lane's own, with these notes, and
     // the parts stand for what is known behind it.

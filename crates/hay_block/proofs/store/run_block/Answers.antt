@@ -15,6 +15,7 @@ use Rattle.hay_block.proofs.Blocks.{block_told}
 use Rattle.hay_block.proofs.Lists.{each_mapped, each_unmapped, err_at, ok_at, ok_weaker, zip_long, zip_unmapped}
 use Rattle.hay_block.proofs.Whole.{all_bad, all_blame, all_fit, all_later, all_replied, all_suit, counts_rise, directory_same, made_rows, same_arms, seated_rows, still_counts}
 use Rattle.hay_block.proofs.Staying.{still_self}
+use Rattle.hay_block.proofs.Unfused.{block_unfused, same_fuses, still_fuses}
 use Rattle.hay_block.proofs.Upwards.{notes_upwards}
 use Rattle.hay_shared_volume.specs.Seats.{IsSeatOf, WasAt, sight_of}
 use Rattle.hay_logical.specs.Volumes.{Volume}
@@ -103,6 +104,7 @@ returns-in-Ok-answer g c =
           (λ n is. subst (AreUpwards c.args.settings.volumes) (sym is) (notes_upwards c.args.settings.volumes c.in-Ok.ready.fronts.items told (as_many ∙ many))) c.notes_of-notes.result logs;
       arms_rise = all_later ran (sym given);
       rises = record { volumes = counts_rise ran many; rows = left.0.rises };
+      unfused = block_unfused ran c.in-Ok-new.ensures.unseen (sym given) many left.0;
       legal = λ k others stood others_end items are distinct.
           let rows = ok_weaker (λ (n : BlockNotes). n.rows ≡ c.in-Ok.ready.rows) (λ n. n.rows ≡ length k.directory.rows)
           (λ n is. is ∙ c.in-Ok.ensures.rows k.directory k.drained stood.rows) c.notes_of-notes.result c.notes_of-notes.ensures.rows in
@@ -146,6 +148,7 @@ returns-in-Ok-new g c =
       upwards = tt;
       arms_rise = same_arms g.A.Arm.is_sure g.A.Arm.fault_count same;
       rises = still_counts still directory;
+      unfused = still_fuses still directory;
       legal = tt;
     }
 
@@ -161,3 +164,9 @@ returns-clause-refused g c = record {
 
 pub returns-clause-arms_rise : goal.returns-clause-arms_rise
 returns-clause-arms_rise g c = same_arms g.A.Arm.is_sure g.A.Arm.fault_count refl
+
+pub returns-in_default-clause-unfused : goal.returns-in_default-clause-unfused
+returns-in_default-clause-unfused g c = same_fuses refl
+
+pub returns-clause-unfused : goal.returns-clause-unfused
+returns-clause-unfused g c = same_fuses c.in-Err.ensures.refused

@@ -17,7 +17,7 @@ use Rattle.hay_cluster_block.proofs.Behind.{notes_of_block}
 use Rattle.hay_cluster_block.proofs.RowsTold.{rows_told}
 use Rattle.hay_cluster_block.proofs.Rising.{all_arms, all_split, arms_sure, blame_all, others_back, others_small, same_arms}
 use Rattle.hay_cluster_block.proofs.Standing.{made, made_of}
-use Rattle.hay_cluster_block.proofs.Whole.{arms_later, arms_stay, counts_rise, is_up, many_behind, ran, room_again, shape_again, stays, stays_self, were}
+use Rattle.hay_cluster_block.proofs.Whole.{arms_later, arms_stay, counts_rise, fuses_same, is_up, many_behind, ran, room_again, shape_again, stays, stays_self, were}
 use Rattle.hay_cluster_block.specs.Blocks.{StaysAs}
 use Rattle.hay_cluster_block.specs.Notes.{AreWithin, entered_rows}
 use Rattle.hay_cluster_block.proofs.block.run_block.Goals as goal
@@ -345,3 +345,38 @@ returns-in-Err-clause-refused g c =
     subst (λ (z : Open g.row.D.Denot g.row.P.Denot g.row.A.Denot). StaysAs g.D.Disk.Tells g.D.Disk.files g.P.Piece.Tells g.D.Disk.fault_count g.D.Disk.fuse_count
     g.A.Arm.fault_count c.args.cluster z) (sym same)
     (stays_self g.D.Disk.Tells g.D.Disk.files g.P.Piece.Tells g.D.Disk.fault_count g.D.Disk.fuse_count g.A.Arm.fault_count c.args.cluster)
+
+pub returns-in-Ok-answer-clause-fuses : goal.returns-in-Ok-answer-clause-fuses
+returns-in-Ok-answer-clause-fuses g c =
+    let p = c.into_parts-directory in
+    let was =
+    made_of c.args.cluster p.result.settings p.result.directory p.result.volumes.items p.result.arms.items (sym p.ensures.settings) (sym p.ensures.directory)
+    (sym p.ensures.volumes) (sym p.ensures.arms) in
+    let q = c.run_on_locks-parts in
+    let is = made_of c.restored.result p.result.settings q.result.0.directory q.result.0.volumes.items (q.result.0.arms.items ++ reverse c.in-Ok.others.items)
+    c.restored.ensures.settings c.restored.ensures.directory c.restored.ensures.volumes c.restored.ensures.arms in
+    fuses_same was p.ensures.shape c.requires.up is q.ensures.volumes q.ensures.directory g.D.Disk.fuse_count q.ensures.unfused
+
+pub returns-in-Err-answer-clause-fuses : goal.returns-in-Err-answer-clause-fuses
+returns-in-Err-answer-clause-fuses g c =
+    let p = c.into_parts-directory in
+    let was =
+    made_of c.args.cluster p.result.settings p.result.directory p.result.volumes.items p.result.arms.items (sym p.ensures.settings) (sym p.ensures.directory)
+    (sym p.ensures.volumes) (sym p.ensures.arms) in
+    let q = c.run_on_locks-parts in
+    let is = made_of c.restored-in-Err-answer.result p.result.settings q.result.0.directory q.result.0.volumes.items (q.result.0.arms.items ++ reverse c.in-Ok.others.items)
+    c.restored-in-Err-answer.ensures.settings c.restored-in-Err-answer.ensures.directory c.restored-in-Err-answer.ensures.volumes c.restored-in-Err-answer.ensures.arms in
+    fuses_same was p.ensures.shape c.requires.up is q.ensures.volumes q.ensures.directory g.D.Disk.fuse_count q.ensures.unfused
+
+pub returns-in-Err-clause-fuses : goal.returns-in-Err-clause-fuses
+returns-in-Err-clause-fuses g c =
+    let p = c.into_parts-directory in
+    let was =
+    made_of c.args.cluster p.result.settings p.result.directory p.result.volumes.items p.result.arms.items (sym p.ensures.settings) (sym p.ensures.directory)
+    (sym p.ensures.volumes) (sym p.ensures.arms) in
+    let is =
+    made_of c.from_parts.result p.result.settings p.result.directory p.result.volumes.items c.in-Err.arms.items c.from_parts.ensures.settings c.from_parts.ensures.directory
+    c.from_parts.ensures.volumes c.from_parts.ensures.arms in
+    let same : c.from_parts.result ≡ c.args.cluster =
+    is ∙ (ap (λ (z : Vec g.row.A.Denot Global). made p.result.settings p.result.directory p.result.volumes.items z.items) c.in-Err.ensures.refused ∙ sym was) in
+    ap (λ (z : Open g.row.D.Denot g.row.P.Denot g.row.A.Denot). map g.D.Disk.fuse_count (disks_of z)) same

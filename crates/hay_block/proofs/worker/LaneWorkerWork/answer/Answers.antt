@@ -1,5 +1,6 @@
-use Rattle.std.proofs.Common.{refl, sym, ◌∙◌}
+use Rattle.std.proofs.Common.{refl, sym, subst, ◌∙◌}
 use Rattle.hay_lane.proofs.Arms.{later_same}
+use Rattle.hay_block.specs.Lines.{IsServed}
 use Rattle.hay_block.proofs.Chaining.{bad_answered}
 use Rattle.hay_block.proofs.worker.LaneWorkerWork.answer.Goals as goal
 
@@ -13,6 +14,7 @@ returns-in-Command-clause-answered g c = rw c.new.ensures (
     fits_reply = c.answer-reply.ensures.fits;
     suits = rw c.in-Command.is c.answer-reply.ensures.suits;
     bad = λ is. let clash = sym c.in-Command.is ∙ is in absurd cc;
+    unfused = c.answer-reply.ensures.unfused (subst IsServed c.in-Command.is c.requires.1).1;
     blames = c.answer-reply.ensures.blames;
     arm = c.answer-reply.ensures.arm;
   },
@@ -28,6 +30,7 @@ returns-in-Bad-clause-answered g c = rw c.new-in-Bad.ensures (
     fits_reply = tt;
     suits = rw c.in-Bad.is tt;
     bad = λ is. refl;
+    unfused = λ none. none;
     blames = record { each = tt; rises = tt };
     arm = later_same refl;
   },

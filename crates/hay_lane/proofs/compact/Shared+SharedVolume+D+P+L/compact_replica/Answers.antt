@@ -13,6 +13,7 @@ pub loop-init : goal.loop-init
 loop-init g c = record {
   seated = c.requires.seated;
   same = λ start of. of;
+  unfused = λ none. none;
   arm = refl;
   first = λ start of. refl;
 }
@@ -21,6 +22,7 @@ pub loop-preserved : goal.loop-preserved
 loop-preserved g c = record {
   seated = c.compact_at-ended.ensures.seated;
   same = λ start of. c.compact_at-ended.ensures.same start (c.begin_at-answer.ensures.same start (c.loop.invariant.same start of));
+  unfused = λ none. c.compact_at-ended.ensures.unfused (c.begin_at-answer.ensures.unfused (c.loop.invariant.unfused none));
   arm = c.compact_at-ended.ensures.arm ∙ (c.begin_at-answer.ensures.arm ∙ c.loop.invariant.arm);
   first = λ start of.
       absurd (never_lost c.args.self.now.settings start c.args.self.now.drained.items c.args.tag c.args.volume c.args.machine c.args.replica c.requires.there c.requires.volume c.requires.on
@@ -36,6 +38,9 @@ loop-preserved g c = record {
 
 pub returns-in_default-clause-same : goal.returns-in_default-clause-same
 returns-in_default-clause-same g c start of = c.begin_at-answer.ensures.same start (c.loop.invariant.same start of)
+
+pub returns-in_default-clause-unfused : goal.returns-in_default-clause-unfused
+returns-in_default-clause-unfused g c none = c.begin_at-answer.ensures.unfused (c.loop.invariant.unfused none)
 
 pub returns-in_default-clause-arm : goal.returns-in_default-clause-arm
 returns-in_default-clause-arm g c = c.begin_at-answer.ensures.arm ∙ c.loop.invariant.arm
@@ -57,6 +62,9 @@ returns-in_default-clause-suits g c =
 
 pub returns-in_default-ended-clause-same : goal.returns-in_default-ended-clause-same
 returns-in_default-ended-clause-same g c start of = c.compact_at-ended.ensures.same start (c.begin_at-answer.ensures.same start (c.loop.invariant.same start of))
+
+pub returns-in_default-ended-clause-unfused : goal.returns-in_default-ended-clause-unfused
+returns-in_default-ended-clause-unfused g c none = c.compact_at-ended.ensures.unfused (c.begin_at-answer.ensures.unfused (c.loop.invariant.unfused none))
 
 pub returns-in_default-ended-clause-arm : goal.returns-in_default-ended-clause-arm
 returns-in_default-ended-clause-arm g c = c.compact_at-ended.ensures.arm ∙ (c.begin_at-answer.ensures.arm ∙ c.loop.invariant.arm)

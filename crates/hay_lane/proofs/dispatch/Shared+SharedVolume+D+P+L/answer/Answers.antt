@@ -1,4 +1,8 @@
+use Rattle.std.proofs.Common.{subst}
+use Rattle.hay_script.specs.declared.Command.{Command}
 use Rattle.hay_script.specs.declared.Command.TheVariants as asks
+use Rattle.hay_legal.specs.declared.turn.Item.TheVariants as items
+use Rattle.hay_history.specs.Commands.{MayStandInLane}
 use Rattle.hay_lane.proofs.Arms.{later_same}
 use Rattle.hay_lane.proofs.Blaming.{blames_none, spared}
 use Rattle.hay_lane.proofs.dispatch.Shared+SharedVolume+D+P+L.answer.Goals as goal
@@ -89,3 +93,45 @@ returns-in-Fuse-clause-blames g c =
 pub returns-in-FuseDir-clause-blames : goal.returns-in-FuseDir-clause-blames
 returns-in-FuseDir-clause-blames g c =
     blames_none g.A.Arm.is_sure g.A.Arm.fault_count _ _ _ (spared c.args.self.now.settings c.fuse_dir.result c.args.tag.line (asks.FuseDir c.in-FuseDir.calls) tt c.fuse_dir.ensures.suits)
+
+pub returns-in-Put-clause-unfused : goal.returns-in-Put-clause-unfused
+returns-in-Put-clause-unfused g c = λ may. c.put.ensures.unfused
+
+pub returns-in-Read-clause-unfused : goal.returns-in-Read-clause-unfused
+returns-in-Read-clause-unfused g c = λ may. c.read.ensures.unfused
+
+pub returns-in-Get-clause-unfused : goal.returns-in-Get-clause-unfused
+returns-in-Get-clause-unfused g c = λ may. c.get.ensures.unfused
+
+pub returns-in-Del-clause-unfused : goal.returns-in-Del-clause-unfused
+returns-in-Del-clause-unfused g c = λ may. c.delete.ensures.unfused
+
+pub returns-in-Url-clause-unfused : goal.returns-in-Url-clause-unfused
+returns-in-Url-clause-unfused g c = λ may. c.url.ensures.unfused
+
+pub returns-in-Flush-clause-unfused : goal.returns-in-Flush-clause-unfused
+returns-in-Flush-clause-unfused g c = λ may. c.flush.ensures.unfused
+
+pub returns-in-Compact-clause-unfused : goal.returns-in-Compact-clause-unfused
+returns-in-Compact-clause-unfused g c = λ may. c.compact.ensures.unfused
+
+pub returns-in-Begin-clause-unfused : goal.returns-in-Begin-clause-unfused
+returns-in-Begin-clause-unfused g c = λ may none. absurd (subst (λ (asked : Command). MayStandInLane (items.Command asked)) c.in-Begin.is may)
+
+pub returns-in-Step-clause-unfused : goal.returns-in-Step-clause-unfused
+returns-in-Step-clause-unfused g c = λ may none. absurd (subst (λ (asked : Command). MayStandInLane (items.Command asked)) c.in-Step.is may)
+
+pub returns-in-Finish-clause-unfused : goal.returns-in-Finish-clause-unfused
+returns-in-Finish-clause-unfused g c = λ may none. absurd (subst (λ (asked : Command). MayStandInLane (items.Command asked)) c.in-Finish.is may)
+
+pub returns-in-Drain-clause-unfused : goal.returns-in-Drain-clause-unfused
+returns-in-Drain-clause-unfused g c = λ may none. absurd (subst (λ (asked : Command). MayStandInLane (items.Command asked)) c.in-Drain.is may)
+
+pub returns-in-Undrain-clause-unfused : goal.returns-in-Undrain-clause-unfused
+returns-in-Undrain-clause-unfused g c = λ may none. absurd (subst (λ (asked : Command). MayStandInLane (items.Command asked)) c.in-Undrain.is may)
+
+pub returns-in-Fuse-clause-unfused : goal.returns-in-Fuse-clause-unfused
+returns-in-Fuse-clause-unfused g c = λ may none. absurd (subst (λ (asked : Command). MayStandInLane (items.Command asked)) c.in-Fuse.is may)
+
+pub returns-in-FuseDir-clause-unfused : goal.returns-in-FuseDir-clause-unfused
+returns-in-FuseDir-clause-unfused g c = λ may none. absurd (subst (λ (asked : Command). MayStandInLane (items.Command asked)) c.in-FuseDir.is may)

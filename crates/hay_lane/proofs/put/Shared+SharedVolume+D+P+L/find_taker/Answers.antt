@@ -18,6 +18,7 @@ loop-turn-init g c = record {
   refuse = subst (λ l. AllZip (Refuses c.args.self.now.settings c.args.size) [] l) (sym c.new-refused.ensures) tt;
   seated = c.requires.seated;
   same = λ start of. of;
+  unfused = λ none. none;
   arm = refl;
   tried =
       λ start d a of sees. subst (λ refused. Tried c.args.self.now.settings start c.args.self.now.drained.items c.args.tag c.args.pair c.args.size [] refused a
@@ -31,6 +32,9 @@ refusal-requires-clause-seated g c = c.loop-turn.invariant.seated
 pub returns-in-None-clause-same : goal.returns-in-None-clause-same
 returns-in-None-clause-same g c start of = c.refusal.ensures.same start (c.loop-turn.invariant.same start of)
 
+pub returns-in-None-clause-unfused : goal.returns-in-None-clause-unfused
+returns-in-None-clause-unfused g c none = c.refusal.ensures.unfused (c.loop-turn.invariant.unfused none)
+
 pub returns-in-None-clause-tried : goal.returns-in-None-clause-tried
 returns-in-None-clause-tried g c start d a of sees =
     takes_next c.args.self.now.settings start c.args.self.now.drained.items c.args.tag c.loop-turn.turn (c.loop-turn.invariant.tried start d a of sees) c.tries-volume.result
@@ -41,6 +45,9 @@ returns-in-None-clause-tried g c start d a of sees =
 
 pub returns-in-Err-clause-same : goal.returns-in-Err-clause-same
 returns-in-Err-clause-same g c start of = c.refusal.ensures.same start (c.loop-turn.invariant.same start of)
+
+pub returns-in-Err-clause-unfused : goal.returns-in-Err-clause-unfused
+returns-in-Err-clause-unfused g c none = c.refusal.ensures.unfused (c.loop-turn.invariant.unfused none)
 
 pub returns-in-Err-clause-tried : goal.returns-in-Err-clause-tried
 returns-in-Err-clause-tried g c start d a of sees =
@@ -58,6 +65,7 @@ loop-turn-preserved g c = record {
       (c.tries-volume.ensures.is c.args.pair refl) c.in-Some.ensures.refuses c.loop-turn.invariant.refuse);
   seated = c.refusal.ensures.seated;
   same = λ start of. c.refusal.ensures.same start (c.loop-turn.invariant.same start of);
+  unfused = λ none. c.refusal.ensures.unfused (c.loop-turn.invariant.unfused none);
   arm = c.refusal.ensures.arm ∙ c.loop-turn.invariant.arm;
   tried = λ start d a of sees. subst (λ refused. Tried c.args.self.now.settings start c.args.self.now.drained.items c.args.tag c.args.pair c.args.size
       (first_tries c.args.self.now.settings c.args.pair (c.loop-turn.turn + 1)) refused a (sight sight_of g.L.DirectoryCalls.sight g.A.Arm.fault_count c.refusal.new.lane)) (sym c.in-Ok.ensures.ok)
@@ -73,6 +81,9 @@ returns-clause-seated g c = c.loop-turn.invariant.seated
 
 pub returns-clause-same : goal.returns-clause-same
 returns-clause-same g c = c.loop-turn.invariant.same
+
+pub returns-clause-unfused : goal.returns-clause-unfused
+returns-clause-unfused g c = c.loop-turn.invariant.unfused
 
 pub returns-clause-tried : goal.returns-clause-tried
 returns-clause-tried g c start d a of sees =

@@ -5,6 +5,7 @@ use Rattle.hay_legal.specs.Suiting.{Refuses}
 use Rattle.hay_meeting.specs.Acts.{Start}
 use Rattle.hay_meeting.specs.Sights.{Sight}
 use Rattle.hay_holdings.specs.Lines.{Sees, Tried}
+use Rattle.hay_lane.specs.Fuses.{IsUnfused}
 use Rattle.hay_lane.specs.Lanes.{IsOf, IsSeated, sight}
 use Rattle.hay_lane.proofs.Putting.{first_tries}
 use Rattle.hay_lane.proofs.put.Shared+SharedVolume+D+P+L.find_taker.Given as goal
@@ -17,6 +18,7 @@ invariant-loop-turn g l = record {
   seated : IsSeated IsSeatOf g.L.DirectoryCalls.fits l.fn.self l.fn.tag.lane l.lane;
   same : (start : Start) → IsOf (WasAt g.D.Disk.Tells g.D.Disk.files g.P.Piece.Tells g.D.Disk.fault_count g.D.Disk.fuse_count) g.L.DirectoryCalls.is_at l.fn.self.settings start
       l.fn.lane → IsOf (WasAt g.D.Disk.Tells g.D.Disk.files g.P.Piece.Tells g.D.Disk.fault_count g.D.Disk.fuse_count) g.L.DirectoryCalls.is_at l.fn.self.settings start l.lane;
+  unfused : IsUnfused sight_of g.L.DirectoryCalls.sight l.fn.lane → IsUnfused sight_of g.L.DirectoryCalls.sight l.lane;
   arm : l.lane.arm ≡ l.fn.lane.arm;
   tried : (start : Start) (d : ℕ) (a : Sight) → IsOf (WasAt g.D.Disk.Tells g.D.Disk.files g.P.Piece.Tells g.D.Disk.fault_count g.D.Disk.fuse_count) g.L.DirectoryCalls.is_at
       l.fn.self.settings start l.fn.lane

@@ -1,5 +1,5 @@
 use Rattle.hay_shared_volume.specs.Tellings.{BeginTells}
-use Rattle.hay_lane.proofs.Stepping.{fits_here, seat_at, stepped, still_of, still_seated}
+use Rattle.hay_lane.proofs.Stepping.{fits_here, seat_at, stepped, still_of, still_seated, still_unfused}
 use Rattle.hay_shared_volume.specs.Seats.{IsSeatOf, WasAt, sight_of}
 use Rattle.hay_lane.proofs.steps.Shared+SharedVolume+D+P+L.begin_at.Goals as goal
 
@@ -44,3 +44,9 @@ returns-clause-names g c = c.begin.ensures.names c.args.volume c.args.self.now.s
     (fits_here IsSeatOf g.L.DirectoryCalls.fits c.args.self.now c.args.tag.lane c.args.lane.now c.requires.seated
     c.args.volume c.requires.volume c.as_slice.ensures.value c.as_mut_slice.ensures.value c.index-as_slice-volume.result c.index-as_mut_slice-volume.result
     c.index-as_slice-volume.result c.index-as_slice-volume.is)
+
+pub returns-clause-unfused : goal.returns-clause-unfused
+returns-clause-unfused g c =
+    still_unfused IsSeatOf g.L.DirectoryCalls.fits c.args.self.now c.args.tag.lane c.args.lane.now c.requires.seated
+    c.args.volume c.requires.volume c.as_slice.ensures.value c.as_mut_slice.ensures.value c.index-as_slice-volume.result c.index-as_mut_slice-volume.result
+    c.index-as_slice-volume.result c.index-as_slice-volume.is c.begin.new.seat sight_of g.L.DirectoryCalls.sight c.begin.ensures.unfused

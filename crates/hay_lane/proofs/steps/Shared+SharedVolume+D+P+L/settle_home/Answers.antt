@@ -1,5 +1,5 @@
 use Rattle.hay_lane.specs.Tellings.{SettleTells}
-use Rattle.hay_lane.proofs.Stepping.{still_of_rows, still_seated_rows, stepped_rows}
+use Rattle.hay_lane.proofs.Stepping.{stepped_rows, still_of_rows, still_seated_rows, unfused_rows}
 use Rattle.hay_shared_volume.specs.Seats.{IsSeatOf, WasAt, sight_of}
 use Rattle.hay_lane.proofs.steps.Shared+SharedVolume+D+P+L.settle_home.Goals as goal
 
@@ -24,3 +24,8 @@ returns-clause-tells g c start of =
     stepped_rows IsSeatOf g.L.DirectoryCalls.fits c.args.self.now c.args.tag.lane c.args.lane.now c.requires.seated
     c.settle.new.seat sight_of g.L.DirectoryCalls.sight g.A.Arm.fault_count (SettleTells start c.args.tag (record { pair = c.args.pair; volume = c.args.volume }) c.settle.result)
     (c.settle.ensures.tells start of.rows)
+
+pub returns-clause-unfused : goal.returns-clause-unfused
+returns-clause-unfused g c =
+    unfused_rows IsSeatOf g.L.DirectoryCalls.fits c.args.self.now c.args.tag.lane c.args.lane.now c.requires.seated
+    c.settle.new.seat sight_of g.L.DirectoryCalls.sight c.settle.ensures.unfused

@@ -2,7 +2,7 @@ use Rattle.std.proofs.Common.{◌<◌, sym, subst}
 use Rattle.std.specs.Prelude.{IfOk}
 use Rattle.hay_needle.specs.declared.settings.Settings.{Settings}
 use Rattle.hay_directory_lock.specs.Seats.{sight}
-use Rattle.hay_locks.proofs.Directories.{rows_stay, rows_told, settle_tells}
+use Rattle.hay_locks.proofs.Directories.{rows_stay, rows_told, rows_unfused, settle_tells}
 use Rattle.hay_locks.proofs.directory.SharedDirectoryDirectoryCalls.settle.Goals as goal
 
 pub settle-requires : goal.settle-requires
@@ -21,3 +21,6 @@ returns-clause-tells g c start at =
 
 pub returns-clause-below : goal.returns-clause-below
 returns-clause-below g c settings lane fits = subst (λ (s : Settings). IfOk c.settle.result (λ answer. answer.0 < s.volumes)) fits.settings_are c.settle.ensures.below
+
+pub returns-clause-unfused : goal.returns-clause-unfused
+returns-clause-unfused g c = rows_unfused c.settle.ensures.held
