@@ -112,12 +112,13 @@ pub record IsReplyText (Tells : Type 0) (settings : Settings) (before after : Ta
   pub told : Tells → MeetsNeedles settings before.contents before.seen after.seen command said
   pub is : text ≡ numbered_line number said
 
--- The text answers the item, while the counts went from these to those. A fuse is set by its command alone.
+-- The text answers the item, while the counts went from these to those. A fuse is set by its command alone, outside of blocks.
 abbrev pub IsTextOf : Type 0 → Settings → Tally → Tally → Asked → List ℕ → Type 0
 IsTextOf Tells settings before after (Alone number (item.Command command)) text =
     LeavesFuses settings command before.fuses after.fuses × (IsRestartText Tells settings before after command number text ⊎ IsReplyText Tells settings before after command number text)
 IsTextOf Tells settings before after (Alone number item.Bad) text = (after ≡ before) × (text ≡ numbered_line number BadLine)
-IsTextOf Tells settings before after (Block lines) text = IsBlockText settings (HasSureArm before) before.counts after.counts (home_seen after.seen) lines text
+IsTextOf Tells settings before after (Block lines) text =
+    (after.fuses ≡ before.fuses) × IsBlockText settings (HasSureArm before) before.counts after.counts (home_seen after.seen) lines text
 
 -- one text after another answers the items
 abbrev pub AnswerTexts : Type 0 → Settings → Tally → Tally → List Asked → List ℕ → Type 0

@@ -177,7 +177,7 @@ returns-in-Ok-outcome-clause-caused g c =
       c.run_block-cluster.ensures.counts,
       c.run_block-cluster.ensures.arm_counts,
       StaySure-lanes A.is_sure A.fault_count c.args.cluster.arms c.run_block-cluster.result.0.arms c.run_block-cluster.ensures.sure_arms,
-    ) text c.write_answers-written.result
+    ) (c.run_block-cluster.ensures.fuses, text) c.write_answers-written.result
     (c.write_answers-written.ensures.wrote lines a.0 n.notes d.places_are a.1 n.are)
 
 pub returns-in-Ok-outcome-clause-stop_caused : goal.returns-in-Ok-outcome-clause-stop_caused
@@ -215,7 +215,7 @@ returns-in-Ok-outcome-clause-stop_caused g c =
       c.run_block-cluster.ensures.counts,
       c.run_block-cluster.ensures.arm_counts,
       StaySure-lanes A.is_sure A.fault_count c.args.cluster.arms c.run_block-cluster.result.0.arms c.run_block-cluster.ensures.sure_arms,
-    ) text c.write_answers-written.result why
+    ) (c.run_block-cluster.ensures.fuses, text) c.write_answers-written.result why
     is c.write_answers-written.ensures.stops (c.write_answers-written.ensures.part lines a.0 n.notes d.places_are a.1 n.are)
 
 pub returns-in-Ok-outcome-clause-formatted : goal.returns-in-Ok-outcome-clause-formatted
@@ -260,7 +260,7 @@ returns-clause-stop_caused g c =
       c.run_block-cluster.ensures.counts,
       c.run_block-cluster.ensures.arm_counts,
       StaySure-lanes A.is_sure A.fault_count c.args.cluster.arms c.run_block-cluster.result.0.arms c.run_block-cluster.ensures.sure_arms,
-    )
+    ) c.run_block-cluster.ensures.fuses
 
 pub returns-clause-formatted : goal.returns-clause-formatted
 returns-clause-formatted g c =
@@ -287,7 +287,7 @@ returns-in_default-clause-stop_caused g c =
     wanted_stops D.Tells c.args.cluster.settings (tally_of D.files D.drawn D.fault_count D.fuse_count A.fault_count A.is_sure c.args.cluster)
     (tally_of D.files D.drawn D.fault_count D.fuse_count A.fault_count A.is_sure c.args.cluster) c.args.block.lines (g.K.Sink.written c.args.sink.now) why same
     c.requires.block.served
-    (NoneFalls-same (map D.fault_count (disks_of c.args.cluster)), NoneFalls-same (map A.fault_count c.args.cluster.arms), λ lane sure. sure)
+    (NoneFalls-same (map D.fault_count (disks_of c.args.cluster)), NoneFalls-same (map A.fault_count c.args.cluster.arms), λ lane sure. sure) refl
 
 pub returns-in_default-clause-faults : goal.returns-in_default-clause-faults
 returns-in_default-clause-faults g c =
