@@ -37,3 +37,5 @@ pub mod Drilled
 pub mod Drilling
 pub mod Writes
 pub mod RowsAsked
+pub mod Unfused
+pub mod Unfusing

@@ -17,7 +17,9 @@ use Rattle.hay_legal.specs.declared.turn.LaneItem.{LaneItem}
 use Rattle.hay_legal.specs.declared.turn.LogNote.{LogNote}
 use Rattle.hay_legal.specs.declared.turn.RowNote.{RowNote}
 use Rattle.hay_legal.specs.Items.{InBlock, line_asked}
-use Rattle.hay_legal.specs.Known.{EachPair}
+use Rattle.hay_legal.specs.Items.Asked.{Block}
+use Rattle.hay_legal.specs.Known.{EachPair, disk_count}
+use Rattle.hay_legal.specs.Stands.{Outside}
 use Rattle.hay_history.proofs.Lists.{each_in, first_or_rest, none_in}
 use Rattle.hay_lane.specs.Blames.{MayBlame, causes_told}
 use Rattle.hay_block.specs.declared.worker.Job.{Job}
@@ -25,6 +27,11 @@ use Rattle.hay_cluster_block.specs.Notes.{AreBlockNotes, AreWithin, IsRowOf, Tel
 use Rattle.hay_cluster_block.specs.Rows.{pair_of}
 use Rattle.hay_cluster.specs.Causes.{Counts}
 use Rattle.hay_run.specs.Blocks.{FitsLine, IsBlockText, job_of, lane_causes}
+use Rattle.hay_legal.specs.Statuses.{Ending}
+use Rattle.hay_disk.specs.Shelf.{HeldDisk}
+use Rattle.hay_drill.specs.Script.{drill_script, settings as day_settings}
+use Rattle.hay_run.specs.Causing.{AnswerTexts, BeginsAt, CausedRun, EndsAt, IsTextOf, Tally}
+use Rattle.hay_run.proofs.Unfused.{drill_unfused}
 use Rattle.hay_run.proofs.Dealing.{each_at}
 
 -- LINES
@@ -91,6 +98,27 @@ module _ (settings : Settings) (Sure : ℕ → Type 0) (before after : Counts) (
   -- and with one that it has not come to behind it
   pub arm_that_came_later : (count : ℕ) → Contains (causes_told answered.reply) (Arm count) → slice_index after.arms answered.lane < count → ⊥
   arm_that_came_later count told high = let most = ((blamed count told).1).1 in absurd (omega (arith, high, most))
+
+-- FUSES
+
+-- a block sets none on any disk
+pub fuse_set_by_a_block : (Tells : Type 0) (settings : Settings) (before after : Tally) (lines : List InBlock) (text : List ℕ) (slot : ℕ)
+    → slice_index after.fuses slot ≢ slice_index before.fuses slot → IsTextOf Tells settings before after (Block lines) text → ⊥
+fuse_set_by_a_block Tells settings before after lines text slot set told = set (ap (λ fuses. slice_index fuses slot) told.0)
+
+-- so a run that answered an empty one alone gives each disk back with those that it had
+pub fuses_set_by_an_empty_block : (Tells : Type 0) (settings : Settings) (taken given : Outside) (sure : ℕ → Bool) (before after : Tally) (text : List ℕ) (slot : ℕ)
+    → BeginsAt Tells settings taken sure before → AnswerTexts Tells settings before after (Block [] ∷ []) text → EndsAt Tells settings after given
+    → slot < disk_count settings → given.fuses slot ≢ taken.fuses slot → ⊥
+fuses_set_by_an_empty_block Tells settings taken given sure before after text slot begins (mid, first, rest, is, later, told, (none, same)) ends within set =
+    set (ends.fuses slot within ∙ ap (λ (tally : Tally). slice_index tally.fuses slot) same ∙ ap (λ fuses. slice_index fuses slot) told.0 ∙ begins.fuses slot within)
+
+-- and a drill gives back none more than it took, however it ends
+pub fuse_set_by_a_drill : (Tells : Type 0) (count first : ℕ) (ending : Ending) (left : Option (List ℕ)) (taken given : Outside) (sure : ℕ → Bool) (disks disks' : ℕ → HeldDisk)
+    (held : List ℕ) (written : Option (List ℕ)) (slot : ℕ) → CausedRun Tells day_settings ending (drill_script count first) left taken given sure disks disks' held written
+    → slot < disk_count day_settings → given.fuses slot ≢ taken.fuses slot → ⊥
+fuse_set_by_a_drill Tells count first ending left taken given sure disks disks' held written slot run within set =
+    set (drill_unfused Tells count first ending left taken given sure disks disks' held written day_settings (drill_script count first) refl refl run slot within)
 
 -- NOTES
 

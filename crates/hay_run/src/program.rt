@@ -159,6 +159,7 @@ where
     ensures formatted { H.Disk.Tells → OnOk result ((k : Known) →
         IsTaken day_settings (outside_of (H.fault_count shelf.old) (H.disks shelf.old) (H.arms shelf.old)) k → (slot : ℕ) → slot < disk_count day_settings →
         IsVoid (read_of (H.disks shelf.new slot)) → ⊥) }
+    ensures unfused { (slot : ℕ) → slot < disk_count day_settings → (H.disks shelf.new slot).fuse_count ≡ (H.disks shelf.old slot).fuse_count }
     ensures stops { OnErr result ((result ≡ Err Stop.Output) ⊎ (result ≡ Err Stop.NoMemory) ⊎ (result ≡ Err Stop.Store)) }
     ensures sink { IsErrOf result Stop.Output → Rose (K.fault_count sink.old) (K.fault_count sink.new) }
     ensures sink_count { K.fault_count sink.old ≤ K.fault_count sink.new }
@@ -236,6 +237,7 @@ where
     ensures formatted { H.Disk.Tells → result ≡ 0 → (k : Known) →
         IsTaken day_settings (outside_of (H.fault_count shelf.old) (H.disks shelf.old) (H.arms shelf.old)) k → (slot : ℕ) → slot < disk_count day_settings →
         IsVoid (read_of (H.disks shelf.new slot)) → ⊥ }
+    ensures unfused { (slot : ℕ) → slot < disk_count day_settings → (H.disks shelf.new slot).fuse_count ≡ (H.disks shelf.old slot).fuse_count }
     ensures status { (result ≡ 0) ⊎ (result ≡ 3) ⊎ (result ≡ 5) ⊎ (result ≡ 6) }
     ensures sink { IsCounted (K.fault_count sink.old) (K.fault_count sink.new) (result ≡ 3) }
     ensures appends { Appends (K.written sink.old) (K.written sink.new) }
@@ -336,6 +338,9 @@ where
     ensures drill_formatted { H.Disk.Tells → result ≡ 0 → IsDrill (map string_bytes words.now) → (k : Known) →
         IsTaken day_settings (outside_of (H.fault_count shelf.old) (H.disks shelf.old) (H.arms shelf.old)) k → (slot : ℕ) → slot < disk_count day_settings →
         IsVoid (read_of (H.disks shelf.new slot)) → ⊥ }
+    // It sets no fuse, at any status, whatever the disks and the sink tell.
+    ensures drill_fuses { IsDrill (map string_bytes words.now) → (slot : ℕ) → slot < disk_count day_settings →
+        (H.disks shelf.new slot).fuse_count ≡ (H.disks shelf.old slot).fuse_count }
     ensures drill_status { IsDrill (map string_bytes words.now) → (result ≡ 0) ⊎ (result ≡ 3) ⊎ (result ≡ 5) ⊎ (result ≡ 6) }
     ensures drill_unused { IsDrill (map string_bytes words.now) →
         (source.new ≡ source.old) × SameFrom (disk_count day_settings) (H.disks shelf.old) (H.disks shelf.new) }

@@ -51,3 +51,6 @@ returns-clause-sound g c = λ tells zero. all_in c.run_drill.result c.status_in.
 
 pub returns-clause-formatted : goal.returns-clause-formatted
 returns-clause-formatted g c = λ tells zero. all_in c.run_drill.result c.status_in.result c.status_in.ensures zero (c.run_drill.ensures.formatted tells)
+
+pub returns-clause-unfused : goal.returns-clause-unfused
+returns-clause-unfused g c = c.run_drill.ensures.unfused

@@ -723,3 +723,31 @@ returns-in-Ok-Some-Drill-clause-drill_formatted g c = λ tells zero says. c.dril
 
 pub returns-in-Ok-Some-Drill-clause-drill_status : goal.returns-in-Ok-Some-Drill-clause-drill_status
 returns-in-Ok-Some-Drill-clause-drill_status g c = λ says. c.drill_store.ensures.status
+
+pub returns-in-Ok-clause-drill_fuses : goal.returns-in-Ok-clause-drill_fuses
+returns-in-Ok-clause-drill_fuses g c = λ says.
+    let run : SaysRun (map string_bytes c.args.words.now) c.in-Ok-Some-Run.settings = rw (c.in-Ok-Some-Run.field-0-is, c.in-Ok-Some-Run.field-0-0-is) at c.in-Ok-Some-Run.ensures.says in
+    absurd (run_no_drill (map string_bytes c.args.words.now) c.in-Ok-Some-Run.settings says.0 says.1 run says.2)
+
+pub returns-in-Err-run_script-clause-drill_fuses : goal.returns-in-Err-run_script-clause-drill_fuses
+returns-in-Err-run_script-clause-drill_fuses g c = λ says.
+    let run : SaysRun (map string_bytes c.args.words.now) c.in-Ok-Some-Run.settings = rw (c.in-Ok-Some-Run.field-0-is, c.in-Ok-Some-Run.field-0-0-is) at c.in-Ok-Some-Run.ensures.says in
+    absurd (run_no_drill (map string_bytes c.args.words.now) c.in-Ok-Some-Run.settings says.0 says.1 run says.2)
+
+pub returns-in-Ok-Some-Check-clause-drill_fuses : goal.returns-in-Ok-Some-Check-clause-drill_fuses
+returns-in-Ok-Some-Check-clause-drill_fuses g c = λ says.
+    let check : SaysCheck (map string_bytes c.args.words.now) c.in-Ok-Some-Check.settings = rw (c.in-Ok-Some-Check.field-0-is, c.in-Ok-Some-Check.field-0-0-is) at c.in-Ok-Some-Check.ensures.says in
+    absurd (check_no_drill (map string_bytes c.args.words.now) c.in-Ok-Some-Check.settings says.0 says.1 check says.2)
+
+pub returns-in-Ok-Some-Load-clause-drill_fuses : goal.returns-in-Ok-Some-Load-clause-drill_fuses
+returns-in-Ok-Some-Load-clause-drill_fuses g c = λ says.
+    let load : SaysLoad (map string_bytes c.args.words.now) c.in-Ok-Some-Load.settings = rw (c.in-Ok-Some-Load.field-0-is, c.in-Ok-Some-Load.field-0-0-is) at c.in-Ok-Some-Load.ensures.says in
+    absurd (load_no_drill (map string_bytes c.args.words.now) c.in-Ok-Some-Load.settings says.0 says.1 load says.2)
+
+pub returns-in-Ok-Some-Audit-clause-drill_fuses : goal.returns-in-Ok-Some-Audit-clause-drill_fuses
+returns-in-Ok-Some-Audit-clause-drill_fuses g c = λ says.
+    let audit : SaysAudit (map string_bytes c.args.words.now) c.in-Ok-Some-Audit.settings = rw (c.in-Ok-Some-Audit.field-0-is, c.in-Ok-Some-Audit.field-0-0-is) at c.in-Ok-Some-Audit.ensures.says in
+    absurd (audit_no_drill (map string_bytes c.args.words.now) c.in-Ok-Some-Audit.settings says.0 says.1 audit says.2)
+
+pub returns-in-Ok-Some-Drill-clause-drill_fuses : goal.returns-in-Ok-Some-Drill-clause-drill_fuses
+returns-in-Ok-Some-Drill-clause-drill_fuses g c = λ says. c.drill_store.ensures.unfused

@@ -17,6 +17,7 @@ use Rattle.hay_run.specs.Runs.{IsTaken}
 use Rattle.hay_run.specs.Stops.{ending_of}
 use Rattle.hay_run.proofs.LastLines.{held_causes, refused_run}
 use Rattle.hay_run.proofs.Summed.{held_run, never_long, never_rose, on_ok, stop_told, summary_told, unsaid_nothing}
+use Rattle.hay_run.proofs.Unfused.{drill_unfused}
 use Rattle.hay_run.proofs.program.run_drill.Goals as goal
 
 pub returns-in_err-drill_script-clause-drilled : goal.returns-in_err-drill_script-clause-drilled
@@ -93,3 +94,29 @@ returns-in-Ok-clause-formatted g c = λ tells.
     on_ok c.write_summary.result
     (λ k taken slot within. c.in-Ok.ensures.formatted tells (inl tt) k (subst (λ (s : Settings). IsTaken s outside k) (sym c.drill_settings-settings.ensures) taken) slot
     (subst (λ (s : Settings). slot < disk_count s) (sym c.drill_settings-settings.ensures) within))
+
+pub returns-in-Ok-clause-unfused : goal.returns-in-Ok-clause-unfused
+returns-in-Ok-clause-unfused g c =
+    let disks : ℕ → HeldDisk = g.H.Shelf.disks c.args.shelf.now in
+    let disks' : ℕ → HeldDisk = g.H.Shelf.disks c.run_script.new.shelf in
+    let sure : ℕ → Bool = (λ lane. (g.H.Shelf.arms c.args.shelf.now lane).is_sure) in
+    let outside : Outside = outside_of (g.H.Shelf.fault_count c.args.shelf.now) (g.H.Shelf.disks c.args.shelf.now) (g.H.Shelf.arms c.args.shelf.now) in
+    let given : Outside = outside_of (g.H.Shelf.fault_count c.run_script.new.shelf) (g.H.Shelf.disks c.run_script.new.shelf) (g.H.Shelf.arms c.run_script.new.shelf) in
+    let script : List ℕ = c.drill_script.new.out.items in
+    let script_is : script ≡ drill_script c.args.count c.args.first = c.in_ok-drill_script.ensures.ok ∙ ap (λ (l : List ℕ). l ++ drill_script c.args.count c.args.first) c.new-script.ensures.items in
+    drill_unfused g.H.Disk.Disk.Tells c.args.count c.args.first ReadAll (script_left c.run_script.new.source) outside given sure disks disks' []
+    (transcript_written c.run_script.new.sink) c.drill_settings-settings.result script c.drill_settings-settings.ensures script_is
+    (c.in-Ok.ensures.caused script [] c.new-source.ensures c.new-transcript.ensures)
+
+pub returns-clause-unfused : goal.returns-clause-unfused
+returns-clause-unfused g c =
+    let disks : ℕ → HeldDisk = g.H.Shelf.disks c.args.shelf.now in
+    let disks' : ℕ → HeldDisk = g.H.Shelf.disks c.run_script.new.shelf in
+    let sure : ℕ → Bool = (λ lane. (g.H.Shelf.arms c.args.shelf.now lane).is_sure) in
+    let outside : Outside = outside_of (g.H.Shelf.fault_count c.args.shelf.now) (g.H.Shelf.disks c.args.shelf.now) (g.H.Shelf.arms c.args.shelf.now) in
+    let given : Outside = outside_of (g.H.Shelf.fault_count c.run_script.new.shelf) (g.H.Shelf.disks c.run_script.new.shelf) (g.H.Shelf.arms c.run_script.new.shelf) in
+    let script : List ℕ = c.drill_script.new.out.items in
+    let script_is : script ≡ drill_script c.args.count c.args.first = c.in_ok-drill_script.ensures.ok ∙ ap (λ (l : List ℕ). l ++ drill_script c.args.count c.args.first) c.new-script.ensures.items in
+    drill_unfused g.H.Disk.Disk.Tells c.args.count c.args.first (ending_of c.in-Err.stop) (script_left c.run_script.new.source) outside given sure disks disks' []
+    (transcript_written c.run_script.new.sink) c.drill_settings-settings.result script c.drill_settings-settings.ensures script_is
+    (c.in-Err.ensures.caused script [] c.new-source.ensures c.new-transcript.ensures)
