@@ -491,8 +491,8 @@ returns-in_default-publish-clause-held g c =
           ∙ ap (λ (f : Option ℕ). freezes_by None f) c.frozen-in_default-publish.ensures.is) ∙ none)));
     })).leaves c.free-in_default-publish.new.seat c.free-in_default-publish.ensures
     (made_unfused_by g.D.Disk.fault_count g.D.Disk.fuse_count c.args.tag _ _ c.freeze_did-did.result c.act_made-made-in_default-publish.result
-    (subst (λ (o : Option Made). IfSome o IsNoFuse) (sym c.freeze_did-did.ensures) (freezes_unfused _ _)) c.act_made-made-in_default-publish.ensures.did
-    c.act_made-made-in_default-publish.ensures.tried))
+    (subst (λ (o : Option Made). IfSome o IsNoFuse) (sym c.freeze_did-did.ensures) (freezes_unfused None c.frozen-in_default-publish.result))
+    c.act_made-made-in_default-publish.ensures.did c.act_made-made-in_default-publish.ensures.tried))
 
 pub loop-replica-preserved : goal.loop-replica-preserved
 loop-replica-preserved g c =
@@ -1246,7 +1246,8 @@ returns-clause-held g c =
     (made_is.Enters (change.Del c.args.pair) c.past_of.result) c.new-act.result (c.new-act.ensures
     ∙ ap (λ (e : Entry). act_of g.D.Disk.fault_count g.D.Disk.fuse_count c.args.tag (made_is.Enters e c.past_of.result) c.hide-position.new.self.replicas)
     c.of.ensures))).leaves c.free-2.new.seat c.free-2.ensures
-    (one_unfused g.D.Disk.fault_count g.D.Disk.fuse_count c.args.tag _ _ c.new-act.result c.new-act.ensures (λ j e. cc e)))
+    (one_unfused g.D.Disk.fault_count g.D.Disk.fuse_count c.args.tag c.hide-position.new.self.replicas (made_is.Enters c.of.result c.past_of.result) c.new-act.result c.new-act.ensures
+    (λ j e. cc e)))
 
 pub returns-in-Some-clause-refusals : goal.returns-in-Some-clause-refusals
 returns-in-Some-clause-refusals g c =

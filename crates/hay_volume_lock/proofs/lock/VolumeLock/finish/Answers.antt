@@ -17,6 +17,7 @@ use Rattle.hay_volume_lock.proofs.Swapping.{is_swap}
 use Rattle.hay_volume_lock.specs.Refusing.{OfOpened, RefusesRun}
 use Rattle.hay_volume_lock.proofs.Refusing.{refuses_run, of_opened}
 use Rattle.hay_volume_lock.proofs.Unfused.{IsNoFuse, one_unfused, unswapped_unfused}
+use Rattle.hay_volume_lock.specs.declared.act.Made.TheVariants as made_is
 use Rattle.hay_volume_lock.proofs.lock.VolumeLock.finish.Goals as goal
 
 pub show_all-requires : goal.show_all-requires
@@ -355,7 +356,8 @@ returns-in_default-publish-clause-held g c =
     (λ m is. let wrong = (c.in-Ok.ensures.frozen m is).0 in cc wrong))))) c.freeze.ensures.frozen (ap (λ f. f.shown) c.in_default-publish.ensures.refused)
     (ap (λ f. f.log) c.in_default-publish.ensures.refused)
     c.frozen.result c.frozen.ensures.is c.new-act-in_default-publish.result c.new-act-in_default-publish.ensures).0 c.free-in_default-publish.new.seat c.free-in_default-publish.ensures
-    (one_unfused g.D.Disk.fault_count g.D.Disk.fuse_count c.args.tag _ _ c.new-act-in_default-publish.result c.new-act-in_default-publish.ensures (λ j e. cc e)))
+    (one_unfused g.D.Disk.fault_count g.D.Disk.fuse_count c.args.tag c.freeze.new.self.replicas
+    (made_is.Swaps c.args.replica c.in-Ok.files.end c.in-Ok.files.count c.frozen.result) c.new-act-in_default-publish.result c.new-act-in_default-publish.ensures (λ j e. cc e)))
 
 pub free-requires-2-clause-may : goal.free-requires-2-clause-may
 free-requires-2-clause-may g c = record {
@@ -479,7 +481,8 @@ returns-clause-held g c =
     (c.in-Ok.ensures.finished tells k s) (c.in-Ok.ensures.sizes tells)) c.in-Ok.ensures.same c.in-Ok.ensures.open c.in-Ok.ensures.counts
     (record c.hold-kept.result { logical = c.finish_files.new.self; front = c.publish.new.self }) refl refl refl c.in-Ok.ensures.others
     (record { tag = c.front_tag.result; deed = c.moved-op.result }) c.in-Ok-publish.ensures.done.0 refl c.new-act-2.result c.new-act-2.ensures).0 c.free-2.new.seat c.free-2.ensures
-    (one_unfused g.D.Disk.fault_count g.D.Disk.fuse_count c.args.tag _ _ c.new-act-2.result c.new-act-2.ensures (λ j e. cc e)))
+    (one_unfused g.D.Disk.fault_count g.D.Disk.fuse_count c.args.tag c.finish_files.new.self.replicas
+    (made_is.Swaps c.args.replica c.in-Ok.files.end c.in-Ok.files.count None) c.new-act-2.result c.new-act-2.ensures (λ j e. cc e)))
 
 pub returns-in-Some-clause-refusals : goal.returns-in-Some-clause-refusals
 returns-in-Some-clause-refusals g c =

@@ -582,7 +582,8 @@ returns-clause-held g c =
     (c.new-act.ensures ∙ ap (λ (e : Entry). act_of g.D.Disk.fault_count g.D.Disk.fuse_count c.args.tag (made_is.Enters e c.new.result) c.show-position.new.self.replicas)
     (c.of.ensures ∙ c.in-Ok.ensures) ∙ ap (λ (l : List Bool). act_of g.D.Disk.fault_count g.D.Disk.fuse_count c.args.tag
     (made_is.Enters (change.Put c.args.pair c.args.cookie c.args.bytes.now) l) c.show-position.new.self.replicas) c.new.ensures)).0 c.free-2.new.seat c.free-2.ensures
-    (one_unfused g.D.Disk.fault_count g.D.Disk.fuse_count c.args.tag _ _ c.new-act.result c.new-act.ensures (λ j e. cc e)))
+    (one_unfused g.D.Disk.fault_count g.D.Disk.fuse_count c.args.tag c.show-position.new.self.replicas (made_is.Enters c.of.result c.new.result) c.new-act.result c.new-act.ensures
+    (λ j e. cc e)))
 
 pub returns-in-Some-clause-refusals : goal.returns-in-Some-clause-refusals
 returns-in-Some-clause-refusals g c =
