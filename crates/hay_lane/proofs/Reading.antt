@@ -1,6 +1,6 @@
 -- How far a read has come behind each call.
 use Rattle.std.proofs.Common.{◌≡◌, ◌⊎◌, inl, inr, ℕ, zero, suc, ◌+◌, ◌%◌, ◌^◌, ◌<◌, ◌≤◌, Bool, List, [], ◌∷◌, ◌++◌, length, refl, sym, ap, subst, ◌∙◌, arith, Some}
-use Rattle.std.specs.Prelude.{Ok, Err}
+use Rattle.std.specs.Prelude.{Result, Ok, Err, OnErr}
 use Rattle.std.specs.List.{AllByRecursion as Each}
 use Rattle.std.proofs.Math.Nat.{mod-lt}
 use Rattle.std.proofs.lemmas.List.{map-append, take-append-drop}
@@ -278,6 +278,13 @@ module _ (settings : Settings) (start : Start) (drained : List Bool) (tag : Core
     pub froze_behind : AtVolume v (SightWanted settings start v tag) m b → FrozeBehind settings start drained tag pair d v first a b
     froze_behind x = record { js = replicas_in causes; causes = causes_in causes; m = m; over = (before.looking).passed; wanted = x }
 
+    -- where there was none to say why it was passed over, none was there to see it
+    pub sight_froze : (P : Type 0) (Tells : Type 0) (bytes : List ℕ) (j : ℕ) (fault : SightFault) (e : NoMemory) → IsSightCause fault (Err e)
+        → AtVolume v (SeeTells {P = P} Tells here pair tag j bytes (Err fault)) m b → FrozeBehind settings start drained tag pair d v first a b
+    sight_froze P Tells bytes j (fault.Failed f) e is x = absurd cc
+    sight_froze P Tells bytes j (fault.Damaged at) e is x = absurd x.is
+    sight_froze P Tells bytes j fault.NoMemory e is x = froze_behind (call_as _ (SightWanted settings start v tag) x x.is)
+
     -- so it was passed over, if there was memory to say so
     pub sight_passed : (P : Type 0) (Tells : Type 0) (bytes : List ℕ) (j : ℕ) (fault : SightFault) (cause : Cause) → IsSightCause {E = NoMemory} fault (Ok cause)
         → IsNext first settings.replicas causes j
@@ -289,6 +296,11 @@ module _ (settings : Settings) (start : Start) (drained : List Bool) (tag : Core
         (disk_passed next (call_as _ (SightFailed settings start v tag j f) x x.is))
     sight_passed P Tells bytes j (fault.Damaged at) cause is next x = absurd x.is
     sight_passed P Tells bytes j fault.NoMemory cause is next x = absurd cc
+
+-- what holds whatever came
+pub err_with : {T E : Type 0} (r : Result T E) {Q : Type 0} → Q → OnErr r Q
+err_with (Ok x) q = tt
+err_with (Err e) q = q
 
 -- the bytes of a place, as they are read on
 pub same_bytes : {P : Type 0} (row : List (Place P)) {bytes others : List ℕ} {j k : ℕ} → others ≡ bytes → j ≡ k → (bytes ≡ []) ⊎ HasItsPhoto bytes (place_in row j)

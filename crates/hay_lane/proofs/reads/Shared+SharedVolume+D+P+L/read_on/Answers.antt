@@ -6,7 +6,7 @@ use Rattle.hay_lane.specs.Lanes.{sight}
 use Rattle.hay_lane.specs.Reads.{PassedFirst}
 use Rattle.hay_lane.proofs.Arms.{later_on, later_same}
 use Rattle.hay_lane.proofs.Maintained.{call_as}
-use Rattle.hay_lane.proofs.Reading.{looked_again, row_tells, same_bytes, shown_by, sight_passed}
+use Rattle.hay_lane.proofs.Reading.{err_with, looked_again, row_tells, same_bytes, shown_by, sight_froze, sight_passed}
 use Rattle.hay_lane.proofs.Stepping.{fetched}
 use Rattle.hay_shared_volume.specs.Seats.{IsSeatOf, sight_of}
 use Rattle.hay_lane.specs.Reads.{ShownWithin}
@@ -91,3 +91,9 @@ returns-in_ok-cause-in-Err-clause-blames g c =
     (passed_blames g.A.Arm.is_sure g.A.Arm.fault_count g.P.Piece.Tells c.see_at.new.lane.arm c.show_more-read.new.self c.args.first c.args.looked.row c.args.cookie c.args.causes
     c.push.new.self c.show_more-read.new.out.items c.show_more-read.result c.args.replica c.in-Err.fault c.in_ok-cause-in-Err.cause c.in_ok-cause-in-Err.ensures.is c.push.ensures
     (record { rises = c.show_more-read.ensures.later; sure = c.show_more-read.ensures.stays_sure }) c.show_more-read.ensures.reads c.show_more-read.ensures.sure)
+
+pub returns-in_err-cause-in-Err-clause-wanted : goal.returns-in_err-cause-in-Err-clause-wanted
+returns-in_err-cause-in-Err-clause-wanted g c start d a of has =
+    err_with c.from_residual.result
+    (sight_froze c.args.self.now.settings start c.args.self.now.drained.items c.args.tag c.args.pair d c.args.volume c.args.first has.tells g.row.P.Denot g.P.Piece.Tells
+    c.see_at.new.out.items c.args.replica c.in-Err.fault c.in_err-cause-in-Err.field-0.0 c.in_err-cause-in-Err.ensures.is (c.in-Err.ensures.tells start of))
