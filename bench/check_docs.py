@@ -231,7 +231,7 @@ def limits():
         "batch_bytes": number_in("crates/hay_batch/src/photo.rt", r"MAX_TOTAL: u64 = ([\d_]+)"),
         "transcript": number_in("crates/hay_frame/src/frame.rt", r"TRANSCRIPT: usize = ([\d_]+)"),
         "commands": number_in("crates/hay_legal/specs/Items.antt", r"nat_lt block\.commands (\d+)"),
-        "generation": number_in("crates/hay_head/specs/Head.antt", r"pub most : generation ≤ (\d+)"),
+        "generation": number_in("crates/hay_needle/src/settings.rt", r"LAST_GENERATION: u64 = ([\d_]+)"),
         "lanes": number_in(script, r'codes "lanes"\) then lanes_by \(from_one (\d+) ') - 1,
         "digits": number_in(script, r"nat_le \(length text\) (\d+) && list_all is_ascii_digit"),
         "cookie": number_in(script, r"nat_le \(length text\) (\d+) && list_all is_hex_digit"),

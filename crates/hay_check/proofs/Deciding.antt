@@ -6,6 +6,7 @@ use Rattle.hay_needle.specs.declared.needle.CellHead.{CellHead}
 use Rattle.hay_needle.specs.declared.settings.Super.{Super}
 use Rattle.hay_needle.specs.Sizes.{needle_total}
 use Rattle.hay_needle.specs.Super.{SuperFits, super_bytes}
+use Rattle.hay_needle.specs.declared.settings.TheConstants.{LAST_GENERATION}
 use Rattle.hay_disk.specs.Disk.{Files}
 use Rattle.hay_dirfile.specs.declared.row.DirRow.{DirRow}
 use Rattle.hay_dirfile.specs.Journal.{IsDamagedJournal, IsJournal}
@@ -76,7 +77,7 @@ cells_held sup contents generation end heads items same (cells, holds, are) = re
 
 -- and as many records as were compared
 pub whole_stored : (sup isup : Super) (f g : Files) (generation end number count : ℕ) (heads : List CellHead) → (held : Holds sup (λ n. (f n).now) generation end heads) → g ≡ f
-    → (generation ≤ 65535 → number ≡ index_file generation)
+    → (generation ≤ LAST_GENERATION → number ≡ index_file generation)
     → isup ≡ index_super sup generation → ListsFirst (super_bytes isup) (g number).now (map head_record heads) count
     → IsStored sup (λ n. (f n).now) (record { cells = held.cells; end = end; records = count; generation = generation })
 whole_stored sup isup f g generation end number count heads held same numbered isup_is lists =
@@ -106,7 +107,7 @@ unfolding IsFirstDamage
 front_first sup contents file at damage = inl damage
 
 pub rest_first : (sup isup : Super) (f g : Files) (generation end number file at : ℕ) (heads : List CellHead) → Holds sup (λ n. (f n).now) generation end heads → g ≡ f
-    → (generation ≤ 65535 → number ≡ index_file generation)
+    → (generation ≤ LAST_GENERATION → number ≡ index_file generation)
     → isup ≡ index_super sup generation → (file ≡ number) × IsDamagedListing isup (g number).now (map head_record heads) at → IsFirstDamage sup (λ n. (f n).now) file at
 unfolding IsFirstDamage
 rest_first sup isup f g generation end number file at heads held same numbered isup_is damage =

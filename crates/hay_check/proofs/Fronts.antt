@@ -10,6 +10,7 @@ use Rattle.hay_needle.specs.Sizes.{needle_total}
 use Rattle.hay_needle.specs.Super.{SuperFits, fault_place, super_bytes}
 use Rattle.hay_needle.proofs.Needles.{length-needle}
 use Rattle.hay_needle.proofs.Supers.{is_only}
+use Rattle.hay_needle.specs.declared.settings.TheConstants.{LAST_GENERATION}
 use Rattle.hay_disk.specs.Gate.{IsClosed}
 use Rattle.hay_head.specs.Head.{IsDamagedHead, IsHead, head_row}
 use Rattle.hay_head.specs.Rows.{IsSuperFaultAt}
@@ -89,7 +90,7 @@ head_fits sup fits = record {
   generation = omega arith;
 }
 
-pub volume_fits : (sup : Super) (generation : ℕ) → generation ≤ 65535 → SuperFits sup → SuperFits (volume_super sup generation)
+pub volume_fits : (sup : Super) (generation : ℕ) → generation ≤ LAST_GENERATION → SuperFits sup → SuperFits (volume_super sup generation)
 volume_fits sup generation most fits = record {
   machines = fits.machines;
   volumes = fits.volumes;
@@ -100,7 +101,7 @@ volume_fits sup generation most fits = record {
   generation = omega arith;
 }
 
-pub index_fits : (sup : Super) (generation : ℕ) → generation ≤ 65535 → SuperFits sup → SuperFits (index_super sup generation)
+pub index_fits : (sup : Super) (generation : ℕ) → generation ≤ LAST_GENERATION → SuperFits sup → SuperFits (index_super sup generation)
 index_fits sup generation most fits = record {
   machines = fits.machines;
   volumes = fits.volumes;

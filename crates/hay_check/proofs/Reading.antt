@@ -2,6 +2,7 @@
 use Rattle.std.proofs.Common.{◌≡◌, inr, ℕ, ◌≤◌, take, subst, ◌∙◌, Err, Result}
 use Rattle.hay_needle.specs.declared.settings.Super.{Super}
 use Rattle.hay_needle.specs.Super.{super_bytes}
+use Rattle.hay_needle.specs.declared.settings.TheConstants.{LAST_GENERATION}
 use Rattle.hay_disk.specs.Disk.{Files}
 use Rattle.hay_head.specs.Head.{IsHead}
 use Rattle.hay_volume.specs.Cells.{IsDamagedCell}
@@ -22,7 +23,7 @@ cell_damage sup f g file number at same begins damage = (damage.0, inr (begins, 
 
 -- damage of the volume file that the head names
 pub volume_damage : (sup vsup : Super) (f g : Files) (generation file number at : ℕ) → IsHead (super_bytes (head_super sup)) (f 0).now generation → g ≡ f
-    → (generation ≤ 65535 → number ≡ volume_file generation)
+    → (generation ≤ LAST_GENERATION → number ≡ volume_file generation)
     → vsup ≡ volume_super sup generation → (file ≡ number) × IsDamagedVolume vsup (g number).now at → IsDamagedFront sup (λ n. (f n).now) file at
 volume_damage sup vsup f g generation file number at head same numbered vsup_is damage =
     let is = numbered head.most in

@@ -7,6 +7,7 @@ use Rattle.hay_needle.specs.declared.settings.Super.{Super}
 use Rattle.hay_needle.specs.Sizes.{needle_total}
 use Rattle.hay_needle.specs.Super.{super_bytes}
 use Rattle.hay_needle.specs.Tables.{table_of}
+use Rattle.hay_needle.specs.declared.settings.TheConstants.{LAST_GENERATION}
 use Rattle.hay_dirfile.specs.declared.row.DirRow.{DirRow}
 use Rattle.hay_dirfile.specs.Journal.{IsDamagedJournal, IsJournal}
 use Rattle.hay_volume.specs.Cells.{needles_of}
@@ -55,7 +56,7 @@ abbrev pub IsReplicaVerdict : Verdict → Type 0
 IsReplicaVerdict verdict.Void = Unit {0}
 IsReplicaVerdict (verdict.Rows rows) = ⊥
 IsReplicaVerdict (verdict.Whole generation cells live records end old) =
-    (generation ≤ 65535) × (live ≤ cells) × (records ≤ cells) × (old ≤ cells) × (64 + cells * needle_total 0 ≤ end) × (end < 2 ^ 64)
+    (generation ≤ LAST_GENERATION) × (live ≤ cells) × (records ≤ cells) × (old ≤ cells) × (64 + cells * needle_total 0 ≤ end) × (end < 2 ^ 64)
 IsReplicaVerdict (verdict.Damaged file at) = IsReplicaFile file × (at < 2 ^ 64)
 
 -- and those on the Directory's

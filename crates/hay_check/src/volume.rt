@@ -17,7 +17,7 @@ ghost use Rattle.hay_check.specs.Damage.{HoldsCells, IsDamagedFront, IsDamagedVo
 use crate::fault::Refusal;
 use hay_disk::Disk;
 use hay_head::{Head, HeadFault, read_front};
-use hay_needle::{CellHead, SUPER_LEN, Super};
+use hay_needle::{CellHead, LAST_GENERATION, SUPER_LEN, Super};
 use hay_open::{HEAD_FILE, head_super, volume_file, volume_super};
 use hay_volume::{CellFault, VolumeFile};
 use std::alloc::Global;
@@ -34,7 +34,7 @@ pub(crate) struct Cells {
 // The generation that the head file names.
 fn read_generation<D: Disk>(disk: &mut D, sup: &Super) -> Result<u64, Refusal>
     ensures head { D.Tells → IfOk result (λ generation. IsHead (super_bytes (stored.head_super sup.now)) (D.files disk.old 0).now generation) }
-    ensures most { IfOk result (λ generation. generation ≤ 65535) }
+    ensures most { IfOk result (λ generation. generation ≤ LAST_GENERATION) }
     ensures file { (file at : ℕ) → result ≡ Err (Refusal.Damaged file at) → file ≡ 0 }
     ensures damaged { D.Tells → (file at : ℕ) → result ≡ Err (Refusal.Damaged file at) → (file ≡ 0) × IsDamagedHead (stored.head_super sup.now) (D.files disk.old 0).now at }
     ensures same { D.Tells → D.files disk.new ≡ D.files disk.old }
@@ -105,7 +105,7 @@ pub(crate) fn read_cells<D: Disk>(
     ensures cells { D.Tells → IfOk result (λ read. (cells : List Cell) × HoldsCells sup.now (λ n. (D.files disk.old n).now) read.generation cells read.end
         × (read.heads.items ≡ map cell_head cells)) }
     ensures row { IfOk result (λ read. AreHeadsFrom 64 read.heads.items read.end) }
-    ensures most { IfOk result (λ read. read.generation ≤ 65535) }
+    ensures most { IfOk result (λ read. read.generation ≤ LAST_GENERATION) }
     ensures file { (file at : ℕ) → result ≡ Err (Refusal.Damaged file at) → IsReplicaFile file }
     ensures damaged { D.Tells → (file at : ℕ) → result ≡ Err (Refusal.Damaged file at) → IsDamagedFront sup.now (λ n. (D.files disk.old n).now) file at }
     ensures same { D.Tells → D.files disk.new ≡ D.files disk.old }

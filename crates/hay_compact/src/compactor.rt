@@ -21,8 +21,8 @@ use hay_base::NoMemory;
 use hay_disk::{Disk, DiskFault, Failed};
 use hay_index::{IndexFile, Record};
 use hay_needle::{
-    CellHead, Cookie, FileKind, HEAD_LEN, MAX_PHOTO, NEEDLE_MAGIC, Pair, Super, encode_rest,
-    total_of,
+    CellHead, Cookie, FileKind, HEAD_LEN, LAST_GENERATION, MAX_PHOTO, NEEDLE_MAGIC, Pair, Super,
+    encode_rest, total_of,
 };
 use hay_open::head_at;
 use hay_volume::{CellFault, VolumeFault, VolumeFile};
@@ -70,7 +70,7 @@ impl Compactor {
         sup: &Super,
         generation: u64,
     ) -> Result<Compactor, DiskFault>
-        requires { generation ≤ 65535 }
+        requires { generation ≤ LAST_GENERATION }
 
         // Nothing is examined, and nothing is copied.
         ensures begun { D.Tells → IfOk result (λ stage. (old : VolumeFile) (superblock : List ℕ) (cells : List Cell) →

@@ -8,6 +8,7 @@ use Rattle.std.specs.Int.{bytes_high_first}
 use Rattle.std.proofs.lemmas.Bool.{cases_lt}
 use Rattle.std.proofs.lemmas.List.{take_at, take_all, drop_at, drop_all, drop-drop, take-take}
 use Rattle.std.proofs.lemmas.List.FromFn.{length-range_with_len, get_or-range_with_len}
+use Rattle.hay_needle.specs.declared.settings.TheConstants.{LAST_GENERATION}
 use Rattle.hay_disk.specs.Disk.{FileState, IsImage, IsSolid, IsSolidIn, overwrite}
 use Rattle.hay_disk.specs.Gate.{magic_bytes, record_of, end_mark, HasBytesAt, IsClosed, IsGate, LogGrows, LogStays}
 use Rattle.hay_disk.proofs.Logs.{not_mark}
@@ -36,7 +37,7 @@ next_range n =
 
 -- THE NEXT ROW IS APPENDED
 
-more_head : (superblock file : List ℕ) (next : ℕ) → next ≤ 65535 → HasRows head_row superblock file (range_with_len 0 next ++ next ∷ []) (row_place (next + 1))
+more_head : (superblock file : List ℕ) (next : ℕ) → next ≤ LAST_GENERATION → HasRows head_row superblock file (range_with_len 0 next ++ next ∷ []) (row_place (next + 1))
     × IsClosed head_magic (row_place (next + 1)) file
     → IsHead superblock file next
 more_head superblock file next most is = record {
@@ -45,7 +46,7 @@ more_head superblock file next most is = record {
   closed = is.1;
 }
 
-pub head_grows : (superblock old new body : List ℕ) (g next : ℕ) → next ≡ g + 1 → next ≤ 65535 → body ≡ bytes_high_first 8 next ++ end_mark
+pub head_grows : (superblock old new body : List ℕ) (g next : ℕ) → next ≡ g + 1 → next ≤ LAST_GENERATION → body ≡ bytes_high_first 8 next ++ end_mark
     → LogGrows head_magic (row_place next) body old new → IsHead superblock old g
     → IsHead superblock new next
 head_grows superblock old new body g next nexts most body_is grows is =
@@ -55,7 +56,7 @@ head_grows superblock old new body g next nexts most body_is grows is =
     (rows_grow head_magic head_row superblock old new body (bytes_high_first 8 next) (range_with_len 0 next) (row_place next) (row_place (next + 1)) next (head_row_is next) body_is
     (omega (arith, length-head_row next)) grows rows closed)
 
-pub head_stays : (superblock body image : List ℕ) (old new : FileState) (g next : ℕ) → next ≡ g + 1 → next ≤ 65535 → body ≡ bytes_high_first 8 next ++ end_mark
+pub head_stays : (superblock body image : List ℕ) (old new : FileState) (g next : ℕ) → next ≡ g + 1 → next ≤ LAST_GENERATION → body ≡ bytes_high_first 8 next ++ end_mark
     → LogStays head_magic (row_place next) body old new
     → IsHead superblock old.now g → IsSolidIn 0 (row_place next) old → IsImage new image → IsHead superblock image g ⊎ IsHead superblock image next
 head_stays superblock body image old new g next nexts most body_is stays is solid leaves =
@@ -155,7 +156,7 @@ lead_next superblock file n lead stand =
     subst (λ l. HasRows head_row superblock file l (row_place (n + 1))) (next_range n)
     (rows_lead head_row superblock file (range_with_len 0 n) (row_place n) (row_place (n + 1)) n lead stand (omega (arith, length-head_row n)))
 
-pub head_found : (superblock file : List ℕ) (n g : ℕ) → n ≡ g + 1 → n ≤ 65536 → LeadsTo superblock file n → IsClosed head_magic (row_place n) file → IsHead superblock file g
+pub head_found : (superblock file : List ℕ) (n g : ℕ) → n ≡ g + 1 → n ≤ LAST_GENERATION + 1 → LeadsTo superblock file n → IsClosed head_magic (row_place n) file → IsHead superblock file g
 head_found superblock file n g is most lead closed = record {
   most = omega arith;
   rows = subst (λ k. LeadsTo superblock file k) is lead;
@@ -173,7 +174,7 @@ row_below superblock file n g lead below =
 row_open : (g : ℕ) (file : List ℕ) → HasBytesAt (row_place g) (head_row g) file → IsClosed head_magic (row_place g) file → ⊥
 row_open g file stand closed = closed.shut (row_magic head_magic (row_place g) (head_row g) (bytes_high_first 8 g) file (head_row_is g) stand)
 
-row_whole : (g : ℕ) (file : List ℕ) → g ≤ 65535 → HasBytesAt (row_place g) (head_row g) file → IsBrokenRow g file → ⊥
+row_whole : (g : ℕ) (file : List ℕ) → g ≤ LAST_GENERATION → HasBytesAt (row_place g) (head_row g) file → IsBrokenRow g file → ⊥
 row_whole g file most stand (inl short) = let room = row_room (row_place g) g file stand in omega arith
 row_whole g file most stand (inr (inl (magic, inl other))) = other stand
 row_whole g file most stand (inr (inl (magic, inr beyond))) = omega arith

@@ -4,6 +4,7 @@ use Rattle.std.specs.List.{range_with_len}
 use Rattle.std.specs.Int.{bytes_high_first}
 use Rattle.hay_needle.specs.declared.settings.Super.{Super}
 use Rattle.hay_needle.specs.Super.{super_bytes}
+use Rattle.hay_needle.specs.declared.settings.TheConstants.{LAST_GENERATION}
 use Rattle.hay_disk.specs.Gate.{magic_bytes, record_of, IsClosed, HasBytesAt}
 use Rattle.hay_head.specs.Rows.{HasRows, IsSuperFaultAt}
 
@@ -26,7 +27,7 @@ LeadsTo superblock file n = HasRows head_row superblock file (range_with_len 0 n
 -- A head file: this superblock, the rows of the generations from 0 up to this one, eight bytes that are not the row
 -- magic, then anything.
 pub record IsHead (superblock file : List ℕ) (generation : ℕ) : Type 0 where
-  pub most : generation ≤ 65535
+  pub most : generation ≤ LAST_GENERATION
   pub rows : LeadsTo superblock file (generation + 1)
   pub closed : IsClosed head_magic (row_place (generation + 1)) file
 
@@ -35,13 +36,13 @@ pub record IsHead (superblock file : List ℕ) (generation : ℕ) : Type 0 where
 abbrev pub IsBrokenRow : ℕ → List ℕ → Type 0
 IsBrokenRow n file =
     (length file < row_place n + 8)
-    ⊎ ((take 8 (drop (row_place n) file) ≡ magic_bytes head_magic) × ((HasBytesAt (row_place n) (head_row n) file → ⊥) ⊎ (65535 < n)))
+    ⊎ ((take 8 (drop (row_place n) file) ≡ magic_bytes head_magic) × ((HasBytesAt (row_place n) (head_row n) file → ⊥) ⊎ (LAST_GENERATION < n)))
     ⊎ ((n ≡ 0) × IsClosed head_magic (row_place n) file)
 
 -- Rows of generations that there may be lead up to `at`, and there the next one is broken.
 pub record IsBrokenAt (superblock file : List ℕ) (at : ℕ) : Type 0 where
   pub next : ℕ
-  pub most : next ≤ 65536
+  pub most : next ≤ LAST_GENERATION + 1
   pub place : at ≡ row_place next
   pub lead : LeadsTo superblock file next
   pub broken : IsBrokenRow next file

@@ -14,16 +14,13 @@ use crate::blocks::BlockReader;
 use crate::fault::HeadFault;
 use crate::rows::{Slot, has_number, read_front};
 use hay_disk::{Disk, DiskFault, Failed, gate_append};
-use hay_needle::{SUPER_LEN, Super, write_super};
+use hay_needle::{LAST_GENERATION, SUPER_LEN, Super, write_super};
 
 // `HEADROW1`, which begins each row.
 const ROW_MAGIC: u64 = 0x4845_4144_524f_5731;
 
 // The number of bytes of a row.
 const ROW_LEN: usize = 16;
-
-// The greatest generation.
-const LAST_GENERATION: u64 = 65_535;
 
 // The number of the head file on its disk.
 const FILE: u32 = 0;
@@ -74,7 +71,7 @@ impl Head {
         ensures memory { IsErrOf result HeadFault.NoMemory → ⊥ }
 
         // Whatever the disk tells, no later generation is read than the last.
-        ensures most { IfOk result (λ head. head.generation ≤ 65535) }
+        ensures most { IfOk result (λ head. head.generation ≤ LAST_GENERATION) }
 
         // Where nothing of it is loose or sealed, the next row may be appended.
         ensures next { D.Tells → IsSolid (D.files disk.old 0) → IsFree (D.files disk.old 0) →
@@ -114,7 +111,7 @@ impl Head {
     /// Adds the row of the next generation. It is on the disk then, and the next switch may follow.
     pub fn switch<D: Disk>(&mut self, disk: &mut D, generation: u64) -> Result<(), DiskFault>
         requires follows { generation ≡ self.old.generation + 1 }
-        requires most { generation ≤ 65535 }
+        requires most { generation ≤ LAST_GENERATION }
         requires gate { D.Tells → IsGate head_magic (row_place generation) (D.files disk.old 0) }
 
         ensures moved { OnOk result (self.new ≡ record { generation = generation }) }
@@ -150,7 +147,7 @@ impl Head {
 
 // Where the row of a generation is due.
 fn place_of(generation: u64) -> u64
-    requires { generation ≤ 65536 }
+    requires { generation ≤ LAST_GENERATION + 1 }
     ensures { result ≡ row_place generation }
 {
     SUPER_LEN as u64 + generation * ROW_LEN as u64
@@ -187,12 +184,12 @@ fn first_row() -> [u8; 24]
 
 // Whether the row of generation `next` stands where it is due, or the end mark behind at least one row.
 fn read_row<D: Disk>(reader: &mut BlockReader, disk: &mut D, next: u64) -> Result<Slot, Failed>
-    requires most { next ≤ 65536 }
+    requires most { next ≤ LAST_GENERATION + 1 }
     requires file { reader.old.file ≡ 0 }
     requires reaches { Reaches reader.old (row_place next) }
     requires block { D.Tells → HasBlockOf (D.files disk.old 0).now reader.old }
     ensures row { D.Tells → result ≡ Ok Slot.Row → HasBytesAt (row_place next) (head_row next) (D.files disk.old 0).now }
-    ensures most { result ≡ Ok Slot.Row → next ≤ 65535 }
+    ensures most { result ≡ Ok Slot.Row → next ≤ LAST_GENERATION }
     ensures mark { D.Tells → result ≡ Ok Slot.Mark → IsClosed head_magic (row_place next) (D.files disk.old 0).now }
     ensures some { result ≡ Ok Slot.Mark → 0 < next }
     ensures broken { D.Tells → result ≡ Ok Slot.Broken → IsBrokenRow next (D.files disk.old 0).now }

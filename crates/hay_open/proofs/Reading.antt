@@ -2,6 +2,7 @@
 use Rattle.std.proofs.Common.{◌≡◌, inl, inr, ℕ, ◌≤◌, List, take, sym, ap, subst, ◌∙◌, Err, Result}
 use Rattle.hay_needle.specs.declared.settings.Super.{Super}
 use Rattle.hay_needle.specs.Super.{super_bytes}
+use Rattle.hay_needle.specs.declared.settings.TheConstants.{LAST_GENERATION}
 use Rattle.hay_disk.specs.Disk.{Files}
 use Rattle.hay_head.specs.Head.{IsDamagedHead, IsHead}
 use Rattle.hay_head.specs.Rows.{IsSuperFaultAt}
@@ -17,10 +18,12 @@ use Rattle.hay_open.specs.Stored.{head_super, index_file, index_super, volume_fi
 pub same_refusal : {T : Type 0} (r : Result T Refusal) (passed fault : Refusal) (file at : ℕ) → r ≡ Err passed → passed ≡ fault → r ≡ Err (Damaged file at) → fault ≡ Damaged file at
 same_refusal r passed fault file at is from damaged = cc
 
-pub volume_number : (superblock file : List ℕ) (generation number : ℕ) → IsHead superblock file generation → (generation ≤ 65535 → number ≡ volume_file generation) → number ≡ volume_file generation
+pub volume_number : (superblock file : List ℕ) (generation number : ℕ) → IsHead superblock file generation → (generation ≤ LAST_GENERATION → number ≡ volume_file generation)
+    → number ≡ volume_file generation
 volume_number superblock file generation number head is = is head.most
 
-pub index_number : (superblock file : List ℕ) (generation number : ℕ) → IsHead superblock file generation → (generation ≤ 65535 → number ≡ index_file generation) → number ≡ index_file generation
+pub index_number : (superblock file : List ℕ) (generation number : ℕ) → IsHead superblock file generation → (generation ≤ LAST_GENERATION → number ≡ index_file generation)
+    → number ≡ index_file generation
 index_number superblock file generation number head is = is head.most
 
 -- the files as the calls before left them
@@ -31,7 +34,7 @@ pub back : (A : List ℕ → Type 0) (f g : Files) (number file : ℕ) → g ≡
 back A f g number file same is holds = subst (λ (fs : Files). A (fs number).now) (sym same) (subst (λ n. A (f n).now) (sym is) holds)
 
 pub front_fault : (sup vsup : Super) (f g : Files) (generation file number at : ℕ) → IsHead (super_bytes (head_super sup)) (f 0).now generation → g ≡ f
-    → (generation ≤ 65535 → number ≡ volume_file generation)
+    → (generation ≤ LAST_GENERATION → number ≡ volume_file generation)
     → vsup ≡ volume_super sup generation → (file ≡ number) × IsSuperFaultAt vsup (g number).now at → IsDamagedFront sup (λ n. (f n).now) file at
 front_fault sup vsup f g generation file number at head same numbered vsup_is fault =
     let is = numbered head.most in
@@ -46,15 +49,15 @@ front_fault sup vsup f g generation file number at head same numbered vsup_is fa
     )
 
 pub front_begins : (sup vsup : Super) (f g : Files) (generation number : ℕ) → IsHead (super_bytes (head_super sup)) (f 0).now generation → g ≡ f
-    → (generation ≤ 65535 → number ≡ volume_file generation)
+    → (generation ≤ LAST_GENERATION → number ≡ volume_file generation)
     → vsup ≡ volume_super sup generation → take 64 (g number).now ≡ super_bytes vsup → take 64 (f (volume_file generation)).now ≡ super_bytes (volume_super sup generation)
 front_begins sup vsup f g generation number head same numbered vsup_is begins =
     there (λ l. take 64 l ≡ super_bytes (volume_super sup generation)) f g number (volume_file generation) same (numbered head.most) (begins ∙ ap super_bytes vsup_is)
 
 pub index_fault : (sup vsup isup : Super) (f g h : Files) (generation file number at volume : ℕ) → IsHead (super_bytes (head_super sup)) (f 0).now generation → g ≡ f
-    → (generation ≤ 65535 → volume ≡ volume_file generation)
+    → (generation ≤ LAST_GENERATION → volume ≡ volume_file generation)
     → vsup ≡ volume_super sup generation → take 64 (g volume).now ≡ super_bytes vsup
-    → h ≡ f → (generation ≤ 65535 → number ≡ index_file generation) → isup ≡ index_super sup generation → (file ≡ number) × IsDamagedIndex isup (h number).now at
+    → h ≡ f → (generation ≤ LAST_GENERATION → number ≡ index_file generation) → isup ≡ index_super sup generation → (file ≡ number) × IsDamagedIndex isup (h number).now at
     → IsDamagedFront sup (λ n. (f n).now) file at
 index_fault sup vsup isup f g h generation file number at volume head same numbered vsup_is begins later counted isup_is fault =
     let is = counted head.most in
@@ -70,7 +73,7 @@ index_fault sup vsup isup f g h generation file number at volume head same numbe
 
 -- where the disk has records, the superblock and the index are those that were sought
 pub sought_front : (sup vsup : Super) (f g : Files) (generation other number end : ℕ) (records : List Record) → IsHead (super_bytes (head_super sup)) (f 0).now generation → g ≡ f
-    → (generation ≤ 65535 → number ≡ volume_file generation)
+    → (generation ≤ LAST_GENERATION → number ≡ volume_file generation)
     → vsup ≡ volume_super sup generation → IsRecorded sup (λ n. (f n).now) other records end → take 64 (g number).now ≡ super_bytes vsup
 sought_front sup vsup f g generation other number end records head same numbered vsup_is is =
     let one : other ≡ generation = one_generation (super_bytes (head_super sup)) (f 0).now other generation is.head head in
@@ -78,7 +81,7 @@ sought_front sup vsup f g generation other number end records head same numbered
     back (λ l. take 64 l ≡ super_bytes vsup) f g number (volume_file generation) same (numbered head.most) (begins ∙ ap super_bytes (sym vsup_is))
 
 pub sought_index : (sup isup : Super) (f h : Files) (generation other number end : ℕ) (records : List Record) → IsHead (super_bytes (head_super sup)) (f 0).now generation → h ≡ f
-    → (generation ≤ 65535 → number ≡ index_file generation)
+    → (generation ≤ LAST_GENERATION → number ≡ index_file generation)
     → isup ≡ index_super sup generation → IsRecorded sup (λ n. (f n).now) other records end → IsIndex (super_bytes isup) (h number).now records end
 sought_index sup isup f h generation other number end records head later counted isup_is is =
     let one : other ≡ generation = one_generation (super_bytes (head_super sup)) (f 0).now other generation is.head head in
@@ -90,8 +93,9 @@ sought_index sup isup f h generation other number end records head later counted
 -- where none of the three is damaged
 pub front_undamaged : (sup vsup isup : Super) (f g h : Files) (generation file at volume index : ℕ) → IsHead (super_bytes (head_super sup)) (f 0).now generation
     → (IsDamagedHead (head_super sup) (f 0).now at → ⊥)
-    → g ≡ f → (generation ≤ 65535 → volume ≡ volume_file generation) → vsup ≡ volume_super sup generation → (IsSuperFaultAt vsup (g volume).now at → ⊥)
-    → h ≡ f → (generation ≤ 65535 → index ≡ index_file generation) → isup ≡ index_super sup generation → (IsDamagedIndex isup (h index).now at → ⊥) → IsDamagedFront sup (λ n. (f n).now) file at → ⊥
+    → g ≡ f → (generation ≤ LAST_GENERATION → volume ≡ volume_file generation) → vsup ≡ volume_super sup generation → (IsSuperFaultAt vsup (g volume).now at → ⊥)
+    → h ≡ f → (generation ≤ LAST_GENERATION → index ≡ index_file generation) → isup ≡ index_super sup generation → (IsDamagedIndex isup (h index).now at → ⊥)
+    → IsDamagedFront sup (λ n. (f n).now) file at → ⊥
 front_undamaged sup vsup isup f g h generation file at volume index is head same numbered vsup_is fault later counted isup_is broken (inl damage) = head damage.1
 front_undamaged sup vsup isup f g h generation file at volume index is head same numbered vsup_is fault later counted isup_is broken (inr (other, also, inl damage)) =
     let one : other ≡ generation = one_generation (super_bytes (head_super sup)) (f 0).now other generation also is in

@@ -8,6 +8,7 @@ use Rattle.hay_needle.specs.declared.settings.Super.{Super}
 use Rattle.hay_needle.specs.Needle.{needle_magic}
 use Rattle.hay_needle.specs.Super.{super_bytes}
 use Rattle.hay_needle.specs.Tables.{pair_eq}
+use Rattle.hay_needle.specs.declared.settings.TheConstants.{LAST_GENERATION}
 use Rattle.hay_disk.specs.Disk.{FileState, IsSolid}
 use Rattle.hay_disk.specs.Gate.{IsGate}
 use Rattle.hay_volume.specs.Cells.{IsVolume}
@@ -30,7 +31,7 @@ index_file generation = 2 * generation + 2
 
 -- a file that a replica's head or one of its generations may name
 abbrev pub IsReplicaFile : ℕ → Type 0
-IsReplicaFile file = (file ≡ 0) ⊎ ((generation : ℕ) × (generation ≤ 65535) × ((file ≡ volume_file generation) ⊎ (file ≡ index_file generation)))
+IsReplicaFile file = (file ≡ 0) ⊎ ((generation : ℕ) × (generation ≤ LAST_GENERATION) × ((file ≡ volume_file generation) ⊎ (file ≡ index_file generation)))
 
 -- the same of the disk in a slot of a store: the first is the Directory's, of which file 0 is all
 abbrev pub IsSlotFile : ℕ → ℕ → Type 0

@@ -4,24 +4,21 @@ ghost use Rattle.std.specs.Prelude.{◌≡◌, ◌≤◌, ◌+◌, ◌*◌};
 ghost use Rattle.hay_needle.specs.Super.{SuperFits};
 ghost use Rattle.hay_open.specs.Stored as stored;
 
-use hay_needle::{FileKind, Super};
+use hay_needle::{FileKind, LAST_GENERATION, Super};
 
 /// The head file.
 pub const HEAD_FILE: u32 = 0;
 
-// The greatest generation that a head file has.
-const LAST_GENERATION: u64 = 65_535;
-
 /// The volume file of a generation.
 pub fn volume_file(generation: u64) -> u32
-    ensures { generation ≤ 65535 → result ≡ stored.volume_file generation }
+    ensures { generation ≤ LAST_GENERATION → result ≡ stored.volume_file generation }
 {
     2 * generation.min(LAST_GENERATION) as u32 + 1
 }
 
 /// The index file of a generation.
 pub fn index_file(generation: u64) -> u32
-    ensures { generation ≤ 65535 → result ≡ stored.index_file generation }
+    ensures { generation ≤ LAST_GENERATION → result ≡ stored.index_file generation }
 {
     2 * generation.min(LAST_GENERATION) as u32 + 2
 }

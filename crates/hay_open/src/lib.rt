@@ -39,7 +39,7 @@ pub use files::{
     HEAD_FILE, head_super, index_file, index_super, read_numbers, volume_file, volume_super,
 };
 use hay_disk::{Disk, Failed};
-use hay_needle::Super;
+use hay_needle::{LAST_GENERATION, Super};
 pub use opened::Opened;
 pub use record::head_at;
 use std::alloc::Global;
@@ -76,7 +76,7 @@ pub fn open_replica<D: Disk>(
     ensures flags { D.Tells → IfOk result (MayFlagEach (D.files disk.new)) }
     ensures open { IfOk result (λ opened. opened.index.frozen ≡ false) }
     ensures capacity { IfOk result (λ opened. opened.volume.capacity ≡ sup.now.settings.capacity) }
-    ensures most { IfOk result (λ opened. opened.head.generation ≤ 65535) }
+    ensures most { IfOk result (λ opened. opened.head.generation ≤ LAST_GENERATION) }
     // The cells that have no record stand there, and so does each needle that a place has.
     ensures number { IfOk result (λ opened. opened.volume.file ≡ stored.volume_file opened.head.generation) }
     ensures from { IfOk result (λ opened. 64 + length opened.index.pending * needle_total 0 ≤ opened.volume.end) }

@@ -29,7 +29,7 @@ use crate::record::fitting_head;
 use hay_disk::Disk;
 use hay_head::{Head, HeadFault, read_front};
 use hay_index::{IndexFault, IndexFile, Record};
-use hay_needle::{CellHead, SUPER_LEN, Super, total_of};
+use hay_needle::{CellHead, LAST_GENERATION, SUPER_LEN, Super, total_of};
 use hay_volume::{CellFault, VolumeFile};
 use std::alloc::Global;
 
@@ -61,7 +61,7 @@ struct Recorded {
 // Reads the head file.
 fn read_head_file<D: Disk>(disk: &mut D, sup: &Super) -> Result<Head, Refusal>
     ensures head { D.Tells → IfOk result (λ head. IsHead (super_bytes (stored.head_super sup.now)) (D.files disk.old 0).now head.generation) }
-    ensures most { IfOk result (λ head. head.generation ≤ 65535) }
+    ensures most { IfOk result (λ head. head.generation ≤ LAST_GENERATION) }
     ensures file { (file at : ℕ) → result ≡ Err (Refusal.Damaged file at) → file ≡ 0 }
     ensures damaged { D.Tells → (file at : ℕ) → result ≡ Err (Refusal.Damaged file at) → (file ≡ 0) × IsDamagedHead (stored.head_super sup.now) (D.files disk.old 0).now at }
     ensures undamaged { D.Tells → OnOk result ((at : ℕ) → IsDamagedHead (stored.head_super sup.now) (D.files disk.old 0).now at → ⊥) }
@@ -135,7 +135,7 @@ fn read_recorded<D: Disk>(alloc: Global, disk: &mut D, sup: &Super) -> Result<Re
     ensures index { IfOk result (λ read. read.index ≡ record { file = read.index.file; end = read.index.end; pending = []; frozen = false }) }
     ensures number { IfOk result (λ read. read.index.file ≡ stored.index_file read.head.generation) }
     ensures row { IfOk result (λ read. AreInRow 64 read.records.items) }
-    ensures most { IfOk result (λ read. read.head.generation ≤ 65535) }
+    ensures most { IfOk result (λ read. read.head.generation ≤ LAST_GENERATION) }
     ensures file { (file at : ℕ) → result ≡ Err (Refusal.Damaged file at) → IsReplicaFile file }
     ensures damaged { D.Tells → (file at : ℕ) → result ≡ Err (Refusal.Damaged file at) → IsDamagedFront sup.now (λ n. (D.files disk.old n).now) file at }
     ensures undamaged { D.Tells → OnOk result ((file at : ℕ) → IsDamagedFront sup.now (λ n. (D.files disk.old n).now) file at → ⊥) }
@@ -268,7 +268,7 @@ pub(crate) fn read_listing<D: Disk>(
     ensures listing { D.Tells → IfOk result (λ listing. IsListing sup.now (λ n. (D.files disk.old n).now) listing) }
     ensures open { IfOk result (λ listing. listing.index.frozen ≡ false) }
     ensures within { IfOk result (λ listing. listing.recorded ≤ length listing.rows.items) }
-    ensures most { IfOk result (λ listing. listing.head.generation ≤ 65535) }
+    ensures most { IfOk result (λ listing. listing.head.generation ≤ LAST_GENERATION) }
     ensures number { IfOk result (λ listing. listing.volume ≡ stored.volume_file listing.head.generation) }
     ensures row { IfOk result LiesInRow }
     ensures from { IfOk result (λ listing. 64 + length listing.index.pending * needle_total 0 ≤ listing.end) }

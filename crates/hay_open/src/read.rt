@@ -17,7 +17,7 @@ use crate::listing::{Listing, read_listing};
 use crate::opened::Opened;
 use crate::places::open_cells;
 use hay_disk::Disk;
-use hay_needle::Super;
+use hay_needle::{LAST_GENERATION, Super};
 use hay_volume::VolumeFile;
 use std::alloc::Global;
 
@@ -39,7 +39,7 @@ pub(crate) fn read_disk<D: Disk>(
     ensures front { D.Tells → OnOk result ((file at : ℕ) → IsDamagedFront sup.now (λ n. (D.files disk.old n).now) file at → ⊥) }
     ensures open { IfOk result (λ opened. opened.index.frozen ≡ false) }
     ensures capacity { IfOk result (λ opened. opened.volume.capacity ≡ sup.now.settings.capacity) }
-    ensures most { IfOk result (λ opened. opened.head.generation ≤ 65535) }
+    ensures most { IfOk result (λ opened. opened.head.generation ≤ LAST_GENERATION) }
     ensures number { IfOk result (λ opened. opened.volume.file ≡ stored.volume_file opened.head.generation) }
     ensures from { IfOk result (λ opened. 64 + length opened.index.pending * needle_total 0 ≤ opened.volume.end) }
     ensures within { IfOk result (λ opened. ArePlacesWithin opened.volume.end opened.cells.items) }

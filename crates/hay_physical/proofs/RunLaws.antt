@@ -12,6 +12,7 @@ use Rattle.hay_needle.specs.declared.settings.Super.{Super}
 use Rattle.hay_needle.specs.Needle.{needle_of_cell, needle_magic}
 use Rattle.hay_needle.specs.Super.{super_bytes}
 use Rattle.hay_needle.specs.Tables.{flag_last, lacks, pair_eq}
+use Rattle.hay_needle.specs.declared.settings.TheConstants.{LAST_GENERATION}
 use Rattle.hay_disk.specs.Disk.{Files, FileState, KeepsOthers}
 use Rattle.hay_head.specs.declared.head.Head.{Head}
 use Rattle.hay_volume.specs.declared.fault.CellFault.{CellFault}
@@ -146,7 +147,7 @@ bounded_still capacity old new bounded head file volume grows copier =
       within = omega (arith, ap copier_next copier);
     }
 
-pub bounded_ended : (capacity : ℕ) (new : OpenFiles) (faults : ℕ) → new.volume.file ≡ volume_file new.head.generation → new.volume.capacity ≡ capacity → new.head.generation ≤ 65535
+pub bounded_ended : (capacity : ℕ) (new : OpenFiles) (faults : ℕ) → new.volume.file ≡ volume_file new.head.generation → new.volume.capacity ≡ capacity → new.head.generation ≤ LAST_GENERATION
     → 64 ≤ new.volume.end → new.copier ≡ Ended faults → IsBounded capacity new
 bounded_ended capacity new faults file volume most from ended = record {
   file = file;
@@ -162,7 +163,7 @@ pub bounded_dropped : (capacity : ℕ) (old new : OpenFiles) (faults : ℕ) → 
 bounded_dropped capacity old new faults bounded keeps ended =
     bounded_ended capacity new faults (subst (λ (o : OpenFiles). o.volume.file ≡ volume_file o.head.generation) (sym keeps) bounded.file)
     (ap (λ (o : OpenFiles). o.volume.capacity) keeps ∙ bounded.volume)
-    (subst (λ (o : OpenFiles). o.head.generation ≤ 65535) (sym keeps) bounded.most) (subst (λ (o : OpenFiles). 64 ≤ o.volume.end) (sym keeps) bounded.from) ended
+    (subst (λ (o : OpenFiles). o.head.generation ≤ LAST_GENERATION) (sym keeps) bounded.most) (subst (λ (o : OpenFiles). 64 ≤ o.volume.end) (sym keeps) bounded.from) ended
 
 pub bounded_stage : (capacity : ℕ) (old new : OpenFiles) (stage : Stage) → IsBounded capacity old → KeepsFiles old new → new.copier ≡ Standing stage → stage.capacity ≡ capacity
     → stage.next ≤ old.volume.end → IsBounded capacity new
@@ -170,7 +171,7 @@ bounded_stage capacity old new stage bounded keeps stands same within = record {
   file = subst (λ (o : OpenFiles). o.volume.file ≡ volume_file o.head.generation) (sym keeps) bounded.file;
   volume = ap (λ (o : OpenFiles). o.volume.capacity) keeps ∙ bounded.volume;
   next = λ most is. let e : Some stage.capacity ≡ Some most = sym (ap copier_capacity stands) ∙ is in let f : most ≡ stage.capacity = cc in f ∙ same;
-  most = subst (λ (o : OpenFiles). o.head.generation ≤ 65535) (sym keeps) bounded.most;
+  most = subst (λ (o : OpenFiles). o.head.generation ≤ LAST_GENERATION) (sym keeps) bounded.most;
   from = subst (λ (o : OpenFiles). 64 ≤ o.volume.end) (sym keeps) bounded.from;
   within = subst (λ (o : OpenFiles). copier_next new.copier ≤ o.volume.end) (sym keeps) (subst (λ k. k ≤ old.volume.end) (sym (ap copier_next stands)) within);
 }

@@ -28,6 +28,7 @@ use Rattle.hay_volume.specs.Cells.{needles_of}
 use Rattle.hay_open.specs.Stored.{last_cell}
 use Rattle.hay_needle.specs.declared.needle.Cell.{Cell}
 use Rattle.hay_needle.specs.declared.needle.Pair.{Pair}
+use Rattle.hay_needle.specs.declared.settings.TheConstants.{LAST_GENERATION}
 use Rattle.std.proofs.Common.{◌∷◌, drop, take, not}
 use Rattle.hay_physical.specs.CompactionRuns.{HasPair}
 use Rattle.hay_physical.specs.declared.fault.ReplicaFault.{ReplicaFault}
@@ -57,9 +58,9 @@ pub files_say : {D T : Type 0} (say : Phase → T) (r : Copy D) (sup : Super) (d
 files_say say r sup disk phase opened view is = sym (ap say is) ∙ ap (λ (x : Copy _). say x.phase) view
 
 pub files_begin : {D : Type 0} (r : Copy D) (sup : Super) (disk : D) (phase : Phase) (opened : OpenFiles) → record { sup = sup; disk = disk; phase = phase } ≡ r → phase ≡ Open opened
-    → (copier_goal opened.copier ≡ None) × (opened.head.generation < 65535) → CanBegin r
+    → (copier_goal opened.copier ≡ None) × (opened.head.generation < LAST_GENERATION) → CanBegin r
 files_begin r sup disk phase opened view is may =
-    subst (λ (x : Copy _). CanBegin x) view (subst (λ (p : Phase). (phase_goal p ≡ None) × (phase_generation p < 65535)) (sym is) may)
+    subst (λ (x : Copy _). CanBegin x) view (subst (λ (p : Phase). (phase_goal p ≡ None) × (phase_generation p < LAST_GENERATION)) (sym is) may)
 
 pub files_goal : {D : Type 0} (r : Copy D) (sup : Super) (disk : D) (phase : Phase) (opened : OpenFiles) → record { sup = sup; disk = disk; phase = phase } ≡ r
     → phase ≡ Open opened → copier_goal opened.copier ≡ goal_of r

@@ -1,6 +1,7 @@
 -- A replica as contracts see it.
 use Rattle.std.specs.Prelude.{◌≡◌, ◌<◌, ℕ, Bool, true, false, List, length, Option, Some, None, ⊤}
 use Rattle.hay_needle.specs.declared.settings.Super.{Super}
+use Rattle.hay_needle.specs.declared.settings.TheConstants.{LAST_GENERATION}
 use Rattle.hay_disk.specs.Disk.{Files}
 use Rattle.hay_open.specs.Stored.{volume_file}
 use Rattle.hay_physical.specs.declared.state.Copier.{Copier}
@@ -144,7 +145,7 @@ generation_of r = phase_generation r.phase
 
 -- no compaction stands, and there is a next generation
 abbrev pub CanBegin : {D : Type 0} → Copy D → Type 0
-CanBegin r = (goal_of r ≡ None) × (generation_of r < 65535)
+CanBegin r = (goal_of r ≡ None) × (generation_of r < LAST_GENERATION)
 
 -- the files of the same generation, whose cells end where they ended
 abbrev pub KeepsEnd : {D : Type 0} → Copy D → Copy D → Type 0

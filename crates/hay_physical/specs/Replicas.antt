@@ -12,6 +12,7 @@ use Rattle.hay_volume.specs.Needles.{HasNeedleOf}
 use Rattle.hay_index.specs.Records.{IsIndex, index_magic}
 use Rattle.hay_needle.specs.declared.needle.Needle.{Needle}
 use Rattle.hay_needle.specs.Needle.{NeedleBytes, needle_magic}
+use Rattle.hay_needle.specs.declared.settings.TheConstants.{LAST_GENERATION}
 use Rattle.hay_disk.specs.Gate.{IsGate}
 use Rattle.hay_head.specs.Head.{head_magic, row_place}
 use Rattle.hay_map.specs.Sealed.{SealedNeedle}
@@ -90,7 +91,7 @@ IsReady Tells files r = Tells → PhaseReady (files r.disk) r.phase
 -- On any disk a copier makes the next generation, and a replica that takes no changes has none.
 pub record IsSettled (opened : OpenFiles) : Type 0 where
   pub next : (goal : ℕ) → copier_goal opened.copier ≡ Some goal → goal ≡ opened.head.generation + 1
-  pub most : (goal : ℕ) → copier_goal opened.copier ≡ Some goal → goal ≤ 65535
+  pub most : (goal : ℕ) → copier_goal opened.copier ≡ Some goal → goal ≤ LAST_GENERATION
   pub dropped : opened.frozen ≡ true → copier_goal opened.copier ≡ None
 
 abbrev pub IsSettledPhase : Phase → Type 0
@@ -98,12 +99,12 @@ IsSettledPhase Closed = ⊤
 IsSettledPhase (Open opened) = IsSettled opened
 
 -- On any disk the volume file is that of the generation and has this capacity, and so has the one that a copier makes. The generation is
--- 65535 at most, and the copier has examined nothing behind the cells.
+-- the last at most, and the copier has examined nothing behind the cells.
 pub record IsBounded (capacity : ℕ) (opened : OpenFiles) : Type 0 where
   pub file : opened.volume.file ≡ volume_file opened.head.generation
   pub volume : opened.volume.capacity ≡ capacity
   pub next : (most : ℕ) → copier_capacity opened.copier ≡ Some most → most ≡ capacity
-  pub most : opened.head.generation ≤ 65535
+  pub most : opened.head.generation ≤ LAST_GENERATION
   pub from : 64 ≤ opened.volume.end
   pub within : copier_next opened.copier ≤ opened.volume.end
 

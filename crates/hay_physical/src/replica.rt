@@ -30,7 +30,7 @@ use crate::fault::ReplicaFault;
 use crate::state::{Copier, OpenFiles, Phase};
 use hay_disk::Disk;
 use hay_map::{OpenCell, Sealed};
-use hay_needle::{Cookie, MAX_PHOTO, Pair, Super};
+use hay_needle::{Cookie, LAST_GENERATION, MAX_PHOTO, Pair, Super};
 use hay_open::{OpenFault, Opened, open_replica};
 use std::alloc::Global;
 use std::marker::Model;
@@ -92,7 +92,7 @@ impl<D: Disk> Replica<D> {
         ensures up { OnOk result (IsUp self.new) }
         ensures stuck { OnOk result (is_stuck self.new ≡ false) }
         ensures alone { goal_of self.new ≡ None }
-        ensures most { OnOk result (generation_of self.new ≤ 65535) }
+        ensures most { OnOk result (generation_of self.new ≤ LAST_GENERATION) }
         // On any disk the cells that have no record stand before the end, and so does each needle that a place has.
         ensures from { OnOk result (64 + bare_of self.new * needle_total 0 ≤ end_of self.new) }
         ensures within { IfOk result (λ cells. ArePlacesWithin (end_of self.new) cells.items) }

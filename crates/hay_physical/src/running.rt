@@ -22,7 +22,7 @@ use crate::replica::Replica;
 use crate::state::{Copier, Phase};
 use hay_disk::Disk;
 use hay_map::OpenCell;
-use hay_needle::CellHead;
+use hay_needle::{CellHead, LAST_GENERATION};
 use std::alloc::Global;
 
 impl<D: Disk> Replica<D> {
@@ -35,15 +35,15 @@ impl<D: Disk> Replica<D> {
         ensures thawed { IsErrOf result ReplicaFault.Frozen → IsFrozen self.old }
         ensures busy { (goal : ℕ) → IsUp self.old → goal_of self.old ≡ Some goal → (result ≡ Err (ReplicaFault.Busy goal)) × (self.new ≡ self.old) }
         ensures idle { (goal : ℕ) → result ≡ Err (ReplicaFault.Busy goal) → goal_of self.old ≡ Some goal }
-        ensures worn { IsUp self.old → goal_of self.old ≡ None → 65535 ≤ generation_of self.old → (result ≡ Err ReplicaFault.Worn) × (self.new ≡ self.old) }
-        ensures most { IsErrOf result ReplicaFault.Worn → (goal_of self.old ≡ None) × (generation_of self.old ≡ 65535) }
-        ensures last { D.Tells → (s : Stored) → Stands D.files self.old s → IsErrOf result ReplicaFault.Worn → s.generation ≡ 65535 }
+        ensures worn { IsUp self.old → goal_of self.old ≡ None → LAST_GENERATION ≤ generation_of self.old → (result ≡ Err ReplicaFault.Worn) × (self.new ≡ self.old) }
+        ensures most { IsErrOf result ReplicaFault.Worn → (goal_of self.old ≡ None) × (generation_of self.old ≡ LAST_GENERATION) }
+        ensures last { D.Tells → (s : Stored) → Stands D.files self.old s → IsErrOf result ReplicaFault.Worn → s.generation ≡ LAST_GENERATION }
 
         // The photos stand as they stood, and all cells are to be examined.
         ensures begun { D.Tells → (s : Stored) → Stands D.files self.old s →
             IfOk result (λ goal. (goal ≡ s.generation + 1) × HasRun D.files self.new s (Some (record { goal = goal; left = length s.cells; tight = true }))) }
         ensures goal { IfOk result (λ goal. (goal ≡ generation_of self.old + 1) × (goal_of self.old ≡ None) × (goal_of self.new ≡ Some goal)) }
-        ensures small { IfOk result (λ goal. goal ≤ 65535) }
+        ensures small { IfOk result (λ goal. goal ≤ LAST_GENERATION) }
         ensures first { OnOk result (next_of self.new ≡ 64) }
         ensures memory { IsErrOf result ReplicaFault.NoMemory → CanBegin self.old }
         ensures failed { (faults : ℕ) → result ≡ Err (ReplicaFault.Failed faults) → CanBegin self.old }
@@ -74,7 +74,7 @@ impl<D: Disk> Replica<D> {
     /// The generation that a compaction makes, if one stands.
     pub fn standing(&self) -> Option<u64>
         ensures is { result ≡ goal_of self.now }
-        ensures most { IfSome result (λ goal. goal ≤ 65535) }
+        ensures most { IfSome result (λ goal. goal ≤ LAST_GENERATION) }
         ensures next { IfSome result (λ goal. goal ≡ generation_of self.now + 1) }
     {
         match &self.phase {
@@ -220,7 +220,7 @@ impl<D: Disk> Replica<D> {
         ensures counted { D.Tells → OnOk result ((t : Stored) → Stands D.files self.new t → length t.cells ≡ copied_of self.old) }
         ensures moved { OnOk result (generation_of self.new ≡ generation_of self.old + 1) }
         ensures named { (goal : ℕ) → goal_of self.old ≡ Some goal → OnOk result (generation_of self.new ≡ goal) }
-        ensures small { OnOk result (generation_of self.new ≤ 65535) }
+        ensures small { OnOk result (generation_of self.new ≤ LAST_GENERATION) }
         ensures none_bare { OnOk result (bare_of self.new ≡ 0) }
         ensures from { OnOk result (64 ≤ end_of self.new) }
         ensures shorter { OnOk result (end_of self.new ≤ end_of self.old) }

@@ -22,13 +22,10 @@ use crate::state::{Copier, OpenFiles};
 use hay_compact::Compactor;
 use hay_disk::{Disk, DiskFault};
 use hay_map::OpenCell;
-use hay_needle::{CellHead, Pair, Super};
+use hay_needle::{CellHead, LAST_GENERATION, Pair, Super};
 use hay_volume::CellFault;
 use std::alloc::Global;
 use std::mem;
-
-// The greatest generation.
-const LAST_GENERATION: u64 = 65_535;
 
 impl OpenFiles {
     // Begins a compaction, and answers the generation that it makes.
@@ -43,15 +40,15 @@ impl OpenFiles {
         ensures busy { (goal : ℕ) → self.old.frozen ≡ false → copier_goal self.old.copier ≡ Some goal
             → (result ≡ Err (ReplicaFault.Busy goal)) × (disk.new ≡ disk.old) }
         ensures idle { (goal : ℕ) → result ≡ Err (ReplicaFault.Busy goal) → copier_goal self.old.copier ≡ Some goal }
-        ensures worn { self.old.frozen ≡ false → copier_goal self.old.copier ≡ None → 65535 ≤ self.old.head.generation
+        ensures worn { self.old.frozen ≡ false → copier_goal self.old.copier ≡ None → LAST_GENERATION ≤ self.old.head.generation
             → (result ≡ Err ReplicaFault.Worn) × (disk.new ≡ disk.old) }
-        ensures most { IsErrOf result ReplicaFault.Worn → (copier_goal self.old.copier ≡ None) × (65535 ≤ self.old.head.generation) }
+        ensures most { IsErrOf result ReplicaFault.Worn → (copier_goal self.old.copier ≡ None) × (LAST_GENERATION ≤ self.old.head.generation) }
 
-        ensures begun { IfOk result (λ goal. (self.old.frozen ≡ false) × (copier_goal self.old.copier ≡ None) × (goal ≡ self.old.head.generation + 1) × (goal ≤ 65535)
+        ensures begun { IfOk result (λ goal. (self.old.frozen ≡ false) × (copier_goal self.old.copier ≡ None) × (goal ≡ self.old.head.generation + 1) × (goal ≤ LAST_GENERATION)
             × (copier_goal self.new.copier ≡ Some goal)) }
         ensures first { OnOk result (copier_next self.new.copier ≡ 64) }
-        ensures memory { IsErrOf result ReplicaFault.NoMemory → (copier_goal self.old.copier ≡ None) × (self.old.head.generation < 65535) }
-        ensures failed { (faults : ℕ) → result ≡ Err (ReplicaFault.Failed faults) → (copier_goal self.old.copier ≡ None) × (self.old.head.generation < 65535) }
+        ensures memory { IsErrOf result ReplicaFault.NoMemory → (copier_goal self.old.copier ≡ None) × (self.old.head.generation < LAST_GENERATION) }
+        ensures failed { (faults : ℕ) → result ≡ Err (ReplicaFault.Failed faults) → (copier_goal self.old.copier ≡ None) × (self.old.head.generation < LAST_GENERATION) }
         ensures run { D.Tells → IfOk result (λ goal. (s : Stored) → FilesStand sup.now (D.files disk.old) self.old s →
             FilesRun sup.now (D.files disk.new) self.new s (record { goal = goal; left = length s.cells; tight = true })) }
         ensures making { D.Tells → OnOk result (IsCopierReady (D.files disk.new) self.new) }

@@ -22,6 +22,7 @@ use crate::state::OpenFiles;
 use hay_compact::{Compactor, Finished};
 use hay_disk::{Disk, DiskFault};
 use hay_map::OpenCell;
+use hay_needle::LAST_GENERATION;
 
 impl OpenFiles {
     // Makes the files of a compaction whole, and then the current ones.
@@ -32,7 +33,7 @@ impl OpenFiles {
     ) -> Result<Vec<OpenCell<D::Piece>>, ReplicaFault>
         requires open { self.old.frozen ≡ false }
         requires next { compactor.generation ≡ self.old.head.generation + 1 }
-        requires small { compactor.generation ≤ 65535 }
+        requires small { compactor.generation ≤ LAST_GENERATION }
         requires making { D.Tells → IsMaking (D.files disk.old) compactor }
         requires ready { D.Tells → FilesReady (D.files disk.old) self.old }
 
@@ -41,7 +42,7 @@ impl OpenFiles {
         ensures counted { D.Tells → OnOk result ((sup : Super) (t : Stored) → FilesStand sup (D.files disk.new) self.new t → length t.cells ≡ length compactor.index.pending) }
         ensures open { OnOk result ((self.new.frozen ≡ false) × (self.new.index.frozen ≡ false)) }
         ensures behind { compactor.volume.end ≤ compactor.next }
-        ensures most { self.old.head.generation ≤ 65535 → self.new.head.generation ≤ 65535 }
+        ensures most { self.old.head.generation ≤ LAST_GENERATION → self.new.head.generation ≤ LAST_GENERATION }
         ensures named { self.old.volume.file ≡ volume_file self.old.head.generation → self.new.volume.file ≡ volume_file self.new.head.generation }
         ensures from { 64 ≤ self.old.volume.end → 64 ≤ self.new.volume.end }
         ensures within { IfOk result (λ places. ArePlacesWithin self.new.volume.end places.items) }
@@ -89,7 +90,7 @@ impl OpenFiles {
         finished: Finished<D::Piece>,
     ) -> Result<Vec<OpenCell<D::Piece>>, ReplicaFault>
         requires open { self.old.frozen ≡ false }
-        requires most { self.old.head.generation + 1 ≤ 65535 }
+        requires most { self.old.head.generation + 1 ≤ LAST_GENERATION }
         requires gate { D.Tells → IsGate head_magic (row_place (self.old.head.generation + 1)) (D.files disk.old 0) }
 
         ensures swapped { IfOk result (λ places. (places ≡ finished.places)

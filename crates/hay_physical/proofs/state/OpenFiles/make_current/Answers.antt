@@ -1,4 +1,5 @@
 use Rattle.std.proofs.Common.{◌≡◌, ◌≤◌, ◌+◌, sym, ap, ◌∙◌, subst, arith}
+use Rattle.hay_needle.specs.declared.settings.TheConstants.{LAST_GENERATION}
 use Rattle.hay_compact.specs.Finishing.{AreThePlaces}
 use Rattle.hay_disk.specs.Disk.{Files, FileState}
 use Rattle.hay_disk.specs.Gate.{IsGate}
@@ -126,9 +127,9 @@ pub returns-in-Ok-clause-most : goal.returns-in-Ok-clause-most
 returns-in-Ok-clause-most g c = λ old.
     let next = c.requires.next in
     let small = c.requires.small in
-    by_result c.swap.result (c.swap.new.self.head.generation ≤ 65535)
-    (if_ok_so c.swap.result _ _ (λ places is. subst (λ (o : OpenFiles). o.head.generation ≤ 65535) (sym is.1) (omega arith)) c.swap.ensures.swapped)
-    (on_err_so c.swap.result _ _ (λ is. subst (λ (o : OpenFiles). o.head.generation ≤ 65535) (sym is) old) c.swap.ensures.err)
+    by_result c.swap.result (c.swap.new.self.head.generation ≤ LAST_GENERATION)
+    (if_ok_so c.swap.result _ _ (λ places is. subst (λ (o : OpenFiles). o.head.generation ≤ LAST_GENERATION) (sym is.1) (omega arith)) c.swap.ensures.swapped)
+    (on_err_so c.swap.result _ _ (λ is. subst (λ (o : OpenFiles). o.head.generation ≤ LAST_GENERATION) (sym is) old) c.swap.ensures.err)
 
 pub returns-in-Ok-clause-from : goal.returns-in-Ok-clause-from
 returns-in-Ok-clause-from g c = λ old.
