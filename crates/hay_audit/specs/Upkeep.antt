@@ -1,6 +1,7 @@
 -- What a line does with one replica, and what it may be answered.
 use Rattle.std.specs.Prelude.{ℕ, ◌+◌, ◌==◌, ◌&&◌, Bool, false, List}
 use Rattle.hay_needle.specs.declared.settings.Settings.{Settings}
+use Rattle.hay_needle.specs.declared.settings.TheConstants.{LAST_GENERATION}
 use Rattle.hay_reply.specs.declared.Reply.{Reply}
 use Rattle.hay_reply.specs.declared.Reply.TheVariants.{Busy, Compacted, Flushed, Idle, ReadOnly, Stepped, Worn}
 use Rattle.hay_legal.specs.declared.known.Known.{Known}
@@ -11,7 +12,7 @@ use Rattle.hay_audit.specs.declared.upkeep.Work.{Work}
 use Rattle.hay_audit.specs.declared.upkeep.Work.TheVariants.{Flush, Compact, Begin, Step, Finish, Fuse}
 
 abbrev pub is_worn : Known → Spot → Bool
-is_worn b spot = next.is_idle b spot.volume spot.replica && ((replica_of b spot.volume spot.replica).generation == 65535)
+is_worn b spot = next.is_idle b spot.volume spot.replica && ((replica_of b spot.volume spot.replica).generation == LAST_GENERATION)
 
 -- a compaction that is not begun, for this
 abbrev pub is_refused_start : Known → Spot → Reply → Bool

@@ -18,6 +18,7 @@ use crate::table::{Table, behind_log};
 use crate::upkeep::{Spot, is_named, is_open, is_resting};
 use hay_base::{Listed, NoMemory};
 use hay_legal::known::Run;
+use hay_needle::LAST_GENERATION;
 use std::alloc::Global;
 
 /// The least and the most that the sizes of a replica lie above the lowest.
@@ -348,7 +349,7 @@ fn may_finish(state: &State, spot: Spot) -> bool
     ensures { result ≡ box_next.may_finish state.now spot.volume spot.replica }
 {
     let here = standing_of(state, spot.volume, spot.replica);
-    here.run.is_some() && here.generation < 65535
+    here.run.is_some() && here.generation < LAST_GENERATION
 }
 
 /// A compaction that stands on an open volume may end so.

@@ -20,7 +20,7 @@ use crate::spread::{replica_on, slot_of};
 use crate::state::{State, drop_state};
 use hay_base::{Duplicate, Listed, NoMemory};
 use hay_legal::known::Run;
-use hay_needle::Settings;
+use hay_needle::{LAST_GENERATION, Settings};
 use hay_reply::{ClosedBy, Reply};
 use std::alloc::Global;
 
@@ -86,13 +86,15 @@ fn is_idle(state: &State, spot: Spot) -> bool
 pub(crate) fn is_resting(state: &State, spot: Spot) -> bool
     ensures { result ≡ next.is_resting state.now spot.volume spot.replica }
 {
-    is_idle(state, spot) && standing_of(state, spot.volume, spot.replica).generation < 65535
+    is_idle(state, spot)
+        && standing_of(state, spot.volume, spot.replica).generation < LAST_GENERATION
 }
 
 fn is_worn(state: &State, spot: Spot) -> bool
     ensures { result ≡ upkeep.is_worn state.now spot }
 {
-    is_idle(state, spot) && standing_of(state, spot.volume, spot.replica).generation == 65535
+    is_idle(state, spot)
+        && standing_of(state, spot.volume, spot.replica).generation == LAST_GENERATION
 }
 
 fn is_busy(run: Option<Run>, generation: u64) -> bool

@@ -4,6 +4,7 @@ use Rattle.std.specs.Prelude.{cond, ◌&&◌, ◌||◌, ◌==◌, map, nat_lt, i
 use Rattle.std.specs.List.{list_any}
 use Rattle.hay_needle.specs.declared.settings.Settings.{Settings}
 use Rattle.hay_needle.specs.declared.needle.Pair.{Pair}
+use Rattle.hay_needle.specs.declared.settings.TheConstants.{LAST_GENERATION}
 use Rattle.hay_core.specs.declared.entry.CoreTag.{CoreTag}
 use Rattle.hay_core.specs.declared.entry.Entry.{Entry}
 use Rattle.hay_reply.specs.declared.ClosedBy.{ClosedBy}
@@ -62,8 +63,8 @@ busy_fill xss b v j g = flag_fill (λ r. is_busy r.run g) (λ x r. busy_run g x.
 
 pub resting_fill : (xss : List (List Slack)) (b : Known) (v j : ℕ) → is_resting (fill xss b) v j ≡ is_resting b v j
 resting_fill xss b v j =
-    ap (λ (idle : Bool). idle && nat_lt (replica_of (fill xss b) v j).generation 65535) (idle_fill xss b v j)
-    ∙ ap (λ (g : ℕ). is_idle b v j && nat_lt g 65535) (generation_fill xss b v j)
+    ap (λ (idle : Bool). idle && nat_lt (replica_of (fill xss b) v j).generation LAST_GENERATION) (idle_fill xss b v j)
+    ∙ ap (λ (g : ℕ). is_idle b v j && nat_lt g LAST_GENERATION) (generation_fill xss b v j)
 
 pub open_fill : (xss : List (List Slack)) (b : Known) (v : ℕ) → is_open (fill xss b) v ≡ is_open b v
 open_fill xss b v = ap (λ (volume : VolumeKnown). is_none volume.frozen) (volume_fill xss b v)

@@ -5,6 +5,7 @@ use Rattle.std.specs.Bool.{Decides}
 use Rattle.std.proofs.lemmas.Bool.Decides.{Decides-eqb, Decides-and, Decides-ltb}
 use Rattle.hay_needle.specs.Tables.{Table, live_end}
 use Rattle.hay_needle.specs.declared.settings.Settings.{Settings}
+use Rattle.hay_needle.specs.declared.settings.TheConstants.{LAST_GENERATION}
 use Rattle.hay_reply.specs.declared.Reply.TheVariants as reply
 use Rattle.hay_legal.specs.declared.known.Run.{Run}
 use Rattle.hay_legal.specs.declared.known.ReplicaKnown.{ReplicaKnown}
@@ -38,7 +39,7 @@ box_tested row box next Needs false decides step forced = record {
 -- WHAT A FINISH NEEDS
 
 abbrev MayFinishIn : Known → ℕ → ℕ → Type 0
-MayFinishIn b v j = ((run : Run) × ((replica_of b v j).run ≡ Some run)) × ((replica_of b v j).generation < 65535)
+MayFinishIn b v j = ((run : Run) × ((replica_of b v j).run ≡ Some run)) × ((replica_of b v j).generation < LAST_GENERATION)
 
 abbrev HasSizes : Box → ℕ → ℕ → Type 0
 HasSizes box v j = (least_end box.base v j < most_end box v j + 1) × (least_cells box.base v j < most_cells box v j + 1)
@@ -53,8 +54,8 @@ tells_finish box v m j v' m' g =
     Decides-and (names v m v' m') _ (tells_names v m v' m')
     (Decides-and (is_open box.base v) _ (tells_none (volume_at box.base v).frozen)
     (Decides-and (may_finish box.base v j) _
-    (Decides-and (is_some (replica_of box.base v j).run) (nat_lt (replica_of box.base v j).generation 65535) (tells_has_run (replica_of box.base v j).run)
-    (Decides-ltb (replica_of box.base v j).generation 65535))
+    (Decides-and (is_some (replica_of box.base v j).run) (nat_lt (replica_of box.base v j).generation LAST_GENERATION) (tells_has_run (replica_of box.base v j).run)
+    (Decides-ltb (replica_of box.base v j).generation LAST_GENERATION))
     (Decides-and (g == (replica_of box.base v j).generation + 1) _ (Decides-eqb g ((replica_of box.base v j).generation + 1))
     (Decides-and (nat_lt (least_end box.base v j) (most_end box v j + 1)) (nat_lt (least_cells box.base v j) (most_cells box v j + 1))
     (Decides-ltb (least_end box.base v j) (most_end box v j + 1)) (Decides-ltb (least_cells box.base v j) (most_cells box v j + 1))))))
@@ -81,13 +82,13 @@ may_back : (b k : Known) (v j : ℕ) (x : Slack) → IsLike b k v j x → MayFin
 may_back b k v j x like may =
     let run : (replica_of k v j).run ≡ option_map (fill_run x.cells) (replica_of b v j).run = ap (λ (r : ReplicaKnown). r.run) like.replica in
     let generation : (replica_of k v j).generation ≡ (replica_of b v j).generation = ap (λ (r : ReplicaKnown). r.generation) like.replica in
-    (run_back x.cells (replica_of b v j).run (may.0).0 (sym run ∙ (may.0).1), subst (λ (n : ℕ). n < 65535) generation may.1)
+    (run_back x.cells (replica_of b v j).run (may.0).0 (sym run ∙ (may.0).1), subst (λ (n : ℕ). n < LAST_GENERATION) generation may.1)
 
 may_on : (b k : Known) (v j : ℕ) (x : Slack) → IsLike b k v j x → MayFinishIn b v j → MayFinish k v j
 may_on b k v j x like may =
     let run : (replica_of k v j).run ≡ option_map (fill_run x.cells) (replica_of b v j).run = ap (λ (r : ReplicaKnown). r.run) like.replica in
     let generation : (replica_of k v j).generation ≡ (replica_of b v j).generation = ap (λ (r : ReplicaKnown). r.generation) like.replica in
-    ((fill_run x.cells (may.0).0, run ∙ ap (λ (o : Option Run). option_map (fill_run x.cells) o) (may.0).1), subst (λ (n : ℕ). n < 65535) (sym generation) may.1)
+    ((fill_run x.cells (may.0).0, run ∙ ap (λ (o : Option Run). option_map (fill_run x.cells) o) (may.0).1), subst (λ (n : ℕ). n < LAST_GENERATION) (sym generation) may.1)
 
 -- THE STEP
 

@@ -9,6 +9,7 @@ use Rattle.hay_needle.specs.Tables.{pair_eq}
 use Rattle.hay_needle.specs.declared.needle.Pair.{Pair}
 use Rattle.hay_needle.specs.declared.needle.Cookie.{Cookie}
 use Rattle.hay_needle.specs.declared.settings.Settings.{Settings}
+use Rattle.hay_needle.specs.declared.settings.TheConstants.{LAST_GENERATION}
 use Rattle.hay_url.specs.declared.Url.{Url as UrlParts}
 use Rattle.hay_url.specs.Url.{cookie_of}
 use Rattle.hay_disk.specs.Counts.{IsNext}
@@ -162,8 +163,8 @@ tells_busy (Some run) g = (λ h. (run, refl, eqb-true run.goal g h), λ h. eq-eq
     run_same : (a c : Run) → Some a ≡ Some c → a ≡ c
     run_same a c e = cc
 
-pub tells_resting : (b : Known) (v j : ℕ) → Decides (is_resting b v j) (((replica_of b v j).run ≡ None) × ((replica_of b v j).generation < 65535))
-tells_resting b v j = Decides-and (is_idle b v j) (nat_lt (replica_of b v j).generation 65535) (tells_run (replica_of b v j).run) (Decides-ltb (replica_of b v j).generation 65535)
+pub tells_resting : (b : Known) (v j : ℕ) → Decides (is_resting b v j) (((replica_of b v j).run ≡ None) × ((replica_of b v j).generation < LAST_GENERATION))
+tells_resting b v j = Decides-and (is_idle b v j) (nat_lt (replica_of b v j).generation LAST_GENERATION) (tells_run (replica_of b v j).run) (Decides-ltb (replica_of b v j).generation LAST_GENERATION)
 
 pub begin_step : (settings : Settings) (b : Known) (v m j : ℕ) (r : Reply) → r ≢ reply.NoMem → IsStep (begin_row settings v m j r) b (next_begin settings b v m j r)
 begin_step settings b v m j (reply.Begun v' m' g) known =
@@ -191,7 +192,7 @@ begin_step settings b v m j (reply.Worn v' m') known =
     kept (begin_row settings v m j (reply.Worn v' m')) b b _ _
     (Decides-and (names v m v' m') _ (tells_names v m v' m')
     (Decides-and (is_open b v) _ (tells_none (volume_at b v).frozen)
-    (Decides-and (is_idle b v j) ((replica_of b v j).generation == 65535) (tells_run (replica_of b v j).run) (Decides-eqb (replica_of b v j).generation 65535))))
+    (Decides-and (is_idle b v j) ((replica_of b v j).generation == LAST_GENERATION) (tells_run (replica_of b v j).run) (Decides-eqb (replica_of b v j).generation LAST_GENERATION))))
     (calm (begin_row settings v m j (reply.Worn v' m')) b _ (λ needs leaves. (needs.0, needs.1.0, needs.1.1, leaves)) (λ faults arms fuses t r. ((r.0, (r.1, r.2)), r.3)))
 begin_step settings b v m j (reply.Failed v' m' f) known =
     kept (begin_row settings v m j (reply.Failed v' m' f)) b (with_fault b (slot_of settings v j) f) _ _

@@ -6,6 +6,7 @@ use Rattle.std.proofs.lemmas.Bool.{cases_Bool}
 use Rattle.std.proofs.lemmas.Bool.Decides.{Decides-eqb, Decides-and, Decides-like, Decides-ltb}
 use Rattle.hay_needle.specs.Tables.{Table, live_end}
 use Rattle.hay_needle.specs.declared.settings.Settings.{Settings}
+use Rattle.hay_needle.specs.declared.settings.TheConstants.{LAST_GENERATION}
 use Rattle.hay_reply.specs.declared.Reply.TheVariants as reply
 use Rattle.hay_legal.specs.declared.known.Run.{Run}
 use Rattle.hay_legal.specs.declared.known.ReplicaKnown.{ReplicaKnown}
@@ -347,7 +348,7 @@ compact_step settings box v m j v' m' g is =
           (stays k (change_replica k v j (swapped (least_end box.base v j) (least_cells box.base v j))) refl refl) in (
             needs.0,
             like.frozen ∙ needs.1.0,
-            (no_run box.base k like needs.1.1.0.0, subst (λ (n : ℕ). n < 65535) (sym (ap (λ (q : ReplicaKnown). q.generation) like.replica)) needs.1.1.0.1),
+            (no_run box.base k like needs.1.1.0.0, subst (λ (n : ℕ). n < LAST_GENERATION) (sym (ap (λ (q : ReplicaKnown). q.generation) like.replica)) needs.1.1.0.1),
             needs.1.1.1 ∙ ap (λ (n : ℕ). n + 1) (sym (ap (λ (q : ReplicaKnown). q.generation) like.replica)),
             (
               end,
@@ -368,7 +369,7 @@ compact_step settings box v m j v' m' g is =
               (
                 sym like.frozen ∙ r.1,
                 (
-                  (run_none box.base k like (r.2).0, subst (λ (n : ℕ). n < 65535) (ap (λ (q : ReplicaKnown). q.generation) like.replica) (r.2).1),
+                  (run_none box.base k like (r.2).0, subst (λ (n : ℕ). n < LAST_GENERATION) (ap (λ (q : ReplicaKnown). q.generation) like.replica) (r.2).1),
                   r.3 ∙ ap (λ (n : ℕ). n + 1) (ap (λ (q : ReplicaKnown). q.generation) like.replica),
                 ),
               ),

@@ -3,6 +3,7 @@ use Rattle.std.proofs.Common.{◌≡◌, ℕ, ◌+◌, Bool, true, false, List, 
 use Rattle.std.specs.Prelude.{cond, ◌&&◌, ◌||◌, ◌==◌, not, map, is_none, is_some}
 use Rattle.hay_needle.specs.declared.settings.Settings.{Settings}
 use Rattle.hay_needle.specs.declared.needle.Pair.{Pair}
+use Rattle.hay_needle.specs.declared.settings.TheConstants.{LAST_GENERATION}
 use Rattle.hay_url.specs.declared.Url.{Url as UrlParts}
 use Rattle.hay_core.specs.declared.entry.CoreTag.{CoreTag}
 use Rattle.hay_script.specs.declared.Command.{Command}
@@ -128,13 +129,13 @@ busy_again xss b v m j v' m' g =
     ∙ ap (λ (is : Bool). names v m v' m' && (is_open b v && is)) (busy_fill xss b v j g)) refl
 
 worn_again : (xss : List (List Slack)) (b : Known) (v m j v' m' : ℕ)
-    → keep_if (names v m v' m' && (is_open (fill xss b) v && (is_idle (fill xss b) v j && ((replica_of (fill xss b) v j).generation == 65535)))) (fill xss b)
-    ≡ map (fill xss) (keep_if (names v m v' m' && (is_open b v && (is_idle b v j && ((replica_of b v j).generation == 65535)))) b)
+    → keep_if (names v m v' m' && (is_open (fill xss b) v && (is_idle (fill xss b) v j && ((replica_of (fill xss b) v j).generation == LAST_GENERATION)))) (fill xss b)
+    ≡ map (fill xss) (keep_if (names v m v' m' && (is_open b v && (is_idle b v j && ((replica_of b v j).generation == LAST_GENERATION)))) b)
 worn_again xss b v m j v' m' =
     kept_if_fill xss _ _ b (fill xss b)
-    (ap (λ (is : Bool). names v m v' m' && (is && (is_idle (fill xss b) v j && ((replica_of (fill xss b) v j).generation == 65535)))) (open_fill xss b v)
-    ∙ ap (λ (is : Bool). names v m v' m' && (is_open b v && (is && ((replica_of (fill xss b) v j).generation == 65535)))) (idle_fill xss b v j)
-    ∙ ap (λ (n : ℕ). names v m v' m' && (is_open b v && (is_idle b v j && (n == 65535)))) (generation_fill xss b v j)) refl
+    (ap (λ (is : Bool). names v m v' m' && (is && (is_idle (fill xss b) v j && ((replica_of (fill xss b) v j).generation == LAST_GENERATION)))) (open_fill xss b v)
+    ∙ ap (λ (is : Bool). names v m v' m' && (is_open b v && (is && ((replica_of (fill xss b) v j).generation == LAST_GENERATION)))) (idle_fill xss b v j)
+    ∙ ap (λ (n : ℕ). names v m v' m' && (is_open b v && (is_idle b v j && (n == LAST_GENERATION)))) (generation_fill xss b v j)) refl
 
 idle_again : (xss : List (List Slack)) (b : Known) (v m j v' m' : ℕ)
     → keep_if (names v m v' m' && (is_open (fill xss b) v && is_idle (fill xss b) v j)) (fill xss b) ≡ map (fill xss) (keep_if (names v m v' m' && (is_open b v && is_idle b v j)) b)

@@ -5,6 +5,7 @@ use Rattle.std.specs.Bool.{Decides}
 use Rattle.std.proofs.lemmas.Bool.Decides.{Decides-eqb, Decides-and, Decides-like}
 use Rattle.hay_needle.specs.declared.settings.Settings.{Settings}
 use Rattle.hay_needle.specs.Tables.{live_end}
+use Rattle.hay_needle.specs.declared.settings.TheConstants.{LAST_GENERATION}
 use Rattle.hay_reply.specs.declared.Reply.{Reply}
 use Rattle.hay_reply.specs.declared.Reply.TheVariants as reply
 use Rattle.hay_core.specs.declared.entry.CoreTag.{CoreTag}
@@ -164,7 +165,7 @@ compact_step settings b v m j (reply.Worn v' m') known =
     kept (compact_row settings v m j (reply.Worn v' m')) b b _ _
     (Decides-and (names v m v' m') _ (tells_names v m v' m')
     (Decides-and (is_open b v) _ (tells_none (volume_at b v).frozen)
-    (Decides-and (is_idle b v j) ((replica_of b v j).generation == 65535) (tells_run (replica_of b v j).run) (Decides-eqb (replica_of b v j).generation 65535))))
+    (Decides-and (is_idle b v j) ((replica_of b v j).generation == LAST_GENERATION) (tells_run (replica_of b v j).run) (Decides-eqb (replica_of b v j).generation LAST_GENERATION))))
     (calm (compact_row settings v m j (reply.Worn v' m')) b _ (λ needs leaves. (needs.0, needs.1.0, needs.1.1, leaves)) (λ faults arms fuses t r. ((r.0, (r.1, r.2)), r.3)))
 compact_step settings b v m j (reply.Failed v' m' f) known =
     swap_failed_step settings (compact_row settings v m j (reply.Failed v' m' f)) b v m j f (Names v m v' m' × (IsOpen b v × IsAtRest b v j))

@@ -5,6 +5,7 @@ use Rattle.hay_needle.specs.declared.needle.Pair.{Pair}
 use Rattle.hay_needle.specs.declared.needle.Cookie.{Cookie}
 use Rattle.hay_needle.specs.declared.settings.Settings.{Settings}
 use Rattle.hay_needle.specs.Tables.{live_end}
+use Rattle.hay_needle.specs.declared.settings.TheConstants.{LAST_GENERATION}
 use Rattle.hay_url.specs.Url.{cookie_of}
 use Rattle.hay_core.specs.declared.entry.CoreTag.{CoreTag}
 use Rattle.hay_script.specs.declared.Command.TheVariants as command
@@ -71,7 +72,7 @@ abbrev pub has_sizes : Box → ℕ → ℕ → Bool
 has_sizes box v j = nat_lt (least_end box.base v j) (most_end box v j + 1) && nat_lt (least_cells box.base v j) (most_cells box v j + 1)
 
 abbrev pub may_finish : Known → ℕ → ℕ → Bool
-may_finish b v j = is_some (replica_of b v j).run && nat_lt (replica_of b v j).generation 65535
+may_finish b v j = is_some (replica_of b v j).run && nat_lt (replica_of b v j).generation LAST_GENERATION
 
 abbrev pub finished_boxes : Box → ℕ → ℕ → ℕ → ℕ → ℕ → ℕ → List Box
 finished_boxes box v m j v' m' g =

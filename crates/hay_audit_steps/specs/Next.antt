@@ -9,6 +9,7 @@ use Rattle.hay_needle.specs.declared.needle.Outcome.{Outcome}
 use Rattle.hay_needle.specs.declared.needle.Outcome.TheVariants as outcome
 use Rattle.hay_needle.specs.declared.settings.Settings.{Settings}
 use Rattle.hay_needle.specs.Tables.{outcome_at, pair_eq, live_end}
+use Rattle.hay_needle.specs.declared.settings.TheConstants.{LAST_GENERATION}
 use Rattle.hay_url.specs.declared.Url.{Url as UrlParts}
 use Rattle.hay_url.specs.Url.{cookie_of}
 use Rattle.hay_core.specs.declared.entry.CoreTag.{CoreTag}
@@ -285,7 +286,7 @@ abbrev pub is_idle : Known → ℕ → ℕ → Bool
 is_idle b v j = is_none (replica_of b v j).run
 
 abbrev pub is_resting : Known → ℕ → ℕ → Bool
-is_resting b v j = is_idle b v j && nat_lt (replica_of b v j).generation 65535
+is_resting b v j = is_idle b v j && nat_lt (replica_of b v j).generation LAST_GENERATION
 
 abbrev pub is_busy : Option Run → ℕ → Bool
 is_busy None g = false
@@ -298,7 +299,7 @@ next_begin settings b v m j (Begun v' m' g) =
 next_begin settings b v m j (ReadOnly by) = keep_if (is_frozen_by b v by) b
 next_begin settings b v m j (Busy v' m' g) = keep_if (names v m v' m' && (is_open b v && is_busy (replica_of b v j).run g)) b
 next_begin settings b v m j (Worn v' m') =
-    keep_if (names v m v' m' && (is_open b v && (is_idle b v j && ((replica_of b v j).generation == 65535)))) b
+    keep_if (names v m v' m' && (is_open b v && (is_idle b v j && ((replica_of b v j).generation == LAST_GENERATION)))) b
 next_begin settings b v m j (Failed v' m' f) =
     keep_if (names v m v' m' && (is_open b v && (is_resting b v j && rises_to b (slot_of settings v j) f))) (with_fault b (slot_of settings v j) f)
 next_begin settings b v m j _ = []
@@ -356,7 +357,7 @@ next_compact settings b v m j (Compacted v' m' g) =
 next_compact settings b v m j (ReadOnly by) = keep_if (is_frozen_by b v by) b
 next_compact settings b v m j (Busy v' m' g) = keep_if (names v m v' m' && (is_open b v && is_busy (replica_of b v j).run g)) b
 next_compact settings b v m j (Worn v' m') =
-    keep_if (names v m v' m' && (is_open b v && (is_idle b v j && ((replica_of b v j).generation == 65535)))) b
+    keep_if (names v m v' m' && (is_open b v && (is_idle b v j && ((replica_of b v j).generation == LAST_GENERATION)))) b
 next_compact settings b v m j (Failed v' m' f) =
     if names v m v' m' && (is_open b v && (is_resting b v j && rises_to b (slot_of settings v j) f)) then swap_failed settings b v m j f else []
 next_compact settings b v m j _ = []

@@ -6,6 +6,7 @@ use Rattle.std.proofs.lemmas.List.{get_or-set_same, set-get_or, set-set}
 use Rattle.std.proofs.lemmas.Option.{none-some, slice_get_cases}
 use Rattle.hay_needle.specs.declared.settings.Settings.{Settings}
 use Rattle.hay_needle.specs.Tables.{live_end}
+use Rattle.hay_needle.specs.declared.settings.TheConstants.{LAST_GENERATION}
 use Rattle.hay_reply.specs.declared.ClosedBy.{ClosedBy}
 use Rattle.hay_reply.specs.declared.Reply.{Reply}
 use Rattle.hay_reply.specs.declared.Reply.TheVariants as reply
@@ -171,7 +172,7 @@ module _ {settings : Settings} {k : Known} {history : History} {t : Known} (item
           sym (ap (λ (x : VolumeKnown). x.frozen) same) ∙ first_led.0,
           (
             sym (ap (λ (x : VolumeKnown). (replica_at x j).run) same) ∙ first_led.2,
-            subst (λ (x : VolumeKnown). (replica_at x j).generation < 65535) same first_led.3,
+            subst (λ (x : VolumeKnown). (replica_at x j).generation < LAST_GENERATION) same first_led.3,
           ),
         )
 

@@ -5,6 +5,7 @@ use Rattle.std.proofs.lemmas.Bool.{cases_eq}
 use Rattle.std.proofs.lemmas.List.{get_or-set_same, set-set}
 use Rattle.std.proofs.lemmas.Option.{same_Some}
 use Rattle.hay_needle.specs.declared.settings.Settings.{Settings}
+use Rattle.hay_needle.specs.declared.settings.TheConstants.{LAST_GENERATION}
 use Rattle.hay_core.specs.declared.entry.CoreTag.{CoreTag}
 use Rattle.hay_reply.specs.declared.Reply.{Reply}
 use Rattle.hay_reply.specs.declared.Reply.TheVariants as reply
@@ -89,7 +90,7 @@ module _ {settings : Settings} {k : Known} {history : History} {t : Known} {Does
         sym (ap (λ (x : VolumeKnown). x.frozen) same) ∙ did.thawed,
         (
           sym (ap (λ (x : VolumeKnown). (replica_at x j).run) same) ∙ did.at_rest,
-          subst (λ (x : VolumeKnown). (replica_at x j).generation < 65535) same did.number,
+          subst (λ (x : VolumeKnown). (replica_at x j).generation < LAST_GENERATION) same did.number,
         ),
         rose_to item h v j place f below within did.failed did.last,
         nothing_leaves (try_none item h v did.elsewhere did.step, did.rows),
@@ -106,7 +107,7 @@ module _ {settings : Settings} {k : Known} {history : History} {t : Known} {Does
         sym (ap (λ (x : VolumeKnown). x.frozen) same) ∙ led.0,
         (
           sym (ap (λ (x : VolumeKnown). (replica_at x j).run) same) ∙ led.2,
-          subst (λ (x : VolumeKnown). (replica_at x j).generation < 65535) same led.3,
+          subst (λ (x : VolumeKnown). (replica_at x j).generation < LAST_GENERATION) same led.3,
         ),
         g_is,
         only_leaves v (Begins j) (λ x. change_at x j (with_run (record { goal = g; left = (replica_at (volume_at k v) j).cells }))) (λ i e. cc) below begins

@@ -3,6 +3,7 @@ use Rattle.std.proofs.Common.{◌≡◌, ◌≢◌, ◌⊎◌, ℕ, zero, suc, �
 use Rattle.std.proofs.Common.{sym, ap, subst, ◌∙◌, inl, inr, arith}
 use Rattle.std.proofs.lemmas.Bool.{cases_eq}
 use Rattle.hay_needle.specs.declared.settings.Settings.{Settings}
+use Rattle.hay_needle.specs.declared.settings.TheConstants.{LAST_GENERATION}
 use Rattle.hay_core.specs.declared.entry.CoreTag.{CoreTag}
 use Rattle.hay_script.specs.declared.Command.TheVariants as command
 use Rattle.hay_reply.specs.declared.ClosedBy.{ClosedBy}
@@ -54,7 +55,7 @@ Swapped old new = ((g : ℕ) × (goal_of old ≡ Some g)) × (goal_of new ≡ No
 
 abbrev pub IsBegun : Did → ℕ → ReplicaKnown → ReplicaKnown → Type 0
 IsBegun did j old new =
-    (did ≡ Begins j) × (goal_of old ≡ None) × (old.generation < 65535) × (goal_of new ≡ Some (old.generation + 1))
+    (did ≡ Begins j) × (goal_of old ≡ None) × (old.generation < LAST_GENERATION) × (goal_of new ≡ Some (old.generation + 1))
 
 abbrev pub Turns : Did → ℕ → ReplicaKnown → ReplicaKnown → Type 0
 Turns did j old new = GoesOn old new ⊎ Swapped old new ⊎ IsBegun did j old new
@@ -202,7 +203,7 @@ module _ {settings : Settings} {k : Known} {items : List LaneItem} {history : Hi
 -- WORN REPLICAS
 
 abbrev IsWorn : ReplicaKnown → Type 0
-IsWorn replica = (goal_of replica ≡ None) × (replica.generation ≡ 65535)
+IsWorn replica = (goal_of replica ≡ None) × (replica.generation ≡ LAST_GENERATION)
 
 worn_turns : (did : Did) (j : ℕ) (old new : ReplicaKnown) → Turns did j old new → IsWorn old → IsWorn new
 worn_turns did j old new (inl (same, inl none)) worn = (none, same ∙ worn.1)
@@ -359,7 +360,7 @@ module _ {settings : Settings} {k : Known} {items : List LaneItem} {history : Hi
       )
 
   worn_legal : (item : LaneItem) → Contains items item → (n : ℕ) → IsMoment (course_of h item) v n → (replica_then h v j below n).run ≡ None
-      → (replica_then h v j below n).generation ≡ 65535 → (replica_at (volume_at t v) j).generation ≡ 65535
+      → (replica_then h v j below n).generation ≡ LAST_GENERATION → (replica_at (volume_at t v) j).generation ≡ LAST_GENERATION
   worn_legal item among n seen none worn =
       let stays = along settings v (λ a b. IsWorn (replica_at a.volume j) → IsWorn (replica_at b.volume j)) (first_of settings k v) (history.volumes v)
       (λ a same. same) (λ a b c first second before. second (first before))
@@ -432,7 +433,7 @@ module _ {settings : Settings} {k : Known} {items : List LaneItem} {history : Hi
 
   -- a replica that was met at rest on an open volume, with a generation that is not the last
   met_at_rest : (v n j : ℕ) → v < settings.volumes → j < settings.replicas → n ≤ length (history.volumes v) → (volume_at_moment settings k history v n).frozen ≡ None
-      → (replica_at (volume_at_moment settings k history v n) j).run ≡ None → (replica_at (volume_at_moment settings k history v n) j).generation < 65535
+      → (replica_at (volume_at_moment settings k history v n) j).run ≡ None → (replica_at (volume_at_moment settings k history v n) j).generation < LAST_GENERATION
       → MayBeAtRest settings k items t v j
   met_at_rest v n j below within le thawed none number =
       let least = generation_grows h v 0 n j below (omega arith) in

@@ -7,6 +7,7 @@ use Rattle.std.proofs.lemmas.List.Concat.{length-flat_map}
 use Rattle.std.proofs.lemmas.List.Elements.{Contains-append_right}
 use Rattle.std.proofs.lemmas.Option.{none-some, slice_get_within}
 use Rattle.hay_needle.specs.declared.settings.Settings.{Settings}
+use Rattle.hay_needle.specs.declared.settings.TheConstants.{LAST_GENERATION}
 use Rattle.hay_url.specs.declared.Url.{Url as UrlParts}
 use Rattle.hay_script.specs.declared.Command.TheVariants as command
 use Rattle.hay_reply.specs.declared.Reply.{Reply}
@@ -88,7 +89,7 @@ grown {settings} {k} {items} {history} {t} h v j below within =
 
 -- a replica's generation is as it was, or has a number
 abbrev Numbered : ℕ → VolumeKnown → VolumeKnown → Type 0
-Numbered j a b = ((replica_at b j).generation ≡ (replica_at a j).generation) ⊎ ((replica_at b j).generation ≤ 65535)
+Numbered j a b = ((replica_at b j).generation ≡ (replica_at a j).generation) ⊎ ((replica_at b j).generation ≤ LAST_GENERATION)
 
 numbered_persists : (j : ℕ) → Persists (Numbered j)
 numbered_persists j = record {
@@ -171,7 +172,7 @@ one_front false shown = tt
 generation_once : (v m line lane : ℕ) (it : Item) (r : Reply) → EachPair InOrder (generation_print v m (line_of line lane it r))
 generation_once v m line lane it (reply.Compacted v' m' g) = one_front ((v' == v) && (m' == m)) (printed g true)
 generation_once v m line lane it (reply.Busy v' m' g) = one_front ((v' == v) && (m' == m)) (printed (g - 1) false)
-generation_once v m line lane it (reply.Worn v' m') = one_front ((v' == v) && (m' == m)) (printed 65535 false)
+generation_once v m line lane it (reply.Worn v' m') = one_front ((v' == v) && (m' == m)) (printed LAST_GENERATION false)
 generation_once v m line lane it _ = tt
 
 pub both_true : (a b : Bool) → (a && b) ≡ true → (a ≡ true) × (b ≡ true)
@@ -397,8 +398,8 @@ module _ {settings : Settings} {k : Known} {items : List LaneItem} {history : Hi
           let next = run_goal h v met.0 j below within run.0 run.1 in
           (seen_within item met.0 (g - 1) met.1 (omega (arith, goal, next)), tt)) (λ other. tt)
       by (reply.Worn v' m') did each =
-          cond_both ((v' == v) && (m' == machine_of settings v j)) (printed 65535 false ∷ []) [] (Each (Within (number_from item) (number_to item)))
-          (λ named. let met = worn_met item item.item v' m' did named in (seen_within item met.0 65535 met.1 (sym met.4), tt)) (λ other. tt)
+          cond_both ((v' == v) && (m' == machine_of settings v j)) (printed LAST_GENERATION false ∷ []) [] (Each (Within (number_from item) (number_to item)))
+          (λ named. let met = worn_met item item.item v' m' did named in (seen_within item met.0 LAST_GENERATION met.1 (sym met.4), tt)) (λ other. tt)
       by _ did each = tt
 
   prints_rise : Each (λ lane. EachPair InOrder (flat_map (generation_print v (machine_of settings v j)) (lane_items items lane))) all_lanes

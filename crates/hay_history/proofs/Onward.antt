@@ -3,6 +3,7 @@ use Rattle.std.proofs.Common.{◌≡◌, inl, inr, ℕ, ◌+◌, ◌-◌, ◌<�
 use Rattle.std.specs.List.{AllByRecursion as Each}
 use Rattle.std.proofs.lemmas.Option.{none-some}
 use Rattle.hay_needle.specs.declared.settings.Settings.{Settings}
+use Rattle.hay_needle.specs.declared.settings.TheConstants.{LAST_GENERATION}
 use Rattle.hay_core.specs.declared.entry.CoreTag.{CoreTag}
 use Rattle.hay_reply.specs.declared.Reply.{Reply}
 use Rattle.hay_legal.specs.declared.known.Known.{Known}
@@ -40,7 +41,7 @@ persisted {settings} {k} {items} {history} {t} h R p v below =
 
 -- a compaction that stands makes no generation past the last one
 abbrev IsBelowLast : ReplicaKnown → Type 0
-IsBelowLast r = (run : Run) → r.run ≡ Some run → r.generation < 65535
+IsBelowLast r = (run : Run) → r.run ≡ Some run → r.generation < LAST_GENERATION
 
 abbrev StaysBelowLast : ℕ → VolumeKnown → VolumeKnown → Type 0
 StaysBelowLast j a b = IsBelowLast (replica_at a j) → IsBelowLast (replica_at b j)
@@ -65,7 +66,7 @@ below_by j volume did old new (IsFlushed flushed is) low =
     below_moved old new (ap (λ (r : ReplicaKnown). r.generation) is) (λ run stands. (run, sym (ap (λ (r : ReplicaKnown). r.run) is) ∙ stands)) low
 below_by j volume did old new (IsStuck sticks is) low =
     below_moved old new (ap (λ (r : ReplicaKnown). r.generation) is) (λ run stands. (run, sym (ap (λ (r : ReplicaKnown). r.run) is) ∙ stands)) low
-below_by j volume did old new (Starts begins rest less is) low = λ run stands. subst (λ (n : ℕ). n < 65535) (sym (ap (λ (r : ReplicaKnown). r.generation) is)) less
+below_by j volume did old new (Starts begins rest less is) low = λ run stands. subst (λ (n : ℕ). n < LAST_GENERATION) (sym (ap (λ (r : ReplicaKnown). r.generation) is)) less
 below_by j volume did old new (Goes n first examines had most is) low =
     below_moved old new (ap (λ (r : ReplicaKnown). r.generation) is) (λ run stands. (first, had)) low
 below_by j volume did old new (IsSwapped end cells freezes swaps run sizes is) low = below_rested new (ap (λ (r : ReplicaKnown). r.run) is)

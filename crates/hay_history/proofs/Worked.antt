@@ -2,6 +2,7 @@
 use Rattle.std.specs.Prelude.{◌≡◌, ◌≢◌, ℕ, zero, suc, ◌<◌, ◌≤◌, ◌==◌, ◌+◌, length, true, false, if◌then◌else◌, List, [], ◌∷◌, codes, refl, Some, None}
 use Rattle.std.specs.List.{AllByRecursion as Each}
 use Rattle.std.proofs.Common.{filter, sym, subst, arith, lit≤, lit<, ap, inl, inr, ◌∙◌}
+use Rattle.hay_needle.specs.declared.settings.TheConstants.{LAST_GENERATION}
 use Rattle.hay_url.proofs.Cookies.{cookie_of-zero}
 use Rattle.hay_core.specs.declared.entry.Entry.TheVariants as entry
 use Rattle.hay_core.specs.declared.entry.CoreTag.{CoreTag}
@@ -200,7 +201,7 @@ no_run v j below within run there =
     cc
 
 no_number : (v j : ℕ) → v < 1 → j < 1 → (run : Run) → (replica_at (volume_at (fresh_unharmed one) v) j).run ≡ Some run
-    → (replica_at (volume_at (fresh_unharmed one) v) j).generation < 65535
+    → (replica_at (volume_at (fresh_unharmed one) v) j).generation < LAST_GENERATION
 no_number v j below within run there =
     let none : None ≡ Some run = ap (λ (r : ReplicaKnown). r.run) (sym (fresh_at v j below within)) ∙ there in
     cc

@@ -2,6 +2,7 @@
 use Rattle.std.specs.Prelude.{◌≡◌, ℕ, zero, suc, ◌<◌, ◌≤◌, length, false, List, [], ◌∷◌, refl, Some, ◌+◌}
 use Rattle.std.specs.List.{AllByRecursion as Each}
 use Rattle.std.proofs.Common.{sym, ap, arith, lit≤, lit<}
+use Rattle.hay_needle.specs.declared.settings.TheConstants.{LAST_GENERATION}
 use Rattle.hay_script.specs.declared.Command.{Command}
 use Rattle.hay_script.specs.declared.Command.TheVariants as command
 use Rattle.hay_reply.specs.declared.Reply.{Reply}
@@ -54,7 +55,7 @@ only_replica volume = replica_at volume 0
 pub record Before (volume : VolumeKnown) : Type 0 where
   pub many : length volume.replicas ≡ 1
   pub end : 64 ≤ (only_replica volume).end
-  pub number : (run : Run) → (only_replica volume).run ≡ Some run → (only_replica volume).generation < 65535
+  pub number : (run : Run) → (only_replica volume).run ≡ Some run → (only_replica volume).generation < LAST_GENERATION
   pub goal : (run : Run) → (only_replica volume).run ≡ Some run → run.goal ≡ (only_replica volume).generation + 1
 
 store_of : (volume : VolumeKnown) → Before volume → IsOf one (with_one volume)
@@ -71,7 +72,7 @@ regular_of volume h = record {
   slots = refl;
   ends = of_one (λ v j. 64 ≤ (replica_at (volume_at (with_one volume) v) j).end) h.end;
   numbers = of_one (λ v j. (run : Run) → (replica_at (volume_at (with_one volume) v) j).run ≡ Some run
-      → (replica_at (volume_at (with_one volume) v) j).generation < 65535) h.number;
+      → (replica_at (volume_at (with_one volume) v) j).generation < LAST_GENERATION) h.number;
   runs = of_one (λ v j. (run : Run) → (replica_at (volume_at (with_one volume) v) j).run ≡ Some run
       → run.goal ≡ (replica_at (volume_at (with_one volume) v) j).generation + 1) h.goal;
 }

@@ -3,6 +3,7 @@
 use Rattle.std.specs.Prelude.{◌≡◌, ℕ, zero, suc, ◌<◌, ◌≤◌, ◌==◌, ◌+◌, length, true, false, if◌then◌else◌, List, [], ◌∷◌, codes, refl, Some, None}
 use Rattle.std.specs.List.{AllByRecursion as Each}
 use Rattle.std.proofs.Common.{sym, subst, arith, lit≤, lit<, inl, inr}
+use Rattle.hay_needle.specs.declared.settings.TheConstants.{LAST_GENERATION}
 use Rattle.hay_url.proofs.Cookies.{cookie_of-zero}
 use Rattle.hay_core.specs.declared.entry.Entry.TheVariants as entry
 use Rattle.hay_script.specs.declared.Command.TheVariants as command
@@ -251,7 +252,7 @@ regular = record {
   machines = lit≤ tt;
   slots = refl;
   ends = of_one (λ v j. 64 ≤ (replica_at (volume_at before v) j).end) (lit≤ tt);
-  numbers = of_one (λ v j. (run : Run) → (replica_at (volume_at before v) j).run ≡ Some run → (replica_at (volume_at before v) j).generation < 65535) (λ run there. lit< tt);
+  numbers = of_one (λ v j. (run : Run) → (replica_at (volume_at before v) j).run ≡ Some run → (replica_at (volume_at before v) j).generation < LAST_GENERATION) (λ run there. lit< tt);
   runs = of_one (λ v j. (run : Run) → (replica_at (volume_at before v) j).run ≡ Some run → run.goal ≡ (replica_at (volume_at before v) j).generation + 1) (λ run there. cc);
 }
 

@@ -7,6 +7,7 @@ use Rattle.hay_needle.specs.declared.needle.Outcome.{Outcome}
 use Rattle.hay_needle.specs.declared.needle.Outcome.TheVariants as outcome
 use Rattle.hay_needle.specs.declared.settings.Settings.{Settings}
 use Rattle.hay_needle.specs.Tables.{live_end, outcome_at}
+use Rattle.hay_needle.specs.declared.settings.TheConstants.{LAST_GENERATION}
 use Rattle.hay_disk.specs.Counts.{Rose}
 use Rattle.hay_url.specs.declared.Url.{Url as UrlParts}
 use Rattle.hay_url.specs.Url.{cookie_of}
@@ -368,7 +369,7 @@ pub record BeginFailed (c : Course) (v j f : ℕ) : Type 0 where
   pub step : OneTry c v
   pub thawed : (volume_then c v step.place).frozen ≡ None
   pub at_rest : (replica_at (volume_then c v step.place) j).run ≡ None
-  pub number : (replica_at (volume_then c v step.place) j).generation < 65535
+  pub number : (replica_at (volume_then c v step.place) j).generation < LAST_GENERATION
   pub failed : RoseIn c v step.place j f
   pub last : IsLast c v step.place
 
@@ -419,7 +420,7 @@ MetBusy c v j g =
 abbrev pub MetWorn : Course → ℕ → ℕ → Type 0
 MetWorn c v j =
     (moment : ℕ) × IsMoment c v moment × ((volume_then c v moment).frozen ≡ None)
-    × ((replica_at (volume_then c v moment) j).run ≡ None) × ((replica_at (volume_then c v moment) j).generation ≡ 65535)
+    × ((replica_at (volume_then c v moment) j).run ≡ None) × ((replica_at (volume_then c v moment) j).generation ≡ LAST_GENERATION)
 
 abbrev pub CompactDid : Course → ℕ → ℕ → Option ℕ → Reply → Type 0
 CompactDid c v m None Nowhere = DidNothing c
@@ -617,7 +618,7 @@ pub record IsRegular (settings : Settings) (k : Known) : Type 0 where
   pub slots : length k.fuses ≡ disk_count settings
   pub ends : (v j : ℕ) → v < settings.volumes → j < settings.replicas → 64 ≤ (replica_at (volume_at k v) j).end
   pub numbers : (v j : ℕ) → v < settings.volumes → j < settings.replicas → (run : Run) → (replica_at (volume_at k v) j).run ≡ Some run
-      → (replica_at (volume_at k v) j).generation < 65535
+      → (replica_at (volume_at k v) j).generation < LAST_GENERATION
   pub runs : (v j : ℕ) → v < settings.volumes → j < settings.replicas → (run : Run) → (replica_at (volume_at k v) j).run ≡ Some run
       → run.goal ≡ (replica_at (volume_at k v) j).generation + 1
 

@@ -1,6 +1,7 @@
 -- The answers of flushes, of compactions step by step, of fuses and of drains, from their calls.
 use Rattle.std.proofs.Common.{◌≡◌, inl, inr, ℕ, ◌<◌, ◌≤◌, Bool, true, false, List, [], ◌∷◌, refl, sym, subst, min, Some, None}
 use Rattle.hay_needle.specs.declared.settings.Settings.{Settings}
+use Rattle.hay_needle.specs.declared.settings.TheConstants.{LAST_GENERATION}
 use Rattle.hay_script.specs.declared.Command.TheVariants as command
 use Rattle.hay_reply.specs.declared.ClosedBy.{ClosedBy}
 use Rattle.hay_reply.specs.declared.Reply.{Reply}
@@ -62,7 +63,7 @@ module _ (settings : Settings) (start : Start) (drained : List Bool) (tag : Core
 
     pub worn_at : {j : ℕ} → AtVolume v (calls.MetWorn settings start v tag j) a b
         → Found settings start drained a b v (λ acts. ((volume_stood start v acts).frozen ≡ None) × ((replica_at (volume_stood start v acts) j).run ≡ None)
-        × ((replica_at (volume_stood start v acts) j).generation ≡ 65535))
+        × ((replica_at (volume_stood start v acts) j).generation ≡ LAST_GENERATION))
     worn_at {j} x = found_at below x (((x.is).is).1, ((x.is).is).2, ((x.is).is).3)
 
     -- one was not begun, since a call failed in the doing

@@ -7,6 +7,7 @@ use Rattle.hay_needle.specs.declared.needle.Cookie.{Cookie}
 use Rattle.hay_needle.specs.declared.needle.Outcome.{Outcome}
 use Rattle.hay_needle.specs.declared.settings.Settings.{Settings}
 use Rattle.hay_needle.specs.Tables.{live_end, outcome_at}
+use Rattle.hay_needle.specs.declared.settings.TheConstants.{LAST_GENERATION}
 use Rattle.hay_disk.specs.Counts.{Rose}
 use Rattle.hay_reply.specs.declared.Refused.{Refused}
 use Rattle.hay_core.specs.declared.entry.CoreTag.{CoreTag}
@@ -189,11 +190,11 @@ module _ (settings : Settings) (start : Start) (v : ℕ) where
     MetBusy j g = Call (λ held made. (made ≡ None) × IsThawed held × ((run : Run) × ((replica_stood held j).run ≡ Some run) × (run.goal ≡ g)))
 
     abbrev pub MetWorn : ℕ → VolumeCall
-    MetWorn j = Call (λ held made. (made ≡ None) × IsThawed held × ((replica_stood held j).run ≡ None) × ((replica_stood held j).generation ≡ 65535))
+    MetWorn j = Call (λ held made. (made ≡ None) × IsThawed held × ((replica_stood held j).run ≡ None) × ((replica_stood held j).generation ≡ LAST_GENERATION))
 
     abbrev pub BeginFailed : ℕ → ℕ → VolumeCall
     BeginFailed j f = Call (λ held made.
-        MadeOne Tries made × IsThawed held × ((replica_stood held j).run ≡ None) × ((replica_stood held j).generation < 65535) × FailedAct j f held made)
+        MadeOne Tries made × IsThawed held × ((replica_stood held j).run ≡ None) × ((replica_stood held j).generation < LAST_GENERATION) × FailedAct j f held made)
 
     -- none stood that a line of this lane had begun
     abbrev pub MetIdle : ℕ → VolumeCall

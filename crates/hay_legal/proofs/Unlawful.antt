@@ -6,6 +6,7 @@ use Rattle.hay_needle.specs.declared.needle.Cookie.{Cookie}
 use Rattle.hay_needle.specs.declared.needle.Photo.{Photo}
 use Rattle.hay_needle.specs.declared.settings.Settings.{Settings}
 use Rattle.hay_needle.specs.Tables.{Table}
+use Rattle.hay_needle.specs.declared.settings.TheConstants.{LAST_GENERATION}
 use Rattle.hay_reply.specs.declared.Note.{Note}
 use Rattle.hay_reply.specs.declared.Passed.{Passed}
 use Rattle.hay_reply.specs.declared.Reply.{Reply}
@@ -53,7 +54,8 @@ no_memory_to_a_finish settings k v m j t idle (inl leaves) = leaves
 no_memory_to_a_finish settings k v m j t idle (inr (thawed, ready, done)) = let clash : None ≡ Some ready.0.0 = sym idle ∙ ready.0.1 in absurd cc
 
 -- nor behind the last generation
-pub no_memory_at_the_last_generation : (settings : Settings) (k : Known) (v m j : ℕ) (t : Known) → (replica_of k v j).generation ≡ 65535 → LegalCompact settings k v m j NoMem t → Leaves k k t
+pub no_memory_at_the_last_generation : (settings : Settings) (k : Known) (v m j : ℕ) (t : Known) → (replica_of k v j).generation ≡ LAST_GENERATION
+    → LegalCompact settings k v m j NoMem t → Leaves k k t
 no_memory_at_the_last_generation settings k v m j t last (inl leaves) = leaves
 no_memory_at_the_last_generation settings k v m j t last (inr (thawed, ready, done)) = absurd (let less = ready.1 in omega (arith, less, last))
 

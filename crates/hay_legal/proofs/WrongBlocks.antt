@@ -11,6 +11,7 @@ use Rattle.hay_needle.specs.declared.needle.Pair.{Pair}
 use Rattle.hay_needle.specs.declared.needle.Cookie.{Cookie}
 use Rattle.hay_needle.specs.declared.settings.Settings.{Settings}
 use Rattle.hay_needle.specs.Sizes.{needle_total}
+use Rattle.hay_needle.specs.declared.settings.TheConstants.{LAST_GENERATION}
 use Rattle.hay_url.specs.declared.Url.{Url as UrlParts}
 use Rattle.hay_url.specs.Url.{cookie_of}
 use Rattle.hay_script.specs.declared.Command.{Command}
@@ -197,7 +198,7 @@ module _ {settings : Settings} {k : Known} {items : List LaneItem} {logs : List 
     | inr deleted ↦ never deleted.1 deleted.2 deleted.3
   ]
 
-  compact_failed_at_last_generation : (lane n v m j v' m' f : ℕ) → 65535 ≤ (replica_at (volume_at k v) j).generation → replica_on settings v m ≡ Some j
+  compact_failed_at_last_generation : (lane n v m j v' m' f : ℕ) → LAST_GENERATION ≤ (replica_at (volume_at k v) j).generation → replica_on settings v m ≡ Some j
       → Contains items (answered lane n (command.Compact v m) (reply.Failed v' m' f)) → ⊥
   compact_failed_at_last_generation lane n v m j v' m' f last there among = let less = ((compact_on lane n v m j _ there among).2).0 in omega (arith, less, last)
 

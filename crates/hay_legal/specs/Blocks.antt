@@ -27,6 +27,7 @@ use Rattle.hay_core.specs.declared.entry.Entry.TheVariants as entry
 use Rattle.hay_core.specs.declared.entry.CoreTag.{CoreTag}
 use Rattle.hay_needle.specs.Tables.{outcome_at, live_end}
 use Rattle.hay_needle.specs.Sizes.{needle_total}
+use Rattle.hay_needle.specs.declared.settings.TheConstants.{LAST_GENERATION}
 use Rattle.hay_disk.specs.Counts.{Rose}
 use Rattle.hay_legal.specs.Known.{stands}
 use Rattle.hay_core.specs.declared.entry.Logged.{Logged}
@@ -642,7 +643,7 @@ MayEndInDelete settings k items t v j =
 -- block stood then.
 abbrev pub MayBeAtRest : Settings → Known → List LaneItem → Known → ℕ → ℕ → Type 0
 MayBeAtRest settings k items t v j =
-    ((replica_at (volume_at k v) j).generation < 65535)
+    ((replica_at (volume_at k v) j).generation < LAST_GENERATION)
     × (((replica_at (volume_at k v) j).run ≡ None) ⊎ MayEndInDelete settings k items t v j)
 
 abbrev pub CompactIsLegal : Settings → Known → List LaneItem → Known → ℕ → ℕ → ℕ → Option ℕ → Reply → Type 0
@@ -653,7 +654,7 @@ CompactIsLegal settings k items t lane v m (Some j) (Compacted v' m' g) = Names 
 CompactIsLegal settings k items t lane v m (Some j) (ReadOnly by) = IsFrozenBy t v by
 CompactIsLegal settings k items t lane v m (Some j) (Busy v' m' g) = Names v m v' m' × IsOpen k v × MayBeBusy k items t lane v m j g
 CompactIsLegal settings k items t lane v m (Some j) (Worn v' m') =
-    Names v m v' m' × IsOpen k v × ((replica_at (volume_at t v) j).generation ≡ 65535)
+    Names v m v' m' × IsOpen k v × ((replica_at (volume_at t v) j).generation ≡ LAST_GENERATION)
 CompactIsLegal settings k items t lane v m (Some j) (Failed v' m' f) = Names v m v' m' × IsOpen k v × MayBeAtRest settings k items t v j
 CompactIsLegal settings k items t lane v m (Some j) NoMem = Unit {0}
 CompactIsLegal settings k items t lane v m (Some j) _ = ⊥
@@ -924,7 +925,7 @@ generation_print v m item = prints item.reply
     prints : Reply → List Printed
     prints (Compacted v' m' g) = cond ((v' == v) && (m' == m)) (printed g true ∷ []) []
     prints (Busy v' m' g) = cond ((v' == v) && (m' == m)) (printed (g - 1) false ∷ []) []
-    prints (Worn v' m') = cond ((v' == v) && (m' == m)) (printed 65535 false ∷ []) []
+    prints (Worn v' m') = cond ((v' == v) && (m' == m)) (printed LAST_GENERATION false ∷ []) []
     prints (Stored v p d c) = []
     prints (Deleted v p d) = []
     prints (Photo v m p d bytes) = []
@@ -1002,7 +1003,7 @@ pub record GenerationsAreLegal (settings : Settings) (items : List LaneItem) (v 
   pub once : EachPair (λ g h. g ≢ h) (flat_map (made_on v (machine_of settings v j)) items)
   pub all : new.generation
       ≡ old.generation + length (flat_map (made_on v (machine_of settings v j)) items) + cond (froze_at_compact v (machine_of settings v j) is_wanting froze) 1 0
-  pub last : (old.generation < new.generation) → (new.generation ≤ 65535)
+  pub last : (old.generation < new.generation) → (new.generation ≤ LAST_GENERATION)
   pub rising : Each (λ lane. EachPair InOrder (flat_map (generation_print v (machine_of settings v j)) (lane_items items lane))) all_lanes
 
 -- how far a replica grew, where it was not swapped and where it was

@@ -26,6 +26,7 @@ use Rattle.hay_core.specs.declared.entry.Entry.TheVariants as entry
 use Rattle.hay_core.specs.declared.entry.CoreTag.{CoreTag}
 use Rattle.hay_needle.specs.Tables.{outcome_at, live_end}
 use Rattle.hay_needle.specs.Sizes.{needle_total}
+use Rattle.hay_needle.specs.declared.settings.TheConstants.{LAST_GENERATION}
 use Rattle.hay_disk.specs.Counts.{Rose, IsNext}
 use Rattle.hay_legal.specs.Known.{stands}
 use Rattle.hay_legal.specs.declared.known.Run.{Run}
@@ -395,13 +396,13 @@ abbrev pub poised : ReplicaKnown → ReplicaKnown
 poised replica = record replica { poised = true }
 
 abbrev pub IsAtRest : Known → ℕ → ℕ → Type 0
-IsAtRest k v j = ((replica_of k v j).run ≡ None) × ((replica_of k v j).generation < 65535)
+IsAtRest k v j = ((replica_of k v j).run ≡ None) × ((replica_of k v j).generation < LAST_GENERATION)
 
 abbrev pub IsBusy : Known → ℕ → ℕ → ℕ → Type 0
 IsBusy k v j g = (run : Run) × ((replica_of k v j).run ≡ Some run) × (run.goal ≡ g)
 
 abbrev pub IsWorn : Known → ℕ → ℕ → Type 0
-IsWorn k v j = ((replica_of k v j).run ≡ None) × ((replica_of k v j).generation ≡ 65535)
+IsWorn k v j = ((replica_of k v j).run ≡ None) × ((replica_of k v j).generation ≡ LAST_GENERATION)
 
 abbrev pub LegalBegin : Settings → Known → ℕ → ℕ → ℕ → Reply → Known → Type 0
 LegalBegin settings k v m j (Begun v' m' g) t =
@@ -420,7 +421,7 @@ HasRun k v j = (run : Run) × ((replica_of k v j).run ≡ Some run)
 
 -- a run stands, and there is a number for the generation that it makes
 abbrev pub MayFinish : Known → ℕ → ℕ → Type 0
-MayFinish k v j = HasRun k v j × ((replica_of k v j).generation < 65535)
+MayFinish k v j = HasRun k v j × ((replica_of k v j).generation < LAST_GENERATION)
 
 abbrev pub IsIdle : Known → ℕ → ℕ → Type 0
 IsIdle k v j = (replica_of k v j).run ≡ None

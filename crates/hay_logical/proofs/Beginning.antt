@@ -2,6 +2,7 @@
 use Rattle.std.proofs.Common.{◌≡◌, inl, inr, ℕ, ◌+◌, ◌<◌, ◌≤◌, true, length, Option, Some, None, refl, sym, ap, ◌∙◌, arith}
 use Rattle.std.specs.Prelude.{Result, Ok, Err, IfOk, IfErr, OnErr, OnOk}
 use Rattle.std.proofs.lemmas.Bool.{cases_lt}
+use Rattle.hay_needle.specs.declared.settings.TheConstants.{LAST_GENERATION}
 use Rattle.hay_disk.specs.Disk.{Files}
 use Rattle.hay_open.specs.Stored.{Stored}
 use Rattle.hay_physical.specs.declared.fault.ReplicaFault.{ReplicaFault}
@@ -22,13 +23,13 @@ module _ {D : Type 0} (DiskTells : Type 0) (files : D → Files) (faults : D →
   Busies = (goal : ℕ) → IsUp r → goal_of r ≡ Some goal → (result ≡ Err (fault.Busy goal)) × (x ≡ r)
 
   abbrev Wears : Type 0
-  Wears = IsUp r → goal_of r ≡ None → 65535 ≤ generation_of r → (result ≡ Err fault.Worn) × (x ≡ r)
+  Wears = IsUp r → goal_of r ≡ None → LAST_GENERATION ≤ generation_of r → (result ≡ Err fault.Worn) × (x ≡ r)
 
   -- none stood, and the generation was not the last one
-  rests : Busies → Wears → ((goal : ℕ) → result ≡ Err (fault.Busy goal) → ⊥) → (result ≡ Err fault.Worn → ⊥) → (goal_of r ≡ None) × (generation_of r < 65535)
+  rests : Busies → Wears → ((goal : ℕ) → result ≡ Err (fault.Busy goal) → ⊥) → (result ≡ Err fault.Worn → ⊥) → (goal_of r ≡ None) × (generation_of r < LAST_GENERATION)
   rests busy worn not_busy not_worn = (
     none (goal_of r) refl,
-    elim (cases_lt (generation_of r) 65535) [
+    elim (cases_lt (generation_of r) LAST_GENERATION) [
       | inl less ↦ less
       | inr most ↦ absurd (not_worn (worn up (none (goal_of r) refl) most).0)
     ],
@@ -39,7 +40,7 @@ module _ {D : Type 0} (DiskTells : Type 0) (files : D → Files) (faults : D →
       none (Some goal) e = absurd (not_busy goal (busy goal up e).0)
 
   cause_of : (f : ReplicaFault) → result ≡ Err f → Busies → Wears → (f ≡ fault.Frozen → IsFrozen r) → ((goal : ℕ) → f ≡ fault.Busy goal → goal_of r ≡ Some goal)
-      → (f ≡ fault.Worn → (goal_of r ≡ None) × (generation_of r ≡ 65535))
+      → (f ≡ fault.Worn → (goal_of r ≡ None) × (generation_of r ≡ LAST_GENERATION))
       → physical_faults.IsBeginFault (faults r.disk) (faults x.disk) f → IsBeginFault faults r x f
   cause_of (fault.Failed n) is busy worn thawed idle most cause =
       let rest = rests busy worn (λ goal e. let wrong : Err (fault.Failed n) ≡ Err (fault.Busy goal) = sym is ∙ e in cc) (λ e. let wrong : Err (fault.Failed n) ≡ Err fault.Worn = sym is ∙ e in cc) in
@@ -56,9 +57,11 @@ module _ {D : Type 0} (DiskTells : Type 0) (files : D → Files) (faults : D →
 module _ {D : Type 0} (DiskTells : Type 0) (files : D → Files) (faults : D → ℕ) (r x : Copy D) where
   pub begins : (result : Result ℕ ReplicaFault) (up : IsUp r) → IsOpenCopy x → is_frozen x ≡ is_frozen r → x.sup ≡ r.sup → is_stuck x ≡ is_stuck r
       → (DiskTells → (s : Stored) → physical.Stands files r s → physical.Stands files x s) → StaysInReach DiskTells files r x → (DiskTells → KeepsHead files r x)
-      → ((goal : ℕ) → IsUp r → goal_of r ≡ Some goal → (result ≡ Err (fault.Busy goal)) × (x ≡ r)) → (IsUp r → goal_of r ≡ None → 65535 ≤ generation_of r → (result ≡ Err fault.Worn) × (x ≡ r))
-      → (result ≡ Err fault.Frozen → IsFrozen r) → ((goal : ℕ) → result ≡ Err (fault.Busy goal) → goal_of r ≡ Some goal) → (result ≡ Err fault.Worn → (goal_of r ≡ None) × (generation_of r ≡ 65535))
-      → (DiskTells → (s : Stored) → physical.Stands files r s → result ≡ Err fault.Worn → s.generation ≡ 65535)
+      → ((goal : ℕ) → IsUp r → goal_of r ≡ Some goal → (result ≡ Err (fault.Busy goal)) × (x ≡ r))
+      → (IsUp r → goal_of r ≡ None → LAST_GENERATION ≤ generation_of r → (result ≡ Err fault.Worn) × (x ≡ r))
+      → (result ≡ Err fault.Frozen → IsFrozen r) → ((goal : ℕ) → result ≡ Err (fault.Busy goal) → goal_of r ≡ Some goal)
+      → (result ≡ Err fault.Worn → (goal_of r ≡ None) × (generation_of r ≡ LAST_GENERATION))
+      → (DiskTells → (s : Stored) → physical.Stands files r s → result ≡ Err fault.Worn → s.generation ≡ LAST_GENERATION)
       → (DiskTells → (s : Stored) → physical.Stands files r s → IfOk result (λ goal. (goal ≡ s.generation + 1) × HasRun files x s (Some (record { goal = goal; left = length s.cells; tight = true }))))
       → IfOk result (λ goal. (goal ≡ generation_of r + 1) × (goal_of r ≡ None) × (goal_of x ≡ Some goal)) → OnErr result (x.phase ≡ r.phase)
       → IfErr result (physical_faults.IsBeginFault (faults r.disk) (faults x.disk)) → BeginsAt DiskTells files faults r x result
@@ -98,7 +101,7 @@ module _ {D : Type 0} (DiskTells : Type 0) (files : D → Files) (faults : D →
   begin_left (fault.Damaged at) up kept cause = absurd cause
   begin_left fault.NoMemory up kept cause = (up, kept ∙ cause.0, cause)
 
-  pub begin_holds : (s : Stored) (run : Run) (f : ReplicaFault) → physical.Stands files x s → is_stuck x ≡ is_stuck r → (f ≡ fault.Worn → s.generation ≡ 65535)
+  pub begin_holds : (s : Stored) (run : Run) (f : ReplicaFault) → physical.Stands files x s → is_stuck x ≡ is_stuck r → (f ≡ fault.Worn → s.generation ≡ LAST_GENERATION)
       → IsBeginFault faults r x f → HoldsUnswapped files r x s run (Refused f)
   begin_holds s run (fault.Failed n) stands stuck last cause = (stands, stuck)
   begin_holds s run fault.Frozen stands stuck last cause = absurd cause

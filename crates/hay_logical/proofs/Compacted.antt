@@ -4,6 +4,7 @@ use Rattle.std.specs.Prelude.{Err, Ok, option_map}
 use Rattle.std.proofs.lemmas.Bool.{cases_eq}
 use Rattle.hay_needle.specs.declared.needle.Cell.{Cell}
 use Rattle.hay_needle.specs.declared.settings.Settings.{Settings}
+use Rattle.hay_needle.specs.declared.settings.TheConstants.{LAST_GENERATION}
 use Rattle.hay_disk.specs.Counts.{Rose}
 use Rattle.hay_disk.specs.Disk.{Files}
 use Rattle.hay_legal.specs.declared.known.Run.{Run}
@@ -53,7 +54,7 @@ module _ {D P : Type 0} (settings : Settings) (number : ℕ) (DiskTells : Type 0
   has_run : (run : IsRunning k at) → runs.HasRun files one.before was.stored (Some (copier_run run.0))
   has_run run = subst (λ (o : Option Run). RunsAs files one.before was.stored o) run.1 was.run
 
-  may_finish : (goal_of one.before ≡ None → ⊥) → ((goal : ℕ) → goal_of one.before ≡ Some goal → goal ≤ 65535) → MayFinish k at
+  may_finish : (goal_of one.before ≡ None → ⊥) → ((goal : ℕ) → goal_of one.before ≡ Some goal → goal ≤ LAST_GENERATION) → MayFinish k at
   unfolding has_run
   may_finish standing few =
       let run = running standing in
@@ -61,9 +62,9 @@ module _ {D P : Type 0} (settings : Settings) (number : ℕ) (DiskTells : Type 0
       let goal = known_goal files one.before was.stored (replica_at k at).run was.run ∙ ap (λ (o : Option Run). option_map (λ (r : Run). r.goal) o) run.1 in
       let most = few (run.0).goal goal in
       let fits = was.fits.generation in
-      (run, (let e : (replica_at k at).generation < 65535 = omega (arith, most, next, fits) in e))
+      (run, (let e : (replica_at k at).generation < LAST_GENERATION = omega (arith, most, next, fits) in e))
 
-  pub finished : (files_now : NewFiles P) → (goal_of one.before ≡ None → ⊥) → ((goal : ℕ) → goal_of one.before ≡ Some goal → goal ≤ 65535)
+  pub finished : (files_now : NewFiles P) → (goal_of one.before ≡ None → ⊥) → ((goal : ℕ) → goal_of one.before ≡ Some goal → goal ≤ LAST_GENERATION)
       → SwapsAt DiskTells files faults Tells Going rows rows' at one.before one.after (Ok files_now) → KeepsPlaces rows rows' at (Ok files_now)
       → IsFinished files Tells k at files_now.generation (volume_with settings number new rows' front None unsure)
   unfolding Stands was has_run
@@ -86,7 +87,7 @@ module _ {D P : Type 0} (settings : Settings) (number : ℕ) (DiskTells : Type 0
             (same.0, ap (λ (l : List Cell). length l) same.1);
       }
 
-  pub finish_refused : (u : Unswapped) → (goal_of one.before ≡ None → ⊥) → ((goal : ℕ) → goal_of one.before ≡ Some goal → goal ≤ 65535)
+  pub finish_refused : (u : Unswapped) → (goal_of one.before ≡ None → ⊥) → ((goal : ℕ) → goal_of one.before ≡ Some goal → goal ≤ LAST_GENERATION)
       → SwapsAt DiskTells files faults Tells Going rows rows' at one.before one.after (Err u) → StaysInReach DiskTells files one.before one.after
       → KeepsPlaces rows rows' at (Err u)
       → FinishRefused files Tells k at (volume_with settings number items rows front None unsure)
@@ -143,12 +144,12 @@ module _ {D P : Type 0} (settings : Settings) (number : ℕ) (DiskTells : Type 0
   fresh : runs.Run
   fresh = record { goal = was.stored.generation + 1; left = length was.stored.cells; tight = true }
 
-  rest : (goal_of one.before ≡ None) × (generation_of one.before < 65535) → IsAtRest k at
+  rest : (goal_of one.before ≡ None) × (generation_of one.before < LAST_GENERATION) → IsAtRest k at
   rest idle =
       let same = stands_generation files one.before was.stored was.stands in
       let fits = was.fits.generation in
       let less = idle.1 in
-      (known_none files one.before was.stored (replica_at k at).run was.run idle.0, (let e : (replica_at k at).generation < 65535 = omega (arith, less, same, fits) in e))
+      (known_none files one.before was.stored (replica_at k at).run was.run idle.0, (let e : (replica_at k at).generation < LAST_GENERATION = omega (arith, less, same, fits) in e))
 
   pub compacted : (files_now : NewFiles P) → SwapsAt DiskTells files faults Tells Fresh rows rows' at one.before one.after (Ok files_now) → KeepsPlaces rows rows' at (Ok files_now)
       → IsCompacted files Tells k at files_now.generation (volume_with settings number new rows' front None unsure)

@@ -4,6 +4,7 @@ use Rattle.std.proofs.Math.Path.{fun_ext}
 use Rattle.std.specs.Prelude.{Bool, IfErr, Ok, OnErr, OnOk, Option, Result}
 use Rattle.std.proofs.lemmas.Bool.{cases_eq}
 use Rattle.hay_needle.specs.declared.needle.Pair.{Pair}
+use Rattle.hay_needle.specs.declared.settings.TheConstants.{LAST_GENERATION}
 use Rattle.hay_disk.specs.Disk.{Files}
 use Rattle.hay_map.specs.MapRows.{MapRows}
 use Rattle.hay_map.specs.Places.{place_in}
@@ -231,7 +232,7 @@ module _ {D P : Type 0} (DiskTells : Type 0) (files : D → Files) (Tells : Type
     sup = ap (λ (z : Copy D). z.sup) looks.copy ∙ opens.sup;
     loose = ap (λ (z : Copy D). is_stuck z) looks.copy ∙ opens.loose;
     alone = ap (λ (z : Copy D). goal_of z) looks.copy ∙ opens.alone;
-    most = subst (λ n. n ≤ 65535) (sym (ap (λ (z : Copy D). generation_of z) looks.copy)) opens.most;
+    most = subst (λ n. n ≤ LAST_GENERATION) (sym (ap (λ (z : Copy D). generation_of z) looks.copy)) opens.most;
     from = subst (λ (z : Copy D). 64 + bare_of z * 48 ≤ end_of z) (sym looks.copy) opens.from;
     within = subst (λ n. LiesWithinAt j n (sights_of rows')) (sym (ap (λ (z : Copy D). end_of z) looks.copy)) (looks.within (end_of x) opens.within);
     undamaged = opens.undamaged;

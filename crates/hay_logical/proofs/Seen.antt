@@ -6,6 +6,7 @@ use Rattle.std.proofs.lemmas.List.{length-map}
 use Rattle.hay_needle.specs.declared.settings.Settings.{Settings}
 use Rattle.hay_needle.specs.declared.needle.Version.TheVariants.{Two}
 use Rattle.hay_needle.specs.Sizes.{max_photo, needle_total}
+use Rattle.hay_needle.specs.declared.settings.TheConstants.{LAST_GENERATION}
 use Rattle.hay_map.specs.MapRows.{MapRows}
 use Rattle.hay_legal.specs.Known.{machine_of}
 use Rattle.hay_physical.specs.declared.fault.ReplicaFault.{ReplicaFault}
@@ -78,12 +79,12 @@ module _ {D : Type 0} (r r' : Copy D) where
     | inr some ↦ inr (some, run_ended (run_changed stays stuck bare) ended.0)
   ]
 
-  pub swap_seen : (generation end : ℕ) → generation ≡ generation_of r' → end ≡ end_of r' → generation_of r' ≡ generation_of r + 1 → generation_of r' ≤ 65535
+  pub swap_seen : (generation end : ℕ) → generation ≡ generation_of r' → end ≡ end_of r' → generation_of r' ≡ generation_of r + 1 → generation_of r' ≤ LAST_GENERATION
       → 64 ≤ end_of r' → end_of r' ≤ end_of r → goal_of r' ≡ None
       → is_stuck r' ≡ false → bare_of r' ≡ 0 → SwapSeen generation end (replica_seen r) (replica_seen r')
   swap_seen generation end is ends next most from shorter goal stuck bare = record {
     next = is ∙ next;
-    most = subst (λ n. n ≤ 65535) (sym is) most;
+    most = subst (λ n. n ≤ LAST_GENERATION) (sym is) most;
     from = subst (λ n. 64 ≤ n) (sym ends) from;
     shorter = subst (λ n. n ≤ end_of r) (sym ends) shorter;
     is = seen_by _ _ _ _ _ _ _ _ _ _ _ _ (sym is) goal stuck (sym ends) bare (no_next r' goal);

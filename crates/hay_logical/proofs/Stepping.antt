@@ -4,6 +4,7 @@ use Rattle.std.proofs.lemmas.Bool.{true≢false}
 use Rattle.std.specs.Prelude.{is_some, not, Err, Ok, slice_set}
 use Rattle.hay_disk.specs.Disk.{Files}
 use Rattle.hay_needle.specs.declared.settings.Settings.{Settings}
+use Rattle.hay_needle.specs.declared.settings.TheConstants.{LAST_GENERATION}
 use Rattle.hay_legal.specs.declared.known.ReplicaKnown.{ReplicaKnown}
 use Rattle.hay_legal.specs.declared.known.Run.{Run}
 use Rattle.hay_legal.specs.declared.known.VolumeKnown.{VolumeKnown}
@@ -125,12 +126,12 @@ module _ {D P : Type 0} (settings : Settings) (number : ℕ) (DiskTells : Type 0
         })
         (other_changed settings number DiskTells files Tells faults items new rows front unsure k at without_run)
 
-    rest_known : goal_of one.before ≡ None → generation_of one.before < 65535 → IsAtRest k at
+    rest_known : goal_of one.before ≡ None → generation_of one.before < LAST_GENERATION → IsAtRest k at
     rest_known none less =
         let w = was_at in
         let same = stands_generation files one.before w.stored w.stands in
         let fits = w.fits.generation in
-        (known_none files one.before w.stored (replica_at k at).run w.run none, (let e : (replica_at k at).generation < 65535 = omega (arith, less, same, fits) in e))
+        (known_none files one.before w.stored (replica_at k at).run w.run none, (let e : (replica_at k at).generation < LAST_GENERATION = omega (arith, less, same, fits) in e))
 
     pub begun : DiskTells → (goal : ℕ) → BeginsAt DiskTells files faults one.before one.after (Ok goal) → IsBegun files Tells k at goal (volume_with settings number new rows front None unsure)
     unfolding Stands

@@ -5,6 +5,7 @@ use Rattle.hay_needle.specs.declared.needle.Cookie.{Cookie}
 use Rattle.hay_needle.specs.declared.needle.Pair.{Pair}
 use Rattle.hay_needle.specs.declared.settings.Settings.{Settings}
 use Rattle.hay_needle.specs.Tables.{live_end}
+use Rattle.hay_needle.specs.declared.settings.TheConstants.{LAST_GENERATION}
 use Rattle.hay_reply.specs.declared.Note.{Note}
 use Rattle.hay_reply.specs.declared.Refused.{Refused}
 use Rattle.hay_reply.specs.declared.Refused.TheVariants.{NoRoom, Closed}
@@ -254,7 +255,7 @@ FlushRefused files Tells k replica old new (Damaged m at) = ⊥
 
 -- none stands at a replica, and its generation is not the last one
 abbrev pub IsAtRest : VolumeKnown → ℕ → Type 0
-IsAtRest k j = ((replica_at k j).run ≡ None) × ((replica_at k j).generation < 65535)
+IsAtRest k j = ((replica_at k j).run ≡ None) × ((replica_at k j).generation < LAST_GENERATION)
 
 -- one stands there
 abbrev pub IsRunning : VolumeKnown → ℕ → Type 0
@@ -262,7 +263,7 @@ IsRunning k j = (run : Run) × ((replica_at k j).run ≡ Some run)
 
 -- one stands, and there is a number for the generation that it makes
 abbrev pub MayFinish : VolumeKnown → ℕ → Type 0
-MayFinish k j = IsRunning k j × ((replica_at k j).generation < 65535)
+MayFinish k j = IsRunning k j × ((replica_at k j).generation < LAST_GENERATION)
 
 pub record IsBegun {D P : Type 0} (files : D → Files) (Tells : Type 0) (k : VolumeKnown) (replica generation : ℕ) (new : Volume D P) : Type 0 where
   pub thawed : k.frozen ≡ None
@@ -277,7 +278,7 @@ BeginRefused files Tells k replica old new (Busy m generation) =
     × ((run : Run) × ((replica_at k replica).run ≡ Some run) × (run.goal ≡ generation)) × (new ≡ old)
 BeginRefused files Tells k replica old new (Worn m) =
     (k.frozen ≡ None) × (m ≡ machine_of old.settings old.number replica)
-    × ((replica_at k replica).run ≡ None) × ((replica_at k replica).generation ≡ 65535) × (new ≡ old)
+    × ((replica_at k replica).run ≡ None) × ((replica_at k replica).generation ≡ LAST_GENERATION) × (new ≡ old)
 BeginRefused files Tells k replica old new (Failed m faults) =
     (k.frozen ≡ None) × (m ≡ machine_of old.settings old.number replica) × IsAtRest k replica × Stands files Tells new k
 BeginRefused files Tells k replica old new NoMemory = (k.frozen ≡ None) × IsAtRest k replica × Stands files Tells new k
@@ -381,7 +382,7 @@ CompactRefused files Tells k replica old new (Busy m generation) =
     × ((run : Run) × ((replica_at k replica).run ≡ Some run) × (run.goal ≡ generation)) × Stands files Tells new k
 CompactRefused files Tells k replica old new (Worn m) =
     (k.frozen ≡ None) × (m ≡ machine_of old.settings old.number replica)
-    × ((replica_at k replica).run ≡ None) × ((replica_at k replica).generation ≡ 65535) × Stands files Tells new k
+    × ((replica_at k replica).run ≡ None) × ((replica_at k replica).generation ≡ LAST_GENERATION) × Stands files Tells new k
 CompactRefused files Tells k replica old new (Failed m faults) =
     (k.frozen ≡ None) × (m ≡ machine_of old.settings old.number replica) × IsAtRest k replica × StandsFailed files Tells m k replica new
 CompactRefused files Tells k replica old new NoMemory =

@@ -10,6 +10,7 @@ use Rattle.hay_needle.specs.declared.needle.Outcome.{Outcome}
 use Rattle.hay_needle.specs.Needle.{NeedleBytes, needle_of_cell}
 use Rattle.hay_needle.specs.Sizes.{needle_total}
 use Rattle.hay_needle.specs.Tables.{pair_eq}
+use Rattle.hay_needle.specs.declared.settings.TheConstants.{LAST_GENERATION}
 use Rattle.hay_disk.specs.Counts.{IsNext, Rose}
 use Rattle.hay_disk.specs.Disk.{Files, IsSolid, MayLeave}
 use Rattle.hay_legal.specs.Known.{machine_of}
@@ -368,12 +369,12 @@ stepped_by n run = record run { left = run.left - n }
 
 abbrev pub IsBeginFault : {D : Type 0} → (D → ℕ) → Copy D → Copy D → ReplicaFault → Type 0
 IsBeginFault faults r r' (fault.Failed printed) =
-    Rose (faults r.disk) (faults r'.disk) × (printed ≡ faults r'.disk) × (goal_of r ≡ None) × (generation_of r < 65535)
+    Rose (faults r.disk) (faults r'.disk) × (printed ≡ faults r'.disk) × (goal_of r ≡ None) × (generation_of r < LAST_GENERATION)
 IsBeginFault faults r r' fault.Frozen = ⊥
 IsBeginFault faults r r' (fault.Full end need capacity) = ⊥
 IsBeginFault faults r r' (fault.Busy goal) = (goal_of r ≡ Some goal) × (r' ≡ r)
 IsBeginFault faults r r' (fault.Ended printed) = ⊥
-IsBeginFault faults r r' fault.Worn = (goal_of r ≡ None) × (generation_of r ≡ 65535) × (r' ≡ r)
+IsBeginFault faults r r' fault.Worn = (goal_of r ≡ None) × (generation_of r ≡ LAST_GENERATION) × (r' ≡ r)
 IsBeginFault faults r r' (fault.Damaged at) = ⊥
 IsBeginFault faults r r' fault.NoMemory = CanBegin (replica_seen r)
 
@@ -383,7 +384,7 @@ pub record BeginsAt {D : Type 0} (DiskTells : Type 0) (files : D → Files) (fau
   pub goal : IfOk result (λ goal. goal_of r' ≡ Some goal)
   pub begun : DiskTells → (s : Stored) → physical.Stands files r s →
       IfOk result (λ goal. (goal ≡ s.generation + 1) × HasRun files r' s (Some (record { goal = goal; left = length s.cells; tight = true })))
-  pub last : DiskTells → (s : Stored) → physical.Stands files r s → result ≡ Err fault.Worn → s.generation ≡ 65535
+  pub last : DiskTells → (s : Stored) → physical.Stands files r s → result ≡ Err fault.Worn → s.generation ≡ LAST_GENERATION
   pub kept : OnErr result (goal_of r' ≡ goal_of r)
   pub cause : IfErr result (IsBeginFault faults r r')
 
@@ -477,7 +478,7 @@ IsLeftBy faults start r r' (Refused (fault.Failed printed)) =
 IsLeftBy faults start r r' (Refused (fault.Damaged at)) = IsUp r' × (goal_of r' ≡ None) × WasAtRest start r × MeetsDamageBy start at (replica_seen r)
 IsLeftBy faults start r r' (Refused fault.NoMemory) = IsUp r' × (goal_of r' ≡ None) × WasAtRest start r
 IsLeftBy faults start r r' (Refused (fault.Busy goal)) = (start ≡ Fresh) × (goal_of r ≡ Some goal) × (r' ≡ r)
-IsLeftBy faults start r r' (Refused fault.Worn) = (start ≡ Fresh) × (goal_of r ≡ None) × (generation_of r ≡ 65535) × (r' ≡ r)
+IsLeftBy faults start r r' (Refused fault.Worn) = (start ≡ Fresh) × (goal_of r ≡ None) × (generation_of r ≡ LAST_GENERATION) × (r' ≡ r)
 IsLeftBy faults start r r' (Refused fault.Frozen) = ⊥
 IsLeftBy faults start r r' (Refused (fault.Full end need capacity)) = ⊥
 IsLeftBy faults start r r' (Refused (fault.Ended printed)) = ⊥
@@ -496,7 +497,7 @@ HoldsUnswapped files r r' s run (Refused fault.Frozen) = physical.Stands files r
 HoldsUnswapped files r r' s run (Refused (fault.Full end need capacity)) = physical.Stands files r' s × (is_stuck r' ≡ is_stuck r)
 HoldsUnswapped files r r' s run (Refused (fault.Busy goal)) = physical.Stands files r' s × (is_stuck r' ≡ is_stuck r)
 HoldsUnswapped files r r' s run (Refused (fault.Ended printed)) = physical.Stands files r' s × (is_stuck r' ≡ is_stuck r)
-HoldsUnswapped files r r' s run (Refused fault.Worn) = s.generation ≡ 65535
+HoldsUnswapped files r r' s run (Refused fault.Worn) = s.generation ≡ LAST_GENERATION
 HoldsUnswapped files r r' s run (Refused (fault.Damaged at)) = ⊥
 HoldsUnswapped files r r' s run (Refused fault.NoMemory) = physical.Stands files r' s × (is_stuck r' ≡ is_stuck r)
 HoldsUnswapped files r r' s run (Unsure printed) = (t : Stored) × Swaps s t × physical.Holds files r' (is_stuck r) s t
@@ -553,7 +554,7 @@ pub record OpensAt {D P : Type 0} (DiskTells : Type 0) (files : D → Files) (Te
   pub sup : r'.sup ≡ r.sup
   pub loose : is_stuck r' ≡ false
   pub alone : goal_of r' ≡ None
-  pub most : generation_of r' ≤ 65535
+  pub most : generation_of r' ≤ LAST_GENERATION
   pub from : 64 + bare_of r' * needle_total 0 ≤ end_of r'
   pub within : LiesWithinAt j (end_of r') (sights_of rows)
   pub undamaged : DiskTells → (file at : ℕ) → IsOpeningDamage r.sup (contents_of files r.disk) file at → ⊥

@@ -4,6 +4,7 @@ use Rattle.hay_needle.specs.declared.settings.Settings.{Settings}
 use Rattle.hay_needle.specs.declared.needle.Pair.{Pair}
 use Rattle.hay_needle.specs.declared.needle.Version.TheVariants.{Two}
 use Rattle.hay_needle.specs.Sizes.{max_photo, needle_total}
+use Rattle.hay_needle.specs.declared.settings.TheConstants.{LAST_GENERATION}
 use Rattle.hay_core.specs.declared.entry.CoreTag.{CoreTag}
 use Rattle.hay_legal.specs.Known.{machine_of}
 use Rattle.hay_open.specs.Stored.{Stored}
@@ -74,11 +75,11 @@ HasGoal r = r.goal ≡ None → ⊥
 
 -- none stands, and one can begin
 abbrev pub CanBegin : ReplicaSeen → Type 0
-CanBegin r = (r.goal ≡ None) × (r.generation < 65535)
+CanBegin r = (r.goal ≡ None) × (r.generation < LAST_GENERATION)
 
 -- none stands, and none can begin any more
 abbrev pub IsWorn : ReplicaSeen → Type 0
-IsWorn r = (r.goal ≡ None) × (r.generation ≡ 65535)
+IsWorn r = (r.goal ≡ None) × (r.generation ≡ LAST_GENERATION)
 
 abbrev pub BeginsTo : ℕ → ReplicaSeen → ReplicaSeen → Type 0
 BeginsTo goal r r' = CanBegin r × (goal ≡ r.generation + 1) × (r' ≡ record r { goal = Some goal; next = 64 })
@@ -165,7 +166,7 @@ StepRefusedSeen settings v at cells old new (Worn m) = ⊥
 -- Its files are those that the compaction made.
 pub record SwapSeen (generation end : ℕ) (r r' : ReplicaSeen) : Type 0 where
   pub next : generation ≡ r.generation + 1
-  pub most : generation ≤ 65535
+  pub most : generation ≤ LAST_GENERATION
   pub from : 64 ≤ end
   pub shorter : end ≤ r.end
   pub is : r' ≡ record { generation = generation; goal = None; stuck = false; end = end; bare = 0; next = 0 }
@@ -357,7 +358,7 @@ pub record IsFresh (r : ReplicaSeen) : Type 0 where
   pub goal : r.goal ≡ None
   pub next : r.next ≡ 0
   pub loose : r.stuck ≡ false
-  pub most : r.generation ≤ 65535
+  pub most : r.generation ≤ LAST_GENERATION
   pub from : 64 + r.bare * needle_total 0 ≤ r.end
 
 -- what stood on its disk was found: the generation, where the cells end, and how many of them have no record

@@ -52,7 +52,7 @@ use hay_base::{Listed, NoMemory};
 use hay_core::CoreTag;
 use hay_disk::{Disk, Piece};
 use hay_map::{MapView, Row};
-use hay_needle::{Cookie, FileKind, MAX_PHOTO, Pair, Settings, Super};
+use hay_needle::{Cookie, FileKind, LAST_GENERATION, MAX_PHOTO, Pair, Settings, Super};
 use hay_open::OpenFault;
 use hay_physical::Replica;
 use hay_reply::Note;
@@ -1128,7 +1128,7 @@ impl<D: Disk> Logical<D> {
         ensures is { (r : Copy D) → At self.now.replicas replica r → result ≡ goal_of r }
         ensures known { D.Tells → (k : VolumeKnown) → Stands D.files D.Piece.Tells self.now k →
             result ≡ option_map (λ run. run.goal) (replica_at k replica).run }
-        ensures most { IfSome result (λ goal. goal ≤ 65535) }
+        ensures most { IfSome result (λ goal. goal ≤ LAST_GENERATION) }
         ensures next { IfSome result (λ goal. (r : Copy D) → At self.now.replicas replica r → goal ≡ generation_of r + 1) }
     {
         self.replicas.as_slice()[replica as usize].standing()

@@ -3,6 +3,7 @@ use Rattle.std.proofs.Common.{◌≡◌, inl, inr, ℕ, ◌+◌, ◌<◌, ◌≤
 use mathlib.Core.List.{map-append}
 use Rattle.hay_needle.specs.declared.settings.Settings.{Settings}
 use Rattle.hay_needle.specs.Tables.{live_end}
+use Rattle.hay_needle.specs.declared.settings.TheConstants.{LAST_GENERATION}
 use Rattle.hay_reply.specs.declared.ClosedBy.{ClosedBy}
 use Rattle.hay_reply.specs.declared.Reply.{Reply}
 use Rattle.hay_reply.specs.declared.Reply.TheVariants.{Begun, Busy, Compacted, Failed, Flushed, Idle, NoMem, Nowhere, ReadOnly, Stepped, Worn}
@@ -174,7 +175,7 @@ module _ {settings : Settings} {start : Start} {drained : List Bool} {k : Known}
         };
         thawed = ap (λ (z : VolumeKnown). z.frozen) stood ∙ x.thawed;
         at_rest = ap (λ (z : VolumeKnown). (replica_at z j).run) stood ∙ x.at_rest;
-        number = subst (λ (z : VolumeKnown). (replica_at z j).generation < 65535) (sym stood) x.number;
+        number = subst (λ (z : VolumeKnown). (replica_at z j).generation < LAST_GENERATION) (sym stood) x.number;
         failed = rose_in bears work try.one x.below is x.failed;
         last = is_last bears work v try.one x.last;
       }

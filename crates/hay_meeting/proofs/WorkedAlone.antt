@@ -4,6 +4,7 @@ use Rattle.std.specs.Prelude.{◌≡◌, ℕ, zero, suc, ◌<◌, ◌≤◌, ◌
 use Rattle.std.proofs.Common.{sym, ap, subst, arith, lit≤, lit<, inl}
 use Rattle.std.proofs.lemmas.Bool.{eq-eqb, ne_eqb}
 use Rattle.hay_needle.specs.declared.settings.Settings.{Settings}
+use Rattle.hay_needle.specs.declared.settings.TheConstants.{LAST_GENERATION}
 use Rattle.hay_script.specs.declared.Command.TheVariants as command
 use Rattle.hay_reply.specs.declared.Reply.TheVariants as reply
 use Rattle.hay_legal.specs.declared.known.Known.{Known}
@@ -115,7 +116,7 @@ store_first = store_opens six before (is_of-fresh six) (record {
   slots = refl;
   ends = each_replica (λ v j. 64 ≤ (replica_at (volume_at before v) j).end) (lit≤ tt) (lit≤ tt) (lit≤ tt) (lit≤ tt);
   numbers =
-      each_replica (λ v j. (run : Run) → (replica_at (volume_at before v) j).run ≡ Some run → (replica_at (volume_at before v) j).generation < 65535) (λ run there. lit< tt)
+      each_replica (λ v j. (run : Run) → (replica_at (volume_at before v) j).run ≡ Some run → (replica_at (volume_at before v) j).generation < LAST_GENERATION) (λ run there. lit< tt)
       (λ run there. lit< tt) (λ run there. lit< tt) (λ run there. lit< tt);
   runs =
       each_replica (λ v j. (run : Run) → (replica_at (volume_at before v) j).run ≡ Some run → run.goal ≡ (replica_at (volume_at before v) j).generation + 1) (λ run there. cc)

@@ -5,6 +5,7 @@ use Rattle.std.specs.List.{AllByRecursion as Each}
 use Rattle.std.proofs.Common.{sym, subst, arith, lit≤, lit<, inl, inr}
 use Rattle.std.proofs.lemmas.Bool.{ne_eqb}
 use mathlib.Core.List.{IsPrefix}
+use Rattle.hay_needle.specs.declared.settings.TheConstants.{LAST_GENERATION}
 use Rattle.hay_disk.specs.Counts.{Rose}
 use Rattle.hay_url.proofs.Cookies.{cookie_of-zero}
 use Rattle.hay_core.specs.declared.entry.CoreTag.{CoreTag}
@@ -450,7 +451,7 @@ regular = record {
   machines = lit≤ tt;
   slots = refl;
   ends = of_one (λ v j. 64 ≤ (replica_at (volume_at before v) j).end) (lit≤ tt);
-  numbers = of_one (λ v j. (run : Run) → (replica_at (volume_at before v) j).run ≡ Some run → (replica_at (volume_at before v) j).generation < 65535) (λ run there. lit< tt);
+  numbers = of_one (λ v j. (run : Run) → (replica_at (volume_at before v) j).run ≡ Some run → (replica_at (volume_at before v) j).generation < LAST_GENERATION) (λ run there. lit< tt);
   runs = of_one (λ v j. (run : Run) → (replica_at (volume_at before v) j).run ≡ Some run → run.goal ≡ (replica_at (volume_at before v) j).generation + 1) (λ run there. cc);
 }
 

@@ -8,6 +8,7 @@ use Rattle.hay_needle.specs.declared.needle.Outcome.{Outcome}
 use Rattle.hay_needle.specs.declared.needle.Outcome.TheVariants as outcome
 use Rattle.hay_needle.specs.declared.settings.Settings.{Settings}
 use Rattle.hay_needle.specs.Tables.{live_end, outcome_at}
+use Rattle.hay_needle.specs.declared.settings.TheConstants.{LAST_GENERATION}
 use Rattle.hay_disk.specs.Counts.{Rose}
 use Rattle.hay_url.specs.declared.Url.{Url as UrlParts}
 use Rattle.hay_url.specs.Url.{cookie_of}
@@ -349,7 +350,7 @@ module _ (settings : Settings) (start : Start) (drained : List Bool) (item : Lan
     pub try : OneTryAt settings start drained a b doings v
     pub thawed : (volume_stood start v (try.one).held).frozen ≡ None
     pub at_rest : (replica_at (volume_stood start v (try.one).held) j).run ≡ None
-    pub number : (replica_at (volume_stood start v (try.one).held) j).generation < 65535
+    pub number : (replica_at (volume_stood start v (try.one).held) j).generation < LAST_GENERATION
     pub failed : RoseAt settings start drained a b v try.one j f
     pub last : IsLastDoing (doings.volumes v) try.one
 
@@ -399,7 +400,7 @@ module _ (settings : Settings) (start : Start) (drained : List Bool) (item : Lan
   abbrev pub MetWornHere : ℕ → ℕ → Type 0
   MetWornHere v j =
       Found settings start drained a b v (λ acts. ((volume_stood start v acts).frozen ≡ None)
-      × ((replica_at (volume_stood start v acts) j).run ≡ None) × ((replica_at (volume_stood start v acts) j).generation ≡ 65535))
+      × ((replica_at (volume_stood start v acts) j).run ≡ None) × ((replica_at (volume_stood start v acts) j).generation ≡ LAST_GENERATION))
 
   abbrev pub CompactDidHere : ℕ → ℕ → Option ℕ → Reply → Type 0
   CompactDidHere v m None Nowhere = Nothing

@@ -15,6 +15,7 @@ use Rattle.hay_needle.specs.declared.total.TheConstants.{MAX_PHOTO}
 use Rattle.hay_needle.specs.declared.needle.Version.TheVariants.{Two}
 use Rattle.hay_needle.specs.Needle.{BeginsWithNeedle, needle_of_cell}
 use Rattle.hay_needle.specs.Sizes.{max_photo, needle_total}
+use Rattle.hay_needle.specs.declared.settings.TheConstants.{LAST_GENERATION}
 use Rattle.hay_url.specs.declared.Url.{Url as UrlParts}
 use Rattle.hay_core.specs.declared.entry.CoreTag.{CoreTag}
 use Rattle.hay_script.specs.declared.Command.{Command}
@@ -385,7 +386,7 @@ flushed_another_number Tells settings before after v m n number r sees other say
     done (inr (inr (at, fault, on, refused, moves))) = flushed_is_no_refusal v m n fault refused
 
 -- a compaction that was begun towards a generation behind the last one
-pub begun_behind_the_last : (Tells : Type 0) (settings : Settings) (before after : Tally) (v m n number : ℕ) → 65535 < n
+pub begun_behind_the_last : (Tells : Type 0) (settings : Settings) (before after : Tally) (v m n number : ℕ) → LAST_GENERATION < n
     → Says Tells settings before after (asks.Begin v m) number (Begun v m n) → ⊥
 begun_behind_the_last Tells settings before after v m n number high says =
     done (answers_so Tells settings before after (asks.Begin v m) number (Begun v m n) says)

@@ -10,6 +10,7 @@ use Rattle.hay_needle.specs.declared.settings.Settings.{Settings}
 use Rattle.hay_needle.specs.declared.settings.Super.{Super}
 use Rattle.hay_needle.specs.Sizes.{needle_total}
 use Rattle.hay_needle.specs.Tables.{Table, live_end, pair_cmp, table_of, with_photo}
+use Rattle.hay_needle.specs.declared.settings.TheConstants.{LAST_GENERATION}
 use Rattle.hay_disk.specs.Disk.{Files, IsImage}
 use Rattle.hay_core.specs.declared.entry.Entry.{Entry}
 use Rattle.hay_core.specs.declared.entry.Entry.TheVariants.{Del, Put}
@@ -149,7 +150,7 @@ module _ {D P : Type 0} (files : D → Files) (Tells : Type 0) (now : (disk : D)
 
   -- a compaction makes a generation that there may be
   abbrev pub GoalsFit : Type 0
-  GoalsFit = (j : ℕ) → j < (volume.settings).replicas → (run : Run) → (replica_at k j).run ≡ Some run → run.goal ≤ 65535
+  GoalsFit = (j : ℕ) → j < (volume.settings).replicas → (run : Run) → (replica_at k j).run ≡ Some run → run.goal ≤ LAST_GENERATION
 
   pub is_regular : (settings : Settings) → volume.settings ≡ settings → Stands files Tells volume k → GoalsFit → IsRegularVolume settings k
   unfolding Stands

@@ -2,6 +2,7 @@
 use Rattle.std.specs.Prelude.{◌≡◌, ℕ, ◌+◌, ◌-◌, ◌^◌, ◌<◌, ◌≤◌, List, length, map, slice_get, Some}
 use Rattle.std.specs.List.{AllByRecursion as Each}
 use Rattle.hay_needle.specs.declared.settings.Settings.{Settings}
+use Rattle.hay_needle.specs.declared.settings.TheConstants.{LAST_GENERATION}
 use Rattle.hay_disk.specs.Disk.{Files}
 use Rattle.hay_core.specs.declared.entry.Entry.{Entry}
 use Rattle.hay_front.specs.declared.front.Tag.{Tag}
@@ -58,7 +59,7 @@ pub record IsMadeOf {D P : Type 0} (shared : SharedVolume D P) (room : ℕ) (vol
 pub record IsRegularVolume (settings : Settings) (volume : VolumeKnown) : Type 0 where
   pub replicas : length volume.replicas ≡ settings.replicas
   pub ends : (j : ℕ) → j < settings.replicas → 64 ≤ (replica_at volume j).end
-  pub numbers : (j : ℕ) → j < settings.replicas → (run : Run) → (replica_at volume j).run ≡ Some run → (replica_at volume j).generation < 65535
+  pub numbers : (j : ℕ) → j < settings.replicas → (run : Run) → (replica_at volume j).run ≡ Some run → (replica_at volume j).generation < LAST_GENERATION
   pub runs : (j : ℕ) → j < settings.replicas → (run : Run) → (replica_at volume j).run ≡ Some run → run.goal ≡ (replica_at volume j).generation + 1
 
 -- SEATS

@@ -14,7 +14,7 @@ use hay_base::NoMemory;
 use hay_disk::{Disk, Piece};
 use hay_front::{Seat, Tag};
 use hay_logical::Logical;
-use hay_needle::Settings;
+use hay_needle::{LAST_GENERATION, Settings};
 use hay_turn::TurnSeat;
 use hay_volume_lock::{Guarded, NewLock, Places, SeatRoom, VolumeLock, VolumeSeat};
 use std::alloc::Global;
@@ -40,7 +40,7 @@ impl<D: Disk<Piece = P>, P: Piece> Model for VolumeRoom<D, P> {
 fn read_goals<D: Disk>(volume: &Logical<D>, replicas: u32)
     requires { replicas ≤ length volume.now.replicas }
     ensures { D.Tells → (k : VolumeKnown) → Stands D.files D.Piece.Tells volume.now k → (j : ℕ) → j < replicas →
-        (run : Run) → (replica_at k j).run ≡ Some run → run.goal ≤ 65535 }
+        (run : Run) → (replica_at k j).run ≡ Some run → run.goal ≤ LAST_GENERATION }
 {
     for replica in 0..replicas {
         let _goal = volume.standing(replica);

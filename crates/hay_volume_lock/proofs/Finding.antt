@@ -35,6 +35,7 @@ use Rattle.hay_meeting.proofs.Replays.{left_append}
 use Rattle.hay_holdings.specs.Holdings.{Holding}
 use Rattle.hay_holdings.specs.Volumes.{FailedAct, Fused, HasRunOf, MadeNothing, VolumeCall}
 use Rattle.hay_needle.specs.declared.settings.Settings.{Settings}
+use Rattle.hay_needle.specs.declared.settings.TheConstants.{LAST_GENERATION}
 use Rattle.hay_physical.specs.OpenCopies.{Copy}
 use Rattle.hay_reply.specs.declared.Refused.{Refused}
 use Rattle.hay_reply.specs.declared.Refused.TheVariants.{Closed, NoRoom}
@@ -452,7 +453,7 @@ module _ {D P : Type 0} (Tells : Type 0) (files : D → Files) (PieceTells : Typ
                     ap (λ (z : VolumeAct). did_of z.did) is,
                     sym (ap (λ (z : Standing). (z.volume).frozen) there) ∙ r.0,
                     sym (ap (λ (z : Standing). (replica_at z.volume j).run) there) ∙ (r.2).0,
-                    subst (λ (z : Standing). (replica_at z.volume j).generation < 65535) there (r.2).1,
+                    subst (λ (z : Standing). (replica_at z.volume j).generation < LAST_GENERATION) there (r.2).1,
                     rose,
                   );
                 },

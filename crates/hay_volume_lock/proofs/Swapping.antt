@@ -1,5 +1,6 @@
 -- What the swap of a compaction's files is found to be, as a step of a lane.
 use Rattle.std.proofs.Common.{◌≡◌, ℕ, ◌+◌, ◌<◌, ◌≤◌, length, Option, Some, None, refl, sym, ap, subst, ◌∙◌, arith}
+use Rattle.hay_needle.specs.declared.settings.TheConstants.{LAST_GENERATION}
 use Rattle.hay_core.specs.declared.entry.CoreTag.{CoreTag}
 use Rattle.hay_disk.specs.Disk.{Files}
 use Rattle.hay_legal.specs.declared.known.Run.{Run}
@@ -64,7 +65,7 @@ pub record IsSwap {D P : Type 0} (files : D → Files) (Tells : Type 0) (k : Vol
   pub run : Run
   pub stood : (replica_at k j).run ≡ Some run
   pub goal : run.goal ≡ (replica_at k j).generation + 1
-  pub most : run.goal ≤ 65535
+  pub most : run.goal ≤ LAST_GENERATION
   pub sizes : MayHaveSizes k j end cells
   pub next : g ≡ (replica_at k j).generation + 1
   pub stands : Stands files Tells new (change_at k j (swapped end cells))
@@ -84,7 +85,7 @@ is_swap files Tells k j g end cells old new stands less less' finished sizes =
       run = run.0;
       stood = run.1;
       goal = goal;
-      most = (let h : (run.0).goal ≤ 65535 = omega (arith, goal, low) in h);
+      most = (let h : (run.0).goal ≤ LAST_GENERATION = omega (arith, goal, low) in h);
       sizes = record { photos_fit = loose.0; no_longer = loose.1; photos = loose.2; no_more = loose.3 };
       next = finished.next;
       stands = subst (λ (n : ℕ). Stands files Tells new (change_at k j (swapped end n))) same.1 (subst (λ (n : ℕ). Stands files Tells new (change_at k j (swapped n swaps.1))) same.0 swaps.3);

@@ -2,6 +2,7 @@ use Rattle.std.proofs.Common.{List, ◌≡◌, ◌<◌, ◌≤◌, ℕ, length, 
 use Rattle.std.specs.Prelude.{IfSome}
 use Rattle.std.specs.Vec.{with_items}
 use Rattle.std.proofs.lemmas.List.{with_items_is}
+use Rattle.hay_needle.specs.declared.settings.TheConstants.{LAST_GENERATION}
 use Rattle.hay_map.specs.Rows.{ChangesRows, row_at}
 use Rattle.hay_map.specs.declared.view.MapOp.TheVariants as op
 use Rattle.hay_physical.specs.OpenCopies.{Copy, IsUp, contents_of, end_of, goal_of, is_stuck, volume_bytes}
@@ -136,8 +137,8 @@ returns-in-Ok-clause-finished g c = λ tells k stands.
     let standing : goal_of call.one.before ≡ None → ⊥ =
     λ e. stands_there c.standing.result c.is_none.result c.is_none.ensures c.if-is_none.false
     (c.standing.ensures.is call.one.before (subst (λ v. At v.replicas c.args.replica call.one.before) c.self.view_is call.one.was) ∙ e) in
-    let few : (goal : ℕ) → goal_of call.one.before ≡ Some goal → goal ≤ 65535 =
-    λ most e. subst (λ (o : Option ℕ). IfSome o (λ goal. goal ≤ 65535)) (c.standing.ensures.is call.one.before
+    let few : (goal : ℕ) → goal_of call.one.before ≡ Some goal → goal ≤ LAST_GENERATION =
+    λ most e. subst (λ (o : Option ℕ). IfSome o (λ goal. goal ≤ LAST_GENERATION)) (c.standing.ensures.is call.one.before
     (subst (λ v. At v.replicas c.args.replica call.one.before) c.self.view_is call.one.was) ∙ e) c.standing.ensures.most in
     subst (λ rs. IsFinished g.D.Disk.files g.D.Piece.Piece.Tells k c.args.replica c.in-Ok.files.generation
     (volume_with c.self.inside.settings c.self.inside.number rs c.finish_at.new.rows c.self.inside.front c.self.inside.frozen c.self.inside.unsure)) (sym (kept g after))
@@ -179,8 +180,8 @@ returns-in-Err-clause-refused g c = λ tells k stands.
     let standing : goal_of call.one.before ≡ None → ⊥ =
     λ e. stands_there c.standing.result c.is_none.result c.is_none.ensures c.if-is_none.false
     (c.standing.ensures.is call.one.before (subst (λ v. At v.replicas c.args.replica call.one.before) c.self.view_is call.one.was) ∙ e) in
-    let few : (goal : ℕ) → goal_of call.one.before ≡ Some goal → goal ≤ 65535 =
-    λ most e. subst (λ (o : Option ℕ). IfSome o (λ goal. goal ≤ 65535)) (c.standing.ensures.is call.one.before
+    let few : (goal : ℕ) → goal_of call.one.before ≡ Some goal → goal ≤ LAST_GENERATION =
+    λ most e. subst (λ (o : Option ℕ). IfSome o (λ goal. goal ≤ LAST_GENERATION)) (c.standing.ensures.is call.one.before
     (subst (λ v. At v.replicas c.args.replica call.one.before) c.self.view_is call.one.was) ∙ e) c.standing.ensures.most in
     subst (λ v. FinishRefused g.D.Disk.files g.D.Piece.Piece.Tells k c.args.replica v
     (volume_with c.self.inside.settings c.self.inside.number ((with_items c.self.inside.replicas c.finish_at.new.replicas).items) c.finish_at.new.rows c.self.inside.front
