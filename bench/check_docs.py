@@ -226,7 +226,7 @@ def limits():
         "photo": number_in("crates/hay_needle/specs/Sizes.antt", r"max_photo Two = (\d+)"),
         "photo_one": number_in("crates/hay_needle/specs/Sizes.antt", r"max_photo One = (\d+)"),
         "line": number_in("crates/hay_script/src/words.rt", r"MAX_LINE: usize = ([\d_]+)"),
-        "script": number_in("crates/hay_run/specs/Runs.antt", r"length read ≡ (\d+)"),
+        "script": number_in("crates/hay_script/src/words.rt", r"MAX_SCRIPT: u64 = ([\d_]+)"),
         "batch": number_in("crates/hay_batch/specs/Batches.antt", r"length photos ≤ (\d+)"),
         "batch_bytes": number_in("crates/hay_batch/src/photo.rt", r"MAX_TOTAL: u64 = ([\d_]+)"),
         "transcript": number_in("crates/hay_frame/src/frame.rt", r"TRANSCRIPT: usize = ([\d_]+)"),

@@ -5,6 +5,7 @@ use Rattle.std.specs.List.{AllByRecursion as Each, AllZip}
 use Rattle.std.proofs.lemmas.List.{length-map}
 use Rattle.hay_needle.specs.declared.settings.Settings.{Settings}
 use Rattle.hay_needle.specs.Tables.{live_end}
+use Rattle.hay_script.specs.declared.words.TheConstants.{MAX_SCRIPT}
 use Rattle.hay_core.specs.declared.entry.Entry.{Entry}
 use Rattle.hay_core.specs.declared.entry.Entry.TheVariants as entry
 use Rattle.hay_core.specs.declared.entry.Logged.{Logged}
@@ -34,15 +35,15 @@ use Rattle.hay_audit.proofs.Tallying.{log_size, now_above}
 
 -- ONE REPLICA
 
-run_grows : (n cells : ℕ) (run : Option Run) → n ≤ 2 ^ 30 → IsLeft n (option_map (fill_run cells) run) → RunMayGrow run
+run_grows : (n cells : ℕ) (run : Option Run) → n ≤ MAX_SCRIPT → IsLeft n (option_map (fill_run cells) run) → RunMayGrow run
 run_grows n cells None few h = tt
 run_grows n cells (Some run) few h = omega (arith, few, h)
 
-replica_grows : (n : ℕ) (log : List Logged) (r : ReplicaKnown) (x : Slack) → n ≤ 2 ^ 30 → IsReplicaGrown n log (fill_replica x r) → MayGrow r
+replica_grows : (n : ℕ) (log : List Logged) (r : ReplicaKnown) (x : Slack) → n ≤ MAX_SCRIPT → IsReplicaGrown n log (fill_replica x r) → MayGrow r
 replica_grows n log r x few h =
     (omega (arith, few, h.end), omega (arith, few, h.cells), omega (arith, few, h.bare), omega (arith, few, h.generation), run_grows n x.cells r.run few h.left)
 
-replica_slight : (n : ℕ) (log : List Logged) (r : ReplicaKnown) (x : Slack) → n ≤ 2 ^ 30 → IsReplicaGrown n log (fill_replica x r) → IsSlight x
+replica_slight : (n : ℕ) (log : List Logged) (r : ReplicaKnown) (x : Slack) → n ≤ MAX_SCRIPT → IsReplicaGrown n log (fill_replica x r) → IsSlight x
 replica_slight n log r x few h = record { end = omega (arith, few, h.end); cells = omega (arith, few, h.cells); bare = omega (arith, few, h.bare) }
 
 -- THE REPLICAS OF A VOLUME
@@ -56,7 +57,7 @@ record AreFit (n : ℕ) (log : List Logged) (rs : List ReplicaKnown) (highs : Li
   slight : Each IsSlight highs
   few : Each (IsFew n log) rs
 
-replicas_fit : (n : ℕ) (log : List Logged) (rs : List ReplicaKnown) (lows highs : List Slack) → n ≤ 2 ^ 30 → length rs ≡ length lows → AllZip Lies lows highs
+replicas_fit : (n : ℕ) (log : List Logged) (rs : List ReplicaKnown) (lows highs : List Slack) → n ≤ MAX_SCRIPT → length rs ≡ length lows → AllZip Lies lows highs
     → Each (IsReplicaGrown n log) (fill_replicas highs rs) → AreFit n log rs highs
 replicas_fit n log [] [] [] few e h g = record { grow = tt; slight = tt; few = tt }
 replicas_fit n log [] [] (x ∷ highs) few e h g = absurd h
@@ -84,7 +85,7 @@ pending_grows : (pending : Option Pending) → IsPhotoPending pending → Pendin
 pending_grows None h = tt
 pending_grows (Some pending) h = change_grows pending.entry h
 
-tells : (n : ℕ) (volume : VolumeKnown) → n ≤ 2 ^ 30 → 64 + log_size volume.log ≤ most_end n → Each (IsFew n volume.log) volume.replicas → AreTold volume
+tells : (n : ℕ) (volume : VolumeKnown) → n ≤ MAX_SCRIPT → 64 + log_size volume.log ≤ most_end n → Each (IsFew n volume.log) volume.replicas → AreTold volume
 tells n volume few log each = λ j.
     let here : IsFew n volume.log (replica_at volume j) = each_index (IsFew n volume.log) volume.replicas j empty_replica (omega (arith, log)) each in
     omega (arith, few, here, (now_above volume (replica_at volume j)).end)
@@ -94,7 +95,7 @@ record VolumesFit (volumes : List VolumeKnown) (highs : List (List Slack)) : Typ
   slight : Each (λ row. Each IsSlight row) highs
   told : Each AreTold volumes
 
-volumes_fit : (n : ℕ) (volumes : List VolumeKnown) (lows highs : List (List Slack)) → n ≤ 2 ^ 30 → AllZip (λ volume ls. length volume.replicas ≡ length ls) volumes lows → Within lows highs
+volumes_fit : (n : ℕ) (volumes : List VolumeKnown) (lows highs : List (List Slack)) → n ≤ MAX_SCRIPT → AllZip (λ volume ls. length volume.replicas ≡ length ls) volumes lows → Within lows highs
     → Each (IsVolumeGrown n) (fill_volumes highs volumes) → VolumesFit volumes highs
 volumes_fit n [] [] [] few e h g = record { grow = tt; slight = tt; told = tt }
 volumes_fit n [] [] (x ∷ highs) few e h g = absurd h
@@ -115,7 +116,7 @@ none_told = λ j. omega (arith, (now_above empty_volume (replica_at empty_volume
 -- THE BOXES
 
 -- a box whose highest state has grown so far
-box_small : (n : ℕ) (box : Box) → n ≤ 2 ^ 30 → IsWhole box → IsGrown n (fill box.high box.base) → IsSmall box
+box_small : (n : ℕ) (box : Box) → n ≤ MAX_SCRIPT → IsWhole box → IsGrown n (fill box.high box.base) → IsSmall box
 box_small n box few whole g =
     let fit = volumes_fit n box.base.volumes box.low box.high few whole.shaped whole.some g in record {
       volumes = fit.grow;
@@ -137,7 +138,7 @@ grown_behind settings transcript items c d n t begins within count sound has =
     (subst (λ (k : Known). IsGrown 0 k) (sym (begins.alone run.0 run.2)) (fresh_grown settings)) (run.3).legal)
 
 each_small : (settings : Settings) (transcript : List ℕ) (items : List Asked) (c : Kept Box) (n : ℕ) (cs : List Candidate) → Begins Has settings transcript c
-    → Each IsWithinAsked items → n ≡ length items → n ≤ 2 ^ 30
+    → Each IsWithinAsked items → n ≡ length items → n ≤ MAX_SCRIPT
     → Each (IsSound settings items c) (all_standing transcript cs) → AreKept settings transcript cs → AreSmall cs
 each_small settings transcript items c n [] begins within count few sound kept = tt
 each_small settings transcript items c n (d ∷ cs) begins within count few sound kept = (
@@ -149,6 +150,6 @@ each_small settings transcript items c n (d ∷ cs) begins within count few soun
 
 -- behind so many items of a script all candidates are small
 pub behind_small : (settings : Settings) (script transcript : List ℕ) (c : Kept Box) (cs : List Candidate) (number turns : ℕ) (left : List ℕ)
-    → IsBehind settings script transcript c (all_standing transcript cs) number turns left → AreKept settings transcript cs → turns ≤ 2 ^ 30 → AreSmall cs
+    → IsBehind settings script transcript c (all_standing transcript cs) number turns left → AreKept settings transcript cs → turns ≤ MAX_SCRIPT → AreSmall cs
 behind_small settings script transcript c cs number turns left behind kept few =
     each_small settings transcript behind.items c turns cs behind.begins behind.within behind.count few (behind.reached).sound kept

@@ -31,7 +31,7 @@ use hay_base::{Listed, NoMemory};
 use hay_legal::turn::Item;
 use hay_needle::Settings;
 use hay_reply::{Reply, header_line};
-use hay_script::{Command, Line, read_line};
+use hay_script::{Command, Line, MAX_SCRIPT, read_line};
 use std::alloc::Global;
 use std::collections::BTreeSet;
 
@@ -394,7 +394,7 @@ fn run(
     requires machines { 0 < settings.now.machines }
     requires volumes { 0 < settings.now.volumes }
     requires replicas { 0 < settings.now.replicas }
-    requires long { length script.now ≤ 2 ^ 30 }
+    requires long { length script.now ≤ MAX_SCRIPT }
     requires begins { Begins Has settings.now transcript.now (standing transcript.now first) }
     requires kept { IsKept settings.now transcript.now first }
     ensures { IfOk result (λ judgement. JudgementOf settings.now script.now transcript.now (judged_as judgement)) }
@@ -429,7 +429,7 @@ fn run(
     }
 }
 
-/// The judgement of a transcript of a script, over a store on void disks as formatted. The script has at most 2^30 bytes,
+/// The judgement of a transcript of a script, over a store on void disks as formatted. The script has at most `MAX_SCRIPT` bytes,
 /// so that no size of the store is too large for a number.
 pub fn audit(
     alloc: Global,
@@ -440,7 +440,7 @@ pub fn audit(
     requires machines { 0 < settings.now.machines }
     requires volumes { 0 < settings.now.volumes }
     requires replicas { 0 < settings.now.replicas }
-    requires long { length script.now ≤ 2 ^ 30 }
+    requires long { length script.now ≤ MAX_SCRIPT }
     ensures { IfOk result (λ judgement. JudgementOf settings.now script.now transcript.now (judged_as judgement)) }
 {
     let mut header = Vec::new(alloc);

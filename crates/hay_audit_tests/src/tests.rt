@@ -2,6 +2,7 @@ ghost use Rattle.std.specs.Prelude.{◌<◌};
 
 use hay_audit::{Judgement, audit};
 use hay_needle::Settings;
+use hay_script::MAX_SCRIPT;
 use std::alloc::AllocGlobal;
 use std::process::Abort;
 use std::test::*;
@@ -57,7 +58,7 @@ fn says(
     text.push_str(header)?;
     text.push_str(lines)?;
     let script = script.as_bytes();
-    assert!(rt; script.len() <= 1 << 30);
+    assert!(rt; script.len() as u64 <= MAX_SCRIPT);
     let said = audit(rt.alloc(), settings, script, text.as_bytes())
         .ok()
         .ok_or("there is room")?;

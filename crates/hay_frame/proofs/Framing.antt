@@ -5,7 +5,7 @@ use Rattle.std.specs.Prelude.{codes, drop}
 use Rattle.std.proofs.lemmas.List.{append-nil}
 use Rattle.hay_disk.specs.Streams.{Took}
 use Rattle.hay_script.specs.Script.{below}
-use Rattle.hay_lines.specs.declared.bytes.TheConstants.{SCRIPT}
+use Rattle.hay_script.specs.declared.words.TheConstants.{MAX_SCRIPT}
 use Rattle.hay_lines.specs.Lines.{NoFeed}
 use Rattle.hay_lines.specs.Stream.{TookAll}
 use Rattle.hay_lines.proofs.Taking.{NoFeed-append}
@@ -38,10 +38,10 @@ one_line (a ∷ line) rest (b ∷ line') rest' free free' e =
 -- THE FRAME
 
 -- the first line of a frame
-pub word_free : (digits : List ℕ) (n : ℕ) → below (SCRIPT + 1) digits ≡ Some n → NoFeed (codes "script " ++ digits)
+pub word_free : (digits : List ℕ) (n : ℕ) → below (MAX_SCRIPT + 1) digits ≡ Some n → NoFeed (codes "script " ++ digits)
 word_free digits n number =
     NoFeed-append (codes "script ") digits (λ same. cc, (λ same. cc, (λ same. cc, (λ same. cc, (λ same. cc, (λ same. cc, (λ same. cc, tt)))))))
-    (digits_free digits (below_digits (SCRIPT + 1) digits n number).all)
+    (digits_free digits (below_digits (MAX_SCRIPT + 1) digits n number).all)
 
 -- the input's first line and what is behind it are those of the frame
 pub frame_by : (input script transcript line rest : List ℕ) → IsFramed input script transcript → NoFeed line → input ≡ line ++ 10 ∷ rest
@@ -95,9 +95,9 @@ frame_taken (Some input) (Some behind) (Some last) after line script transcript 
 
 -- WHAT IS NO FRAME
 
-line_short : (digits : List ℕ) (n : ℕ) → below (SCRIPT + 1) digits ≡ Some n → length (codes "script " ++ digits) < LINE
+line_short : (digits : List ℕ) (n : ℕ) → below (MAX_SCRIPT + 1) digits ≡ Some n → length (codes "script " ++ digits) < LINE
 line_short digits n number =
-    let few = (below_digits (SCRIPT + 1) digits n number).few in
+    let few = (below_digits (MAX_SCRIPT + 1) digits n number).few in
     omega (arith, few, length-append (codes "script ") digits)
 
 long_line : (before after : Option (List ℕ)) (front : List ℕ) → NoFeed front → Took before front after → LINE ≤ length front → IsUnframed before

@@ -8,7 +8,7 @@ use Rattle.std.specs.Str.Parse.{digits_value}
 use Rattle.std.proofs.lemmas.Bool.Decides.{nat_tests, Decides-eqb}
 use Rattle.std.proofs.lemmas.Slice.Eq.{starts_is}
 use Rattle.hay_script.specs.Script.{below}
-use Rattle.hay_lines.specs.declared.bytes.TheConstants.{SCRIPT}
+use Rattle.hay_script.specs.declared.words.TheConstants.{MAX_SCRIPT}
 use Rattle.hay_lines.specs.Lines.{NoFeed}
 use Rattle.hay_frame.specs.Frames.{length_in}
 
@@ -36,18 +36,18 @@ digits_free [] all = tt
 digits_free (b ∷ text) all = (λ same. grind (arith, nat_tests), digits_free text (grind (arith, nat_tests)))
 
 -- the word and its digits are a good line
-pub length_in_word : (digits : List ℕ) → length_in (codes "script " ++ digits) ≡ below (SCRIPT + 1) digits
+pub length_in_word : (digits : List ℕ) → length_in (codes "script " ++ digits) ≡ below (MAX_SCRIPT + 1) digits
 length_in_word digits = refl
 
 by_word : (line : List ℕ) (n : ℕ) (starts : Bool) → (starts ≡ true → line ≡ codes "script " ++ drop 7 line)
-    → (if starts then below (SCRIPT + 1) (drop 7 line) else None) ≡ Some n
-    → (line ≡ codes "script " ++ drop 7 line) × (below (SCRIPT + 1) (drop 7 line) ≡ Some n)
+    → (if starts then below (MAX_SCRIPT + 1) (drop 7 line) else None) ≡ Some n
+    → (line ≡ codes "script " ++ drop 7 line) × (below (MAX_SCRIPT + 1) (drop 7 line) ≡ Some n)
 by_word line n true begins h = (begins refl, h)
 by_word line n false begins h = cc
 
 -- a good line is the word and digits
 pub word_of_length : (line : List ℕ) (n : ℕ) → length_in line ≡ Some n
-    → (line ≡ codes "script " ++ drop 7 line) × (below (SCRIPT + 1) (drop 7 line) ≡ Some n)
+    → (line ≡ codes "script " ++ drop 7 line) × (below (MAX_SCRIPT + 1) (drop 7 line) ≡ Some n)
 word_of_length line n h =
     let starts = starts_with ◌==◌ line (codes "script ") in
     by_word line n starts (starts_is Decides-eqb line (codes "script ") starts refl).0 h
@@ -55,9 +55,9 @@ word_of_length line n h =
 below_limit : (some few all : Bool) (limit n m : ℕ) → (if some && few && all && nat_lt n limit then Some n else None) ≡ Some m → m < limit
 below_limit some few all limit n m h = grind (arith, nat_tests)
 
-pub length_within : (line : List ℕ) (n : ℕ) → length_in line ≡ Some n → n ≤ SCRIPT
+pub length_within : (line : List ℕ) (n : ℕ) → length_in line ≡ Some n → n ≤ MAX_SCRIPT
 length_within line n h =
     let text = drop 7 line in
-    let less : n < SCRIPT + 1 = below_limit (nat_lt 0 (length text)) (nat_le (length text) 20) (list_all is_ascii_digit text) (SCRIPT + 1)
+    let less : n < MAX_SCRIPT + 1 = below_limit (nat_lt 0 (length text)) (nat_le (length text) 20) (list_all is_ascii_digit text) (MAX_SCRIPT + 1)
     (digits_value 10 text) n (word_of_length line n h).1 in
     omega arith

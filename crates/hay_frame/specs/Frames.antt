@@ -3,7 +3,7 @@ use Rattle.std.specs.Prelude.{◌≡◌, ◌⊎◌, ◌+◌, ◌<◌, ◌≤◌,
 use Rattle.std.specs.List.{starts_with}
 use Rattle.hay_disk.specs.Streams.{Took}
 use Rattle.hay_script.specs.Script.{below}
-use Rattle.hay_lines.specs.declared.bytes.TheConstants.{SCRIPT}
+use Rattle.hay_script.specs.declared.words.TheConstants.{MAX_SCRIPT}
 use Rattle.hay_lines.specs.Lines.{NoFeed}
 use Rattle.hay_lines.specs.Stream.{TookAll}
 use Rattle.hay_frame.specs.declared.frame.TheConstants.{TRANSCRIPT}
@@ -13,7 +13,7 @@ use Rattle.hay_frame.specs.declared.line.TheConstants.{LINE}
 -- writes its numbers: zeros may stand in front, and nothing else stands in the line.
 pub record IsFramed (input script transcript : List ℕ) : Type 0 where
   pub digits : List ℕ
-  pub number : below (SCRIPT + 1) digits ≡ Some (length script)
+  pub number : below (MAX_SCRIPT + 1) digits ≡ Some (length script)
   pub input_is : input ≡ codes "script " ++ digits ++ 10 ∷ (script ++ transcript)
 
 -- this frame was taken, and nothing is left
@@ -34,7 +34,7 @@ IsOverlong before after = (input : List ℕ) → before ≡ Some input → (scri
 
 -- the length that a first line says, where it is good
 abbrev pub length_in : List ℕ → Option ℕ
-length_in line = if starts_with ◌==◌ line (codes "script ") then below (SCRIPT + 1) (drop 7 line) else None
+length_in line = if starts_with ◌==◌ line (codes "script ") then below (MAX_SCRIPT + 1) (drop 7 line) else None
 
 -- the front of a line was taken: longer than a good one, or all that there is
 abbrev pub TookNoLine : Option (List ℕ) → Option (List ℕ) → Type 0

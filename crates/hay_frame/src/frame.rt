@@ -9,7 +9,7 @@ use crate::bytes::{take_byte, take_bytes};
 use crate::fault::FrameFault;
 use crate::line::{LINE, script_length, take_line};
 use hay_disk::Source;
-use hay_lines::SCRIPT;
+use hay_script::MAX_SCRIPT;
 use std::alloc::Global;
 
 /// A transcript that is checked has at most so many bytes.
@@ -30,7 +30,7 @@ pub struct Frame {
 /// longest. Memory is taken as bytes come, and not by what the first line says.
 pub fn read_frame<S: Source>(alloc: Global, source: &mut S) -> Result<Frame, FrameFault>
     ensures framed { IfOk result (λ frame. TookFrame (S.left source.old) frame.script.items frame.transcript.items (S.left source.new)) }
-    ensures within { IfOk result (λ frame. (vec_len frame.script ≤ SCRIPT) × (vec_len frame.transcript ≤ TRANSCRIPT)) }
+    ensures within { IfOk result (λ frame. (vec_len frame.script ≤ MAX_SCRIPT) × (vec_len frame.transcript ≤ TRANSCRIPT)) }
     ensures bad { IsErrOf result FrameFault.Bad → IsUnframed (S.left source.old) }
     ensures long { IsErrOf result FrameFault.TooLong → IsOverlong (S.left source.old) (S.left source.new) }
     ensures cause { IsErrOf result FrameFault.Input → Rose (S.fault_count source.old) (S.fault_count source.new) }

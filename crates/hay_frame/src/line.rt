@@ -13,7 +13,7 @@ ghost use Rattle.hay_frame.specs.Frames.{length_in, TookNoLine};
 use crate::bytes::take_byte;
 use crate::fault::FrameFault;
 use hay_disk::Source;
-use hay_lines::SCRIPT;
+use hay_script::MAX_SCRIPT;
 use std::alloc::Global;
 
 const FEED: u8 = b'\n';
@@ -64,12 +64,12 @@ fn read_digits(text: &[u8]) -> Option<u64>
 
 /// The length of a script, in 1 to 20 decimal digits.
 fn read_length(text: &[u8]) -> Option<u64>
-    ensures { result ≡ below (SCRIPT + 1) text.now }
+    ensures { result ≡ below (MAX_SCRIPT + 1) text.now }
 {
     if text.is_empty() || text.len() > 20 || !is_decimal(text) {
         return None;
     }
-    read_digits(text).filter(|length| *length <= SCRIPT)
+    read_digits(text).filter(|length| *length <= MAX_SCRIPT)
 }
 
 /// The length of the script that a first line says, where it is good.

@@ -6,10 +6,8 @@ ghost use Rattle.hay_lines.specs.Stream.{rest_of, budget, Accounts, IsTooLong, T
 
 use crate::fault::LineFault;
 use hay_disk::{Failed, Source};
+use hay_script::MAX_SCRIPT;
 use std::marker::Model;
-
-/// A script has at most so many bytes.
-pub const SCRIPT: u64 = 1_073_741_824;
 
 /// What was taken from a source and not given out yet.
 #[derive(Drop)]
@@ -23,13 +21,14 @@ pub struct ScriptBytes {
 
 impl Model for ScriptBytes {
     ghost use Rattle.std.specs.Prelude.{◌≤◌, slice_range};
+    ghost use Rattle.hay_script.specs.declared.words.TheConstants.{MAX_SCRIPT};
     ghost use Rattle.hay_lines.specs.Stream.{Held};
 
     ghost Value = { Held };
 
     ghost view = { λ r. record { bytes = slice_range r.buffer r.from r.to; taken = r.taken; ended = r.ended } };
 
-    ghost invariant = { λ r. (r.from ≤ r.to) × (r.to ≤ 4096) × (r.taken ≤ 1073741824) };
+    ghost invariant = { λ r. (r.from ≤ r.to) × (r.to ≤ 4096) × (r.taken ≤ MAX_SCRIPT) };
 }
 
 impl ScriptBytes {
@@ -64,20 +63,20 @@ impl ScriptBytes {
         ensures open { OnOk result (self.new.bytes ≢ [] → self.new.ended ≡ false) }
         ensures accounts { OnOk result (Accounts (S.left source.old) self.old (S.left source.new) self.new) }
         ensures stopped_accounts { IsErrOf result LineFault.Input → Accounts (S.left source.old) self.old (S.left source.new) self.new }
-        ensures left { OnOk result (budget SCRIPT self.new ≤ budget SCRIPT self.old) }
-        ensures less { OnOk result (self.new.bytes ≡ [] → budget SCRIPT self.new < budget SCRIPT self.old) }
-        ensures limit { self.new.taken ≤ SCRIPT }
+        ensures left { OnOk result (budget MAX_SCRIPT self.new ≤ budget MAX_SCRIPT self.old) }
+        ensures less { OnOk result (self.new.bytes ≡ [] → budget MAX_SCRIPT self.new < budget MAX_SCRIPT self.old) }
+        ensures limit { self.new.taken ≤ MAX_SCRIPT }
         ensures none_held { OnErr result (self.new.bytes ≡ []) }
         ensures failed { IsErrOf result LineFault.Input → Took (rest_of (S.left source.old) self.old) [] (rest_of (S.left source.new) self.new) }
         ensures over { IsErrOf result LineFault.TooLong → TookOne (rest_of (S.left source.old) self.old) (rest_of (S.left source.new) self.new) }
-        ensures long { IsErrOf result LineFault.TooLong → IsTooLong SCRIPT (S.left source.old) self.old (S.left source.new) }
+        ensures long { IsErrOf result LineFault.TooLong → IsTooLong MAX_SCRIPT (S.left source.old) self.old (S.left source.new) }
         ensures stops { OnErr result ((result ≡ Err LineFault.Input) ⊎ (result ≡ Err LineFault.TooLong)) }
         ensures cause { IsErrOf result LineFault.Input → Rose (S.fault_count source.old) (S.fault_count source.new) }
         ensures count { S.fault_count source.old ≤ S.fault_count source.new }
     {
         self.from = 0;
         self.to = 0;
-        let room = SCRIPT - self.taken;
+        let room = MAX_SCRIPT - self.taken;
         if room == 0 {
             // One byte more would make the script too long.
             let mut probe = [0u8; 1];
@@ -114,13 +113,13 @@ impl ScriptBytes {
         ensures open { OnOk result (self.new.bytes ≢ [] → self.new.ended ≡ false) }
         ensures accounts { OnOk result (Accounts (S.left source.old) self.old (S.left source.new) self.new) }
         ensures stopped_accounts { IsErrOf result LineFault.Input → Accounts (S.left source.old) self.old (S.left source.new) self.new }
-        ensures left { OnOk result (budget SCRIPT self.new ≤ budget SCRIPT self.old) }
-        ensures less { OnOk result (self.new.bytes ≡ [] → budget SCRIPT self.new < budget SCRIPT self.old) }
-        ensures limit { self.new.taken ≤ SCRIPT }
+        ensures left { OnOk result (budget MAX_SCRIPT self.new ≤ budget MAX_SCRIPT self.old) }
+        ensures less { OnOk result (self.new.bytes ≡ [] → budget MAX_SCRIPT self.new < budget MAX_SCRIPT self.old) }
+        ensures limit { self.new.taken ≤ MAX_SCRIPT }
         ensures none_held { OnErr result (self.new.bytes ≡ []) }
         ensures failed { IsErrOf result LineFault.Input → Took (rest_of (S.left source.old) self.old) [] (rest_of (S.left source.new) self.new) }
         ensures over { IsErrOf result LineFault.TooLong → TookOne (rest_of (S.left source.old) self.old) (rest_of (S.left source.new) self.new) }
-        ensures long { IsErrOf result LineFault.TooLong → IsTooLong SCRIPT (S.left source.old) self.old (S.left source.new) }
+        ensures long { IsErrOf result LineFault.TooLong → IsTooLong MAX_SCRIPT (S.left source.old) self.old (S.left source.new) }
         ensures stops { OnErr result ((result ≡ Err LineFault.Input) ⊎ (result ≡ Err LineFault.TooLong)) }
         ensures cause { IsErrOf result LineFault.Input → Rose (S.fault_count source.old) (S.fault_count source.new) }
         ensures count { S.fault_count source.old ≤ S.fault_count source.new }

@@ -11,6 +11,5 @@ mod fault;
 mod lines;
 mod start;
 
-pub use bytes::SCRIPT;
 pub use fault::LineFault;
 pub use lines::ScriptLines;

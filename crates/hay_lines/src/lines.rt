@@ -6,12 +6,12 @@ ghost use Rattle.hay_lines.specs.Said.{SaysNext};
 ghost use Rattle.hay_lines.specs.Stream.{rest_of, budget, Accounts, IsTooLong};
 ghost use Rattle.hay_lines.specs.Lines.{Keeps, NoFeed, fed_text, TookPart, TookOver, TookSome, ReadsLine, long_fed, long_last};
 
-use crate::bytes::{SCRIPT, ScriptBytes};
+use crate::bytes::ScriptBytes;
 use crate::fault::LineFault;
 use crate::start::{LineRead, LineStart};
 use hay_base::NoMemory;
 use hay_disk::Source;
-use hay_script::{Line, MAX_LINE, read_line};
+use hay_script::{Line, MAX_LINE, MAX_SCRIPT, read_line};
 use memchr::memchr;
 use std::alloc::Global;
 use std::marker::Model;
@@ -91,13 +91,13 @@ fn next_line<S: Source>(
     ensures line { IfOk result (λ read. ReadsLine read line.new.items (rest_of (S.left source.old) bytes.old) (rest_of (S.left source.new) bytes.new) bytes.new.ended) }
     ensures accounts { OnOk result (Accounts (S.left source.old) bytes.old (S.left source.new) bytes.new) }
     ensures stopped_accounts { (IsErrOf result LineFault.Input ⊎ IsErrOf result LineFault.NoMemory) → Accounts (S.left source.old) bytes.old (S.left source.new) bytes.new }
-    ensures left { OnOk result (budget SCRIPT bytes.new < budget SCRIPT bytes.old) }
-    ensures limit { bytes.new.taken ≤ SCRIPT }
+    ensures left { OnOk result (budget MAX_SCRIPT bytes.new < budget MAX_SCRIPT bytes.old) }
+    ensures limit { bytes.new.taken ≤ MAX_SCRIPT }
     ensures none_held { (IsErrOf result LineFault.Input ⊎ IsErrOf result LineFault.TooLong) → bytes.new.bytes ≡ [] }
     ensures failed { IsErrOf result LineFault.Input → TookPart (rest_of (S.left source.old) bytes.old) (rest_of (S.left source.new) bytes.new) }
     ensures memory { IsErrOf result LineFault.NoMemory → TookPart (rest_of (S.left source.old) bytes.old) (rest_of (S.left source.new) bytes.new) }
     ensures over { IsErrOf result LineFault.TooLong → TookOver (rest_of (S.left source.old) bytes.old) (rest_of (S.left source.new) bytes.new) }
-    ensures long { IsErrOf result LineFault.TooLong → IsTooLong SCRIPT (S.left source.old) bytes.old (S.left source.new) }
+    ensures long { IsErrOf result LineFault.TooLong → IsTooLong MAX_SCRIPT (S.left source.old) bytes.old (S.left source.new) }
     ensures stops { OnErr result ((result ≡ Err LineFault.Input) ⊎ (result ≡ Err LineFault.NoMemory) ⊎ (result ≡ Err LineFault.TooLong)) }
     ensures cause { IsErrOf result LineFault.Input → Rose (S.fault_count source.old) (S.fault_count source.new) }
     ensures count { S.fault_count source.old ≤ S.fault_count source.new }
@@ -169,13 +169,13 @@ impl ScriptLines {
         ensures within { IfOk result (λ next. IfSome next IsWithinLine) }
         ensures accounts { OnOk result (Accounts (S.left source.old) self.old (S.left source.new) self.new) }
         ensures stopped_accounts { (IsErrOf result LineFault.Input ⊎ IsErrOf result LineFault.NoMemory) → Accounts (S.left source.old) self.old (S.left source.new) self.new }
-        ensures left { OnOk result (budget SCRIPT self.new < budget SCRIPT self.old) }
-        ensures limit { self.new.taken ≤ SCRIPT }
+        ensures left { OnOk result (budget MAX_SCRIPT self.new < budget MAX_SCRIPT self.old) }
+        ensures limit { self.new.taken ≤ MAX_SCRIPT }
         ensures none_held { (IsErrOf result LineFault.Input ⊎ IsErrOf result LineFault.TooLong) → self.new.bytes ≡ [] }
         ensures failed { IsErrOf result LineFault.Input → TookPart (rest_of (S.left source.old) self.old) (rest_of (S.left source.new) self.new) }
         ensures memory { IsErrOf result LineFault.NoMemory → TookSome (rest_of (S.left source.old) self.old) (rest_of (S.left source.new) self.new) }
         ensures over { IsErrOf result LineFault.TooLong → TookOver (rest_of (S.left source.old) self.old) (rest_of (S.left source.new) self.new) }
-        ensures long { IsErrOf result LineFault.TooLong → IsTooLong SCRIPT (S.left source.old) self.old (S.left source.new) }
+        ensures long { IsErrOf result LineFault.TooLong → IsTooLong MAX_SCRIPT (S.left source.old) self.old (S.left source.new) }
         ensures stops { OnErr result ((result ≡ Err LineFault.Input) ⊎ (result ≡ Err LineFault.NoMemory) ⊎ (result ≡ Err LineFault.TooLong)) }
         ensures cause { IsErrOf result LineFault.Input → Rose (S.fault_count source.old) (S.fault_count source.new) }
         ensures count { S.fault_count source.old ≤ S.fault_count source.new }

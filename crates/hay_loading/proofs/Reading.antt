@@ -5,6 +5,7 @@ use Rattle.std.proofs.lemmas.Bool.{false≢true}
 use Rattle.hay_needle.specs.declared.settings.Settings.{Settings}
 use Rattle.hay_script.specs.declared.Line.{Line}
 use Rattle.hay_script.specs.Script.{lines_of}
+use Rattle.hay_script.specs.declared.words.TheConstants.{MAX_SCRIPT}
 use Rattle.hay_lines.specs.Lines.{TookLine, TookOver, TookPart}
 use Rattle.hay_lines.specs.Said.{SaysNext}
 use Rattle.hay_lines.specs.Stream.{Accounts, Held, IsReadToEnd, IsTooLong, TookAll, TookAtMost, rest_of}

@@ -7,6 +7,7 @@ use Rattle.std.proofs.lemmas.Result.{IfErr-at_err}
 use Rattle.hay_needle.specs.declared.settings.Settings.{Settings}
 use Rattle.hay_disk.specs.Streams.{Took}
 use Rattle.hay_script.specs.declared.Line.{Line}
+use Rattle.hay_script.specs.declared.words.TheConstants.{MAX_SCRIPT}
 use Rattle.hay_legal.specs.Items.{fed_part, has_feed}
 use Rattle.hay_lines.specs.Lines.{NoFeed, fed_text, TookFed, TookLine, TookOver, TookPart, TookSome}
 use Rattle.hay_lines.specs.Said.{SaysNext}

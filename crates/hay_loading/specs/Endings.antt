@@ -14,6 +14,7 @@ use Rattle.hay_reply.specs.declared.Reply.{Reply}
 use Rattle.hay_reply.specs.Fits.{FitsNote, FitsReply}
 use Rattle.hay_reply.specs.Replies.{header_line, note_line}
 use Rattle.hay_needle.specs.Tables.{look, rows_of}
+use Rattle.hay_script.specs.declared.words.TheConstants.{MAX_SCRIPT}
 use Rattle.hay_volume.specs.Cells.{needles_of}
 use Rattle.hay_open.specs.Stored.{IsSlotFile, OpensAs, Stored}
 use Rattle.hay_dirfile.specs.declared.row.DirRow.{DirRow}

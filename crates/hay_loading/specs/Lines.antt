@@ -4,6 +4,7 @@ use Rattle.hay_needle.specs.declared.settings.Settings.{Settings}
 use Rattle.hay_disk.specs.Disk.{Files}
 use Rattle.hay_disk.specs.Streams.{Took, Wrote, WrotePart}
 use Rattle.hay_script.specs.Script.{lines_of}
+use Rattle.hay_script.specs.declared.words.TheConstants.{MAX_SCRIPT}
 use Rattle.hay_batch.specs.declared.store.LoadStore.{LoadStore}
 use Rattle.hay_batch.specs.Shelves.{MayLeaveDisks, StandsAs, StoredStore}
 use Rattle.hay_batch.specs.Stores.{IsShaped, KeepsCounts}

@@ -15,9 +15,9 @@ use crate::stops::Stop;
 use crate::writing::{write_header, write_refusal};
 use hay_batch::LoadStore;
 use hay_disk::{Shelf, Sink, Source};
-use hay_lines::SCRIPT;
 use hay_load::Loading;
 use hay_needle::Settings;
+use hay_script::MAX_SCRIPT;
 use std::alloc::Global;
 
 // Opens a store on the disks of the shelf, loads the puts of the script, and gives the disks back.
@@ -41,10 +41,10 @@ fn load_script<H: Shelf, S: Source, K: Sink>(
     ensures sound { H.Disk.Tells → IsOk result ⊎ IsErrOf result Stop.Input ⊎ IsErrOf result Stop.TooLong ⊎ (S.left source.new ≢ S.left source.old) →
         IsUndamagedBelow settings (disk_count settings) (reads_of (H.disks shelf.old)) }
     ensures ended { OnOk result (IsReadToEnd (S.left source.old) (S.left source.new)) }
-    ensures short { OnOk result ((script : List ℕ) → S.left source.old ≡ Some script → length script ≤ SCRIPT) }
+    ensures short { OnOk result ((script : List ℕ) → S.left source.old ≡ Some script → length script ≤ MAX_SCRIPT) }
     ensures long { IsErrOf result Stop.TooLong → (script : List ℕ) → S.left source.old ≡ Some script →
-        (rest : List ℕ) × (S.left source.new ≡ Some rest) × (length script ≡ SCRIPT + 1 + length rest) }
-    ensures taken { (IsErrOf result Stop.TooLong → ⊥) → TookAtMost SCRIPT (S.left source.old) (S.left source.new) }
+        (rest : List ℕ) × (S.left source.new ≡ Some rest) × (length script ≡ MAX_SCRIPT + 1 + length rest) }
+    ensures taken { (IsErrOf result Stop.TooLong → ⊥) → TookAtMost MAX_SCRIPT (S.left source.old) (S.left source.new) }
     ensures source { IsErrOf result Stop.Input → Rose (S.fault_count source.old) (S.fault_count source.new) }
     ensures source_count { S.fault_count source.old ≤ S.fault_count source.new }
     ensures sink { IsErrOf result Stop.Output → Rose (K.fault_count sink.old) (K.fault_count sink.new) }
@@ -88,10 +88,10 @@ fn load_headed<H: Shelf, S: Source, K: Sink>(
     ensures sound { H.Disk.Tells → IsOk result ⊎ IsErrOf result Stop.Input ⊎ IsErrOf result Stop.TooLong ⊎ (S.left source.new ≢ S.left source.old) →
         IsUndamagedBelow settings (disk_count settings) (reads_of (H.disks shelf.old)) }
     ensures ended { OnOk result (IsReadToEnd (S.left source.old) (S.left source.new)) }
-    ensures short { OnOk result ((script : List ℕ) → S.left source.old ≡ Some script → length script ≤ SCRIPT) }
+    ensures short { OnOk result ((script : List ℕ) → S.left source.old ≡ Some script → length script ≤ MAX_SCRIPT) }
     ensures long { IsErrOf result Stop.TooLong → (script : List ℕ) → S.left source.old ≡ Some script →
-        (rest : List ℕ) × (S.left source.new ≡ Some rest) × (length script ≡ SCRIPT + 1 + length rest) }
-    ensures taken { (IsErrOf result Stop.TooLong → ⊥) → TookAtMost SCRIPT (S.left source.old) (S.left source.new) }
+        (rest : List ℕ) × (S.left source.new ≡ Some rest) × (length script ≡ MAX_SCRIPT + 1 + length rest) }
+    ensures taken { (IsErrOf result Stop.TooLong → ⊥) → TookAtMost MAX_SCRIPT (S.left source.old) (S.left source.new) }
     ensures source { IsErrOf result Stop.Input → Rose (S.fault_count source.old) (S.fault_count source.new) }
     ensures source_count { S.fault_count source.old ≤ S.fault_count source.new }
     ensures sink { IsErrOf result Stop.Output → Rose (K.fault_count sink.old) (K.fault_count sink.new) }
@@ -147,10 +147,10 @@ pub fn load_store<H: Shelf, S: Source, K: Sink>(
     // When each status comes.
     ensures status { IsStatus result }
     ensures ended { result ≡ 0 → IsReadToEnd (S.left source.old) (S.left source.new) }
-    ensures short { result ≡ 0 → (script : List ℕ) → S.left source.old ≡ Some script → length script ≤ SCRIPT }
+    ensures short { result ≡ 0 → (script : List ℕ) → S.left source.old ≡ Some script → length script ≤ MAX_SCRIPT }
     ensures long { result ≡ 7 → (script : List ℕ) → S.left source.old ≡ Some script →
-        (rest : List ℕ) × (S.left source.new ≡ Some rest) × (length script ≡ SCRIPT + 1 + length rest) }
-    ensures taken { (result ≡ 7 → ⊥) → TookAtMost SCRIPT (S.left source.old) (S.left source.new) }
+        (rest : List ℕ) × (S.left source.new ≡ Some rest) × (length script ≡ MAX_SCRIPT + 1 + length rest) }
+    ensures taken { (result ≡ 7 → ⊥) → TookAtMost MAX_SCRIPT (S.left source.old) (S.left source.new) }
     ensures source { IsCounted (S.fault_count source.old) (S.fault_count source.new) (result ≡ 4) }
     ensures sink { IsCounted (K.fault_count sink.old) (K.fault_count sink.new) (result ≡ 3) }
     ensures appends { Appends (K.written sink.old) (K.written sink.new) }

@@ -8,8 +8,8 @@ ghost use Rattle.hay_lines.specs.Stream.{rest_of, budget, Accounts, IsTooLong};
 
 use crate::stops::Stop;
 use hay_disk::Source;
-use hay_lines::{SCRIPT, ScriptLines};
-use hay_script::Line;
+use hay_lines::ScriptLines;
+use hay_script::{Line, MAX_SCRIPT};
 use std::alloc::Global;
 
 /// Takes the next line of a script and reads it, outside of a block, or meets the end. It isn't called once the end was met.
@@ -24,9 +24,9 @@ pub fn next_said<S: Source>(
     ensures within { IfOk result (λ next. IfSome next IsWithinLine) }
     ensures accounts { OnOk result (Accounts (S.left source.old) script.old (S.left source.new) script.new) }
     ensures stopped_accounts { (IsErrOf result Stop.TooLong → ⊥) → Accounts (S.left source.old) script.old (S.left source.new) script.new }
-    ensures left { OnOk result (budget SCRIPT script.new < budget SCRIPT script.old) }
-    ensures limit { script.new.taken ≤ SCRIPT }
-    ensures long { IsErrOf result Stop.TooLong → IsTooLong SCRIPT (S.left source.old) script.old (S.left source.new) }
+    ensures left { OnOk result (budget MAX_SCRIPT script.new < budget MAX_SCRIPT script.old) }
+    ensures limit { script.new.taken ≤ MAX_SCRIPT }
+    ensures long { IsErrOf result Stop.TooLong → IsTooLong MAX_SCRIPT (S.left source.old) script.old (S.left source.new) }
     ensures failed { IsErrOf result Stop.Input → TookPart (rest_of (S.left source.old) script.old) (S.left source.new) }
     ensures memory { IsErrOf result Stop.NoMemory → TookSome (rest_of (S.left source.old) script.old) (rest_of (S.left source.new) script.new) }
     ensures over { IsErrOf result Stop.TooLong → TookOver (rest_of (S.left source.old) script.old) (S.left source.new) }

@@ -10,8 +10,9 @@ ghost use Rattle.hay_loading.specs.Lines.{Appends, ServesAll, ServesUntil};
 use crate::steps::{step, take_end};
 use crate::stops::Stop;
 use hay_disk::{Disk, Sink, Source};
-use hay_lines::{SCRIPT, ScriptLines};
+use hay_lines::ScriptLines;
 use hay_load::Loading;
+use hay_script::MAX_SCRIPT;
 use std::alloc::Global;
 
 /// Loads the puts of a script, from first to last, and writes what is told of them.
@@ -29,10 +30,10 @@ pub fn serve<D: Disk, S: Source, K: Sink>(
     ensures shape { (load.new.store.settings ≡ load.old.store.settings) × IsShaped load.new.store }
     ensures counts { KeepsCounts D.fault_count D.fuse_count load.old.store load.new.store }
     ensures ended { OnOk result (IsReadToEnd (S.left source.old) (S.left source.new)) }
-    ensures short { OnOk result ((script : List ℕ) → S.left source.old ≡ Some script → length script ≤ SCRIPT) }
+    ensures short { OnOk result ((script : List ℕ) → S.left source.old ≡ Some script → length script ≤ MAX_SCRIPT) }
     ensures long { IsErrOf result Stop.TooLong → (script : List ℕ) → S.left source.old ≡ Some script →
-        (rest : List ℕ) × (S.left source.new ≡ Some rest) × (length script ≡ SCRIPT + 1 + length rest) }
-    ensures taken { (IsErrOf result Stop.TooLong → ⊥) → TookAtMost SCRIPT (S.left source.old) (S.left source.new) }
+        (rest : List ℕ) × (S.left source.new ≡ Some rest) × (length script ≡ MAX_SCRIPT + 1 + length rest) }
+    ensures taken { (IsErrOf result Stop.TooLong → ⊥) → TookAtMost MAX_SCRIPT (S.left source.old) (S.left source.new) }
     ensures source { IsErrOf result Stop.Input → Rose (S.fault_count source.old) (S.fault_count source.new) }
     ensures source_count { S.fault_count source.old ≤ S.fault_count source.new }
     ensures sink { IsErrOf result Stop.Output → Rose (K.fault_count sink.old) (K.fault_count sink.new) }

@@ -15,9 +15,9 @@ use crate::said::next_said;
 use crate::stops::Stop;
 use crate::writing::write_text;
 use hay_disk::{Disk, Sink, Source};
-use hay_lines::{SCRIPT, ScriptLines};
+use hay_lines::ScriptLines;
 use hay_load::{LoadEnd, Loading};
-use hay_script::Line;
+use hay_script::{Line, MAX_SCRIPT};
 use std::alloc::Global;
 
 // Writes what was told of lines, and answers why the load stops, if it does.
@@ -103,7 +103,7 @@ pub fn step<D: Disk, S: Source, K: Sink>(
     sink: &mut K,
 ) -> Result<u64, Stop>
     requires open { script.old.ended ≡ false }
-    requires few { number + budget SCRIPT script.old < 2 ^ 64 }
+    requires few { number + budget MAX_SCRIPT script.old < 2 ^ 64 }
     requires loading { IsLoading D.Tells D.files load.old }
     ensures takes { IfOk result (λ next. Takes D.Tells D.files load.old number (rest_of (S.left source.old) script.old) (K.written sink.old)
         load.new next (rest_of (S.left source.new) script.new) (K.written sink.new) script.new.ended) }
@@ -115,12 +115,12 @@ pub fn step<D: Disk, S: Source, K: Sink>(
     ensures counts { KeepsCounts D.fault_count D.fuse_count load.old.store load.new.store }
 
     // How much was read.
-    ensures few { IfOk result (λ next. next + budget SCRIPT script.new ≤ number + budget SCRIPT script.old) }
-    ensures left { OnOk result (budget SCRIPT script.new < budget SCRIPT script.old) }
+    ensures few { IfOk result (λ next. next + budget MAX_SCRIPT script.new ≤ number + budget MAX_SCRIPT script.old) }
+    ensures left { OnOk result (budget MAX_SCRIPT script.new < budget MAX_SCRIPT script.old) }
     ensures accounts { OnOk result (Accounts (S.left source.old) script.old (S.left source.new) script.new) }
     ensures stopped_accounts { (IsErrOf result Stop.TooLong → ⊥) → Accounts (S.left source.old) script.old (S.left source.new) script.new }
-    ensures limit { script.new.taken ≤ SCRIPT }
-    ensures long { IsErrOf result Stop.TooLong → IsTooLong SCRIPT (S.left source.old) script.old (S.left source.new) }
+    ensures limit { script.new.taken ≤ MAX_SCRIPT }
+    ensures long { IsErrOf result Stop.TooLong → IsTooLong MAX_SCRIPT (S.left source.old) script.old (S.left source.new) }
 
     ensures source { IsErrOf result Stop.Input → Rose (S.fault_count source.old) (S.fault_count source.new) }
     ensures source_count { S.fault_count source.old ≤ S.fault_count source.new }

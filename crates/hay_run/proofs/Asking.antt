@@ -15,6 +15,7 @@ use Rattle.hay_lines.specs.Lines.{TookFed, TookLine, TookFeds, TookToEnd, TookLi
 use Rattle.hay_run.specs.Items.{block_behind, Asks, TookItems, TookOpen, AsksAll}
 use Rattle.hay_lines.specs.Said.{SaysNext}
 use Rattle.hay_disk.specs.Streams.{Took}
+use Rattle.hay_script.specs.declared.words.TheConstants.{MAX_SCRIPT}
 use Rattle.hay_lines.proofs.Feeding.{lines_of-some, fed_next}
 use Rattle.hay_lines.proofs.Taking.{took_nothing, took_more, took_fed_more, took_last_more, took_end, feeds_append, feeds_end, accounts_more, long_before}
 

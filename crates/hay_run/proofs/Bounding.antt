@@ -10,6 +10,7 @@ use Rattle.hex.specs.Hex.{encode_lower, lower_digits}
 use Rattle.hex.proofs.HexLemmas.{length-encode_with}
 use Rattle.hay_url.specs.Url.{cookie_of}
 use Rattle.hay_url.proofs.Digits.{long_digits}
+use Rattle.hay_script.specs.declared.words.TheConstants.{MAX_SCRIPT}
 use Rattle.hay_drill.specs.Script.{alts, block, del_line, deletion, drill_script, each_photo, each_replica, key_of, lane_reads, lane_text, put_line, read_line, reads, replacement}
 use Rattle.hay_drill.specs.Script.{replica_line, settings, size_of, uploads, volume_lines}
 
@@ -112,7 +113,7 @@ block_most count first =
     (photos_most (lane_reads first) 1024 count (λ i. reads_most (Some (i % 4)) first i)) (replicas_most (codes "4 compact"))
 
 -- a script of at most a thousand photos is one that a run takes
-pub script_most : (count first : ℕ) → count ≤ 1000 → length (drill_script count first) ≤ 1073741824
+pub script_most : (count first : ℕ) → count ≤ 1000 → length (drill_script count first) ≤ MAX_SCRIPT
 script_most count first few =
     let all = seven_most (each_photo (uploads first) count) (each_photo (replacement first) count) (each_photo (deletion first) count) (each_replica (codes "flush"))
     (block count first) (codes "restart 0\n") (each_photo (reads None first) count)

@@ -10,6 +10,7 @@ use Rattle.hay_reply.specs.Fits.{FitsNote}
 use Rattle.hay_reply.specs.declared.Note.TheVariants.{OpenShelf, OpenFailed, OpenDamaged}
 use Rattle.hay_reply.specs.declared.Reply.TheVariants.{NoMem}
 use Rattle.hay_reply.specs.Replies.{header_line, note_line, numbered_line}
+use Rattle.hay_script.specs.declared.words.TheConstants.{MAX_SCRIPT}
 use Rattle.hay_legal.specs.Items.{Asked, items_of}
 use Rattle.hay_legal.specs.Known.{disk_count}
 use Rattle.hay_legal.specs.Stands.{Outside}
@@ -62,7 +63,7 @@ module _ (Tells : Type 0) where
         record { read = r.read; bytes = (r.rest, r.script_is, r.left_is); asks = subst P (sym t.0) none }
 
     pub stop_read : (why : Stop) (settings : Settings) (before after : Tally) (last : List Asked) (written written' : Option (List ℕ)) → HoldsNone why held
-        → (why ≡ stop.TooLong → (end : List ℕ) → left ≡ Some end → length script ≡ 1073741825 + length end)
+        → (why ≡ stop.TooLong → (end : List ℕ) → left ≡ Some end → length script ≡ MAX_SCRIPT + 1 + length end)
         → StopTook why number last rest (rest_of left held) → StopCaused Tells settings before after why last written written' → RunRead (ending_of why) script left asked last
     stop_read stop.Input settings before after last written written' none full t caused =
         let off = breaks_off script asked number rest (rest_of left held) took t in
@@ -139,7 +140,7 @@ module _ (Tells : Type 0) where
         });
       }
 
-      pub until_caused : (why : Stop) → (why ≡ stop.TooLong → (end : List ℕ) → left ≡ Some end → length script ≡ 1073741825 + length end)
+      pub until_caused : (why : Stop) → (why ≡ stop.TooLong → (end : List ℕ) → left ≡ Some end → length script ≡ MAX_SCRIPT + 1 + length end)
           → CausedUntil Tells settings old new why (Some script) (Some (held ++ header_line settings)) left written'
           → CausedRun Tells settings (ending_of why) script left taken given sure disks disks' held written'
       until_caused why full u =

@@ -11,6 +11,7 @@ use Rattle.hay_reply.specs.declared.Note.{Note}
 use Rattle.hay_reply.specs.declared.Note.TheVariants.{OpenFailed}
 use Rattle.hay_reply.specs.declared.Reply.TheVariants.{NoMem}
 use Rattle.hay_reply.specs.Replies.{header_line, note_line}
+use Rattle.hay_script.specs.declared.words.TheConstants.{MAX_SCRIPT}
 use Rattle.hay_script.specs.declared.Command.TheVariants as asks
 use Rattle.hay_legal.specs.declared.known.Known.{Known}
 use Rattle.hay_legal.specs.declared.turn.Item.TheVariants as item
@@ -244,7 +245,7 @@ module _ {D P A : Type 0} (Tells : Type 0) (Begins Left : Standing D P A) (setti
           fits = answers.fits;
         }
 
-    pub ran_over : HoldsNone stop.TooLong holding → ((last : List ℕ) → left ≡ Some last → length script ≡ 1073741825 + length last)
+    pub ran_over : HoldsNone stop.TooLong holding → ((last : List ℕ) → left ≡ Some last → length script ≡ MAX_SCRIPT + 1 + length last)
         → TookOpen TookOver number None rest (rest_of left holding) → store' ≡ mid → written' ≡ text → RanTo settings k TooLong script left taken given held written'
     ran_over none full broke same same_text =
         let over = over_part script asked number rest (rest_of left holding) took broke in
@@ -426,7 +427,7 @@ module _ {D P A : Type 0} (Tells : Type 0) (Begins Left : Standing D P A) (setti
     ran_memory_or (inl same) = ran_same same.0 same.1 same.2
     ran_memory_or (inr broke) = ran_broke broke
 
-    pub ran_stopped : (why : Stop) → HoldsNone why holding → (why ≡ stop.TooLong → (last : List ℕ) → left ≡ Some last → length script ≡ 1073741825 + length last)
+    pub ran_stopped : (why : Stop) → HoldsNone why holding → (why ≡ stop.TooLong → (last : List ℕ) → left ≡ Some last → length script ≡ MAX_SCRIPT + 1 + length last)
         → StopsTurn Tells Begins Left why number rest text mid (rest_of left holding) written' store'
         → RanTo settings k (ending_of why) script left taken given held written'
     ran_stopped stop.Input none full stops = ran_open none stops.0 stops.1 stops.2

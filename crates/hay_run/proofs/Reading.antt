@@ -4,6 +4,7 @@ use Rattle.std.proofs.lemmas.Grind.{common_steps}
 use Rattle.std.proofs.lemmas.List.{append-nil}
 use Rattle.hay_disk.specs.Streams.{Took}
 use Rattle.hay_script.specs.Script.{lines_of}
+use Rattle.hay_script.specs.declared.words.TheConstants.{MAX_SCRIPT}
 use Rattle.hay_legal.specs.Items.{Asked, items_of, items_from, items_before, whole_items_from, has_feed, fed_part}
 use Rattle.hay_legal.specs.Statuses.{IsFront}
 use Rattle.hay_lines.specs.Stream.{Held, rest_of, TookOne}

@@ -5,6 +5,7 @@ use Rattle.std.proofs.Common.{◌≡◌, ◌⊎◌, inl, inr, ℕ, List, [], ◌
 use Rattle.hay_disk.specs.Counts.{Rose}
 use Rattle.hay_disk.specs.Streams.{Wrote, WrotePart}
 use Rattle.hay_needle.specs.declared.settings.Settings.{Settings}
+use Rattle.hay_script.specs.declared.words.TheConstants.{MAX_SCRIPT}
 use Rattle.hay_reply.specs.declared.Note.{Note}
 use Rattle.hay_reply.specs.Replies.{note_line, note_text}
 use Rattle.hay_legal.specs.declared.known.Known.{Known}
@@ -225,7 +226,7 @@ never_rose (inl low) = omega (arith, low)
 never_rose (inr top) = let least : 1 ≤ 2 ^ 64 - 1 = lit≤ tt in omega (arith, least, top)
 
 -- and the script is no longer than one may be
-pub never_long : (count first more : ℕ) (script : List ℕ) → count ≤ 1000 → script ≡ drill_script count first → length script ≡ 1073741824 + 1 + more → ⊥
+pub never_long : (count first more : ℕ) (script : List ℕ) → count ≤ 1000 → script ≡ drill_script count first → length script ≡ MAX_SCRIPT + 1 + more → ⊥
 never_long count first more script few is long =
     let most = script_most count first few in
     let same : length script ≡ length (drill_script count first) = ap length is in

@@ -3,6 +3,7 @@ use Rattle.std.specs.Prelude.{◌≡◌, ◌⊎◌, ◌≤◌, ◌<◌, ℕ, Lis
 use Rattle.hay_disk.specs.Shelf.{HeldArm, HeldDisk}
 use Rattle.hay_mount.specs.Mounts.{SameFrom}
 use Rattle.hay_needle.specs.declared.settings.Settings.{Settings}
+use Rattle.hay_script.specs.declared.words.TheConstants.{MAX_SCRIPT}
 use Rattle.hay_legal.specs.Known.{disk_count}
 use Rattle.hay_lines.specs.Stream.{IsReadToEnd}
 use Rattle.hay_batch.specs.Shelves.{IsUndamagedBelow, reads_of}
@@ -18,7 +19,7 @@ pub record IsLoad (Tells : Type 0) (settings : Settings) (status : ℕ) (disks d
   pub halts : status ≡ 4 → (script : List ℕ) → left ≡ Some script → HaltsBehind Tells settings script disks disks' shelf shelf' before after (λ read. ReadFront script read left')
   pub halts_over : status ≡ 7 → (script : List ℕ) → left ≡ Some script → HaltsBehind Tells settings script disks disks' shelf shelf' before after (λ read. ReadOver script read left')
   pub ended : status ≡ 0 → IsReadToEnd left left'
-  pub short : status ≡ 0 → (script : List ℕ) → left ≡ Some script → length script ≤ 1073741824
+  pub short : status ≡ 0 → (script : List ℕ) → left ≡ Some script → length script ≤ MAX_SCRIPT
   pub sound : Tells → (status ≡ 0) ⊎ (status ≡ 4) ⊎ (status ≡ 7) ⊎ WasRead left left' → IsUndamagedBelow settings (disk_count settings) (reads_of disks)
   pub counts : (slot : ℕ) → slot < disk_count settings → CountsOn (disks slot) (disks' slot)
   pub other_slots : SameFrom (disk_count settings) disks disks'

@@ -4,6 +4,7 @@ use Rattle.std.specs.List.{AllByRecursion}
 use Rattle.hay_disk.specs.Counts.{Rose, StaysSure}
 use Rattle.hay_disk.specs.Shelf.{HeldArm, HeldDisk}
 use Rattle.hay_needle.specs.declared.settings.Settings.{Settings}
+use Rattle.hay_script.specs.declared.words.TheConstants.{MAX_SCRIPT}
 use Rattle.hay_reply.specs.declared.Note.{Note}
 use Rattle.hay_reply.specs.declared.Note.TheVariants.{OpenShelf, OpenFailed, OpenDamaged}
 use Rattle.hay_reply.specs.Replies.{header_line, note_line}
@@ -32,7 +33,7 @@ ReadFront script read left = (rest : List ℕ) × (script ≡ read ++ rest) × (
 abbrev pub ReadBytes : Ending → List ℕ → List ℕ → Option (List ℕ) → Type 0
 ReadBytes ReadAll script read left = (script ≡ read) × (left ≡ Some [])
 ReadBytes TooLong script read left =
-    (length read ≡ 1073741824) × ((byte : ℕ) × (rest : List ℕ) × (script ≡ read ++ byte ∷ rest) × (left ≡ Some rest))
+    (length read ≡ MAX_SCRIPT) × ((byte : ℕ) × (rest : List ℕ) × (script ≡ read ++ byte ∷ rest) × (left ≡ Some rest))
 ReadBytes OutputFault script read left = ReadFront script read left
 ReadBytes InputFault script read left = ReadFront script read left
 ReadBytes NoMemory script read left = ReadFront script read left

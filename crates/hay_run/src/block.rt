@@ -15,8 +15,8 @@ use crate::stops::Stop;
 use hay_base::{Listed, NoMemory};
 use hay_disk::Source;
 use hay_legal::turn::Item;
-use hay_lines::{SCRIPT, ScriptLines};
-use hay_script::{Command, Line};
+use hay_lines::ScriptLines;
+use hay_script::{Command, Line, MAX_SCRIPT};
 use std::alloc::Global;
 use std::marker::Model;
 
@@ -147,21 +147,21 @@ fn read_lines<S: Source>(
     source: &mut S,
 ) -> Result<(LaneBlock, u64), Stop>
     requires open { script.old.ended ≡ false }
-    requires few { number + budget SCRIPT script.old < 2 ^ 64 }
+    requires few { number + budget MAX_SCRIPT script.old < 2 ^ 64 }
     requires below { IsBlockBelow number block }
     ensures lines { IfOk result (λ read. IsBlockOf block.lanes read.0.lines × (read.0.lanes ≡ block.lanes)) }
     ensures read { IfOk result (λ read. TookItems number (Some block) (rest_of (S.left source.old) script.old) (Block read.0.lines ∷ []) read.1
         (rest_of (S.left source.new) script.new) script.new.ended) }
-    ensures few { IfOk result (λ read. read.1 + budget SCRIPT script.new ≤ number + budget SCRIPT script.old) }
+    ensures few { IfOk result (λ read. read.1 + budget MAX_SCRIPT script.new ≤ number + budget MAX_SCRIPT script.old) }
     ensures accounts { OnOk result (Accounts (S.left source.old) script.old (S.left source.new) script.new) }
     ensures stopped_accounts { (IsErrOf result Stop.Input ⊎ IsErrOf result Stop.NoMemory) → Accounts (S.left source.old) script.old (S.left source.new) script.new }
-    ensures left { OnOk result (budget SCRIPT script.new ≤ budget SCRIPT script.old) }
-    ensures limit { script.new.taken ≤ SCRIPT }
+    ensures left { OnOk result (budget MAX_SCRIPT script.new ≤ budget MAX_SCRIPT script.old) }
+    ensures limit { script.new.taken ≤ MAX_SCRIPT }
     ensures none_held { (IsErrOf result Stop.Input ⊎ IsErrOf result Stop.TooLong) → script.new.bytes ≡ [] }
     ensures input { IsErrOf result Stop.Input → TookOpen TookPart number (Some block) (rest_of (S.left source.old) script.old) (rest_of (S.left source.new) script.new) }
     ensures over { IsErrOf result Stop.TooLong → TookOpen TookOver number (Some block) (rest_of (S.left source.old) script.old) (rest_of (S.left source.new) script.new) }
     ensures memory { IsErrOf result Stop.NoMemory → TookSome (rest_of (S.left source.old) script.old) (rest_of (S.left source.new) script.new) }
-    ensures long { IsErrOf result Stop.TooLong → IsTooLong SCRIPT (S.left source.old) script.old (S.left source.new) }
+    ensures long { IsErrOf result Stop.TooLong → IsTooLong MAX_SCRIPT (S.left source.old) script.old (S.left source.new) }
     ensures stops { OnErr result ((result ≡ Err Stop.Input) ⊎ (result ≡ Err Stop.NoMemory) ⊎ (result ≡ Err Stop.TooLong)) }
     ensures cause { IsErrOf result Stop.Input → Rose (S.fault_count source.old) (S.fault_count source.new) }
     ensures count { S.fault_count source.old ≤ S.fault_count source.new }
@@ -191,23 +191,23 @@ pub fn read_block<S: Source>(
     lanes: u32,
     source: &mut S,
 ) -> Result<(LaneBlock, u64), Stop>
-    requires few { number + budget SCRIPT script.old < 2 ^ 64 }
+    requires few { number + budget MAX_SCRIPT script.old < 2 ^ 64 }
     requires some { 0 < lanes }
     requires most { lanes ≤ 8 }
     ensures lines { IfOk result (λ read. IsBlockOf lanes read.0.lines × (read.0.lanes ≡ lanes)) }
     ensures read { script.old.ended ≡ false → IfOk result (λ read. TookItems number (Some (empty_block lanes)) (rest_of (S.left source.old) script.old) (Block read.0.lines ∷ [])
         read.1 (rest_of (S.left source.new) script.new) script.new.ended) }
     ensures empty { script.old.ended ≡ true → IfOk result (λ read. (read.0.lines ≡ []) × (read.1 ≡ number) × (source.new ≡ source.old) × (script.new ≡ script.old)) }
-    ensures few { IfOk result (λ read. read.1 + budget SCRIPT script.new ≤ number + budget SCRIPT script.old) }
+    ensures few { IfOk result (λ read. read.1 + budget MAX_SCRIPT script.new ≤ number + budget MAX_SCRIPT script.old) }
     ensures accounts { OnOk result (Accounts (S.left source.old) script.old (S.left source.new) script.new) }
     ensures stopped_accounts { (IsErrOf result Stop.Input ⊎ IsErrOf result Stop.NoMemory) → Accounts (S.left source.old) script.old (S.left source.new) script.new }
-    ensures left { OnOk result (budget SCRIPT script.new ≤ budget SCRIPT script.old) }
-    ensures limit { script.old.taken ≤ SCRIPT → script.new.taken ≤ SCRIPT }
+    ensures left { OnOk result (budget MAX_SCRIPT script.new ≤ budget MAX_SCRIPT script.old) }
+    ensures limit { script.old.taken ≤ MAX_SCRIPT → script.new.taken ≤ MAX_SCRIPT }
     ensures none_held { (IsErrOf result Stop.Input ⊎ IsErrOf result Stop.TooLong) → script.new.bytes ≡ [] }
     ensures input { IsErrOf result Stop.Input → TookOpen TookPart number (Some (empty_block lanes)) (rest_of (S.left source.old) script.old) (rest_of (S.left source.new) script.new) }
     ensures over { IsErrOf result Stop.TooLong → TookOpen TookOver number (Some (empty_block lanes)) (rest_of (S.left source.old) script.old) (rest_of (S.left source.new) script.new) }
     ensures memory { IsErrOf result Stop.NoMemory → TookSome (rest_of (S.left source.old) script.old) (rest_of (S.left source.new) script.new) }
-    ensures long { IsErrOf result Stop.TooLong → IsTooLong SCRIPT (S.left source.old) script.old (S.left source.new) }
+    ensures long { IsErrOf result Stop.TooLong → IsTooLong MAX_SCRIPT (S.left source.old) script.old (S.left source.new) }
     ensures stops { OnErr result ((result ≡ Err Stop.Input) ⊎ (result ≡ Err Stop.NoMemory) ⊎ (result ≡ Err Stop.TooLong)) }
     ensures open { OnErr result (script.old.ended ≡ false) }
     ensures cause { IsErrOf result Stop.Input → Rose (S.fault_count source.old) (S.fault_count source.new) }

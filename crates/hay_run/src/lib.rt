@@ -28,5 +28,5 @@ mod turns;
 mod words;
 mod writing;
 
-pub use hay_lines::SCRIPT;
+pub use hay_script::MAX_SCRIPT;
 pub use program::run;

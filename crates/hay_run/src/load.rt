@@ -10,9 +10,9 @@ ghost use Rattle.hay_run.specs.Runs.{IsSureStill};
 ghost use Rattle.hay_run.specs.Turns.{Appends};
 
 use hay_disk::{Shelf, Sink, Source};
-use hay_lines::SCRIPT;
 use hay_loading::load_store;
 use hay_needle::Settings;
+use hay_script::MAX_SCRIPT;
 use std::alloc::Global;
 
 /// Loads the puts of a script into the store on the disks of a shelf, and answers with the status of the load.
@@ -32,8 +32,8 @@ pub fn load_puts<H: Shelf, S: Source, K: Sink>(
     ensures sink { IsCounted (K.fault_count sink.old) (K.fault_count sink.new) (result ≡ 3) }
     ensures source { IsCounted (S.fault_count source.old) (S.fault_count source.new) (result ≡ 4) }
     ensures long { result ≡ 7 → (script : List ℕ) → S.left source.old ≡ Some script →
-        (rest : List ℕ) × (S.left source.new ≡ Some rest) × (length script ≡ SCRIPT + 1 + length rest) }
-    ensures taken { (result ≡ 7 → ⊥) → TookAtMost SCRIPT (S.left source.old) (S.left source.new) }
+        (rest : List ℕ) × (S.left source.new ≡ Some rest) × (length script ≡ MAX_SCRIPT + 1 + length rest) }
+    ensures taken { (result ≡ 7 → ⊥) → TookAtMost MAX_SCRIPT (S.left source.old) (S.left source.new) }
     ensures disks_back { (slot : ℕ) → (H.disks shelf.new slot).is_out ≡ false }
     ensures arms_back { (lane : ℕ) → (H.arms shelf.new lane).is_out ≡ false }
     ensures faults { (slot : ℕ) → (H.disks shelf.old slot).fault_count ≤ (H.disks shelf.new slot).fault_count }

@@ -39,8 +39,8 @@ use hay_cluster::Cluster;
 use hay_disk::{Disk, Shelf, Sink, Source};
 use hay_drill::{drill_script, drill_settings};
 use hay_lanes::Gate;
-use hay_lines::SCRIPT;
 use hay_needle::Settings;
+use hay_script::MAX_SCRIPT;
 use std::alloc::Global;
 use std::sync::Wait;
 use std::thread::Threads;
@@ -81,10 +81,10 @@ where
         CausedRun H.Disk.Tells settings (ending_in result) script (S.left source.new) (outside_of (H.fault_count shelf.old) (H.disks shelf.old) (H.arms shelf.old))
         (outside_of (H.fault_count shelf.new) (H.disks shelf.new) (H.arms shelf.new)) (λ lane. (H.arms shelf.old lane).is_sure) (H.disks shelf.old) (H.disks shelf.new) held (K.written sink.new) }
     ensures ended { OnOk result (IsReadToEnd (S.left source.old) (S.left source.new)) }
-    ensures short { OnOk result ((script : List ℕ) → S.left source.old ≡ Some script → length script ≤ SCRIPT) }
+    ensures short { OnOk result ((script : List ℕ) → S.left source.old ≡ Some script → length script ≤ MAX_SCRIPT) }
     ensures long { IsErrOf result Stop.TooLong → (script : List ℕ) → S.left source.old ≡ Some script →
-        (rest : List ℕ) × (S.left source.new ≡ Some rest) × (length script ≡ SCRIPT + 1 + length rest) }
-    ensures taken { (IsErrOf result Stop.TooLong → ⊥) → TookAtMost SCRIPT (S.left source.old) (S.left source.new) }
+        (rest : List ℕ) × (S.left source.new ≡ Some rest) × (length script ≡ MAX_SCRIPT + 1 + length rest) }
+    ensures taken { (IsErrOf result Stop.TooLong → ⊥) → TookAtMost MAX_SCRIPT (S.left source.old) (S.left source.new) }
     ensures source { IsErrOf result Stop.Input → Rose (S.fault_count source.old) (S.fault_count source.new) }
     ensures source_count { S.fault_count source.old ≤ S.fault_count source.new }
     ensures sink { IsErrOf result Stop.Output → Rose (K.fault_count sink.old) (K.fault_count sink.new) }
@@ -378,9 +378,9 @@ where
         IsTaken settings (outside_of (H.fault_count shelf.old) (H.disks shelf.old) (H.arms shelf.old)) k → AsksNothing (S.left source.old) →
         FlushedDrewLittle settings k (drawn_of (H.disks shelf.old)) (drawn_of (H.disks shelf.new)) }
     ensures long { result ≡ 7 → (IsAudit (map string_bytes words.now) → ⊥) → (script : List ℕ) → S.left source.old ≡ Some script →
-        (rest : List ℕ) × (S.left source.new ≡ Some rest) × (length script ≡ SCRIPT + 1 + length rest) }
-    ensures short { result ≡ 0 → (settings : Settings) → SaysRun (map string_bytes words.now) settings → (script : List ℕ) → S.left source.old ≡ Some script → length script ≤ SCRIPT }
-    ensures taken { (result ≡ 7 → ⊥) → (IsAudit (map string_bytes words.now) → ⊥) → TookAtMost SCRIPT (S.left source.old) (S.left source.new) }
+        (rest : List ℕ) × (S.left source.new ≡ Some rest) × (length script ≡ MAX_SCRIPT + 1 + length rest) }
+    ensures short { result ≡ 0 → (settings : Settings) → SaysRun (map string_bytes words.now) settings → (script : List ℕ) → S.left source.old ≡ Some script → length script ≤ MAX_SCRIPT }
+    ensures taken { (result ≡ 7 → ⊥) → (IsAudit (map string_bytes words.now) → ⊥) → TookAtMost MAX_SCRIPT (S.left source.old) (S.left source.new) }
 
     // What is given back at each status. Nothing is taken but what the settings name.
     ensures disks_back { (slot : ℕ) → (H.disks shelf.new slot).is_out ≡ false }

@@ -8,8 +8,8 @@ ghost use Rattle.hay_lines.specs.Lines.{TookPart, TookOver, TookSome};
 
 use crate::stops::Stop;
 use hay_disk::Source;
-use hay_lines::{SCRIPT, ScriptLines};
-use hay_script::Line;
+use hay_lines::ScriptLines;
+use hay_script::{Line, MAX_SCRIPT};
 use std::alloc::Global;
 
 /// Takes the next line of a script and reads it, outside of a block or in one of so many lanes, or meets the end. It isn't
@@ -25,13 +25,13 @@ pub fn next_said<S: Source>(
     ensures within { IfOk result (λ next. IfSome next IsWithinLine) }
     ensures accounts { OnOk result (Accounts (S.left source.old) script.old (S.left source.new) script.new) }
     ensures stopped_accounts { (IsErrOf result Stop.Input ⊎ IsErrOf result Stop.NoMemory) → Accounts (S.left source.old) script.old (S.left source.new) script.new }
-    ensures left { OnOk result (budget SCRIPT script.new < budget SCRIPT script.old) }
-    ensures limit { script.new.taken ≤ SCRIPT }
+    ensures left { OnOk result (budget MAX_SCRIPT script.new < budget MAX_SCRIPT script.old) }
+    ensures limit { script.new.taken ≤ MAX_SCRIPT }
     ensures none_held { (IsErrOf result Stop.Input ⊎ IsErrOf result Stop.TooLong) → script.new.bytes ≡ [] }
     ensures failed { IsErrOf result Stop.Input → TookPart (rest_of (S.left source.old) script.old) (rest_of (S.left source.new) script.new) }
     ensures memory { IsErrOf result Stop.NoMemory → TookSome (rest_of (S.left source.old) script.old) (rest_of (S.left source.new) script.new) }
     ensures over { IsErrOf result Stop.TooLong → TookOver (rest_of (S.left source.old) script.old) (rest_of (S.left source.new) script.new) }
-    ensures long { IsErrOf result Stop.TooLong → IsTooLong SCRIPT (S.left source.old) script.old (S.left source.new) }
+    ensures long { IsErrOf result Stop.TooLong → IsTooLong MAX_SCRIPT (S.left source.old) script.old (S.left source.new) }
     ensures stops { OnErr result ((result ≡ Err Stop.Input) ⊎ (result ≡ Err Stop.NoMemory) ⊎ (result ≡ Err Stop.TooLong)) }
     ensures cause { IsErrOf result Stop.Input → Rose (S.fault_count source.old) (S.fault_count source.new) }
     ensures count { S.fault_count source.old ≤ S.fault_count source.new }

@@ -16,7 +16,8 @@ use crate::turns::turn;
 use hay_cluster::Cluster;
 use hay_disk::{Arm, Disk, Sink, Source};
 use hay_lanes::Gate;
-use hay_lines::{SCRIPT, ScriptLines};
+use hay_lines::ScriptLines;
+use hay_script::MAX_SCRIPT;
 use std::alloc::Global;
 use std::sync::Wait;
 use std::thread::Threads;
@@ -49,10 +50,10 @@ where
         (tally_of D.files D.drawn D.fault_count D.fuse_count A.fault_count A.is_sure cluster) (tally_of D.files D.drawn D.fault_count D.fuse_count A.fault_count A.is_sure result.0)
         stop (S.left source.old) (K.written sink.old) (S.left source.new) (K.written sink.new) }
     ensures ended { OnOk result.1 (IsReadToEnd (S.left source.old) (S.left source.new)) }
-    ensures short { OnOk result.1 ((script : List ℕ) → S.left source.old ≡ Some script → length script ≤ SCRIPT) }
+    ensures short { OnOk result.1 ((script : List ℕ) → S.left source.old ≡ Some script → length script ≤ MAX_SCRIPT) }
     ensures long { IsErrOf result.1 Stop.TooLong → (script : List ℕ) → S.left source.old ≡ Some script
-        → (rest : List ℕ) × (S.left source.new ≡ Some rest) × (length script ≡ SCRIPT + 1 + length rest) }
-    ensures taken { (IsErrOf result.1 Stop.TooLong → ⊥) → TookAtMost SCRIPT (S.left source.old) (S.left source.new) }
+        → (rest : List ℕ) × (S.left source.new ≡ Some rest) × (length script ≡ MAX_SCRIPT + 1 + length rest) }
+    ensures taken { (IsErrOf result.1 Stop.TooLong → ⊥) → TookAtMost MAX_SCRIPT (S.left source.old) (S.left source.new) }
     ensures source { IsErrOf result.1 Stop.Input → Rose (S.fault_count source.old) (S.fault_count source.new) }
     ensures source_count { S.fault_count source.old ≤ S.fault_count source.new }
     ensures sink { IsErrOf result.1 Stop.Output → Rose (K.fault_count sink.old) (K.fault_count sink.new) }

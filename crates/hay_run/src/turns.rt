@@ -34,9 +34,9 @@ use hay_cluster::{Cluster, ClusterFault};
 use hay_core::CoreTag;
 use hay_disk::{Arm, Disk, Sink, Source};
 use hay_lanes::{Gate, Point};
-use hay_lines::{SCRIPT, ScriptLines};
+use hay_lines::ScriptLines;
 use hay_reply::Reply;
-use hay_script::{Command, Line};
+use hay_script::{Command, Line, MAX_SCRIPT};
 use std::alloc::Global;
 use std::sync::Wait;
 use std::thread::Threads;
@@ -209,19 +209,19 @@ fn read_turn<S: Source>(
     source: &mut S,
 ) -> Result<(TurnRead, u64), Stop>
     requires open { script.old.ended ≡ false }
-    requires few { number + budget SCRIPT script.old < 2 ^ 64 }
+    requires few { number + budget MAX_SCRIPT script.old < 2 ^ 64 }
     ensures took { IfOk result (λ read. TookItems number None (rest_of (S.left source.old) script.old) (items_asked number read.0) read.1 (rest_of (S.left source.new) script.new) script.new.ended) }
     ensures fits { IfOk result (λ read. FitsRead read.0) }
-    ensures few { IfOk result (λ read. read.1 + budget SCRIPT script.new ≤ number + budget SCRIPT script.old) }
+    ensures few { IfOk result (λ read. read.1 + budget MAX_SCRIPT script.new ≤ number + budget MAX_SCRIPT script.old) }
     ensures accounts { OnOk result (Accounts (S.left source.old) script.old (S.left source.new) script.new) }
     ensures stopped_accounts { (IsErrOf result Stop.Input ⊎ IsErrOf result Stop.NoMemory) → Accounts (S.left source.old) script.old (S.left source.new) script.new }
-    ensures left { OnOk result (budget SCRIPT script.new < budget SCRIPT script.old) }
-    ensures limit { script.new.taken ≤ SCRIPT }
+    ensures left { OnOk result (budget MAX_SCRIPT script.new < budget MAX_SCRIPT script.old) }
+    ensures limit { script.new.taken ≤ MAX_SCRIPT }
     ensures none_held { (IsErrOf result Stop.Input ⊎ IsErrOf result Stop.TooLong) → script.new.bytes ≡ [] }
     ensures input { IsErrOf result Stop.Input → TookOpen TookPart number None (rest_of (S.left source.old) script.old) (rest_of (S.left source.new) script.new) }
     ensures over { IsErrOf result Stop.TooLong → TookOpen TookOver number None (rest_of (S.left source.old) script.old) (rest_of (S.left source.new) script.new) }
     ensures memory { IsErrOf result Stop.NoMemory → TookSome (rest_of (S.left source.old) script.old) (rest_of (S.left source.new) script.new) }
-    ensures long { IsErrOf result Stop.TooLong → IsTooLong SCRIPT (S.left source.old) script.old (S.left source.new) }
+    ensures long { IsErrOf result Stop.TooLong → IsTooLong MAX_SCRIPT (S.left source.old) script.old (S.left source.new) }
     ensures stops { OnErr result ((result ≡ Err Stop.Input) ⊎ (result ≡ Err Stop.NoMemory) ⊎ (result ≡ Err Stop.TooLong)) }
     ensures cause { IsErrOf result Stop.Input → Rose (S.fault_count source.old) (S.fault_count source.new) }
     ensures count { S.fault_count source.old ≤ S.fault_count source.new }
@@ -313,16 +313,16 @@ where
     K: Sink,
     R: Threads + Wait + Sync,
     requires open { script.old.ended ≡ false }
-    requires few { number + budget SCRIPT script.old < 2 ^ 64 }
+    requires few { number + budget MAX_SCRIPT script.old < 2 ^ 64 }
     requires up { IsUp cluster }
     ensures turned { IfOk result.1 (λ next. Turned D.Tells (Stands D.files D.Piece.Tells D.fault_count D.fuse_count A.fault_count) cluster number
         (rest_of (S.left source.old) script.old) (K.written sink.old) result.0 next (rest_of (S.left source.new) script.new) script.new.ended (K.written sink.new)) }
-    ensures few { IfOk result.1 (λ next. next + budget SCRIPT script.new ≤ number + budget SCRIPT script.old) }
+    ensures few { IfOk result.1 (λ next. next + budget MAX_SCRIPT script.new ≤ number + budget MAX_SCRIPT script.old) }
     ensures accounts { OnOk result.1 (Accounts (S.left source.old) script.old (S.left source.new) script.new) }
     ensures stopped_accounts { (IsErrOf result.1 Stop.Input ⊎ IsErrOf result.1 Stop.NoMemory ⊎ IsErrOf result.1 Stop.Output ⊎ IsErrOf result.1 Stop.Store)
         → Accounts (S.left source.old) script.old (S.left source.new) script.new }
-    ensures left { OnOk result.1 (budget SCRIPT script.new < budget SCRIPT script.old) }
-    ensures limit { script.new.taken ≤ SCRIPT }
+    ensures left { OnOk result.1 (budget MAX_SCRIPT script.new < budget MAX_SCRIPT script.old) }
+    ensures limit { script.new.taken ≤ MAX_SCRIPT }
 
     // What was taken and written where the run stops here.
     ensures none_held { (IsErrOf result.1 Stop.Input ⊎ IsErrOf result.1 Stop.TooLong) → script.new.bytes ≡ [] }
@@ -350,7 +350,7 @@ where
         stop number (rest_of (S.left source.old) script.old) (K.written sink.old) (rest_of (S.left source.new) script.new) (K.written sink.new) }
 
     // The causes of each stop.
-    ensures long { IsErrOf result.1 Stop.TooLong → IsTooLong SCRIPT (S.left source.old) script.old (S.left source.new) }
+    ensures long { IsErrOf result.1 Stop.TooLong → IsTooLong MAX_SCRIPT (S.left source.old) script.old (S.left source.new) }
     ensures source { IsErrOf result.1 Stop.Input → Rose (S.fault_count source.old) (S.fault_count source.new) }
     ensures source_count { S.fault_count source.old ≤ S.fault_count source.new }
     ensures sink { IsErrOf result.1 Stop.Output → Rose (K.fault_count sink.old) (K.fault_count sink.new) }

@@ -1,5 +1,6 @@
 use Rattle.std.proofs.Common.{◌≡◌, ◌+◌, ◌++◌, [], ◌∷◌, List, ℕ, length, drop, sym, ◌∙◌, ap, subst, arith}
 use Rattle.std.proofs.lemmas.List.{nil_from_length}
+use Rattle.hay_script.specs.declared.words.TheConstants.{MAX_SCRIPT}
 use Rattle.hay_lines.specs.Stream.{rest_of}
 use Rattle.hay_lines.specs.Lines.{Keeps}
 use Rattle.hay_lines.proofs.Taking.{took_feed, took_whole, took_nothing_more, some_fed, NoFeed-append, kept_free, start_of-append, accounts_more, accounts_passed, budget_passed, reads_fed, reads_last}
@@ -73,7 +74,7 @@ taking-preserved g c =
         arith,
         inv.less,
         c.in_ok-hold.ensures.left,
-        budget_passed 1073741824 (length span) held passed c.pass-in-taking.ensures.bytes c.pass-in-taking.ensures.taken c.pass-in-taking.ensures.ended,
+        budget_passed MAX_SCRIPT (length span) held passed c.pass-in-taking.ensures.bytes c.pass-in-taking.ensures.taken c.pass-in-taking.ensures.ended,
       );
       count = omega (arith, inv.count, c.in_ok-hold.ensures.count);
     }

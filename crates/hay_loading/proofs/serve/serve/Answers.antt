@@ -5,6 +5,7 @@ use Rattle.hay_lines.specs.Stream.{rest_of, Accounts, IsReadToEnd}
 use Rattle.hay_lines.proofs.Taking.{accounts_same, accounts_more}
 use Rattle.hay_batch.proofs.StoreLaws.{on_ok_more}
 use Rattle.hay_disk.specs.Streams.{Wrote}
+use Rattle.hay_script.specs.declared.words.TheConstants.{MAX_SCRIPT}
 use Rattle.hay_load.specs.Gathering.{closed}
 use Rattle.hay_load.specs.Loads.{held_of}
 use Rattle.hay_loading.specs.declared.stops.Stop.{Stop}
@@ -144,9 +145,9 @@ returns-then-is_ended-clause-short g c =
     let inv = c.lines.invariant in
     let left = g.S.Source.left in
     let met = sym c.is_ended.ensures ∙ c.if-is_ended.true in
-    on_ok_always c.take_end.result ((script : List ℕ) → left c.args.source.now ≡ Some script → length script ≤ 1073741824) (λ script told.
+    on_ok_always c.take_end.result ((script : List ℕ) → left c.args.source.now ≡ Some script → length script ≤ MAX_SCRIPT) (λ script told.
     let accounts : Accounts (Some script) inv.first (left c.lines.source) c.lines.script = rw told at inv.accounts in
-    short_script 1073741824 script (left c.lines.source) (left c.step.new.source) inv.first c.lines.script c.step.new.script accounts c.in_ok-number.ensures.accounts
+    short_script MAX_SCRIPT script (left c.lines.source) (left c.step.new.source) inv.first c.lines.script c.step.new.script accounts c.in_ok-number.ensures.accounts
     (c.in_ok-number.ensures.at_end met) inv.at_first c.step.ensures.limit)
 
 pub returns-then-is_ended-clause-appends : goal.returns-then-is_ended-clause-appends

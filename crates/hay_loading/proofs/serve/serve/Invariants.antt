@@ -1,4 +1,5 @@
 use Rattle.std.proofs.Common.{◌≡◌, ◌+◌, ◌≤◌, false}
+use Rattle.hay_script.specs.declared.words.TheConstants.{MAX_SCRIPT}
 use Rattle.hay_lines.specs.Stream.{Held, rest_of, budget, Accounts}
 use Rattle.hay_batch.specs.Stores.{KeepsCounts}
 use Rattle.hay_load.specs.Loads.{IsLoading}
@@ -8,7 +9,7 @@ use Rattle.hay_loading.proofs.serve.serve.Given as goal
 abbrev pub invariant-lines : goal.invariant-lines
 invariant-lines g l = record {
   unmet : l.script.ended ≡ false;
-  few : l.number + budget 1073741824 l.script ≤ 1073741826;
+  few : l.number + budget MAX_SCRIPT l.script ≤ MAX_SCRIPT + 2;
   loading : IsLoading g.D.Disk.Tells g.D.Disk.files l.load;
   same : l.load.store.settings ≡ l.fn.load.store.settings;
   takes : Takes g.D.Disk.Tells g.D.Disk.files l.fn.load 1 (g.S.Source.left l.fn.source) (g.K.Sink.written l.fn.sink) l.load l.number (rest_of (g.S.Source.left l.source) l.script)
@@ -23,4 +24,4 @@ invariant-lines g l = record {
 }
 
 abbrev pub decreases-lines : goal.decreases-lines
-decreases-lines g l = budget 1073741824 l.script
+decreases-lines g l = budget MAX_SCRIPT l.script

@@ -1,4 +1,5 @@
 use Rattle.std.proofs.Common.{◌≡◌, ℕ, ◌+◌, ◌≤◌, false, List, [], length, Some}
+use Rattle.hay_script.specs.declared.words.TheConstants.{MAX_SCRIPT}
 use Rattle.hay_legal.specs.Items.{whole_items_from}
 use Rattle.hay_run.specs.Blocks.{IsBlockBelow}
 use Rattle.hay_run.specs.Items.{block_behind}
@@ -17,10 +18,10 @@ invariant-lines g l = record {
   lanes : l.block.lanes ≡ l.fn.block.lanes;
   unmet : l.script.ended ≡ false;
   accounts : Accounts (g.S.Source.left l.fn.source) l.fn.script (g.S.Source.left l.source) l.script;
-  few : l.next + budget 1073741824 l.script ≤ l.fn.number + budget 1073741824 l.fn.script;
-  less : budget 1073741824 l.script ≤ budget 1073741824 l.fn.script;
+  few : l.next + budget MAX_SCRIPT l.script ≤ l.fn.number + budget MAX_SCRIPT l.fn.script;
+  less : budget MAX_SCRIPT l.script ≤ budget MAX_SCRIPT l.fn.script;
   count : g.S.Source.fault_count l.fn.source ≤ g.S.Source.fault_count l.source;
 }
 
 abbrev pub decreases-lines : goal.decreases-lines
-decreases-lines g l = budget 1073741824 l.script
+decreases-lines g l = budget MAX_SCRIPT l.script

@@ -12,6 +12,7 @@ use Rattle.hay_run.proofs.Counting.{NoneFalls-same, NoneFalls-more, rose_more, s
 use Rattle.hay_lines.proofs.Taking.{accounts_same, accounts_more}
 use Rattle.hay_disk.specs.Streams.{Wrote}
 use Rattle.hay_needle.specs.declared.settings.Settings.{Settings}
+use Rattle.hay_script.specs.declared.words.TheConstants.{MAX_SCRIPT}
 use Rattle.hay_run.specs.Causing.{tally_of, Caused, TurnStops}
 use Rattle.hay_run.proofs.Causing.{caused_more, caused_nothing}
 use Rattle.hay_run.proofs.Turning.{answers_nothing, answers_more, appends_nothing, appends_more}
@@ -117,7 +118,7 @@ returns-then-is_ended-clause-short g c = λ script told.
     let turned = rw c.in-Ok.is at c.turn-after.ensures.turned in
     let met = sym c.is_ended.ensures ∙ c.if-is_ended.true in
     let accounts : Accounts (Some script) inv.first (left c.turns.source) c.turns.script = rw told at inv.accounts in
-    short_script 1073741824 script (left c.turns.source) (left c.turn-after.new.source) inv.first c.turns.script c.turn-after.new.script accounts (rw c.in-Ok.is at c.turn-after.ensures.accounts)
+    short_script MAX_SCRIPT script (left c.turns.source) (left c.turn-after.new.source) inv.first c.turns.script c.turn-after.new.script accounts (rw c.in-Ok.is at c.turn-after.ensures.accounts)
     (at_end_turn c.turns.number c.in-Ok.next (rest_of (left c.turns.source) c.turns.script) (rest_of (left c.turn-after.new.source) c.turn-after.new.script) turned.asked
     c.turn-after.new.script.ended turned.took met)
     inv.at_first c.turn-after.ensures.limit
@@ -197,7 +198,7 @@ returns-in-Err-clause-long g c = λ is script told.
     let inv = c.turns.invariant in
     let left = g.S.Source.left in
     let accounts : Accounts (Some script) inv.first (left c.turns.source) c.turns.script = rw told at inv.accounts in
-    long_script 1073741824 script (left c.turns.source) (left c.turn-after.new.source) inv.first c.turns.script accounts
+    long_script MAX_SCRIPT script (left c.turns.source) (left c.turn-after.new.source) inv.first c.turns.script accounts
     (c.turn-after.ensures.long (let same : c.in-Err.stop ≡ stop.TooLong = cc in c.in-Err.is ∙ ap (λ (w : Stop). Err w) same)) inv.at_first
 
 pub returns-in-Err-clause-source : goal.returns-in-Err-clause-source
@@ -235,14 +236,14 @@ returns-in-Err-clause-taken g c = λ other.
     let inv = c.turns.invariant in
     let left = g.S.Source.left in
     other_stop c.turn-after.result.1 c.in-Err.stop c.in-Err.is (λ e. other (ap (λ (w : Stop). Err w) e))
-    (λ why. taken_most 1073741824 (left c.args.source.now) (left c.turns.source) (left c.turn-after.new.source) inv.first c.turns.script c.turn-after.new.script inv.accounts
+    (λ why. taken_most MAX_SCRIPT (left c.args.source.now) (left c.turns.source) (left c.turn-after.new.source) inv.first c.turns.script c.turn-after.new.script inv.accounts
     (c.turn-after.ensures.stopped_accounts why) inv.at_first c.turn-after.ensures.limit)
 
 pub returns-then-is_ended-clause-taken : goal.returns-then-is_ended-clause-taken
 returns-then-is_ended-clause-taken g c = λ other.
     let inv = c.turns.invariant in
     let left = g.S.Source.left in
-    taken_most 1073741824 (left c.args.source.now) (left c.turns.source) (left c.turn-after.new.source) inv.first c.turns.script c.turn-after.new.script inv.accounts
+    taken_most MAX_SCRIPT (left c.args.source.now) (left c.turns.source) (left c.turn-after.new.source) inv.first c.turns.script c.turn-after.new.script inv.accounts
     (rw c.in-Ok.is at c.turn-after.ensures.accounts) inv.at_first c.turn-after.ensures.limit
 
 -- what was written, and its causes

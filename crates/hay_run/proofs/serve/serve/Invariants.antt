@@ -5,6 +5,7 @@ use Rattle.hay_cluster.specs.Causes.{StaySure}
 use Rattle.hay_cluster.specs.State.{Stands}
 use Rattle.hay_cluster.specs.Store.{IsUp, disks_of}
 use Rattle.hay_disk.specs.Streams.{Wrote}
+use Rattle.hay_script.specs.declared.words.TheConstants.{MAX_SCRIPT}
 use Rattle.hay_run.specs.Causing.{tally_of, Caused}
 use Rattle.hay_run.specs.Items.{TookItems}
 use Rattle.hay_lines.specs.Stream.{Held, rest_of, budget, Accounts}
@@ -14,7 +15,7 @@ use Rattle.hay_run.proofs.serve.serve.Given as goal
 abbrev pub invariant-turns : goal.invariant-turns
 invariant-turns g l = record {
   unmet : l.script.ended ≡ false;
-  few : l.number + budget 1073741824 l.script ≤ 1073741826;
+  few : l.number + budget MAX_SCRIPT l.script ≤ MAX_SCRIPT + 2;
   up : IsUp l.cluster;
   same : l.cluster.settings ≡ l.fn.cluster.settings;
   asked : List Asked;
@@ -38,4 +39,4 @@ invariant-turns g l = record {
 }
 
 abbrev pub decreases-turns : goal.decreases-turns
-decreases-turns g l = budget 1073741824 l.script
+decreases-turns g l = budget MAX_SCRIPT l.script
