@@ -30,6 +30,7 @@ pub mod Passing
 pub mod Placing
 pub mod Puts
 pub mod ReadSights
+pub mod Recorded
 pub mod Refusals
 pub mod Seeing
 pub mod SeenOpening

@@ -21,6 +21,7 @@ use Rattle.hay_directory.specs.Seen as homes
 use Rattle.hay_physical.specs.OpenCopies.{Copy, contents_of, volume_bytes}
 use Rattle.hay_logical.specs.Fits.{At, super_of}
 use Rattle.hay_logical.specs.Needles.{HasLiveNeedles}
+use Rattle.hay_logical.specs.Readings.{IsReadAs}
 use Rattle.hay_logical.specs.ReplicaCalls.{KeepsDisk}
 use Rattle.hay_logical.specs.Seen.{IsFoundAs, SeesAt, replica_seen, volume_seen}
 use Rattle.hay_logical.specs.Sights.{AreSightsOf, Sights, sights_of}
@@ -28,7 +29,7 @@ use Rattle.hay_logical.specs.Volumes.{Volume}
 use Rattle.hay_cluster.specs.Needles.{PhotosStand}
 use Rattle.hay_cluster.specs.Opening.{Gathers, LeavesVolume, OpensParts, OpensVolume}
 use Rattle.hay_cluster.specs.Outside.{read_of}
-use Rattle.hay_cluster.specs.Seen.{ReadsSeen, VolumeAt, store_seen}
+use Rattle.hay_cluster.specs.Seen.{ReadsEach, ReadsSeen, VolumeAt, store_seen}
 use Rattle.hay_cluster.specs.Store.{IsShaped, Open, contents_in, disks_of}
 use Rattle.hay_cluster.proofs.ClosingStore.{contents_at, order_item, order_self}
 use Rattle.hay_cluster.proofs.Lists.{map-at}
@@ -159,3 +160,46 @@ module _ {D P A : Type 0} (DiskTells : Type 0) (files : D → Files) (Tells : Ty
       file_on files new new refl shape v z.0 z.1 (λ r file. HasLiveNeedles ((store_seen new).places v) j file) j within
       (λ r there. subst (λ (seen : Sights). HasLiveNeedles seen j (volume_bytes files r)) (sym (photos_at new new refl v z.0 z.1))
       (live_each DiskTells files Tells faults fuses tells old.volumes new.volumes opens.of_volumes opens.volumes v z.0 z.1 j r there)))
+
+-- WHAT WAS READ OF EACH DISK
+
+module _ {D P : Type 0} (DiskTells : Type 0) (files : D → Files) (Tells : Type 0) (faults fuses : D → ℕ) where
+  read_each : DiskTells → (ys zs : List (Volume D P)) (notes : List Note) → Gathers (OpensVolume DiskTells files Tells faults fuses) ys zs notes
+      → (v : ℕ) (z : Volume D P) → At zs v z → (j : ℕ) (r : Copy D) → At z.replicas j r
+      → IsReadAs r.sup (contents_of files r.disk) (replica_seen r) (λ pair. sights_of z.rows pair j)
+  read_each tells [] [] notes opens v z at = absurd cc
+  read_each tells [] (x ∷ zs) notes opens v z at = absurd opens
+  read_each tells (y ∷ ys) [] notes opens v z at = absurd opens
+  read_each tells (y ∷ ys) (x ∷ zs) notes opens zero z at =
+      let same : x ≡ z = cc in
+      subst (λ (w : Volume D P). (j : ℕ) (r : Copy D) → At w.replicas j r → IsReadAs r.sup (contents_of files r.disk) (replica_seen r) (λ pair. sights_of w.rows pair j)) same
+      (opens.first.read tells)
+  read_each tells (y ∷ ys) (x ∷ zs) notes opens (suc v) z at = read_each tells ys zs opens.behind opens.rest v z at
+
+module _ {D P A : Type 0} (DiskTells : Type 0) (files : D → Files) (Tells : Type 0) (faults fuses : D → ℕ) where
+  pub opened_read : DiskTells → (settings : Settings) (old new : Open D P A) (notes : List Note) → new.settings ≡ settings → IsShaped new
+      → OpensParts DiskTells files Tells faults fuses old.directory new.directory old.volumes new.volumes notes → ReadsEach settings (contents_in files new) (store_seen new)
+  opened_read tells settings old new notes same shape opens =
+      subst (λ (s : Settings). ReadsEach s (contents_in files new) (store_seen new)) same
+      (λ v j volume within.
+      let many = shape.many in
+      let z = order_item new.volumes v (let less : v < length new.volumes = omega (arith, volume, many) in less) in
+      let is = volume_of new v z.0 shape z.1 in
+      let long : length (z.0).replicas ≡ (new.settings).replicas = is.all ∙ ap (λ (s : Settings). s.replicas) is.settings_are in
+      let r = order_item (z.0).replicas j (let less : j < length (z.0).replicas = omega (arith, within, long) in less) in
+      let slot = slot_of new.settings v j in
+      let here = in_volume (λ n disk. slice_get (disks_of new) n ≡ Some disk) new v j z.0 r.0 shape z.1 r.1 (order_self (disks_of new)) in
+      let bytes : ◌≡◌ {A = Contents} (contents_of files (r.0).disk) (contents_in files new slot) = sym (contents_at files new slot (r.0).disk here) in
+      let read = read_each DiskTells files Tells faults fuses tells old.volumes new.volumes opens.of_volumes opens.volumes v z.0 z.1 j r.0 r.1 in
+      let now : IsReadAs (r.0).sup (contents_in files new slot) (replica_seen r.0) (λ pair. sights_of (z.0).rows pair j) =
+      subst (λ (contents : Contents). IsReadAs (r.0).sup contents (replica_seen r.0) (λ pair. sights_of (z.0).rows pair j)) bytes read in
+      let seen : IsReadAs (r.0).sup (contents_in files new slot) (replica_seen r.0) (λ pair. (store_seen new).places v pair j) =
+      subst (λ (places : Sights). IsReadAs (r.0).sup (contents_in files new slot) (replica_seen r.0) (λ pair. places pair j)) (sym (photos_at new new refl v z.0 z.1)) now in (
+        volume_seen z.0,
+        map-at volume_seen new.volumes v z.0 z.1,
+        (
+          replica_seen r.0,
+          map-at replica_seen (z.0).replicas j r.0 r.1,
+          subst (λ (u : Super). IsReadAs u (contents_in files new slot) (replica_seen r.0) (λ pair. (store_seen new).places v pair j)) (superblock new.settings v j z.0 r.0 is r.1) seen,
+        ),
+      ))

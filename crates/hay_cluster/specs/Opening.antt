@@ -26,6 +26,7 @@ use Rattle.hay_logical.specs.Answers.{IsReopened}
 use Rattle.hay_logical.specs.Fits.{At}
 use Rattle.hay_logical.specs.Needles.{HasLiveNeedles}
 use Rattle.hay_logical.specs.Notes.{NotesTell, ToldUnsure}
+use Rattle.hay_logical.specs.Readings.{IsReadAs}
 use Rattle.hay_logical.specs.Seen.{IsFoundAs, OpenSeen, replica_seen, volume_seen}
 use Rattle.hay_logical.specs.Sights.{AreSightsOf, LiesWithinEach, sights_of}
 use Rattle.hay_logical.specs.Stands.{IsFirst, IsIdleVolume, Stopped}
@@ -88,6 +89,8 @@ pub record OpensVolume {D P : Type 0} (DiskTells : Type 0) (files : D → Files)
   pub finds : DiskTells → (j : ℕ) (r r' : Copy D) (s : Stored) → At old.replicas j r → At new.replicas j r' → OpensAs r.sup (contents_of files r.disk) s
       → IsFoundAs s (replica_seen r') × AreSightsOf s (sights_of new.rows) j
   pub live : DiskTells → (j : ℕ) (r : Copy D) → At new.replicas j r → HasLiveNeedles (sights_of new.rows) j (volume_bytes files r)
+  pub read : DiskTells → (j : ℕ) (r : Copy D) → At new.replicas j r
+      → IsReadAs r.sup (contents_of files r.disk) (replica_seen r) (λ pair. sights_of new.rows pair j)
   pub fits : AllByRecursion FitsNote notes
   pub seen : OpenSeen (volume_seen new)
   pub lie : LiesWithinEach (sights_of new.rows) (volume_seen new).replicas

@@ -28,6 +28,7 @@ use Rattle.hay_logical.specs.declared.fault.LogicalFault.{LogicalFault}
 use Rattle.hay_logical.specs.declared.unsure.Change.TheVariants.{Delete}
 use Rattle.hay_logical.specs.Fits.{At, super_of}
 use Rattle.hay_logical.specs.Notes.{NotesTell}
+use Rattle.hay_logical.specs.Readings.{IsReadAs}
 use Rattle.hay_logical.specs.Seen.{BeginRefusedSeen, BeginSeen, BreaksPutSeen, CompactRefusedSeen, CompactSeen, FinishRefusedSeen, FinishSeen, FlushRefusedSeen, FlushSeen}
 use Rattle.hay_logical.specs.Seen.{FreezesSeen, FullSeen, HideSeen, IsFoundAs, OpenSeen, RoomSeen, SeesAt, StepRefusedSeen, StepSeen, PutSeen, ReplicaSeen, VolumeSeen}
 use Rattle.hay_logical.specs.Seen.{volume_seen}
@@ -368,6 +369,12 @@ pub record ReadsSeen (settings : Settings) (contents : ℕ → Contents) (seen :
   pub directory : directory.OpenSeen settings.machines rows seen.directory
   pub finds : (v j : ℕ) (s : Stored) → v < settings.volumes → j < settings.replicas → OpensAs (super_of settings v j) (contents (slot_of settings v j)) s
       → VolumeAt v (SeesAt j (IsFoundAs s)) seen × AreSightsOf s (seen.places v) j
+
+-- Of each replica, whatever its disk had, void, whole or neither: its generation, where its cells end, how many have no record, and its
+-- places are those that its files give now, as far as an opening reads them.
+abbrev pub ReadsEach : Settings → (ℕ → Contents) → StoreSeen → Type 0
+ReadsEach settings contents seen = (v j : ℕ) → v < settings.volumes → j < settings.replicas
+    → VolumeAt v (SeesAt j (λ r. IsReadAs (super_of settings v j) (contents (slot_of settings v j)) r (λ pair. seen.places v pair j))) seen
 
 -- RESTARTS
 

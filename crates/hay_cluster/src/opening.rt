@@ -21,7 +21,7 @@ ghost use Rattle.hay_cluster.specs.Outside.{AreSoundBelow, CountsOn, FormatsVoid
 ghost use Rattle.hay_cluster.specs.Opening.{FillsVolume, Gathers, IsResting, IsEmptyVolume, LeavesDirectory, LeavesVolume, OpensDirectory, OpensParts, OpensVolume};
 ghost use Rattle.hay_cluster.specs.Opening.{RefusesDirectory, RefusesParts, RefusesVolume, RefusesVolumes, StopsDirectory, StopsVolume};
 ghost use Rattle.hay_cluster.specs.Needles.{PendingTold, PhotosStand};
-ghost use Rattle.hay_cluster.specs.Seen.{OpensSeen, ReadsSeen, TellsSeen, store_seen};
+ghost use Rattle.hay_cluster.specs.Seen.{OpensSeen, ReadsEach, ReadsSeen, TellsSeen, store_seen};
 ghost use Rattle.hay_cluster.specs.State.{LeftAt, Stands};
 ghost use Rattle.hay_cluster.specs.Store.{IsBuilt, IsShaped, IsUp, IsVolumeOf, contents_in, disks_of};
 
@@ -71,6 +71,8 @@ impl<D: Disk, A: Arm<D::Piece>> Cluster<D, A> {
         ensures opens { IfOk result (λ store. OpensSeen settings (store_seen store)) }
         // So each disk is found that is void or whole, and the rows of the Directory's one.
         ensures reads { D.Tells → IfOk result (λ store. ReadsSeen settings (λ slot. read_of (H.disks shelf.old slot)) (store_seen store)) }
+        // Each disk is found as its files say, whatever else it has.
+        ensures reads_each { D.Tells → IfOk result (λ store. ReadsEach settings (contents_in D.files store) (store_seen store)) }
         // On any disk each place that is a photo's has its needle.
         ensures live { D.Tells → IfOk result (λ store. PhotosStand settings (contents_in D.files store) (store_seen store)) }
         ensures counts { IfOk result (λ store. (slot : ℕ) → slot < disk_count settings →
@@ -138,6 +140,7 @@ impl<D: Disk, A: Arm<D::Piece>> Cluster<D, A> {
         ensures told { D.Tells → OnOk result (PendingTold self.old.settings (contents_in D.files self.new) (store_seen self.old) (store_seen self.new)) }
         // Each disk is found as what it has then, as at a first opening.
         ensures reads { D.Tells → OnOk result (ReadsSeen self.old.settings (contents_in D.files self.new) (store_seen self.new)) }
+        ensures reads_each { D.Tells → OnOk result (ReadsEach self.old.settings (contents_in D.files self.new) (store_seen self.new)) }
         ensures live { D.Tells → OnOk result (PhotosStand self.old.settings (contents_in D.files self.new) (store_seen self.new)) }
         ensures up { OnOk result (IsUp self.new) }
         // Nothing that it read of a disk is damaged.

@@ -56,6 +56,7 @@ returns-in_ok-append-in-Ok-clause-opened g c =
         told_places = e.told_places;
         finds = e.finds;
         live = e.live;
+        read = e.read;
         fits = e.fits;
         seen = e.seen;
         lie = e.within;

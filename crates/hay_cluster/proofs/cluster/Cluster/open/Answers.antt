@@ -13,7 +13,7 @@ use Rattle.hay_cluster.proofs.OpeningDamage.{opened_sound, opening_damaged, open
 use Rattle.hay_cluster.proofs.OpeningDraws.{flushed_drew, opening_drew}
 use Rattle.hay_cluster.proofs.OpeningFound.{found_new}
 use Rattle.hay_cluster.proofs.OpeningLists.{passed_on}
-use Rattle.hay_cluster.proofs.OpeningReads.{opened_live, opened_reads}
+use Rattle.hay_cluster.proofs.OpeningReads.{opened_live, opened_read, opened_reads}
 use Rattle.hay_cluster.proofs.OpeningStore.{MovedParts, opens_up}
 use Rattle.hay_cluster.proofs.OpeningTaken.{IsTakingFault, back_arm, back_counts, back_failed, back_shelf, back_damaged, is_taken, moved_arms, moved_counts, moved_sure}
 use Rattle.hay_cluster.proofs.OpeningTaken.{not_memory_damaged, not_memory_failed, one_fault, passed_back, taken_idle, taken_rests, taking_damaged, taking_failed, taking_shelf}
@@ -619,4 +619,9 @@ returns-in-Ok-clause-reads g c =
 pub returns-in-Ok-clause-live : goal.returns-in-Ok-clause-live
 returns-in-Ok-clause-live g c = λ tells.
     opened_live g.D.Disk.Tells g.D.Disk.files g.D.Piece.Piece.Tells g.D.Disk.fault_count g.D.Disk.fuse_count tells c.args.settings c.assemble-cluster.result c.open_parts.new.self
+    c.in-Ok._notes (c.open_parts.ensures.settings ∙ c.assemble-cluster.ensures.settings) c.open_parts.ensures.shape c.in-Ok.ensures.opened
+
+pub returns-in-Ok-clause-reads_each : goal.returns-in-Ok-clause-reads_each
+returns-in-Ok-clause-reads_each g c = λ tells.
+    opened_read g.D.Disk.Tells g.D.Disk.files g.D.Piece.Piece.Tells g.D.Disk.fault_count g.D.Disk.fuse_count tells c.args.settings c.assemble-cluster.result c.open_parts.new.self
     c.in-Ok._notes (c.open_parts.ensures.settings ∙ c.assemble-cluster.ensures.settings) c.open_parts.ensures.shape c.in-Ok.ensures.opened

@@ -6,7 +6,7 @@ use Rattle.hay_cluster.specs.Store.{contents_in}
 use Rattle.hay_cluster.proofs.Formatted.{refused_formatted}
 use Rattle.hay_cluster.proofs.OpeningDamage.{TellsSlot, restart_damaged, restart_first, restart_sound}
 use Rattle.hay_cluster.proofs.OpeningDraws.{restart_drew}
-use Rattle.hay_cluster.proofs.OpeningReads.{opened_live, restart_reads}
+use Rattle.hay_cluster.proofs.OpeningReads.{opened_live, opened_read, restart_reads}
 use Rattle.hay_cluster.proofs.OpeningStore.{MovedParts, StoppedParts, opens_up, restart_cause, restart_fuses, restart_later, restart_left, restart_opened, restart_whole, stops_closed, stops_idle}
 use Rattle.hay_cluster.proofs.SeenOpening.{opened_fit, opens_seen, pending_told, tells_seen}
 use Rattle.hay_cluster.proofs.cluster.Cluster.restart.Goals as goal
@@ -246,5 +246,12 @@ pub returns-clause-live : goal.returns-clause-live
 returns-clause-live g c = λ tells.
     IfOk-weaker c.open_parts.result _ _
     (λ notes opens. opened_live g.D.Disk.Tells g.D.Disk.files g.D.Piece.Piece.Tells g.D.Disk.fault_count g.D.Disk.fuse_count tells c.args.self.now.settings
+    c.stop.new.self c.open_parts.new.self notes
+    (c.open_parts.ensures.settings ∙ c.stop.ensures.settings) c.open_parts.ensures.shape opens) c.open_parts.ensures.opened
+
+pub returns-clause-reads_each : goal.returns-clause-reads_each
+returns-clause-reads_each g c = λ tells.
+    IfOk-weaker c.open_parts.result _ _
+    (λ notes opens. opened_read g.D.Disk.Tells g.D.Disk.files g.D.Piece.Piece.Tells g.D.Disk.fault_count g.D.Disk.fuse_count tells c.args.self.now.settings
     c.stop.new.self c.open_parts.new.self notes
     (c.open_parts.ensures.settings ∙ c.stop.ensures.settings) c.open_parts.ensures.shape opens) c.open_parts.ensures.opened
