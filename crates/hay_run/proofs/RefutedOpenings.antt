@@ -1,32 +1,37 @@
 -- Texts that no run has behind an opening of disks of which one may be neither void nor whole, each as a lemma.
-use Rattle.std.proofs.Common.{◌≡◌, ◌≢◌, inl, inr, ℕ, ◌<◌, Bool, false, List, ◌∷◌, length, Option, None, Some, refl, sym, subst, ◌∙◌}
+use Rattle.std.proofs.Common.{◌≡◌, ◌≢◌, inl, inr, ℕ, ◌+◌, ◌<◌, ◌≤◌, Bool, false, List, ◌∷◌, length, Option, None, Some, refl, sym, subst, ◌∙◌}
+use Rattle.std.proofs.Math.Path.{fun_ext}
 use Rattle.hay_needle.specs.declared.needle.Cell.{Cell}
 use Rattle.hay_needle.specs.declared.needle.Cookie.{Cookie}
 use Rattle.hay_needle.specs.declared.needle.Pair.{Pair}
 use Rattle.hay_needle.specs.declared.settings.Settings.{Settings}
 use Rattle.hay_needle.specs.Needle.{needle_of_cell}
+use Rattle.hay_needle.specs.Sizes.{needle_total}
 use Rattle.hay_script.specs.declared.Command.TheVariants as asks
 use Rattle.hay_reply.specs.declared.Cause.TheVariants.{Damage}
 use Rattle.hay_reply.specs.declared.Passed.{Passed}
-use Rattle.hay_reply.specs.declared.Reply.TheVariants.{Damaged, Deleted, Photo, Unreadable}
+use Rattle.hay_reply.specs.declared.Reply.TheVariants.{Absent, Damaged, Deleted, Gone, Photo, Unreadable}
 use Rattle.hay_legal.specs.Known.{replica_on, slot_of}
-use Rattle.hay_legal.specs.Stands.{Outside}
+use Rattle.hay_legal.specs.Stands.{Contents, Outside}
 use Rattle.hay_legal.specs.Statuses.{read_contents}
-use Rattle.hay_volume.specs.Needles.{HasNeedleOf}
+use Rattle.hay_volume.specs.Needles.{HasNeedleOf, LacksNeedleOf, LacksNeedleWithin}
 use Rattle.hay_volume.proofs.Readings.{cell_begins}
 use Rattle.hay_open.specs.Stored.{OpensAs, Stored as WasStored, last_cell, volume_file}
 use Rattle.hay_logical.specs.Fits.{At, super_of}
-use Rattle.hay_logical.specs.Needles.{HasLiveNeedle, HasLiveNeedles, IsToldBy, LacksSeen}
+use Rattle.hay_logical.specs.Needles.{HasLiveNeedle, HasLiveNeedles, IsToldBy, LacksCellAnew, LacksSeen}
 use Rattle.hay_logical.specs.Seen.{IsFoundAs, ReplicaSeen, SeesAt, VolumeSeen}
-use Rattle.hay_logical.specs.Sights.{AreSightsOf, IsLiveSight, IsSightOfLast, Looks, LooksAtPair, Sight, Sights}
+use Rattle.hay_logical.specs.Sights.{AreSightsOf, AwaitsLook, IsLiveSight, IsSightOfLast, Looks, LooksAtPair, Sight, Sights}
 use Rattle.hay_logical.specs.Sights.Sight.{Gone as WasGone, Live, Never, Unseen}
 use Rattle.hay_cluster.specs.Needles.{AreToldAs, DeletesAsTold, FileAt, IsDamagedLookOn}
 use Rattle.hay_cluster.specs.Passing.{StandsFor}
-use Rattle.hay_cluster.specs.Seen.{VolumeAt}
-use Rattle.hay_cluster.specs.Sights.{ChangesPhotos, LeavesSights}
+use Rattle.hay_cluster.specs.Seen.{ReadsEach, VolumeAt}
+use Rattle.hay_cluster.specs.Sights.{ChangesPhotos, IsAbsent, LeavesSights}
 use Rattle.hay_cluster.proofs.OpeningReads.{whole_stands}
+use Rattle.hay_cluster.proofs.OpeningStore.{slot_below}
+use Rattle.hay_cluster.proofs.Recorded.{HasLast, HasLastAt, IsLast, LacksLast, ShowsSeen, StandsSeen, lacking_unseen, one_deleted, record_within, seen_so, some_disk, standing_seen, standing_shows}
 use Rattle.hay_run.specs.Causing.{BeginsAt, IsRestartText, Tally}
-use Rattle.hay_run.proofs.Refuted.{Says, damage_so, first_passed, sights_so, told_so, unreadable_where_a_photo_was_looked_at, unreadable_where_the_needle_stands}
+use Rattle.hay_run.proofs.Refuted.{LacksRecorded, Says, damage_so, deleted_over_a_damaged_needle, first_passed, gone_of_a_damaged_needle, photo_of_a_damaged_needle}
+use Rattle.hay_run.proofs.Refuted.{sights_so, told_so, unreadable_where_a_photo_was_looked_at, unreadable_where_the_needle_stands}
 
 -- PHOTOS WITHOUT A NEEDLE
 
@@ -160,6 +165,63 @@ damaged_elsewhere_at_first Tells settings taken sure before after pair v m j pla
         (subst (λ k. StandsFor (Damage place) ((before.seen).places v pair k)) here was) in
         other last.0 last.1 last.2
 
+-- a read that names damage of a replica whose needle stands, or was seen
+unreadable_over_a_needle : (Tells : Type 0) (settings : Settings) (before after : Tally) (pair : Pair) (cookie : Cookie) (v f d m j place number : ℕ) (causes : List Passed) → Tells
+    → v < settings.volumes → j < settings.replicas → replica_on settings v m ≡ Some j
+    → FileAt settings before.contents before.seen v j (λ r file. StandsSeen file ((before.seen).places v pair j))
+    → Says Tells settings before after (asks.Read pair cookie) number (Unreadable v f d (record { machine = m; cause = Damage place } ∷ causes)) → ⊥
+unreadable_over_a_needle Tells settings before after pair cookie v f d m j place number causes tells low within on (w, there, (r, is, stands)) says =
+    by_sight ((before.seen).places v pair j) refl stands stood
+  where
+    file : List ℕ
+    file = before.contents (slot_of settings v j) (volume_file r.generation)
+
+    stood : StandsFor (Damage place) ((before.seen).places v pair j)
+    stood = read (sights_so Tells settings before after (asks.Read pair cookie) number (Unreadable v f d (record { machine = m; cause = Damage place } ∷ causes)) says)
+      where
+        read : ChangesPhotos v (LooksAtPair pair) before.seen after.seen → StandsFor (Damage place) ((before.seen).places v pair j)
+        read looked =
+            stood_before place ((before.seen).places v pair j) ((after.seen).places v pair j) ((looked.changes).each j)
+            (first_passed Tells settings before after pair cookie v f d m j number (Damage place) causes on says)
+
+    by_sight : (x : Sight) → (before.seen).places v pair j ≡ x → StandsSeen file x → StandsFor (Damage place) x → ⊥
+    by_sight Never seen so damage = damage
+    by_sight WasGone seen so damage = damage
+    by_sight (Live at) seen so damage =
+        unreadable_where_a_photo_was_looked_at Tells settings before after pair cookie v f d m j place number causes tells on (subst (λ (x : Sight). IsLiveSight x) (sym seen) tt) says
+    by_sight (Unseen at size) seen so damage =
+        unreadable_where_the_needle_stands Tells settings before after pair cookie v f d m j at size place number r causes tells low within on (w, there, is) seen
+        (record { needle = needle_of_cell (so.1).cell; begins = cell_begins at file (so.1).cell (so.1).stands; long = (so.1).size_is }) says
+
+-- a deletion that met damage of such a replica
+damaged_over_a_needle : (Tells : Type 0) (settings : Settings) (before after : Tally) (pair : Pair) (v m j place number : ℕ) → Tells → replica_on settings v m ≡ Some j
+    → FileAt settings before.contents before.seen v j (λ r file. StandsSeen file ((before.seen).places v pair j))
+    → Says Tells settings before after (asks.Del pair) number (Damaged v m place) → ⊥
+damaged_over_a_needle Tells settings before after pair v m j place number tells on (w, there, (r, is, stands)) says =
+    met (damage_so Tells settings before after (asks.Del pair) number (Damaged v m place) tells says v m place refl)
+  where
+    file : ReplicaSeen → List ℕ
+    file o = before.contents (slot_of settings v j) (volume_file o.generation)
+
+    by_sight : (x : Sight) → StandsSeen (file r) x → LacksSeen (file r) place x → ⊥
+    by_sight Never so lacks = lacks
+    by_sight WasGone so lacks = lacks
+    by_sight (Live at) so lacks = lacks
+    by_sight (Unseen at size) so lacks = lacks.1 (needle_of_cell (so.1).cell) (cell_begins at (file r) (so.1).cell (so.1).stands) (so.1).size_is
+
+    met : IsDamagedLookOn settings before.contents before.seen v pair m place → ⊥
+    met (i, on', (w', there', (r', is', lacks))) =
+        let same : Some i ≡ Some j = sym on' ∙ on in
+        let here : i ≡ j = cc in
+        let one : Some w' ≡ Some w = sym there' ∙ there in
+        let same_volume : w' ≡ w = cc in
+        let on_volume : At w.replicas i r' = subst (λ (o : VolumeSeen). At o.replicas i r') same_volume is' in
+        let two : Some r' ≡ Some r = sym (subst (λ k. At w.replicas k r') here on_volume) ∙ is in
+        let same_replica : r' ≡ r = cc in
+        let at_slot : LacksSeen (file r') place ((before.seen).places v pair j) =
+        subst (λ k. LacksSeen (before.contents (slot_of settings v k) (volume_file r'.generation)) place ((before.seen).places v pair k)) here lacks in
+        by_sight ((before.seen).places v pair j) stands (subst (λ (o : ReplicaSeen). LacksSeen (file o) place ((before.seen).places v pair j)) same_replica at_slot)
+
 -- a read, right behind a restart, that names damage of a disk that is whole then, at whatever place and whatever the other disks have
 pub unreadable_behind_a_restart : (Tells : Type 0) (settings : Settings) (before mid after : Tally) (pair : Pair) (cookie : Cookie) (v f d m j place pick first number : ℕ)
     (text : List ℕ) (s : WasStored)
@@ -173,29 +235,263 @@ unreadable_behind_a_restart Tells settings before mid after pair cookie v f d m 
     file : ReplicaSeen → List ℕ
     file o = mid.contents (slot_of settings v j) (volume_file o.generation)
 
-    stood : StandsFor (Damage place) ((mid.seen).places v pair j)
-    stood = read (sights_so Tells settings mid after (asks.Read pair cookie) number (Unreadable v f d (record { machine = m; cause = Damage place } ∷ causes)) says)
-      where
-        read : ChangesPhotos v (LooksAtPair pair) mid.seen after.seen → StandsFor (Damage place) ((mid.seen).places v pair j)
-        read looked =
-            stood_before place ((mid.seen).places v pair j) ((after.seen).places v pair j) ((looked.changes).each j)
-            (first_passed Tells settings mid after pair cookie v f d m j number (Damage place) causes on says)
-
-    by_sight : (w : VolumeSeen) (r : ReplicaSeen) → At (mid.seen).volumes v w → At w.replicas j r → r.generation ≡ s.generation → (o : Option Cell) → last_cell s.cells pair ≡ o
-        → (x : Sight) → (mid.seen).places v pair j ≡ x → IsSightOfLast o x → StandsFor (Damage place) x → ⊥
-    by_sight w r there is made o last Never seen so damage = damage
-    by_sight w r there is made o last WasGone seen so damage = damage
-    by_sight w r there is made o last (Live at) seen so damage =
-        unreadable_where_a_photo_was_looked_at Tells settings mid after pair cookie v f d m j place number causes tells on (subst (λ (x : Sight). IsLiveSight x) (sym seen) tt) says
-    by_sight w r there is made None last (Unseen at size) seen so damage = so
-    by_sight w r there is made (Some cell) last (Unseen at size) seen so damage =
+    by_sight : (r : ReplicaSeen) → r.generation ≡ s.generation → (o : Option Cell) → last_cell s.cells pair ≡ o → (x : Sight) → IsSightOfLast o x → StandsSeen (file r) x
+    by_sight r made o last Never so = tt
+    by_sight r made o last WasGone so = tt
+    by_sight r made o last (Live at) so = tt
+    by_sight r made None last (Unseen at size) so = absurd so
+    by_sight r made (Some cell) last (Unseen at size) so =
         let bytes : List ℕ = mid.contents (slot_of settings v j) (volume_file s.generation) in
-        let has : HasNeedleOf (length cell.bytes) cell.deleted cell.at bytes = whole_stands (super_of settings v j) (mid.contents (slot_of settings v j)) s pair cell opens last in
-        let here : HasNeedleOf size cell.deleted at (file r) =
-        subst (λ g. HasNeedleOf size cell.deleted at (mid.contents (slot_of settings v j) (volume_file g))) (sym made)
-        (subst (λ n. HasNeedleOf n cell.deleted at bytes) (sym so.1) (subst (λ n. HasNeedleOf (length cell.bytes) cell.deleted n bytes) (sym so.0) has)) in
-        unreadable_where_the_needle_stands Tells settings mid after pair cookie v f d m j at size place number r causes tells low within on (w, there, is) seen
-        (record { needle = needle_of_cell here.cell; begins = cell_begins at (file r) here.cell here.stands; long = here.size_is }) says
+        let has : HasNeedleOf (length cell.bytes) cell.deleted cell.at bytes = whole_stands (super_of settings v j) (mid.contents (slot_of settings v j)) s pair cell opens last in (
+          cell.deleted,
+          subst (λ g. HasNeedleOf size cell.deleted at (mid.contents (slot_of settings v j) (volume_file g))) (sym made)
+              (subst (λ n. HasNeedleOf n cell.deleted at bytes) (sym so.1) (subst (λ n. HasNeedleOf (length cell.bytes) cell.deleted n bytes) (sym so.0) has)),
+        )
 
     found : VolumeAt v (SeesAt j (IsFoundAs s)) mid.seen × AreSightsOf s ((mid.seen).places v) j → ⊥
-    found ((w, there, (r, is, found_as)), sights) = by_sight w r there is found_as.1 (last_cell s.cells pair) refl ((mid.seen).places v pair j) refl (sights pair) stood
+    found ((w, there, (r, is, found_as)), sights) =
+        unreadable_over_a_needle Tells settings mid after pair cookie v f d m j place number causes tells low within on
+        (w, there, (r, is, by_sight r found_as.1 (last_cell s.cells pair) refl ((mid.seen).places v pair j) (sights pair))) says
+
+-- DISKS THAT ARE NEITHER VOID NOR WHOLE
+
+-- A photo that the index records, of which no needle stands, is not looked at behind an opening.
+recorded_unseen : (settings : Settings) (tally : Tally) (pair : Pair) (v j : ℕ) → v < settings.volumes → j < settings.replicas
+    → LacksLast (super_of settings v j) (tally.contents (slot_of settings v j)) pair → ReadsEach settings tally.contents tally.seen → LacksRecorded settings tally v j pair
+recorded_unseen settings tally pair v j low within (d, lacks) reads =
+    lacking (seen_so settings tally.contents tally.seen pair v j low within d (λ end file x. (x ≡ Unseen d.one.at d.one.size) × LacksNeedleOf d.one.size d.one.at file)
+    (λ x so. (lacking_unseen (super_of settings v j) (tally.contents (slot_of settings v j)) pair d lacks x so, lacks)) reads)
+  where
+    lacking : FileAt settings tally.contents tally.seen v j (λ r file. ((tally.seen).places v pair j ≡ Unseen d.one.at d.one.size) × LacksNeedleOf d.one.size d.one.at file)
+        → LacksRecorded settings tally v j pair
+    lacking (volume, there, (r, is, (unseen, none))) =
+        record { within = within; place = d.one.at; size = d.one.size; unseen = unseen; volume = volume; there = there; replica = r; is = is; lacks = none }
+
+-- what a first opening of such a disk reads is what was there
+kept_at_first : (Tells : Type 0) (settings : Settings) (taken : Outside) (sure : ℕ → Bool) (tally : Tally) (pair : Pair) (v j : ℕ) → Tells → v < settings.volumes → j < settings.replicas
+    → IsLast (super_of settings v j) (read_contents taken (slot_of settings v j)) pair → BeginsAt Tells settings taken sure tally
+    → tally.contents (slot_of settings v j) ≡ read_contents taken (slot_of settings v j)
+kept_at_first Tells settings taken sure tally pair v j tells low within d begins =
+    fun_ext (λ file. begins.contents tells (slot_of settings v j) file (slot_below settings v j low within)
+    (some_disk (super_of settings v j) (read_contents taken (slot_of settings v j)) pair d))
+
+recorded_at_first : (Tells : Type 0) (settings : Settings) (taken : Outside) (sure : ℕ → Bool) (before : Tally) (pair : Pair) (v j : ℕ) → Tells → v < settings.volumes → j < settings.replicas
+    → LacksLast (super_of settings v j) (read_contents taken (slot_of settings v j)) pair → BeginsAt Tells settings taken sure before → LacksRecorded settings before v j pair
+recorded_at_first Tells settings taken sure before pair v j tells low within lacks begins =
+    recorded_unseen settings before pair v j low within
+    (subst (λ (contents : Contents). LacksLast (super_of settings v j) contents pair) (sym (kept_at_first Tells settings taken sure before pair v j tells low within lacks.0 begins)) lacks)
+    (begins.reads_each tells)
+
+-- a photo that a replica showed right behind the first opening, whose needle is damaged
+pub photo_of_a_damaged_needle_at_first : (Tells : Type 0) (settings : Settings) (taken : Outside) (sure : ℕ → Bool) (before after : Tally) (pair : Pair) (cookie : Cookie) (v m f d j number : ℕ)
+    (photo : List ℕ) → Tells → v < settings.volumes → j < settings.replicas → replica_on settings v m ≡ Some j
+    → LacksLast (super_of settings v j) (read_contents taken (slot_of settings v j)) pair → BeginsAt Tells settings taken sure before
+    → Says Tells settings before after (asks.Read pair cookie) number (Photo v m f d photo) → ⊥
+photo_of_a_damaged_needle_at_first Tells settings taken sure before after pair cookie v m f d j number photo tells low within on lacks begins says =
+    photo_of_a_damaged_needle Tells settings before after pair cookie v m f d j number photo tells on
+    (recorded_at_first Tells settings taken sure before pair v j tells low within lacks begins) says
+
+-- one that was told as gone by such a replica
+pub gone_of_a_damaged_needle_at_first : (Tells : Type 0) (settings : Settings) (taken : Outside) (sure : ℕ → Bool) (before after : Tally) (pair : Pair) (cookie : Cookie) (v m f d j number : ℕ)
+    → Tells → v < settings.volumes → j < settings.replicas → replica_on settings v m ≡ Some j
+    → LacksLast (super_of settings v j) (read_contents taken (slot_of settings v j)) pair → BeginsAt Tells settings taken sure before
+    → Says Tells settings before after (asks.Read pair cookie) number (Gone v m f d) → ⊥
+gone_of_a_damaged_needle_at_first Tells settings taken sure before after pair cookie v m f d j number tells low within on lacks begins says =
+    gone_of_a_damaged_needle Tells settings before after pair cookie v m f d j number tells on
+    (recorded_at_first Tells settings taken sure before pair v j tells low within lacks begins) says
+
+-- a deletion of a photo of which a replica's needle is damaged
+pub deleted_over_a_damaged_needle_at_first : (Tells : Type 0) (settings : Settings) (taken : Outside) (sure : ℕ → Bool) (before after : Tally) (pair : Pair) (v p d j number : ℕ) → Tells
+    → v < settings.volumes → j < settings.replicas → LacksLast (super_of settings v j) (read_contents taken (slot_of settings v j)) pair → BeginsAt Tells settings taken sure before
+    → Says Tells settings before after (asks.Del pair) number (Deleted v p d) → ⊥
+deleted_over_a_damaged_needle_at_first Tells settings taken sure before after pair v p d j number tells low within lacks begins says =
+    deleted_over_a_damaged_needle Tells settings before after pair v p d j number tells (recorded_at_first Tells settings taken sure before pair v j tells low within lacks begins) says
+
+-- a photo that such a replica showed right behind a restart
+pub photo_of_a_damaged_needle_behind_a_restart : (Tells : Type 0) (settings : Settings) (before mid after : Tally) (pair : Pair) (cookie : Cookie) (v m f d j pick first number : ℕ)
+    (text photo : List ℕ) → Tells → v < settings.volumes → j < settings.replicas → replica_on settings v m ≡ Some j
+    → LacksLast (super_of settings v j) (mid.contents (slot_of settings v j)) pair → IsRestartText Tells settings before mid (asks.Restart pick) first text
+    → Says Tells settings mid after (asks.Read pair cookie) number (Photo v m f d photo) → ⊥
+photo_of_a_damaged_needle_behind_a_restart Tells settings before mid after pair cookie v m f d j pick first number text photo tells low within on lacks
+    (p, rows, notes, asked, large, tells_all, fits, opens_all, many, arms, text_is, again) says =
+    photo_of_a_damaged_needle Tells settings mid after pair cookie v m f d j number photo tells on (recorded_unseen settings mid pair v j low within lacks (again tells).reads_each) says
+
+-- On a disk where the last recorded needle of the pair stands an opening sees it so.
+standing_so : (settings : Settings) (tally : Tally) (pair : Pair) (v j : ℕ) (deleted : Bool) → v < settings.volumes → j < settings.replicas
+    → HasLast (super_of settings v j) (tally.contents (slot_of settings v j)) pair deleted → ReadsEach settings tally.contents tally.seen
+    → FileAt settings tally.contents tally.seen v j (λ r file. StandsSeen file ((tally.seen).places v pair j))
+standing_so settings tally pair v j deleted low within (d, has) reads =
+    seen_so settings tally.contents tally.seen pair v j low within d (λ end file x. StandsSeen file x)
+    (standing_seen (super_of settings v j) (tally.contents (slot_of settings v j)) pair d deleted has) reads
+
+standing_at_first : (Tells : Type 0) (settings : Settings) (taken : Outside) (sure : ℕ → Bool) (before : Tally) (pair : Pair) (v j : ℕ) (deleted : Bool) → Tells
+    → v < settings.volumes → j < settings.replicas
+    → HasLast (super_of settings v j) (read_contents taken (slot_of settings v j)) pair deleted → BeginsAt Tells settings taken sure before
+    → HasLast (super_of settings v j) (before.contents (slot_of settings v j)) pair deleted
+standing_at_first Tells settings taken sure before pair v j deleted tells low within has begins =
+    subst (λ (contents : Contents). HasLast (super_of settings v j) contents pair deleted) (sym (kept_at_first Tells settings taken sure before pair v j tells low within has.0 begins)) has
+
+-- a read, right behind the first opening, that names damage of such a disk, at whatever place and whatever else of the disk is damaged
+pub unreadable_over_a_needle_at_first : (Tells : Type 0) (settings : Settings) (taken : Outside) (sure : ℕ → Bool) (before after : Tally) (pair : Pair) (cookie : Cookie)
+    (v f d m j place number : ℕ) (deleted : Bool) (causes : List Passed) → Tells → v < settings.volumes → j < settings.replicas → replica_on settings v m ≡ Some j
+    → HasLast (super_of settings v j) (read_contents taken (slot_of settings v j)) pair deleted → BeginsAt Tells settings taken sure before
+    → Says Tells settings before after (asks.Read pair cookie) number (Unreadable v f d (record { machine = m; cause = Damage place } ∷ causes)) → ⊥
+unreadable_over_a_needle_at_first Tells settings taken sure before after pair cookie v f d m j place number deleted causes tells low within on has begins says =
+    unreadable_over_a_needle Tells settings before after pair cookie v f d m j place number causes tells low within on
+    (standing_so settings before pair v j deleted low within (standing_at_first Tells settings taken sure before pair v j deleted tells low within has begins) (begins.reads_each tells)) says
+
+-- or right behind a restart
+pub unreadable_over_a_needle_behind_a_restart : (Tells : Type 0) (settings : Settings) (before mid after : Tally) (pair : Pair) (cookie : Cookie)
+    (v f d m j place pick first number : ℕ) (text : List ℕ) (deleted : Bool) (causes : List Passed) → Tells → v < settings.volumes → j < settings.replicas
+    → replica_on settings v m ≡ Some j
+    → HasLast (super_of settings v j) (mid.contents (slot_of settings v j)) pair deleted → IsRestartText Tells settings before mid (asks.Restart pick) first text
+    → Says Tells settings mid after (asks.Read pair cookie) number (Unreadable v f d (record { machine = m; cause = Damage place } ∷ causes)) → ⊥
+unreadable_over_a_needle_behind_a_restart Tells settings before mid after pair cookie v f d m j place pick first number text deleted causes tells low within on has
+    (p, rows, notes, asked, large, tells_all, fits, opens_all, many, arms, text_is, again) says =
+    unreadable_over_a_needle Tells settings mid after pair cookie v f d m j place number causes tells low within on
+    (standing_so settings mid pair v j deleted low within has (again tells).reads_each) says
+
+-- a deletion that met damage of such a disk
+pub damaged_over_a_needle_at_first : (Tells : Type 0) (settings : Settings) (taken : Outside) (sure : ℕ → Bool) (before after : Tally) (pair : Pair) (v m j place number : ℕ)
+    (deleted : Bool) → Tells → v < settings.volumes → j < settings.replicas → replica_on settings v m ≡ Some j
+    → HasLast (super_of settings v j) (read_contents taken (slot_of settings v j)) pair deleted → BeginsAt Tells settings taken sure before
+    → Says Tells settings before after (asks.Del pair) number (Damaged v m place) → ⊥
+damaged_over_a_needle_at_first Tells settings taken sure before after pair v m j place number deleted tells low within on has begins says =
+    damaged_over_a_needle Tells settings before after pair v m j place number tells on
+    (standing_so settings before pair v j deleted low within (standing_at_first Tells settings taken sure before pair v j deleted tells low within has begins) (begins.reads_each tells)) says
+
+-- a compaction that met damage where the needle stands that is recorded last of a pair
+compact_damaged_over_a_needle : (Tells : Type 0) (settings : Settings) (before after : Tally) (pair : Pair) (v m j place number : ℕ) (deleted : Bool) → Tells
+    → v < settings.volumes → j < settings.replicas → replica_on settings v m ≡ Some j
+    → HasLastAt place (super_of settings v j) (before.contents (slot_of settings v j)) pair deleted → ReadsEach settings before.contents before.seen
+    → Says Tells settings before after (asks.Compact v m) number (Damaged v m place) → ⊥
+compact_damaged_over_a_needle Tells settings before after pair v m j place number deleted tells low within on ((last, has), here) reads says =
+    met (seen_so settings before.contents before.seen pair v j low within last IsHere (λ x so. (record_within (super_of settings v j) (before.contents (slot_of settings v j)) pair last, has)) reads)
+    (damage_so Tells settings before after (asks.Compact v m) number (Damaged v m place) tells says m place refl j on)
+  where
+    IsHere : ℕ → List ℕ → Sight → Type 0
+    IsHere end file x = (last.one.at + needle_total last.one.size ≤ end) × HasNeedleOf last.one.size deleted last.one.at file
+
+    file : ReplicaSeen → List ℕ
+    file o = before.contents (slot_of settings v j) (volume_file o.generation)
+
+    met : FileAt settings before.contents before.seen v j (λ r bytes. IsHere r.end bytes ((before.seen).places v pair j))
+        → FileAt settings before.contents before.seen v j (λ r bytes. LacksCellAnew ((before.seen).places v) j place r bytes) → ⊥
+    met (w, there, (r, is, (ends, stands))) (w', there', (r', is', lacks)) =
+        let one : Some w' ≡ Some w = sym there' ∙ there in
+        let same : w' ≡ w = cc in
+        let two : Some r' ≡ Some r = sym (subst (λ (o : VolumeSeen). At o.replicas j r') same is') ∙ is in
+        let same_replica : r' ≡ r = cc in
+        let none : LacksNeedleWithin r.end last.one.at (file r) =
+        subst (λ n. LacksNeedleWithin r.end n (file r)) (sym here) (subst (λ (o : ReplicaSeen). LacksNeedleWithin o.end place (file o)) same_replica lacks.lacks) in
+        none (needle_of_cell stands.cell) (cell_begins last.one.at (file r) stands.cell stands.stands)
+        (subst (λ n. last.one.at + needle_total n ≤ r.end) (sym stands.size_is) ends)
+
+-- right behind the first opening
+pub compact_damaged_over_a_needle_at_first : (Tells : Type 0) (settings : Settings) (taken : Outside) (sure : ℕ → Bool) (before after : Tally) (pair : Pair)
+    (v m j place number : ℕ) (deleted : Bool) → Tells → v < settings.volumes → j < settings.replicas → replica_on settings v m ≡ Some j
+    → HasLastAt place (super_of settings v j) (read_contents taken (slot_of settings v j)) pair deleted → BeginsAt Tells settings taken sure before
+    → Says Tells settings before after (asks.Compact v m) number (Damaged v m place) → ⊥
+compact_damaged_over_a_needle_at_first Tells settings taken sure before after pair v m j place number deleted tells low within on has begins says =
+    compact_damaged_over_a_needle Tells settings before after pair v m j place number deleted tells low within on
+    (subst (λ (contents : Contents). HasLastAt place (super_of settings v j) contents pair deleted)
+    (sym (kept_at_first Tells settings taken sure before pair v j tells low within has.0.0 begins)) has) (begins.reads_each tells) says
+
+-- or right behind a restart
+pub compact_damaged_over_a_needle_behind_a_restart : (Tells : Type 0) (settings : Settings) (before mid after : Tally) (pair : Pair) (v m j place pick first number : ℕ)
+    (text : List ℕ) (deleted : Bool) → Tells → v < settings.volumes → j < settings.replicas → replica_on settings v m ≡ Some j
+    → HasLastAt place (super_of settings v j) (mid.contents (slot_of settings v j)) pair deleted → IsRestartText Tells settings before mid (asks.Restart pick) first text
+    → Says Tells settings mid after (asks.Compact v m) number (Damaged v m place) → ⊥
+compact_damaged_over_a_needle_behind_a_restart Tells settings before mid after pair v m j place pick first number text deleted tells low within on has
+    (p, rows, notes, asked, large, tells_all, fits, opens_all, many, arms, text_is, again) says =
+    compact_damaged_over_a_needle Tells settings mid after pair v m j place number deleted tells low within on has (again tells).reads_each says
+
+-- Behind looks at a pair it is not absent on a replica on whose disk the needle stands that is recorded last, and is not deleted.
+shown_still : (settings : Settings) (before : Tally) (pair : Pair) (v j : ℕ) (behind : Sights) → v < settings.volumes → j < settings.replicas
+    → HasLast (super_of settings v j) (before.contents (slot_of settings v j)) pair false → ReadsEach settings before.contents before.seen
+    → AreToldAs settings before.contents before.seen v pair behind → Looks ((before.seen).places v pair j) (behind pair j) → IsAbsent (behind pair j) → ⊥
+shown_still settings before pair v j behind low within (last, has) reads told =
+    both (seen_so settings before.contents before.seen pair v j low within last (λ end file x. ShowsSeen file x)
+    (standing_shows (super_of settings v j) (before.contents (slot_of settings v j)) pair last has) reads) (told j within)
+  where
+    by_sight : (file : List ℕ) (old new : Sight) → ShowsSeen file old → IsToldBy file old new → Looks old new → IsAbsent new → ⊥
+    by_sight file Never new stands so looks none = stands
+    by_sight file WasGone new stands so looks none = stands
+    by_sight file (Live at) new stands so (inl same) none = subst (λ (s : Sight). IsAbsent s) same none
+    by_sight file (Live at) new stands so (inr becomes) none = becomes
+    by_sight file (Unseen at size) new stands so (inl same) none = subst (λ (s : Sight). IsAbsent s) same none
+    by_sight file (Unseen at size) new stands so (inr (inl live)) none = subst (λ (s : Sight). IsAbsent s) live none
+    by_sight file (Unseen at size) new stands so (inr (inr gone)) none =
+        one_deleted size at file stands (subst (λ (s : Sight). IsToldBy file (Unseen at size) s) gone so)
+
+    both : FileAt settings before.contents before.seen v j (λ r file. ShowsSeen file ((before.seen).places v pair j))
+        → FileAt settings before.contents before.seen v j (λ r file. IsToldBy file ((before.seen).places v pair j) (behind pair j))
+        → Looks ((before.seen).places v pair j) (behind pair j) → IsAbsent (behind pair j) → ⊥
+    both (w, there, (r, is, stands)) (w', there', (r', is', so)) looks none =
+        let one : Some w' ≡ Some w = sym there' ∙ there in
+        let same : w' ≡ w = cc in
+        let two : Some r' ≡ Some r = sym (subst (λ (o : VolumeSeen). At o.replicas j r') same is') ∙ is in
+        let same_replica : r' ≡ r = cc in
+        by_sight (before.contents (slot_of settings v j) (volume_file r.generation)) ((before.seen).places v pair j) (behind pair j) stands
+        (subst (λ (o : ReplicaSeen). IsToldBy (before.contents (slot_of settings v j) (volume_file o.generation)) ((before.seen).places v pair j) (behind pair j)) same_replica so)
+        looks none
+
+-- a photo that was told as gone by such a replica
+gone_over_a_needle : (Tells : Type 0) (settings : Settings) (before after : Tally) (pair : Pair) (cookie : Cookie) (v m f d j number : ℕ) → Tells → v < settings.volumes
+    → j < settings.replicas → replica_on settings v m ≡ Some j
+    → HasLast (super_of settings v j) (before.contents (slot_of settings v j)) pair false → ReadsEach settings before.contents before.seen
+    → Says Tells settings before after (asks.Read pair cookie) number (Gone v m f d) → ⊥
+gone_over_a_needle Tells settings before after pair cookie v m f d j number tells low within on has reads says =
+    shown (sights_so Tells settings before after (asks.Read pair cookie) number (Gone v m f d) says)
+  where
+    shown : LeavesSights settings (asks.Read pair cookie) (Gone v m f d) before.seen after.seen → ⊥
+    shown (looked, (i, there, none)) =
+        let same : Some i ≡ Some j = sym there ∙ on in
+        let here : i ≡ j = cc in
+        shown_still settings before pair v j ((after.seen).places v) low within has reads (told_so Tells settings before after (asks.Read pair cookie) number (Gone v m f d) tells says)
+        ((looked.changes).each j) (subst (λ k. IsAbsent ((after.seen).places v pair k)) here none)
+
+-- right behind the first opening
+pub gone_over_a_needle_at_first : (Tells : Type 0) (settings : Settings) (taken : Outside) (sure : ℕ → Bool) (before after : Tally) (pair : Pair) (cookie : Cookie)
+    (v m f d j number : ℕ) → Tells → v < settings.volumes → j < settings.replicas → replica_on settings v m ≡ Some j
+    → HasLast (super_of settings v j) (read_contents taken (slot_of settings v j)) pair false → BeginsAt Tells settings taken sure before
+    → Says Tells settings before after (asks.Read pair cookie) number (Gone v m f d) → ⊥
+gone_over_a_needle_at_first Tells settings taken sure before after pair cookie v m f d j number tells low within on has begins says =
+    gone_over_a_needle Tells settings before after pair cookie v m f d j number tells low within on
+    (standing_at_first Tells settings taken sure before pair v j false tells low within has begins) (begins.reads_each tells) says
+
+-- or right behind a restart
+pub gone_over_a_needle_behind_a_restart : (Tells : Type 0) (settings : Settings) (before mid after : Tally) (pair : Pair) (cookie : Cookie) (v m f d j pick first number : ℕ)
+    (text : List ℕ) → Tells → v < settings.volumes → j < settings.replicas → replica_on settings v m ≡ Some j
+    → HasLast (super_of settings v j) (mid.contents (slot_of settings v j)) pair false → IsRestartText Tells settings before mid (asks.Restart pick) first text
+    → Says Tells settings mid after (asks.Read pair cookie) number (Gone v m f d) → ⊥
+gone_over_a_needle_behind_a_restart Tells settings before mid after pair cookie v m f d j pick first number text tells low within on has
+    (p, rows, notes, asked, large, tells_all, fits, opens_all, many, arms, text_is, again) says =
+    gone_over_a_needle Tells settings mid after pair cookie v m f d j number tells low within on has (again tells).reads_each says
+
+-- a deletion that found no photo where such a replica is
+absent_over_a_needle : (Tells : Type 0) (settings : Settings) (before after : Tally) (pair : Pair) (v f d j number : ℕ) → Tells → v < settings.volumes → j < settings.replicas
+    → HasLast (super_of settings v j) (before.contents (slot_of settings v j)) pair false → ReadsEach settings before.contents before.seen
+    → Says Tells settings before after (asks.Del pair) number (Absent v f d) → ⊥
+absent_over_a_needle Tells settings before after pair v f d j number tells low within has reads says =
+    found (sights_so Tells settings before after (asks.Del pair) number (Absent v f d) says)
+  where
+    absent : (s : Sight) → (IsLiveSight s → ⊥) → (AwaitsLook s → ⊥) → IsAbsent s
+    absent Never none seen = tt
+    absent (Live at) none seen = none tt
+    absent WasGone none seen = tt
+    absent (Unseen at size) none seen = seen tt
+
+    found : LeavesSights settings (asks.Del pair) (Absent v f d) before.seen after.seen → ⊥
+    found changes =
+        let finds = changes.changes in
+        shown_still settings before pair v j ((after.seen).places v) low within has reads (told_so Tells settings before after (asks.Del pair) number (Absent v f d) tells says)
+        ((finds.looks).each j) (absent ((after.seen).places v pair j) (λ live. finds.none (j, within, live)) (finds.all j within))
+
+pub absent_over_a_needle_at_first : (Tells : Type 0) (settings : Settings) (taken : Outside) (sure : ℕ → Bool) (before after : Tally) (pair : Pair) (v f d j number : ℕ) → Tells
+    → v < settings.volumes → j < settings.replicas
+    → HasLast (super_of settings v j) (read_contents taken (slot_of settings v j)) pair false → BeginsAt Tells settings taken sure before
+    → Says Tells settings before after (asks.Del pair) number (Absent v f d) → ⊥
+absent_over_a_needle_at_first Tells settings taken sure before after pair v f d j number tells low within has begins says =
+    absent_over_a_needle Tells settings before after pair v f d j number tells low within
+    (standing_at_first Tells settings taken sure before pair v j false tells low within has begins) (begins.reads_each tells) says

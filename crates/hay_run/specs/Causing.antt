@@ -28,7 +28,7 @@ use Rattle.hay_cluster.specs.Leaving.{LeavesContents}
 use Rattle.hay_cluster.specs.Needles.{MeetsNeedles, PendingTold, PhotosStand, TellsDamage}
 use Rattle.hay_cluster.specs.Outside.{AreSoundBelow, FormatsVoid, IsDamagedDisk, IsKept, IsUndamaged, KeepsContents}
 use Rattle.hay_cluster.specs.Passing.{PassesBefore}
-use Rattle.hay_cluster.specs.Seen.{Answers, OpensSeen, ReadsSeen, StoreSeen, TellsSeen, home_seen, store_seen}
+use Rattle.hay_cluster.specs.Seen.{Answers, OpensSeen, ReadsEach, ReadsSeen, StoreSeen, TellsSeen, home_seen, store_seen}
 use Rattle.hay_cluster.specs.Sights.{LeavesSights}
 use Rattle.hay_cluster.specs.Store.{Open, contents_in, disks_of}
 use Rattle.hay_run.specs.declared.stops.Stop.{Stop}
@@ -79,6 +79,7 @@ pub record ReadsAgain (settings : Settings) (before after : Tally) : Type 0 wher
   pub sound : IsUndamaged settings after.contents
   pub pending : PendingTold settings after.contents before.seen after.seen
   pub reads : ReadsSeen settings after.contents after.seen
+  pub reads_each : ReadsEach settings after.contents after.seen
   pub live : PhotosStand settings after.contents after.seen
 
 -- the text of a restart: its reply, with how many rows are seen then, and the notes behind it, which tell of all that was pending whether it was kept, with
@@ -255,7 +256,8 @@ StandsBehind Tells NotOpened settings before after last part =
 -- A store that was opened on these disks and arms has this tally, of just these, and an arm that was sure is sure in it. Nothing is pending
 -- or closed. A disk that was not void has what it had, and one that was is formatted, with nothing stored in it; the rows are those of the
 -- Directory's disk, and of each replica whose disk was void or whole its generation is seen, where its cells end, how many have no
--- record, and where its photos stand. On each disk what is seen as a photo's has its needle, which is not deleted.
+-- record, and where its photos stand; so it is of each, whatever its disk had, by what an opening reads: the head, the index, and the cells
+-- that have no record. On each disk what is seen as a photo's has its needle, which is not deleted.
 pub record BeginsAt (Tells : Type 0) (settings : Settings) (taken : Outside) (sure : ℕ → Bool) (tally : Tally) : Type 0 where
   pub disks : length tally.counts.disks ≡ disk_count settings
   pub fused : length tally.fuses ≡ disk_count settings
@@ -266,6 +268,7 @@ pub record BeginsAt (Tells : Type 0) (settings : Settings) (taken : Outside) (su
   pub stay_sure : (lane : ℕ) → lane < 8 → sure lane ≡ true → HasSureArm tally lane
   pub seen : OpensSeen settings tally.seen
   pub reads : Tells → ReadsSeen settings (read_contents taken) tally.seen
+  pub reads_each : Tells → ReadsEach settings tally.contents tally.seen
   pub live : Tells → PhotosStand settings tally.contents tally.seen
   pub contents : Tells → KeepsContents settings (read_contents taken) tally.contents
   pub formatted : Tells → FormatsVoid settings (read_contents taken) tally.contents

@@ -221,6 +221,7 @@ returns-clause-caused g c = λ script held told told_first.
           lane_of A.is_sure c.in-Ok.cluster.arms lane arm.0 arm.1 (c.in-Ok.ensures.sure_arms lane arm.0 arm.1 ∙ is);
       seen = c.in-Ok.ensures.opens;
       reads = c.in-Ok.ensures.reads;
+      reads_each = c.in-Ok.ensures.reads_each;
       live = c.in-Ok.ensures.live;
       contents = c.in-Ok.ensures.contents;
       formatted = c.in-Ok.ensures.formatted;

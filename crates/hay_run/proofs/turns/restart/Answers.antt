@@ -127,7 +127,7 @@ returns-in-Ok-clause-caused g c =
     (g.K.Sink.written c.args.sink.now) (g.K.Sink.written c.write_restarted.new.sink) none c.in-Ok.ensures.fuses (ap (map A.fault_count) c.in-Ok.ensures.arms) large
     (subst (λ (l : List Note). TellsSeen c.args.cluster.now.settings (store_seen c.args.cluster.now) (store_seen c.restart.new.self) l) (sym c.as_slice.ensures) c.in-Ok.ensures.tells)
     (subst (λ (l : List Note). AllByRecursion FitsNote l) (sym c.as_slice.ensures) c.in-Ok.ensures.fits) c.in-Ok.ensures.opens c.rows.ensures.count
-    (λ tells. let e = c.in-Ok.ensures in record { sound = e.sound tells; pending = e.told tells; reads = e.reads tells; live = e.live tells }) wrote)
+    (λ tells. let e = c.in-Ok.ensures in record { sound = e.sound tells; pending = e.told tells; reads = e.reads tells; reads_each = e.reads_each tells; live = e.live tells }) wrote)
     c.write_restarted.ensures.wrote
 
 pub returns-in-Ok-clause-stop_caused : goal.returns-in-Ok-clause-stop_caused
@@ -150,7 +150,7 @@ returns-in-Ok-clause-stop_caused g c = λ why is.
     (g.K.Sink.written c.args.sink.now) (g.K.Sink.written c.write_restarted.new.sink) none c.in-Ok.ensures.fuses (ap (map A.fault_count) c.in-Ok.ensures.arms) large
     (subst (λ (l : List Note). TellsSeen c.args.cluster.now.settings (store_seen c.args.cluster.now) (store_seen c.restart.new.self) l) (sym c.as_slice.ensures) c.in-Ok.ensures.tells)
     (subst (λ (l : List Note). AllByRecursion FitsNote l) (sym c.as_slice.ensures) c.in-Ok.ensures.fits) c.in-Ok.ensures.opens c.rows.ensures.count
-    (λ tells. let e = c.in-Ok.ensures in record { sound = e.sound tells; pending = e.told tells; reads = e.reads tells; live = e.live tells }) wrote)
+    (λ tells. let e = c.in-Ok.ensures in record { sound = e.sound tells; pending = e.told tells; reads = e.reads tells; reads_each = e.reads_each tells; live = e.live tells }) wrote)
     c.write_restarted.ensures.part)
 
 pub returns-in-Err-clause-stop_caused : goal.returns-in-Err-clause-stop_caused
