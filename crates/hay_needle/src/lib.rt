@@ -31,6 +31,9 @@ pub use needle::{
     Bytes, Cell, CellHead, Cookie, Needle, NeedleView, Outcome, Pair, Photo, Row, Version,
 };
 pub use read::{HEAD_LEN, NEEDLE_MAGIC, NeedleFault, read_head, read_needle};
-pub use settings::{FileKind, LAST_GENERATION, Settings, Super};
+pub use settings::{
+    FileKind, LAST_GENERATION, MAX_CAPACITY, MAX_MACHINES, MAX_REPLICAS, MAX_VOLUMES, MIN_CAPACITY,
+    Settings, Super, USUAL_CAPACITY,
+};
 pub use superblock::{SUPER_LEN, SUPER_MAGIC, SuperFault, read_super, write_super};
 pub use total::{MAX_NEEDLE, MAX_PHOTO, total_of};

@@ -7,6 +7,7 @@ use Rattle.std.specs.Str.Parse.{digits_value}
 use Rattle.hay_script.specs.declared.Command.{Command}
 use Rattle.hay_script.specs.declared.Command.TheVariants as command
 use Rattle.hay_script.specs.declared.Line.TheVariants as line
+use Rattle.hay_script.specs.declared.words.TheConstants.{MAX_LANES}
 use Rattle.hay_script.specs.Script.{IsWithin, below, by_place, command_of, command_of_one, from_one, inside_line, is_fair, is_skipped, lane_line, lanes_by, line_of}
 use Rattle.hay_script.specs.Script.{may_stand_in_lane, outside_line, plain_by, words_of}
 use Rattle.hay_legal.specs.declared.turn.Item.{Item}
@@ -70,11 +71,11 @@ in_lane lanes text lane command is = by (is_skipped (words_of text)) (is_fair te
     by false true e = inside_lane lanes (words_of text) lane command e
     by false false e = absurd cc
 
--- a line that opens a block has one to eight lanes
-lanes_from : (text : List ℕ) (lanes : ℕ) → from_one 9 text ≡ Some lanes → (0 < lanes) × (lanes ≤ 8)
-lanes_from text lanes is = by (below 9 text) (below_limit 9 text) is
+-- how many lanes a line that opens a block has
+lanes_from : (text : List ℕ) (lanes : ℕ) → from_one (MAX_LANES + 1) text ≡ Some lanes → (0 < lanes) × (lanes ≤ MAX_LANES)
+lanes_from text lanes is = by (below (MAX_LANES + 1) text) (below_limit (MAX_LANES + 1) text) is
   where
-    by : (found : Option ℕ) → ((n : ℕ) → found ≡ Some n → n < 9) → option_and_then (λ (n : ℕ). if n == 0 then None else Some n) found ≡ Some lanes → (0 < lanes) × (lanes ≤ 8)
+    by : (found : Option ℕ) → ((n : ℕ) → found ≡ Some n → n < MAX_LANES + 1) → option_and_then (λ (n : ℕ). if n == 0 then None else Some n) found ≡ Some lanes → (0 < lanes) × (lanes ≤ MAX_LANES)
     by None low e = absurd cc
     by (Some zero) low e = absurd cc
     by (Some (suc n)) low e =
@@ -92,20 +93,20 @@ not_plain : (asked : Option Command) (lanes : ℕ) → line.Lanes lanes ≡ plai
 not_plain None lanes e = cc
 not_plain (Some command) lanes e = cc
 
-outside_lanes : (words : List (List ℕ)) (lanes : ℕ) → line.Lanes lanes ≡ outside_line words → (0 < lanes) × (lanes ≤ 8)
+outside_lanes : (words : List (List ℕ)) (lanes : ℕ) → line.Lanes lanes ≡ outside_line words → (0 < lanes) × (lanes ≤ MAX_LANES)
 outside_lanes [] lanes e = absurd (not_plain (command_of []) lanes e)
 outside_lanes (verb ∷ []) lanes e = absurd (not_plain (command_of (verb ∷ [])) lanes e)
 outside_lanes (verb ∷ a ∷ []) lanes e = by (bytes_eq verb (codes "lanes")) e
   where
-    by : (b : Bool) → line.Lanes lanes ≡ (if b then lanes_by (from_one 9 a) else plain_by (command_of_one verb a)) → (0 < lanes) × (lanes ≤ 8)
-    by true e = lanes_from a lanes (lanes_said (from_one 9 a) lanes e)
+    by : (b : Bool) → line.Lanes lanes ≡ (if b then lanes_by (from_one (MAX_LANES + 1) a) else plain_by (command_of_one verb a)) → (0 < lanes) × (lanes ≤ MAX_LANES)
+    by true e = lanes_from a lanes (lanes_said (from_one (MAX_LANES + 1) a) lanes e)
     by false e = absurd (not_plain (command_of_one verb a) lanes e)
 outside_lanes (verb ∷ a ∷ b ∷ words) lanes e = absurd (not_plain (command_of (verb ∷ a ∷ b ∷ words)) lanes e)
 
-pub block_lanes : (text : List ℕ) (lanes : ℕ) → line.Lanes lanes ≡ line_of None text → (0 < lanes) × (lanes ≤ 8)
+pub block_lanes : (text : List ℕ) (lanes : ℕ) → line.Lanes lanes ≡ line_of None text → (0 < lanes) × (lanes ≤ MAX_LANES)
 block_lanes text lanes is = by (is_skipped (words_of text)) (is_fair text) is
   where
-    by : (skipped fair : Bool) → line.Lanes lanes ≡ (if skipped then line.Skip else if fair then by_place None (words_of text) else line.Bad) → (0 < lanes) × (lanes ≤ 8)
+    by : (skipped fair : Bool) → line.Lanes lanes ≡ (if skipped then line.Skip else if fair then by_place None (words_of text) else line.Bad) → (0 < lanes) × (lanes ≤ MAX_LANES)
     by true fair e = absurd cc
     by false true e = outside_lanes (words_of text) lanes e
     by false false e = absurd cc

@@ -16,6 +16,7 @@ use Rattle.hay_script.specs.declared.Command.{Command}
 use Rattle.hay_script.specs.declared.Command.TheVariants as asks
 use Rattle.hay_script.specs.declared.Line.{Line}
 use Rattle.hay_script.specs.declared.Line.TheVariants as line
+use Rattle.hay_script.specs.declared.words.TheConstants.{MAX_LANES}
 use Rattle.hay_script.specs.Script.{begins_with_feed, command_alone, command_of, command_of_one, command_of_three, command_of_two, cookie_of_text, from_one, is_blank, is_fair, is_skipped, is_word}
 use Rattle.hay_script.specs.Script.{lanes_by, large, line_of, lines_of, outside_line, pair_of_text, photo_of_text, plain_by, seen_byte, small, with_three, with_two, words_of}
 use Rattle.hay_legal.specs.declared.turn.Item.TheVariants as item
@@ -369,7 +370,7 @@ outside_mild : (words : List (List ℕ)) → Each (λ p. apart 0 p ≡ true) wor
 outside_mild [] each = tt
 outside_mild (verb ∷ []) each = plain_mild (command_of (verb ∷ [])) (of_words (verb ∷ []) each)
 outside_mild (verb ∷ a ∷ []) each =
-    line_either (bytes_eq verb (codes "lanes")) (lanes_by (from_one 9 a)) (plain_by (command_of_one verb a)) (lanes_mild (from_one 9 a)) (plain_mild (command_of_one verb a) (of_one verb a))
+    line_either (bytes_eq verb (codes "lanes")) (lanes_by (from_one (MAX_LANES + 1) a)) (plain_by (command_of_one verb a)) (lanes_mild (from_one 9 a)) (plain_mild (command_of_one verb a) (of_one verb a))
 outside_mild (verb ∷ a ∷ b ∷ more) each = plain_mild (command_of (verb ∷ a ∷ b ∷ more)) (of_words (verb ∷ a ∷ b ∷ more) each)
 
 line_mild : (text : List ℕ) → apart 0 text ≡ true → IsMildLine (line_of None text)

@@ -12,7 +12,7 @@ use Rattle.hay_needle.specs.declared.total.TheConstants.{MAX_PHOTO}
 use Rattle.hay_url.specs.Url.{url_of}
 use Rattle.hay_script.specs.declared.Command.{Command}
 use Rattle.hay_script.specs.declared.Command.TheVariants.{Put, Read, Get, Del, Url, Flush, Compact, Begin, Step, Finish, Drain, Undrain, Fuse, FuseDir, Restart}
-use Rattle.hay_script.specs.declared.words.TheConstants.{MAX_LINE}
+use Rattle.hay_script.specs.declared.words.TheConstants.{MAX_LANES, MAX_LINE}
 use Rattle.hay_script.specs.declared.Line.{Line}
 use Rattle.hay_script.specs.declared.Line.TheVariants as line
 
@@ -165,7 +165,7 @@ lanes_by None = line.Bad
 
 -- outside of a block
 abbrev pub outside_line : List (List ℕ) → Line
-outside_line (verb ∷ a ∷ []) = if bytes_eq verb (codes "lanes") then lanes_by (from_one 9 a) else plain_by (command_of_one verb a)
+outside_line (verb ∷ a ∷ []) = if bytes_eq verb (codes "lanes") then lanes_by (from_one (MAX_LANES + 1) a) else plain_by (command_of_one verb a)
 outside_line words = plain_by (command_of words)
 
 abbrev pub lane_line : Option ℕ → Option Command → Line

@@ -14,7 +14,7 @@ mod words;
 use hay_needle::{Bytes, Cookie, Pair};
 use hay_url::Url;
 pub use read::read_line;
-pub use words::{MAX_LINE, MAX_SCRIPT};
+pub use words::{MAX_COMMANDS, MAX_LANES, MAX_LINE, MAX_SCRIPT};
 
 /// A command of a script.
 #[derive(Debug, Drop)]
@@ -102,7 +102,7 @@ pub enum Line {
     Plain(Command),
     /// A command in a lane of a block.
     InLane { lane: u32, command: Command },
-    /// `lanes N`: a block of 1 to 8 lanes begins.
+    /// `lanes N`: a block of 1 to `MAX_LANES` lanes begins.
     Lanes(u32),
     /// `end`: the block is whole.
     End,

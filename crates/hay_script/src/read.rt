@@ -4,7 +4,7 @@ ghost use Rattle.hay_script.specs.Script as grammar;
 
 use crate::commands::read_command;
 use crate::numbers::{read_below, read_count};
-use crate::words::{is, is_fair, split_word};
+use crate::words::{MAX_LANES, is, is_fair, split_word};
 use crate::{Command, Line};
 use hay_base::NoMemory;
 use std::alloc::Global;
@@ -63,7 +63,7 @@ fn read_lanes(rest: &[u8]) -> Line
     let Some((count, rest)) = split_word(rest) else {
         return Line::Bad;
     };
-    match (split_word(rest), read_count(count, 8)) {
+    match (split_word(rest), read_count(count, MAX_LANES)) {
         (None, Some(lanes)) => Line::Lanes(lanes),
         _ => Line::Bad,
     }

@@ -8,6 +8,12 @@ use memchr::memchr2;
 /// A script has at most so many bytes.
 pub const MAX_SCRIPT: u64 = 1_073_741_824;
 
+/// A block has at most so many commands.
+pub const MAX_COMMANDS: u32 = 65_536;
+
+/// A block has at most so many lanes.
+pub const MAX_LANES: u32 = 8;
+
 /// The most bytes that a line has, without its line feed.
 pub const MAX_LINE: usize = 33_554_560;
 
