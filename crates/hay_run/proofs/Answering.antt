@@ -1,6 +1,6 @@
 -- A block, from its lines to what stands behind it.
 use Rattle.std.proofs.Common.{◌≡◌, ◌≢◌, ◌⊎◌, inl, ℕ, ◌<◌, ◌≤◌, List, [], ◌∷◌, map, length, Option, Some, None, refl, sym, ap, subst, arith, append-nil}
-use Rattle.std.specs.Prelude.{slice_index, Result, Ok, Err, IfOk, OnOk, OnErr, Vec}
+use Rattle.std.specs.Prelude.{flat_map, slice_index, Result, Ok, Err, IfOk, OnOk, OnErr, Vec}
 use Rattle.std.specs.Global.{Global}
 use Rattle.std.specs.List.{AllByRecursion as Each, AllZip}
 use Rattle.std.proofs.lemmas.Result.{IfOk-weaker, on_ok_weaker, on_err_weaker}
@@ -14,10 +14,14 @@ use Rattle.hay_reply.specs.declared.Reply.{Reply}
 use Rattle.hay_reply.specs.Fits.{FitsNote, FitsReply}
 use Rattle.hay_legal.specs.declared.known.Known.{Known}
 use Rattle.hay_legal.specs.declared.turn.LaneItem.{LaneItem}
+use Rattle.hay_legal.specs.declared.turn.LogNote.{LogNote}
+use Rattle.hay_legal.specs.declared.turn.RowNote.{RowNote}
+use Rattle.hay_legal.specs.declared.turn.Turn.{Turn}
+use Rattle.hay_legal.specs.declared.turn.Turn.TheVariants.{Lanes}
 use Rattle.hay_legal.specs.Items.{InBlock, line_asked}
 use Rattle.hay_legal.specs.Items.Asked.{Block}
 use Rattle.hay_legal.specs.Known.{EachPair}
-use Rattle.hay_lane.specs.Blames.{BlamesArm}
+use Rattle.hay_lane.specs.Blames.{BlamesArm, causes_told}
 use Rattle.hay_block.specs.declared.worker.Job.{Job}
 use Rattle.hay_block.specs.Lines.{AnswersBad, AnswersSuited, AreItems, IsServed}
 use Rattle.hay_cluster.specs.Causes.{Counts}
@@ -31,14 +35,15 @@ use Rattle.hay_cluster_block.specs.Rows.{all_jobs}
 use Rattle.hay_run.specs.declared.deal.Place.{Place}
 use Rattle.hay_run.specs.declared.stops.Stop.{Stop}
 use Rattle.hay_run.specs.declared.stops.Stop.TheVariants as stop
-use Rattle.hay_run.specs.Blocks.{AreAnswered, AreJobs, ArePlaces, IsBlockOf, IsBlockText, answered_text, job_of, lane_causes}
+use Rattle.hay_run.specs.Blocks.{AreAnswered, AreBad, AreJobs, ArePlaces, FitsLine, IsBlockOf, IsBlockText, answered_text, bad_text, job_of, lane_causes}
 use Rattle.hay_run.specs.Causing.{Caused, HasSureArm, IsLaterTally, StopCaused, Tally}
-use Rattle.hay_run.specs.Turns.{AnswersAll, AnswersPart, AnyTurn, IsGoingOn}
-use Rattle.hay_run.proofs.Blocked.{NotesOf, block_ran, block_told, err_here, notes_of_told, ok_by, ok_here, wanted_line, wanted_text}
+use Rattle.hay_run.specs.Turns.{AnswersAll, AnswersPart, AnswersTurns, AnyTurn, IsGoingOn, Standing, Writing}
+use Rattle.hay_run.proofs.Blocked.{NotesOf, block_ran, block_told, err_here, notes_of_told, ok_by, ok_here, quiet_text, wanted_line, wanted_text}
 use Rattle.hay_run.proofs.Causing.{caused_one, part_stops}
 use Rattle.hay_run.proofs.Dealing.{answered_by, are_items, distinct_items, each_job, each_mapped, each_reply, jobs_long, zip_mapped}
 use Rattle.hay_run.proofs.RowsAsked.{rows_asked}
-use Rattle.hay_run.proofs.Turning.{block_goes_on}
+use Rattle.hay_run.proofs.BadLines.{bad_asked, bad_legal, bad_lines, bad_text_is, bad_turn, each_bad}
+use Rattle.hay_run.proofs.Turning.{answers_block, block_goes_on}
 
 -- DEALT OUT
 
@@ -162,10 +167,36 @@ module _ {D P A : Type 0} (files : D → Files) (DiskTells Tells : Type 0) (faul
       (stands_holds files Tells faults fuses arm_faults store' ran.known ran.stands)
       (err_here (WrotePart written (answered_text items (block_notes ran.logs ran.rows)) written') r e is (part (block_notes ran.logs ran.rows) ran.notes_are)))
 
+-- where no line is a command
+module _ {D P A : Type 0} (files : D → Files) (DiskTells Tells : Type 0) (faults fuses : D → ℕ) (arm_faults : A → ℕ) (lines : List InBlock) (bad : AreBad lines)
+    (written written' : Option (List ℕ)) (store : Open D P A) where
+  bad_answers : (Is : Turn → Type 0) → ((items : List LaneItem) (logs : List LogNote) (rows : RowNote) (after : Known) → Is (Lanes items logs rows after)) → (Writes : Writing) (Left : Standing D P A)
+      (k : Known) → Left store k → Writes written (flat_map bad_text lines) written' → AnswersTurns Is Writes Left k (Block lines ∷ []) written store written'
+  bad_answers Is is Writes Left k left wrote =
+      answers_block Left Is is Writes k k lines (bad_lines lines) [] (record { from = length k.directory.rows; rows = [] }) written written' store (bad_asked lines bad)
+      (each_bad (λ answered. FitsReply answered.reply) (λ line. tt) lines) (bad_legal store.settings k lines) left
+      (subst (λ (text : List ℕ). Writes written text written') (sym (bad_turn k lines)) wrote)
+
+  pub bad_whole : {X : Type 0} (r : Result X Stop) → OnOk r (Wrote written (flat_map bad_text lines) written')
+      → OnOk r (AnswersAll DiskTells (Stands files Tells faults fuses arm_faults) (Block lines ∷ []) store written store written')
+  bad_whole r wrote = on_ok_weaker r (λ whole tells k stands. bad_answers IsGoingOn block_goes_on Wrote (Stands files Tells faults fuses arm_faults) k stands whole) wrote
+
+  pub bad_part : {X : Type 0} (r : Result X Stop) → OnErr r (WrotePart written (flat_map bad_text lines) written')
+      → OnErr r (AnswersPart DiskTells (Stands files Tells faults fuses arm_faults) (Holds files faults fuses arm_faults) (Block lines ∷ []) store written store written')
+  bad_part r part = on_err_weaker r (λ front tells k stands.
+      bad_answers AnyTurn (λ items logs rows after. tt) WrotePart (Holds files faults fuses arm_faults) k (stands_holds files Tells faults fuses arm_faults store k stands) front) part
+
 -- whatever they tell
+pub bad_told : (settings : Settings) (Sure : ℕ → Type 0) (before after : Counts) (home : Pair → Option ℕ) (lines : List InBlock) → AreBad lines
+    → IsBlockText settings Sure before after home lines (flat_map bad_text lines)
+bad_told settings Sure before after home lines bad =
+    subst (IsBlockText settings Sure before after home lines) (bad_text_is lines)
+    (quiet_text settings Sure before after home lines (bad_lines lines) (bad_asked lines bad) (each_bad (FitsLine settings) (λ line. (tt, tt, λ is. refl)) lines)
+    (each_bad (λ answered. causes_told answered.reply ≡ []) (λ line. refl) lines))
+
 module _ (Tells : Type 0) (settings : Settings) (before after : Tally) (lines : List InBlock) (text : List ℕ) (written written' : Option (List ℕ))
     (later : IsLaterTally before after)
-    (is : (after.fuses ≡ before.fuses) × IsBlockText settings (HasSureArm before) before.counts after.counts (home_seen after.seen) lines text) where
+    (is : (after.fuses ≡ before.fuses) × (AreBad lines → after ≡ before) × IsBlockText settings (HasSureArm before) before.counts after.counts (home_seen after.seen) lines text) where
   pub block_caused : {X : Type 0} (r : Result X Stop) → OnOk r (Wrote written text written') → OnOk r (Caused Tells Wrote settings before after (Block lines ∷ []) written written')
   block_caused r wrote = on_ok_weaker r (λ whole. caused_one Tells Wrote settings before after (Block lines) text written written' later is whole) wrote
 
@@ -177,12 +208,13 @@ module _ (Tells : Type 0) (settings : Settings) (before after : Tally) (lines : 
 
 -- Memory was wanting before any line was answered: so it may have been for each.
 pub wanted_stops : (Tells : Type 0) (settings : Settings) (before after : Tally) (lines : List InBlock) (written : Option (List ℕ)) (why : Stop) → stop.NoMemory ≡ why
-    → Each (λ line. IsServed line.item) lines → IsLaterTally before after → after.fuses ≡ before.fuses → StopCaused Tells settings before after why (Block lines ∷ []) written written
-wanted_stops Tells settings before after lines written why same served later fuses =
+    → Each (λ line. IsServed line.item) lines → IsLaterTally before after → after.fuses ≡ before.fuses → (AreBad lines → after ≡ before)
+    → StopCaused Tells settings before after why (Block lines ∷ []) written written
+wanted_stops Tells settings before after lines written why same served later fuses bad =
     let text = answered_text (map wanted_line lines) [] in
     let is = wanted_text settings (HasSureArm before) before.counts after.counts (home_seen after.seen) lines served in
     subst (λ (w : Stop). StopCaused Tells settings before after w (Block lines ∷ []) written written) same
-    (inl (caused_one Tells WrotePart settings before after (Block lines) text written written later (fuses, is) (nothing_written written text)))
+    (inl (caused_one Tells WrotePart settings before after (Block lines) text written written later (fuses, bad, is) (nothing_written written text)))
   where
     nothing_written : (written : Option (List ℕ)) (text : List ℕ) → WrotePart written text written
     nothing_written None text = (0, tt)

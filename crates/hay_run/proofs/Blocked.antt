@@ -173,20 +173,23 @@ wanted_none : (lines : List InBlock) → Each (λ answered. causes_told answered
 wanted_none [] = tt
 wanted_none (line ∷ lines) = (no_cause line.item, wanted_none lines)
 
-no_causes : (lane : ℕ) (lines : List InBlock) → lane_causes lane (map wanted_line lines) ≡ []
-no_causes lane lines = none_told lane (map wanted_line lines) (wanted_none lines)
-
--- these lines may have been told so
-pub wanted_text : (settings : Settings) (Sure : ℕ → Type 0) (before after : Counts) (home : Pair → Option ℕ) (lines : List InBlock) → Each (λ line. IsServed line.item) lines
-    → IsBlockText settings Sure before after home lines (answered_text (map wanted_line lines) [])
-wanted_text settings Sure before after home lines served = record {
-  items = map wanted_line lines;
-  asked = wanted_asked lines;
-  fits = wanted_each settings lines served;
-  blames = λ lane. subst (BlamesArm (Sure lane) (slice_index before.arms lane) (slice_index after.arms lane)) (sym (no_causes lane lines)) (record { each = tt; rises = tt });
+-- lines that are told of no failure, with no note behind them
+pub quiet_text : (settings : Settings) (Sure : ℕ → Type 0) (before after : Counts) (home : Pair → Option ℕ) (lines : List InBlock) (items : List LaneItem) → map line_asked items ≡ lines
+    → Each (FitsLine settings) items → Each (λ answered. causes_told answered.reply ≡ []) items → IsBlockText settings Sure before after home lines (answered_text items [])
+quiet_text settings Sure before after home lines items asked fits none = record {
+  items = items;
+  asked = asked;
+  fits = fits;
+  blames = λ lane. subst (BlamesArm (Sure lane) (slice_index before.arms lane) (slice_index after.arms lane)) (sym (none_told lane items none)) (record { each = tt; rises = tt });
   notes = [];
   told = record { logs = []; rows = record { from = 0; rows = [] }; upwards = record { upwards = tt; within = tt; some = tt }; within = tt; are = refl };
   rows = tt;
   fit = tt;
   is = refl;
 }
+
+-- these lines may have been told so
+pub wanted_text : (settings : Settings) (Sure : ℕ → Type 0) (before after : Counts) (home : Pair → Option ℕ) (lines : List InBlock) → Each (λ line. IsServed line.item) lines
+    → IsBlockText settings Sure before after home lines (answered_text (map wanted_line lines) [])
+wanted_text settings Sure before after home lines served =
+    quiet_text settings Sure before after home lines (map wanted_line lines) (wanted_asked lines) (wanted_each settings lines served) (wanted_none lines)

@@ -69,7 +69,7 @@ module _ (Tells : Type 0) (store : Settings) where
       subst HasLines (sym r.10) (both_lines (numbered_line number (Restarted r.1)) (flat_map note_line r.2) (one_line number (Restarted r.1)) (note_lines r.2))
   text_lines before after (Alone number (item.Command c)) text (fuses, inr r) = subst HasLines (sym r.is) (one_line number r.said)
   text_lines before after (Alone number item.Bad) text h = subst HasLines (sym h.1) (one_line number BadLine)
-  text_lines before after (Block lines) text (fuses, r) =
+  text_lines before after (Block lines) text (fuses, bad, r) =
       subst HasLines (sym r.is) (both_lines (flat_map answered_line r.items) (flat_map note_line r.notes) (item_lines r.items) (note_lines r.notes))
 
   all_lines : (before after : Tally) (asked : List Asked) (text : List ℕ) → AnswerTexts Tells store before after asked text → HasLines text

@@ -4,6 +4,7 @@ pub mod Auditing
 pub mod Blamed
 pub mod Blocked
 pub mod Blocking
+pub mod BadLines
 pub mod Bounding
 pub mod Caused
 pub mod Causing

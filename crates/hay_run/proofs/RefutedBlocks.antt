@@ -26,7 +26,8 @@ use Rattle.hay_block.specs.declared.worker.Job.{Job}
 use Rattle.hay_cluster_block.specs.Notes.{AreBlockNotes, AreWithin, IsRowOf, TellsRowsOf, block_notes, notes_of_rows}
 use Rattle.hay_cluster_block.specs.Rows.{pair_of}
 use Rattle.hay_cluster.specs.Causes.{Counts}
-use Rattle.hay_run.specs.Blocks.{FitsLine, IsBlockText, job_of, lane_causes}
+use Rattle.hay_cluster.specs.Seen.{IsFrozenBy}
+use Rattle.hay_run.specs.Blocks.{AreBad, FitsLine, IsBlockText, job_of, lane_causes}
 use Rattle.hay_legal.specs.Statuses.{Ending}
 use Rattle.hay_disk.specs.Shelf.{HeldDisk}
 use Rattle.hay_drill.specs.Script.{drill_script, settings as day_settings}
@@ -119,6 +120,19 @@ pub fuse_set_by_a_drill : (Tells : Type 0) (count first : ℕ) (ending : Ending)
     → slot < disk_count day_settings → given.fuses slot ≢ taken.fuses slot → ⊥
 fuse_set_by_a_drill Tells count first ending left taken given sure disks disks' held written slot run within set =
     set (drill_unfused Tells count first ending left taken given sure disks disks' held written day_settings (drill_script count first) refl refl run slot within)
+
+-- WITHOUT A COMMAND
+
+-- a block of bad lines freezes no volume
+pub frozen_by_bad_lines : (Tells : Type 0) (settings : Settings) (before after : Tally) (lines : List InBlock) (text : List ℕ) (v m : ℕ) → AreBad lines
+    → IsFrozenBy after.seen v m → (IsFrozenBy before.seen v m → ⊥) → IsTextOf Tells settings before after (Block lines) text → ⊥
+frozen_by_bad_lines Tells settings before after lines text v m bad frozen was told = was (subst (λ (tally : Tally). IsFrozenBy tally.seen v m) (told.1 bad) frozen)
+
+-- nor does an empty one, of which nothing is told
+pub frozen_behind_an_empty_block : (Tells : Type 0) (settings : Settings) (before after : Tally) (text : List ℕ) (v m : ℕ)
+    → IsFrozenBy after.seen v m → (IsFrozenBy before.seen v m → ⊥) → AnswerTexts Tells settings before after (Block [] ∷ []) text → ⊥
+frozen_behind_an_empty_block Tells settings before after text v m frozen was (mid, first, rest, is, later, told, (none, same)) =
+    frozen_by_bad_lines Tells settings before mid [] first v m tt (subst (λ (tally : Tally). IsFrozenBy tally.seen v m) same frozen) was told
 
 -- NOTES
 

@@ -1,5 +1,5 @@
 -- Blocks of lines: what is asked of one, how its lines come to their lanes, and the text that answers it.
-use Rattle.std.specs.Prelude.{◌≡◌, ◌≢◌, ℕ, ◌<◌, ◌≤◌, ◌==◌, List, [], ◌∷◌, ◌++◌, length, map, flat_map, filter, take, slice_get, slice_index, slice_index_or, slice_set, Option, Some}
+use Rattle.std.specs.Prelude.{◌≡◌, ◌≢◌, ℕ, ◌<◌, ◌≤◌, ◌==◌, Bool, true, false, List, [], ◌∷◌, ◌++◌, length, map, flat_map, filter, take, slice_get, slice_index, slice_index_or, slice_set, Option, Some}
 use Rattle.std.specs.List.{AllByRecursion as Each}
 use Rattle.hay_needle.specs.declared.needle.Pair.{Pair}
 use Rattle.hay_needle.specs.declared.settings.Settings.{Settings}
@@ -8,7 +8,8 @@ use Rattle.hay_reply.specs.declared.Note.{Note}
 use Rattle.hay_reply.specs.declared.Reply.{Reply}
 use Rattle.hay_reply.specs.declared.Reply.TheVariants.{BadLine}
 use Rattle.hay_reply.specs.Fits.{FitsNote, FitsReply}
-use Rattle.hay_reply.specs.Replies.{note_line}
+use Rattle.hay_reply.specs.Replies.{note_line, numbered_line}
+use Rattle.hay_legal.specs.declared.turn.Item.{Item}
 use Rattle.hay_legal.specs.declared.turn.Item.TheVariants as item
 use Rattle.hay_legal.specs.declared.turn.LaneItem.{LaneItem}
 use Rattle.hay_legal.specs.Items.{InBlock, OpenBlock, line_asked}
@@ -34,6 +35,19 @@ pub record IsBlockOf (lanes : ℕ) (lines : List InBlock) : Type 0 where
 pub record IsBlockBelow (next : ℕ) (block : OpenBlock) : Type 0 where
   pub lines : IsBlockOf block.lanes block.lines
   pub before : Each (λ line. line.line < next) block.lines
+
+-- whether a line is a command
+abbrev pub is_command : Item → Bool
+is_command (item.Command command) = true
+is_command item.Bad = false
+
+-- no line of a block is one
+abbrev pub AreBad : List InBlock → Type 0
+AreBad lines = Each (λ line. line.item ≡ item.Bad) lines
+
+-- the line by which a bad one is answered
+abbrev pub bad_text : InBlock → List ℕ
+bad_text line = numbered_line line.line BadLine
 
 -- LINES AND LANES
 

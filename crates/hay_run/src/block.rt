@@ -1,11 +1,12 @@
 //! A block of lanes, as it is read: its lines, each with its lane.
 ghost use Rattle.std.specs.Prelude.{◌≡◌, ◌⊎◌, ◌+◌, ◌^◌, ◌<◌, ◌≤◌, ℕ, List, [], ◌∷◌, true, false, Ok, Err, Some, None, IfOk, OnOk, OnErr, IsErrOf};
+ghost use Rattle.std.specs.List.{list_any};
 ghost use Rattle.hay_disk.specs.Counts.{Rose};
 ghost use Rattle.hay_script.specs.Script.{IsWithinLine, line_of};
 ghost use Rattle.hay_legal.specs.Items.{empty_block, with_bad, with_command, inside};
 ghost use Rattle.hay_legal.specs.Items.Asked.{Block};
 ghost use Rattle.hay_block.specs.Lines.{IsServed};
-ghost use Rattle.hay_run.specs.Blocks.{IsBlockOf, IsBlockBelow};
+ghost use Rattle.hay_run.specs.Blocks.{IsBlockOf, IsBlockBelow, is_command};
 ghost use Rattle.hay_run.specs.Items.{TookItems, TookOpen};
 ghost use Rattle.hay_lines.specs.Lines.{TookPart, TookOver, TookSome};
 ghost use Rattle.hay_lines.specs.Stream.{rest_of, budget, Accounts, IsTooLong};
@@ -70,6 +71,16 @@ impl LaneBlock {
         ensures { result ≡ self.now.lanes }
     {
         self.lanes
+    }
+
+    /// Whether one of its lines is a command.
+    pub fn has_command(&self) -> bool
+        ensures { result ≡ list_any (λ line. is_command line.item) self.now.lines }
+    {
+        self.lines
+            .as_slice()
+            .iter()
+            .any(|line| matches!(line.item, Item::Command(_)))
     }
 
     /// Its lines, in their order.

@@ -16,7 +16,7 @@ ghost use Rattle.hay_run.specs.Turns.{AnswersAll, AnswersPart, Appends, IsFormat
 use crate::block::LaneBlock;
 use crate::deal::deal_lines;
 use crate::stops::Stop;
-use crate::writing::write_answers;
+use crate::writing::{write_answers, write_bad_lines};
 use hay_base::NoMemory;
 use hay_cluster::Cluster;
 use hay_cluster_block::run_block;
@@ -27,7 +27,7 @@ use std::sync::Wait;
 use std::thread::Threads;
 
 /// Answers the lines of a block, each lane beside the others, and writes the replies and the notes. Where memory is wanting before that,
-/// no line is answered, and nothing is written.
+/// no line is answered, and nothing is written. A block without a command leaves the store as it is.
 pub fn answer_block<D, A, G, K, R>(
     rt: &R,
     alloc: Global,
@@ -68,6 +68,11 @@ where
     ensures appends { Appends (K.written sink.old) (K.written sink.new) }
     ensures settings { result.0.settings ≡ cluster.settings }
 {
+    if !block.has_command() {
+        let lines = block.into_lines();
+        let written = write_bad_lines(alloc, lines.as_slice(), sink);
+        return (cluster, written);
+    }
     let lanes = block.lanes();
     let Ok((jobs, places)) = deal_lines(alloc, lanes, block.into_lines()) else {
         return (cluster, Err(Stop::NoMemory));

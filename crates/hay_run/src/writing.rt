@@ -8,10 +8,11 @@ ghost use Rattle.hay_reply.specs.Replies as texts;
 ghost use Rattle.hay_legal.specs.declared.turn.LaneItem.{LaneItem};
 ghost use Rattle.hay_legal.specs.Items.{InBlock};
 ghost use Rattle.hay_legal.specs.Transcript.{answered_line};
-ghost use Rattle.hay_run.specs.Blocks.{AreAnswered, ArePlaces, answered_text};
+ghost use Rattle.hay_run.specs.Blocks.{AreAnswered, ArePlaces, answered_text, bad_text};
 ghost use Rattle.hay_run.specs.Stops.{note_of};
 ghost use Rattle.hay_run.specs.Turns.{Appends};
 
+use crate::block::BlockLine;
 use crate::deal::Place;
 use crate::stops::Stop;
 use hay_base::NoMemory;
@@ -164,6 +165,37 @@ fn write_replies<K: Sink>(
     for place in places {
         let own = replies[place.lane as usize].as_slice();
         write_line(alloc, place.line, &own[place.nth], sink)?;
+    }
+    Ok(())
+}
+
+// Writes that a line is bad.
+fn write_bad<K: Sink>(alloc: Global, number: u64, sink: &mut K) -> Result<(), Stop>
+    ensures wrote { OnOk result (Wrote (K.written sink.old) (texts.numbered_line number Reply.BadLine) (K.written sink.new)) }
+    ensures part { OnErr result (WrotePart (K.written sink.old) (texts.numbered_line number Reply.BadLine) (K.written sink.new)) }
+    ensures stops { OnErr result ((result ≡ Err Stop.Output) ⊎ (result ≡ Err Stop.NoMemory)) }
+    ensures cause { IsErrOf result Stop.Output → Rose (K.fault_count sink.old) (K.fault_count sink.new) }
+    ensures count { K.fault_count sink.old ≤ K.fault_count sink.new }
+    ensures appends { Appends (K.written sink.old) (K.written sink.new) }
+{
+    write_reply(alloc, number, &Reply::BadLine, sink)
+}
+
+/// Writes that each of these lines of a block is bad.
+pub fn write_bad_lines<K: Sink>(
+    alloc: Global,
+    lines: &[BlockLine],
+    sink: &mut K,
+) -> Result<(), Stop>
+    ensures wrote { OnOk result (Wrote (K.written sink.old) (flat_map bad_text lines.now) (K.written sink.new)) }
+    ensures part { OnErr result (WrotePart (K.written sink.old) (flat_map bad_text lines.now) (K.written sink.new)) }
+    ensures stops { OnErr result ((result ≡ Err Stop.Output) ⊎ (result ≡ Err Stop.NoMemory)) }
+    ensures cause { IsErrOf result Stop.Output → Rose (K.fault_count sink.old) (K.fault_count sink.new) }
+    ensures count { K.fault_count sink.old ≤ K.fault_count sink.new }
+    ensures appends { Appends (K.written sink.old) (K.written sink.new) }
+{
+    for line in lines {
+        write_bad(alloc, line.line, sink)?;
     }
     Ok(())
 }
