@@ -211,9 +211,19 @@ def check_script_words():
 # NUMBERS
 
 
+def constant(file, name):
+    return number_in(f"crates/{file}.rt", rf"const {name}: u(?:32|64|size) = ([\d_]+)")
+
+
 def settings():
+    """What is usual, the least and the most of each number of settings, from their limits by name."""
+
+    def number(word):
+        return int(word) if word.isdigit() else constant("hay_needle/src/settings", word)
+
     text = text_of("crates/hay_cli/specs/Commands.antt")
-    return {name: tuple(map(int, numbers)) for *numbers, name in re.findall(r'number_or (\d+) (\d+) (\d+) \(value \(codes "(\w+)"\)\)', text)}
+    found = re.findall(r'number_or (\w+) (\w+) (\w+) \(value \(codes "(\w+)"\)\) ≡', text)
+    return {name: tuple(map(number, numbers)) for *numbers, name in found}
 
 
 def limits():
@@ -225,14 +235,14 @@ def limits():
     found = {
         "photo": number_in("crates/hay_needle/specs/Sizes.antt", r"max_photo Two = (\d+)"),
         "photo_one": number_in("crates/hay_needle/specs/Sizes.antt", r"max_photo One = (\d+)"),
-        "line": number_in("crates/hay_script/src/words.rt", r"MAX_LINE: usize = ([\d_]+)"),
-        "script": number_in("crates/hay_script/src/words.rt", r"MAX_SCRIPT: u64 = ([\d_]+)"),
+        "line": constant("hay_script/src/words", "MAX_LINE"),
+        "script": constant("hay_script/src/words", "MAX_SCRIPT"),
         "batch": number_in("crates/hay_batch/specs/Batches.antt", r"length photos ≤ (\d+)"),
-        "batch_bytes": number_in("crates/hay_batch/src/photo.rt", r"MAX_TOTAL: u64 = ([\d_]+)"),
-        "transcript": number_in("crates/hay_frame/src/frame.rt", r"TRANSCRIPT: usize = ([\d_]+)"),
-        "commands": number_in("crates/hay_legal/specs/Items.antt", r"nat_lt block\.commands (\d+)"),
-        "generation": number_in("crates/hay_needle/src/settings.rt", r"LAST_GENERATION: u64 = ([\d_]+)"),
-        "lanes": number_in(script, r'codes "lanes"\) then lanes_by \(from_one (\d+) ') - 1,
+        "batch_bytes": constant("hay_batch/src/photo", "MAX_TOTAL"),
+        "transcript": constant("hay_frame/src/frame", "TRANSCRIPT"),
+        "commands": constant("hay_script/src/words", "MAX_COMMANDS"),
+        "generation": constant("hay_needle/src/settings", "LAST_GENERATION"),
+        "lanes": constant("hay_script/src/words", "MAX_LANES"),
         "digits": number_in(script, r"nat_le \(length text\) (\d+) && list_all is_ascii_digit"),
         "cookie": number_in(script, r"nat_le \(length text\) (\d+) && list_all is_hex_digit"),
         "secret": number_in("crates/hay_cli/specs/Commands.antt", r"secret_in text = if length text == (\d+)"),
@@ -326,7 +336,6 @@ LIMITS = {
         "A number is 1 to {digits} decimal digits",
     ),
     "crates/hay_needle/src/lib.rt": ("In version 1 the size is at most {photo_one:,},", "In version 2 the size is at most {photo:,},"),
-    "crates/hay_needle/src/settings.rt": ("a volume file may have: {least:,} to {capacity:,}.",),
     "crates/hay_needle/src/read.rt": ("The size at 32 is above {photo:,}, or above {photo_one:,} where",),
     "crates/hay_needle/src/needle.rt": ("at most {photo_one:,} bytes, and the checksum", "at most {photo:,} bytes, and the checksum", "at most {photo:,} bytes, and the cookie"),
 }

@@ -12,6 +12,7 @@ use Rattle.clap.proofs.LexerLemmas.{name_and_value-at, name_and_value-without}
 use Rattle.hay_cli.specs.Commands.{AreSettings, IsStore, number_or, secret_or, folder_passes, Text, Given, is_flag, is_named, has_option, AreOptions, run_names, audit_names, value_of, number_in, Says}
 use Rattle.hay_cli.specs.Reading.{settings_by, value_met, option_met, options_from, options_of, settings_of, store_of, drill_of, mode_of}
 use Rattle.hay_needle.specs.declared.settings.Settings.{Settings}
+use Rattle.hay_needle.specs.declared.settings.TheConstants.{MAX_CAPACITY, MAX_MACHINES, MAX_REPLICAS, MAX_VOLUMES, MIN_CAPACITY, USUAL_CAPACITY}
 use Rattle.hay_cli.specs.declared.Mode.{Mode}
 use Rattle.hay_cli.specs.declared.Mode.TheVariants.{Run, Check, Load, Audit, Drill}
 use Rattle.hay_cli.proofs.Folders.{some≢none, same_all}
@@ -220,12 +221,12 @@ value_is {X} {a} {b} e = ap (λ (o : Option X). unwrap_or o a) e
 
 settings_are : (value : Text → Option Text) (settings : Settings) → settings_of value ≡ Some settings → AreSettings value settings
 settings_are value settings is =
-    go (folder_passes (value (codes "folder"))) refl (number_or 1 1 16 (value (codes "machines"))) refl (number_or 1 1 64 (value (codes "volumes"))) refl
-    (number_or 1 1 4 (value (codes "replicas"))) refl (number_or 67108864 4096 1073741824 (value (codes "capacity"))) refl (secret_or (value (codes "secret"))) refl is
+    go (folder_passes (value (codes "folder"))) refl (number_or 1 1 MAX_MACHINES (value (codes "machines"))) refl (number_or 1 1 MAX_VOLUMES (value (codes "volumes"))) refl
+    (number_or 1 1 MAX_REPLICAS (value (codes "replicas"))) refl (number_or USUAL_CAPACITY MIN_CAPACITY MAX_CAPACITY (value (codes "capacity"))) refl (secret_or (value (codes "secret"))) refl is
   where
-    by_order : (machines volumes replicas capacity : ℕ) (secret : List ℕ) → folder_passes (value (codes "folder")) ≡ true → number_or 1 1 16 (value (codes "machines")) ≡ Some machines
-        → number_or 1 1 64 (value (codes "volumes")) ≡ Some volumes → number_or 1 1 4 (value (codes "replicas")) ≡ Some replicas
-        → number_or 67108864 4096 1073741824 (value (codes "capacity")) ≡ Some capacity → secret_or (value (codes "secret")) ≡ Some secret
+    by_order : (machines volumes replicas capacity : ℕ) (secret : List ℕ) → folder_passes (value (codes "folder")) ≡ true → number_or 1 1 MAX_MACHINES (value (codes "machines")) ≡ Some machines
+        → number_or 1 1 MAX_VOLUMES (value (codes "volumes")) ≡ Some volumes → number_or 1 1 MAX_REPLICAS (value (codes "replicas")) ≡ Some replicas
+        → number_or USUAL_CAPACITY MIN_CAPACITY MAX_CAPACITY (value (codes "capacity")) ≡ Some capacity → secret_or (value (codes "secret")) ≡ Some secret
         → (b : Bool) → nat_le replicas machines ≡ b
         → cond b (Some (record { machines = machines; volumes = volumes; replicas = replicas; capacity = capacity; secret = secret })) None ≡ Some settings → AreSettings value settings
     by_order m v r c s f em ev er ec es false le is = absurd (some≢none is)
@@ -239,8 +240,8 @@ settings_are value settings is =
       folder = f;
     })
 
-    go : (f : Bool) → folder_passes (value (codes "folder")) ≡ f → (m : Option ℕ) → number_or 1 1 16 (value (codes "machines")) ≡ m → (v : Option ℕ) → number_or 1 1 64 (value (codes "volumes")) ≡ v
-        → (r : Option ℕ) → number_or 1 1 4 (value (codes "replicas")) ≡ r → (c : Option ℕ) → number_or 67108864 4096 1073741824 (value (codes "capacity")) ≡ c
+    go : (f : Bool) → folder_passes (value (codes "folder")) ≡ f → (m : Option ℕ) → number_or 1 1 MAX_MACHINES (value (codes "machines")) ≡ m → (v : Option ℕ) → number_or 1 1 MAX_VOLUMES (value (codes "volumes")) ≡ v
+        → (r : Option ℕ) → number_or 1 1 MAX_REPLICAS (value (codes "replicas")) ≡ r → (c : Option ℕ) → number_or USUAL_CAPACITY MIN_CAPACITY MAX_CAPACITY (value (codes "capacity")) ≡ c
         → (s : Option (List ℕ)) → secret_or (value (codes "secret")) ≡ s
         → cond f (option_and_then (λ m. option_and_then (λ v. option_and_then (λ r. option_and_then (λ c. option_and_then (λ s. settings_by m v r c s) s) c) r) v) m) None ≡ Some settings
         → AreSettings value settings

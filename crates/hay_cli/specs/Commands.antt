@@ -7,6 +7,7 @@ use Rattle.std.specs.Str.Parse.{digits_value}
 use Rattle.std.specs.Result.{result_ok}
 use Rattle.hex.specs.Hex.{decode_of}
 use Rattle.hay_needle.specs.declared.settings.Settings.{Settings}
+use Rattle.hay_needle.specs.declared.settings.TheConstants.{MAX_CAPACITY, MAX_MACHINES, MAX_REPLICAS, MAX_VOLUMES, MIN_CAPACITY, USUAL_CAPACITY}
 use Rattle.hay_cli.specs.declared.Mode.{Mode}
 use Rattle.hay_cli.specs.declared.Mode.TheVariants.{Run, Check, Load, Audit, Drill}
 
@@ -88,11 +89,11 @@ audit_names = codes "machines" ∷ codes "volumes" ∷ codes "replicas" ∷ code
 
 -- the values of these options, which are within their limits
 pub record AreSettings (value : Text → Option Text) (settings : Settings) : Type 0 where
-  pub machines : number_or 1 1 16 (value (codes "machines")) ≡ Some settings.machines
-  pub volumes : number_or 1 1 64 (value (codes "volumes")) ≡ Some settings.volumes
-  pub replicas : number_or 1 1 4 (value (codes "replicas")) ≡ Some settings.replicas
+  pub machines : number_or 1 1 MAX_MACHINES (value (codes "machines")) ≡ Some settings.machines
+  pub volumes : number_or 1 1 MAX_VOLUMES (value (codes "volumes")) ≡ Some settings.volumes
+  pub replicas : number_or 1 1 MAX_REPLICAS (value (codes "replicas")) ≡ Some settings.replicas
   pub no_more : settings.replicas ≤ settings.machines
-  pub capacity : number_or 67108864 4096 1073741824 (value (codes "capacity")) ≡ Some settings.capacity
+  pub capacity : number_or USUAL_CAPACITY MIN_CAPACITY MAX_CAPACITY (value (codes "capacity")) ≡ Some settings.capacity
   pub secret : secret_or (value (codes "secret")) ≡ Some settings.secret
   pub folder : folder_passes (value (codes "folder")) ≡ true
 

@@ -3,6 +3,7 @@ use Rattle.std.specs.Prelude.{ℕ, nat_le, List, [], ◌∷◌, ◌++◌, Option
 use Rattle.std.specs.Str.{bytes_eq}
 use Rattle.clap.specs.Lexer.{long_of}
 use Rattle.hay_needle.specs.declared.settings.Settings.{Settings}
+use Rattle.hay_needle.specs.declared.settings.TheConstants.{MAX_CAPACITY, MAX_MACHINES, MAX_REPLICAS, MAX_VOLUMES, MIN_CAPACITY, USUAL_CAPACITY}
 use Rattle.hay_cli.specs.declared.Mode.{Mode}
 use Rattle.hay_cli.specs.declared.Mode.TheVariants.{Run, Check, Load, Audit, Drill}
 use Rattle.hay_cli.specs.Commands.{Text, is_flag, Given, has_option, is_named, value_of, number_in, number_or, secret_or, folder_passes, run_names, audit_names}
@@ -43,10 +44,10 @@ settings_of value = if folder_passes (value (codes "folder"))
     then option_and_then (λ machines. option_and_then (λ volumes. option_and_then (λ replicas. option_and_then (λ capacity. option_and_then (λ secret.
     settings_by machines volumes replicas capacity secret)
     (secret_or (value (codes "secret"))))
-    (number_or 67108864 4096 1073741824 (value (codes "capacity"))))
-    (number_or 1 1 4 (value (codes "replicas"))))
-    (number_or 1 1 64 (value (codes "volumes"))))
-    (number_or 1 1 16 (value (codes "machines")))
+    (number_or USUAL_CAPACITY MIN_CAPACITY MAX_CAPACITY (value (codes "capacity"))))
+    (number_or 1 1 MAX_REPLICAS (value (codes "replicas"))))
+    (number_or 1 1 MAX_VOLUMES (value (codes "volumes"))))
+    (number_or 1 1 MAX_MACHINES (value (codes "machines")))
     else None
 
 abbrev pub store_of : List Text → List Text → Option Settings

@@ -8,7 +8,9 @@ use crate::CliFault;
 use crate::options::parse_options;
 use crate::values::{is_folder, number_value, secret_value, small_value};
 use clap::ArgMatches;
-use hay_needle::Settings;
+use hay_needle::{
+    MAX_CAPACITY, MAX_MACHINES, MAX_REPLICAS, MAX_VOLUMES, MIN_CAPACITY, Settings, USUAL_CAPACITY,
+};
 use std::alloc::Global;
 
 static RUN_NAMES: [&str; 6] = [
@@ -24,14 +26,14 @@ fn read_settings(matches: &ArgMatches<'_>) -> Option<Settings>
     if !is_folder(matches.get_str("folder")) {
         return None;
     }
-    let machines = small_value(matches.get_str("machines"), 1, 1, 16)?;
-    let volumes = small_value(matches.get_str("volumes"), 1, 1, 64)?;
-    let replicas = small_value(matches.get_str("replicas"), 1, 1, 4)?;
+    let machines = small_value(matches.get_str("machines"), 1, 1, MAX_MACHINES)?;
+    let volumes = small_value(matches.get_str("volumes"), 1, 1, MAX_VOLUMES)?;
+    let replicas = small_value(matches.get_str("replicas"), 1, 1, MAX_REPLICAS)?;
     let capacity = number_value(
         matches.get_str("capacity"),
-        67_108_864,
-        4_096,
-        1_073_741_824,
+        USUAL_CAPACITY,
+        MIN_CAPACITY,
+        MAX_CAPACITY,
     )?;
     let secret = secret_value(matches.get_str("secret"))?;
     if replicas > machines {

@@ -3,6 +3,7 @@ use Rattle.std.specs.Prelude.{◌≡◌, ◌≤◌, ℕ, List, [], ◌∷◌, le
 use Rattle.std.specs.List.{AllByRecursion, flat_map}
 use Rattle.std.specs.Option.{option_map_or}
 use Rattle.hay_needle.specs.declared.settings.Settings.{Settings}
+use Rattle.hay_needle.specs.declared.settings.TheConstants.{MAX_CAPACITY, MAX_MACHINES, MAX_REPLICAS, MAX_VOLUMES, MIN_CAPACITY}
 use Rattle.hay_disk.specs.Disk.{Files}
 use Rattle.hay_mount.specs.Mounts.{InOrder}
 use Rattle.hay_physical.specs.OpenCopies.{Copy}
@@ -12,14 +13,14 @@ use Rattle.hay_logical.specs.Volumes as logical
 -- the limits of settings
 pub record IsBuilt (settings : Settings) : Type 0 where
   pub some_machines : 1 ≤ settings.machines
-  pub few_machines : settings.machines ≤ 16
+  pub few_machines : settings.machines ≤ MAX_MACHINES
   pub some_volumes : 1 ≤ settings.volumes
-  pub few_volumes : settings.volumes ≤ 64
+  pub few_volumes : settings.volumes ≤ MAX_VOLUMES
   pub some_replicas : 1 ≤ settings.replicas
-  pub few_replicas : settings.replicas ≤ 4
+  pub few_replicas : settings.replicas ≤ MAX_REPLICAS
   pub no_more_replicas : settings.replicas ≤ settings.machines
-  pub low : 4096 ≤ settings.capacity
-  pub high : settings.capacity ≤ 1073741824
+  pub low : MIN_CAPACITY ≤ settings.capacity
+  pub high : settings.capacity ≤ MAX_CAPACITY
 
 -- A store with its disks and the arms of its lanes.
 pub record Open (D P A : Type 0) : Type 0 where

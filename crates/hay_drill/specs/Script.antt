@@ -5,11 +5,12 @@ use Rattle.std.specs.Prelude.{ℕ, ◌+◌, ◌-◌, ◌%◌, ◌^◌, ◌==◌,
 use Rattle.std.specs.List.{range_with_len}
 use Rattle.hex.specs.Hex.{encode_lower}
 use Rattle.hay_needle.specs.declared.settings.Settings.{Settings}
+use Rattle.hay_needle.specs.declared.settings.TheConstants.{USUAL_CAPACITY}
 use Rattle.hay_url.specs.Url.{cookie_of, cookie_text}
 
 -- the store in which the script is run
 abbrev pub settings : Settings
-settings = record { machines = 4; volumes = 8; replicas = 2; capacity = 67108864; secret = replicate 32 0 }
+settings = record { machines = 4; volumes = 8; replicas = 2; capacity = USUAL_CAPACITY; secret = replicate 32 0 }
 
 -- LINES
 

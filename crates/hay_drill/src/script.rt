@@ -5,7 +5,7 @@ ghost use Rattle.hay_drill.specs.Script as script;
 ghost use Rattle.hay_url.specs.Url.{cookie_of};
 
 use hay_base::NoMemory;
-use hay_needle::{Cookie, Settings};
+use hay_needle::{Cookie, Settings, USUAL_CAPACITY};
 use hay_url::{cookie_of, cookie_text};
 use std::alloc::Global;
 
@@ -27,7 +27,7 @@ pub fn drill_settings() -> Settings
         machines: MACHINES,
         volumes: VOLUMES,
         replicas: REPLICAS,
-        capacity: 67_108_864,
+        capacity: USUAL_CAPACITY,
         secret: [0; 32],
     }
 }

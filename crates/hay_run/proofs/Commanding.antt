@@ -3,6 +3,7 @@ use Rattle.std.proofs.Common.{◌≡◌, ℕ, ◌≤◌, List, [], ◌∷◌, Op
 use Rattle.std.specs.Prelude.{codes}
 use Rattle.std.proofs.lemmas.Grind.{common_steps}
 use Rattle.hay_needle.specs.declared.settings.Settings.{Settings}
+use Rattle.hay_needle.specs.declared.settings.TheConstants.{MAX_CAPACITY, MAX_MACHINES, MAX_REPLICAS, MAX_VOLUMES, MIN_CAPACITY, USUAL_CAPACITY}
 use Rattle.hay_cli.specs.declared.Mode.{Mode}
 use Rattle.hay_cli.specs.declared.Mode.TheVariants.{Run, Check, Load, Audit, Drill}
 use Rattle.hay_cli.specs.Commands.{IsStore, Says, Text, audit_names, number_in, number_or, run_names, value_of}
@@ -22,10 +23,10 @@ within usual low high n (Some text) small large is = number_within low high n te
 built : (names words : List Text) (settings : Settings) → IsStore names words settings → IsBuilt settings
 built names words settings says =
     let values = says.2 in
-    let machines = within 1 1 16 settings.machines (value_of says.0 (codes "machines")) (lit≤ tt) (lit≤ tt) values.machines in
-    let volumes = within 1 1 64 settings.volumes (value_of says.0 (codes "volumes")) (lit≤ tt) (lit≤ tt) values.volumes in
-    let replicas = within 1 1 4 settings.replicas (value_of says.0 (codes "replicas")) (lit≤ tt) (lit≤ tt) values.replicas in
-    let capacity = within 67108864 4096 1073741824 settings.capacity (value_of says.0 (codes "capacity")) (lit≤ tt) (lit≤ tt) values.capacity in
+    let machines = within 1 1 MAX_MACHINES settings.machines (value_of says.0 (codes "machines")) (lit≤ tt) (lit≤ tt) values.machines in
+    let volumes = within 1 1 MAX_VOLUMES settings.volumes (value_of says.0 (codes "volumes")) (lit≤ tt) (lit≤ tt) values.volumes in
+    let replicas = within 1 1 MAX_REPLICAS settings.replicas (value_of says.0 (codes "replicas")) (lit≤ tt) (lit≤ tt) values.replicas in
+    let capacity = within USUAL_CAPACITY MIN_CAPACITY MAX_CAPACITY settings.capacity (value_of says.0 (codes "capacity")) (lit≤ tt) (lit≤ tt) values.capacity in
     record {
       some_machines = machines.0;
       few_machines = machines.1;
