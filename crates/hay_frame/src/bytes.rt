@@ -8,6 +8,9 @@ use crate::fault::FrameFault;
 use hay_disk::{Failed, Source};
 use std::alloc::Global;
 
+// So many bytes are taken at a time at most.
+const BUFFER: usize = 4_096;
+
 /// Takes one byte. None comes at the end.
 pub fn take_byte<S: Source>(source: &mut S) -> Result<Option<u8>, FrameFault>
     ensures some { IfOk result (λ next. (byte : ℕ) → next ≡ Some byte → Took (S.left source.old) (byte ∷ []) (S.left source.new)) }
@@ -40,7 +43,7 @@ pub fn take_bytes<S: Source>(
     ensures count { S.fault_count source.old ≤ S.fault_count source.new }
 {
     let mut bytes = Vec::new(alloc);
-    let mut buffer = [0u8; 4096];
+    let mut buffer = [0u8; BUFFER];
     'taking: loop {
         let room = buffer.len().min(most - bytes.len());
         if room == 0 {

@@ -9,10 +9,13 @@ use hay_disk::{Failed, Source};
 use hay_script::MAX_SCRIPT;
 use std::marker::Model;
 
+// So many bytes are taken at a time at most.
+const BUFFER: usize = 4_096;
+
 /// What was taken from a source and not given out yet.
 #[derive(Drop)]
 pub struct ScriptBytes {
-    buffer: [u8; 4096],
+    buffer: [u8; BUFFER],
     from: usize,
     to: usize,
     taken: u64,
@@ -22,13 +25,14 @@ pub struct ScriptBytes {
 impl Model for ScriptBytes {
     ghost use Rattle.std.specs.Prelude.{◌≤◌, slice_range};
     ghost use Rattle.hay_script.specs.declared.words.TheConstants.{MAX_SCRIPT};
+    ghost use Rattle.hay_lines.specs.declared.bytes.TheConstants.{BUFFER};
     ghost use Rattle.hay_lines.specs.Stream.{Held};
 
     ghost Value = { Held };
 
     ghost view = { λ r. record { bytes = slice_range r.buffer r.from r.to; taken = r.taken; ended = r.ended } };
 
-    ghost invariant = { λ r. (r.from ≤ r.to) × (r.to ≤ 4096) × (r.taken ≤ MAX_SCRIPT) };
+    ghost invariant = { λ r. (r.from ≤ r.to) × (r.to ≤ BUFFER) × (r.taken ≤ MAX_SCRIPT) };
 }
 
 impl ScriptBytes {
@@ -38,7 +42,7 @@ impl ScriptBytes {
         ensures ended { result.ended ≡ false }
     {
         ScriptBytes {
-            buffer: [0; 4096],
+            buffer: [0; BUFFER],
             from: 0,
             to: 0,
             taken: 0,
@@ -89,7 +93,11 @@ impl ScriptBytes {
                 Err(Failed) => Err(LineFault::Input),
             };
         }
-        let most = if room < 4096 { room as usize } else { 4096 };
+        let most = if room < BUFFER as u64 {
+            room as usize
+        } else {
+            BUFFER
+        };
         match source.read(&mut self.buffer[..most]) {
             Ok(0) => {
                 self.ended = true;

@@ -16,6 +16,9 @@ use std::marker::Model;
 use std::sync::Wait;
 use std::thread;
 
+/// A queue has room for at most so many jobs.
+pub const MAX_DEPTH: usize = 1_024;
+
 /// A bounded queue from several clients to one worker. Clauses see which it is.
 #[derive(Drop)]
 pub struct Desk<J: Job> {
@@ -85,7 +88,7 @@ impl<J: Job> Desk<J> {
         depth: usize,
     ) -> Result<(Desk<J>, Vec<Client<J>>, Worker<J>), NoMemory>
         requires clients { (0 < clients) × (clients ≤ 8) }
-        requires depth { (0 < depth) × (depth ≤ 1024) }
+        requires depth { (0 < depth) × (depth ≤ MAX_DEPTH) }
         ensures clients { IfOk result (λ r. AreNew r.0 clients r.1.items) }
         ensures worker { IfOk result (λ r. r.2 ≡ taken_at r.0 (replicate clients empty)) }
     {

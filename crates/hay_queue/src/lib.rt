@@ -11,7 +11,7 @@ mod rule;
 mod serve;
 mod share;
 
-pub use desk::{Client, Desk, Ended, Worker};
+pub use desk::{Client, Desk, Ended, MAX_DEPTH, Worker};
 pub use laws::taken_begins_sent;
 pub use message::Job;
 pub use serve::serve_lanes;

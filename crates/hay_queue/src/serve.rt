@@ -6,7 +6,7 @@ ghost use Rattle.hay_queue.specs.Serves.{MayServe, ServesLanes, StaysReady};
 ghost use Rattle.hay_queue.specs.Shares.{lane_at};
 ghost use Rattle.hay_queue.specs.Streams.{empty};
 
-use crate::desk::{Client, Desk, Ended, Worker};
+use crate::desk::{Client, Desk, Ended, MAX_DEPTH, Worker};
 use crate::message::Job;
 use crate::share::Share;
 use hay_base::NoMemory;
@@ -251,7 +251,7 @@ fn kit_for<J, O: Drop>(
 ) -> Result<Kit<O>, NoMemory>
     requires seat { share.seat < share.seats }
     requires few { length jobs.now ≤ 8 }
-    requires depth { (0 < depth) × (depth ≤ 1024) }
+    requires depth { (0 < depth) × (depth ≤ MAX_DEPTH) }
     ensures { IfOk result (λ kit. IsKit share.seat share.seats jobs.now kit) }
 {
     let clients = share.clients(jobs.len());
@@ -278,7 +278,7 @@ fn kits_for<J, O: Drop>(
     depth: usize,
 ) -> Result<Vec<Kit<O>>, NoMemory>
     requires few { length jobs.now ≤ 8 }
-    requires depth { (0 < depth) × (depth ≤ 1024) }
+    requires depth { (0 < depth) × (depth ≤ MAX_DEPTH) }
     ensures len { IfOk result (λ kits. vec_len kits ≡ seats) }
     ensures each { IfOk result (λ kits. (seat : ℕ) (kit : _) → slice_get kits.items seat ≡ Some kit → IsKit seat seats jobs.now kit) }
 {
@@ -416,7 +416,7 @@ pub fn serve_lanes<W: Work, G: Gate + Sync, R: Threads + Wait + Sync>(
 ) -> Result<(Vec<W>, Vec<Vec<W::Out>>), (Vec<W>, NoMemory)>
     requires workers { 0 < vec_len workers }
     requires lanes { length jobs.now ≤ 8 }
-    requires depth { (0 < depth) × (depth ≤ 1024) }
+    requires depth { (0 < depth) × (depth ≤ MAX_DEPTH) }
     requires may { MayServe W.may_answer workers.items (map (λ v. v.items) jobs.now) }
     requires stays { StaysReady W.may_answer W.answers }
     ensures answered { IfOk result (λ r. ServesLanes W.answers workers.items (map (λ v. v.items) jobs.now) r.0.items (map (λ v. v.items) r.1.items)) }
