@@ -6,6 +6,7 @@ use Rattle.hay_script.specs.declared.Command.TheVariants as command
 use Rattle.hay_script.specs.declared.Line.{Line}
 use Rattle.hay_script.specs.declared.Line.TheVariants as line
 use Rattle.hay_script.specs.Script.{line_of, lines_of}
+use Rattle.hay_script.specs.declared.words.TheConstants.{MAX_COMMANDS}
 use Rattle.hay_legal.specs.declared.turn.Item.{Item}
 use Rattle.hay_legal.specs.declared.turn.Item.TheVariants as item
 use Rattle.hay_legal.specs.declared.turn.LaneItem.{LaneItem}
@@ -37,7 +38,7 @@ with_bad number block = record block { lines = block.lines ++ record { line = nu
 -- a command behind the last one that a block may have is a bad line
 abbrev pub with_command : ℕ → ℕ → Command → OpenBlock → OpenBlock
 with_command number lane command block =
-    if nat_lt block.commands 65536
+    if nat_lt block.commands MAX_COMMANDS
     then record block { commands = block.commands + 1; lines = block.lines ++ record { line = number; lane = lane; item = item.Command command } ∷ [] }
     else with_bad number block
 

@@ -13,6 +13,7 @@ use Rattle.hay_turn.specs.Acts.{acts_of, AllBelow}
 use Rattle.hay_meeting.specs.Acts.{AreSound, Happened, Start, begun_of, nobody, row_lock, volume_lock}
 use Rattle.hay_meeting.specs.Locks.{Lock, LockSight, entries}
 use Rattle.hay_meeting.specs.Sights.{Doings, IsLegalLine, Sight, StandsAt, Work}
+use Rattle.hay_script.specs.declared.words.TheConstants.{MAX_LANES}
 
 -- a line, and what its lane had seen before it was answered and behind that
 pub record Note : Type 0 where
@@ -103,7 +104,7 @@ pub record StoreAt (settings : Settings) (start : Start) (k : Known) (h : Happen
 -- What all lanes are known to be before lines and behind them: h0 had happened, and the store stood at k; h has, and it stands at t.
 pub record Lines (settings : Settings) (start : Start) (lanes : ℕ) (before after : List Sight) (items : List LaneItem) (h0 h : Happened) (k t : Known) : Type 0 where
   pub some : 0 < lanes
-  pub few : lanes ≤ 8
+  pub few : lanes ≤ MAX_LANES
   pub from : StoreAt settings start k h0
   pub begins : BeginsAt lanes before h0
   pub arms_before : ArmsAre before k
