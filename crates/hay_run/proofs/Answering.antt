@@ -44,6 +44,7 @@ use Rattle.hay_run.proofs.Dealing.{answered_by, are_items, distinct_items, each_
 use Rattle.hay_run.proofs.RowsAsked.{rows_asked}
 use Rattle.hay_run.proofs.BadLines.{bad_asked, bad_legal, bad_lines, bad_text_is, bad_turn, each_bad}
 use Rattle.hay_run.proofs.Turning.{answers_block, block_goes_on}
+use Rattle.hay_script.specs.declared.words.TheConstants.{MAX_LANES}
 
 -- DEALT OUT
 
@@ -85,7 +86,7 @@ module _ (lanes : ℕ) (lines : List InBlock) (jobs : List (Vec Job Global)) (pl
   pub some_jobs : 0 < length jobs
   some_jobs = let long = many_jobs in let some = d.block.some in omega (arith, long, some)
 
-  pub few_jobs : length jobs ≤ 8
+  pub few_jobs : length jobs ≤ MAX_LANES
   few_jobs = let long = many_jobs in let few = d.block.few in omega (arith, long, few)
 
   pub served_jobs : Each (λ (js : Vec Job Global). Each (λ job. IsServed job.item) js.items) jobs

@@ -130,7 +130,7 @@ served_by (command.Restart pick) within stands = absurd cc
 
 -- A BLOCK WITH ONE LINE MORE
 
-pub no_lines : (lanes next : ℕ) → 0 < lanes → lanes ≤ 8 → IsBlockBelow next (record { lanes = lanes; commands = 0; lines = [] })
+pub no_lines : (lanes next : ℕ) → 0 < lanes → lanes ≤ MAX_LANES → IsBlockBelow next (record { lanes = lanes; commands = 0; lines = [] })
 no_lines lanes next some few = record { lines = record { some = some; few = few; low = tt; served = tt; distinct = tt }; before = tt }
 
 each_weaker : {X : Type 0} (P Q : X → Type 0) → ((x : X) → P x → Q x) → (xs : List X) → Each P xs → Each Q xs

@@ -22,11 +22,12 @@ use Rattle.hay_block.specs.Lines.{IsServed}
 use Rattle.hay_cluster.specs.Causes.{Counts}
 use Rattle.hay_cluster_block.specs.Notes.{AreBlockNotes, TellsRowsOf}
 use Rattle.hay_run.specs.declared.deal.Place.{Place}
+use Rattle.hay_script.specs.declared.words.TheConstants.{MAX_LANES}
 
 -- The lines of a block of so many lanes: each may stand in its lane, and no two have one number.
 pub record IsBlockOf (lanes : ℕ) (lines : List InBlock) : Type 0 where
   pub some : 0 < lanes
-  pub few : lanes ≤ 8
+  pub few : lanes ≤ MAX_LANES
   pub low : Each (λ line. line.lane < lanes) lines
   pub served : Each (λ line. IsServed line.item) lines
   pub distinct : EachPair (λ a b. a.line ≢ b.line) lines

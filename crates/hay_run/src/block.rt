@@ -17,12 +17,9 @@ use hay_base::{Listed, NoMemory};
 use hay_disk::Source;
 use hay_legal::turn::Item;
 use hay_lines::ScriptLines;
-use hay_script::{Command, Line, MAX_SCRIPT};
+use hay_script::{Command, Line, MAX_COMMANDS, MAX_LANES, MAX_SCRIPT};
 use std::alloc::Global;
 use std::marker::Model;
-
-/// A block has at most so many commands.
-pub const COMMANDS: u32 = 65_536;
 
 /// A line of a block: its number, its lane, which is 0 where the line is bad, and what it asks for.
 #[derive(Drop)]
@@ -112,7 +109,7 @@ impl LaneBlock {
         ensures below { OnOk result (IsBlockBelow (number + 1) self.new) }
         ensures lanes { self.new.lanes ≡ self.old.lanes }
     {
-        if self.commands >= COMMANDS {
+        if self.commands >= MAX_COMMANDS {
             return self.add_bad(number);
         }
         self.commands += 1;
@@ -204,7 +201,7 @@ pub fn read_block<S: Source>(
 ) -> Result<(LaneBlock, u64), Stop>
     requires few { number + budget MAX_SCRIPT script.old < 2 ^ 64 }
     requires some { 0 < lanes }
-    requires most { lanes ≤ 8 }
+    requires most { lanes ≤ MAX_LANES }
     ensures lines { IfOk result (λ read. IsBlockOf lanes read.0.lines × (read.0.lanes ≡ lanes)) }
     ensures read { script.old.ended ≡ false → IfOk result (λ read. TookItems number (Some (empty_block lanes)) (rest_of (S.left source.old) script.old) (Block read.0.lines ∷ [])
         read.1 (rest_of (S.left source.new) script.new) script.new.ended) }
