@@ -8,6 +8,7 @@ use Rattle.hay_needle.specs.declared.needle.Cookie.{Cookie}
 use Rattle.hay_needle.specs.declared.settings.Settings.{Settings}
 use Rattle.hay_needle.specs.Sizes.{needle_total}
 use Rattle.hay_needle.specs.Tables.{Table, live_end}
+use Rattle.hay_needle.specs.declared.total.TheConstants.{MAX_PHOTO}
 use Rattle.hay_script.specs.declared.Command.{Command}
 use Rattle.hay_script.specs.declared.Command.TheVariants as command
 use Rattle.hay_url.specs.declared.Url.{Url as UrlParts}
@@ -48,7 +49,7 @@ most_end n = 64 + n * 16777280
 
 -- a change whose photo is no larger than a photo may be
 abbrev pub IsPhoto : Entry → Type 0
-IsPhoto (entry.Put pair cookie bytes) = length bytes ≤ 16777216
+IsPhoto (entry.Put pair cookie bytes) = length bytes ≤ MAX_PHOTO
 IsPhoto (entry.Del pair) = Unit {0}
 
 abbrev pub IsPhotoPending : Option Pending → Type 0
@@ -189,14 +190,14 @@ freeze_with_leaves n k v m tag e failed t photo h leaves =
 
 -- PUTS
 
-photo_total : (size : ℕ) → size ≤ 16777216 → needle_total size ≤ 16777280
+photo_total : (size : ℕ) → size ≤ MAX_PHOTO → needle_total size ≤ 16777280
 photo_total size h = omega (arith, h)
 
 left_grown : (n : ℕ) (run : Option Run) → IsLeft n run → IsLeft (n + 1) (option_map run_grown run)
 left_grown n None h = tt
 left_grown n (Some run) h = omega (arith, h)
 
-puts : (n : ℕ) (volume : VolumeKnown) (tag : CoreTag) (pair : Pair) (c : Cookie) (bytes : List ℕ) → length bytes ≤ 16777216 → IsVolumeGrown n volume
+puts : (n : ℕ) (volume : VolumeKnown) (tag : CoreTag) (pair : Pair) (c : Cookie) (bytes : List ℕ) → length bytes ≤ MAX_PHOTO → IsVolumeGrown n volume
     → IsVolumeGrown (n + 1) (with_put volume tag pair c bytes)
 puts n volume tag pair c bytes small h =
     let logged : Logged = record { tag = tag; entry = entry.Put pair c bytes } in
@@ -219,10 +220,10 @@ puts n volume tag pair c bytes small h =
           h.replicas;
     }
 
-photo_of : (settings : Settings) (pair : Pair) (bytes : List ℕ) → length bytes ≤ 16777216 → IsPhoto (put_entry settings pair bytes)
+photo_of : (settings : Settings) (pair : Pair) (bytes : List ℕ) → length bytes ≤ MAX_PHOTO → IsPhoto (put_entry settings pair bytes)
 photo_of settings pair bytes h = h
 
-put_grown : (n : ℕ) (settings : Settings) (k : Known) (tag : CoreTag) (pair : Pair) (bytes : List ℕ) (r : Reply) (t : Known) → length bytes ≤ 16777216 → IsGrown n k
+put_grown : (n : ℕ) (settings : Settings) (k : Known) (tag : CoreTag) (pair : Pair) (bytes : List ℕ) (r : Reply) (t : Known) → length bytes ≤ MAX_PHOTO → IsGrown n k
     → LegalPut settings k tag pair bytes r t → IsGrown (n + 1) t
 put_grown n settings k tag pair bytes (reply.Stored v p d c) t small g h =
     by_leaves (n + 1) k (with_home (change_volume k v (λ volume. with_put volume tag pair c bytes)) pair v) t

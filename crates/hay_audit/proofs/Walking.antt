@@ -2,6 +2,7 @@
 use Rattle.std.proofs.Common.{◌≡◌, ℕ, ◌+◌, ◌<◌, ◌≤◌, ◌^◌, length, List, [], ◌∷◌, ◌++◌, Option, Some, None, refl, subst, sym, ap, ◌∙◌, inl, inr, arith}
 use Rattle.hay_needle.specs.declared.needle.Pair.{Pair}
 use Rattle.hay_needle.specs.declared.settings.Settings.{Settings}
+use Rattle.hay_needle.specs.declared.total.TheConstants.{MAX_PHOTO}
 use Rattle.hay_script.specs.declared.Command.{Command}
 use Rattle.hay_script.specs.declared.Command.TheVariants as command
 use Rattle.hay_script.specs.declared.Line.{Line}
@@ -103,7 +104,7 @@ within_item command h = tt
 
 -- its length has 32 bits
 pub put_small : (asked : Item) (pair : Pair) (bytes : List ℕ) → asked ≡ item.Command (command.Put pair bytes) → IsWithinItem asked → length bytes < 2 ^ 32
-put_small asked pair bytes e h = let small : length bytes ≤ 16777216 = subst (λ (i : Item). IsWithinItem i) e h in omega (arith, small)
+put_small asked pair bytes e h = let small : length bytes ≤ MAX_PHOTO = subst (λ (i : Item). IsWithinItem i) e h in omega (arith, small)
 
 pub lanes_by : (said : Line) (lanes : ℕ) → said ≡ line.Lanes lanes → SaidBy said Lanes
 lanes_by said lanes e = λ number. (empty_block lanes, ap (λ (l : Line). outside number l) e)

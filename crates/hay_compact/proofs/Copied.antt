@@ -21,6 +21,7 @@ use Rattle.hay_needle.specs.Super.{super_bytes}
 use Rattle.hay_needle.specs.Tables.{is_live, lacks, look, needle_row, pair_eq, rows_of}
 use Rattle.hay_needle.proofs.CopyLaws.{copies_one}
 use Rattle.hay_needle.proofs.Needles.{length-head, length-needle, max_photo-le}
+use Rattle.hay_needle.specs.declared.total.TheConstants.{MAX_PHOTO}
 use Rattle.hay_disk.specs.Disk.{Files, FileState, KeepsOthers}
 use Rattle.hay_volume.specs.declared.fault.CellFault.{CellFault}
 use Rattle.hay_volume.specs.declared.volume.VolumeFile.{VolumeFile}
@@ -44,7 +45,7 @@ pub read_long : (at : ℕ) (bytes : List ℕ) (head : CellHead) → HasRead at b
 read_long at bytes head h =
     length-needle bytes (needle_of_cell h.cell) h.is.is.is ∙ ap (λ (x : CellHead). needle_total x.size) (sym h.is.head_is)
 
-pub read_small : (at : ℕ) (bytes : List ℕ) (head : CellHead) → HasRead at bytes head → head.size ≤ 16777216
+pub read_small : (at : ℕ) (bytes : List ℕ) (head : CellHead) → HasRead at bytes head → head.size ≤ MAX_PHOTO
 read_small at bytes head h =
     let size : head.size ≡ length h.cell.bytes = ap (λ (x : CellHead). x.size) h.is.head_is in
     let fits = h.is.is.is.fits.size in

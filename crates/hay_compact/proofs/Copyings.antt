@@ -21,6 +21,7 @@ use Rattle.hay_volume.specs.Needles.{LacksNeedleWithin}
 use Rattle.hay_volume.proofs.Readings.{cells_first, cell_begins, same_cell}
 use Rattle.hay_disk.specs.Gate.{HasBytesAt}
 use Rattle.hay_needle.proofs.Needles.{head_first, one_head}
+use Rattle.hay_needle.specs.declared.total.TheConstants.{MAX_PHOTO}
 use Rattle.hay_compact.specs.Copying.{Copying, HasPeeked, HeadStands, Making, MovesOn, Stage, cell_total, end_of, live_among, renewed_needle}
 use Rattle.hay_compact.proofs.LiveNeedles.{next_among}
 use Rattle.hay_compact.proofs.CellLists.{after_front, cells_end}
@@ -202,7 +203,7 @@ has_room next end n room most file current head h heads fits all left short =
     let room_is = h.fits in
     omega arith
 
-pub peeked_of : (at end room most : ℕ) (head : CellHead) → head.size ≤ 16777216 → most ≡ min (end + 8) 18446744073709551615 → room ≡ most - at → needle_total head.size + 8 ≤ room
+pub peeked_of : (at end room most : ℕ) (head : CellHead) → head.size ≤ MAX_PHOTO → most ≡ min (end + 8) 18446744073709551615 → room ≡ most - at → needle_total head.size + 8 ≤ room
     → HasPeeked end at head
 peeked_of at end room most head small all left enough = record { small = small; within = omega arith; inside = omega arith }
 

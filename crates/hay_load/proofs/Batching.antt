@@ -8,6 +8,7 @@ use Rattle.std.proofs.lemmas.List.Elements.{All-append, All-cons, All-nil}
 use Rattle.std.proofs.lemmas.List.Sums.{sum_by-append}
 use Rattle.hay_needle.specs.declared.needle.Pair.{Pair}
 use Rattle.hay_needle.specs.Sizes.{needle_total}
+use Rattle.hay_needle.specs.declared.total.TheConstants.{MAX_PHOTO}
 use Rattle.hay_batch.specs.declared.photo.NewPhoto.{NewPhoto}
 use Rattle.hay_batch.specs.Batches.{AreDistinct, IsStorable, batch_total, max_total, photo_total}
 use Rattle.hay_batch.specs.Replicas.{At}
@@ -43,7 +44,7 @@ one_distinct photo (suc i) j b d less at there = absurd cc
 total_most : (n : ℕ) → needle_total n ≤ 64 + n
 total_most n = omega arith
 
-pub gathered_one : (photo : NewPhoto) → length photo.bytes ≤ 16777216 → IsGathered (photo ∷ [])
+pub gathered_one : (photo : NewPhoto) → length photo.bytes ≤ MAX_PHOTO → IsGathered (photo ∷ [])
 gathered_one photo few =
     let most : photo_total photo ≤ 64 + length photo.bytes = total_most (length photo.bytes) in
     record {
@@ -90,7 +91,7 @@ more_distinct photos photo distinct all i j a b less at there = elim (at_either 
   ]
 ]
 
-pub gathered_more : (photos more : List NewPhoto) (photo : NewPhoto) → IsGathered photos → length photo.bytes ≤ 16777216 → joins photos photo ≡ true → more ≡ photos ++ photo ∷ [] → IsGathered more
+pub gathered_more : (photos more : List NewPhoto) (photo : NewPhoto) → IsGathered photos → length photo.bytes ≤ MAX_PHOTO → joins photos photo ≡ true → more ≡ photos ++ photo ∷ [] → IsGathered more
 gathered_more photos more photo g few joined longer =
     let all = and_first (list_all (is_beside photo) photos) (nat_lt (length photos) 64 && nat_le (batch_total photos + photo_total photo) max_total) joined in
     let fits = and_second (list_all (is_beside photo) photos) (nat_lt (length photos) 64 && nat_le (batch_total photos + photo_total photo) max_total) joined in

@@ -8,6 +8,7 @@ use Rattle.hay_needle.specs.Needle.{Head, head_of_cell, needle_of_cell}
 use Rattle.hay_needle.proofs.Needles.{one_head}
 use Rattle.hay_needle.specs.Sizes.{max_photo, needle_total}
 use Rattle.hay_needle.specs.declared.needle.Version.TheVariants.{Two}
+use Rattle.hay_needle.specs.declared.total.TheConstants.{MAX_NEEDLE}
 use Rattle.hay_volume.specs.Cells.{HasCells}
 use Rattle.hay_volume.specs.Needles.{AreHeadsFrom, LacksNeedleOf, LacksNeedleWithin}
 use Rattle.hay_volume.proofs.Readings.{cell_begins, cells_first}
@@ -45,14 +46,14 @@ pub meets_behind : (cells n : ℕ) (r x : ReplicaSeen) (place : ℕ) → n < cel
 meets_behind cells n r x place less steps meets =
     let first = meets.few in
     let low : r.next + n * 48 ≤ x.next = steps.behind in
-    let high : x.next ≤ r.next + n * 16777264 = steps.most in
+    let high : x.next ≤ r.next + n * MAX_NEEDLE = steps.most in
     let from : x.next + meets.examined * 48 ≤ place = meets.behind in
-    let to : place ≤ x.next + meets.examined * 16777264 = meets.most in
+    let to : place ≤ x.next + meets.examined * MAX_NEEDLE = meets.most in
     record {
       examined = n;
       few = less;
       behind = (let behind : r.next + n * 48 ≤ place = omega (arith, low, from) in behind);
-      most = (let most : place ≤ r.next + n * 16777264 = omega (arith, first, high, to) in most);
+      most = (let most : place ≤ r.next + n * MAX_NEEDLE = omega (arith, first, high, to) in most);
       from = meets.from;
       within = subst (λ e. place < e) (ap (λ (s : ReplicaSeen). s.end) steps.only) meets.within;
     }

@@ -18,6 +18,7 @@ use Rattle.hay_physical.specs.declared.state.Phase.TheVariants.{Closed, Open}
 use Rattle.hay_needle.specs.Sizes.{max_photo, needle_total}
 use Rattle.hay_needle.specs.declared.needle.Version.TheVariants.{Two}
 use Rattle.hay_needle.specs.declared.needle.CellHead.{CellHead}
+use Rattle.hay_needle.specs.declared.total.TheConstants.{MAX_PHOTO}
 use Rattle.hay_physical.specs.Faults as physical_faults
 use Rattle.hay_physical.specs.CompactionRuns.{CopierPeeked, EndsRun, HasRun, IsPeeked, PhasePeeked, Run}
 use Rattle.hay_logical.specs.Fits.{PhotoAt}
@@ -149,7 +150,7 @@ small_phase (Open opened) head peeked some = small_copier opened.volume.end open
 
 -- and takes no more bytes than that of the largest photo
 pub peeked_small : {D : Type 0} (r : Copy D) (head : CellHead) → IsPeeked r head → (goal_of r ≡ None → ⊥) → needle_total head.size ≤ needle_total (max_photo Two)
-peeked_small r head peeked some = let small : head.size ≤ 16777216 = small_phase r.phase head peeked some in omega (arith, small)
+peeked_small r head peeked some = let small : head.size ≤ MAX_PHOTO = small_phase r.phase head peeked some in omega (arith, small)
 
 -- THE LATEST PLACE
 

@@ -7,6 +7,7 @@ use Rattle.hay_needle.specs.declared.settings.Settings.{Settings}
 use Rattle.hay_needle.specs.declared.needle.Version.TheVariants.{Two}
 use Rattle.hay_needle.specs.Sizes.{max_photo, needle_total}
 use Rattle.hay_needle.specs.declared.settings.TheConstants.{LAST_GENERATION}
+use Rattle.hay_needle.specs.declared.total.TheConstants.{MAX_NEEDLE}
 use Rattle.hay_map.specs.MapRows.{MapRows}
 use Rattle.hay_legal.specs.Known.{machine_of}
 use Rattle.hay_physical.specs.declared.fault.ReplicaFault.{ReplicaFault}
@@ -135,7 +136,7 @@ steps_more n r x y first second = record {
   few = omega arith;
   all = inl refl;
   behind = (let a : r.next + n * 48 ≤ x.next = first.behind in let b : x.next + 1 * 48 ≤ y.next = second.behind in let c : r.next + (n + 1) * 48 ≤ y.next = omega (arith, a, b) in c);
-  most = (let a : x.next ≤ r.next + n * 16777264 = first.most in let b : y.next ≤ x.next + 1 * 16777264 = second.most in let c : y.next ≤ r.next + (n + 1) * 16777264 = omega (arith, a, b) in c);
+  most = (let a : x.next ≤ r.next + n * MAX_NEEDLE = first.most in let b : y.next ≤ x.next + 1 * MAX_NEEDLE = second.most in let c : y.next ≤ r.next + (n + 1) * MAX_NEEDLE = omega (arith, a, b) in c);
   within = elim second.within [
     | inl none ↦ let wrong : 1 ≡ 0 = none in absurd (omega (arith, wrong))
     | inr low ↦ inr (subst (λ e. y.next ≤ e) (ap (λ (s : ReplicaSeen). s.end) first.only) low)
@@ -184,7 +185,7 @@ steps_one r x y size stands first second goal goal' next next' fits small =
       few = omega arith;
       all = inl refl;
       behind = (let low : next_of r + 1 * 48 ≤ next_of y = omega (arith, next, next') in low);
-      most = (let low : needle_total size ≤ 16777264 = small in let high : next_of y ≤ next_of r + 1 * 16777264 = omega (arith, next, next', low) in high);
+      most = (let low : needle_total size ≤ MAX_NEEDLE = small in let high : next_of y ≤ next_of r + 1 * MAX_NEEDLE = omega (arith, next, next', low) in high);
       within = inr (omega (arith, next', fits, ends));
       none = λ e. absurd (omega (arith, e));
     }

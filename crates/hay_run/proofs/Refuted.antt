@@ -11,7 +11,7 @@ use Rattle.hay_needle.specs.declared.needle.Cookie.{Cookie}
 use Rattle.hay_needle.specs.declared.needle.Needle.{Needle}
 use Rattle.hay_needle.specs.declared.needle.Pair.{Pair}
 use Rattle.hay_needle.specs.declared.settings.Settings.{Settings}
-use Rattle.hay_needle.specs.declared.total.TheConstants.{MAX_PHOTO}
+use Rattle.hay_needle.specs.declared.total.TheConstants.{MAX_NEEDLE, MAX_PHOTO}
 use Rattle.hay_needle.specs.declared.needle.Version.TheVariants.{Two}
 use Rattle.hay_needle.specs.Needle.{BeginsWithNeedle, needle_of_cell}
 use Rattle.hay_needle.specs.Sizes.{max_photo, needle_total}
@@ -488,7 +488,7 @@ step_of_one_cell_damaged_behind_it Tells settings before after v m m' place numb
         let here : MeetsDamage 1 place r = subst (λ (o : ReplicaSeen). MeetsDamage 1 place o) (sym (same met on)) (subst (λ k. MeetsDamage 1 k met) one meets) in
         let none = here.few in
         let low = here.behind in
-        let high : place ≤ r.next + here.examined * 16777264 = here.most in
+        let high : place ≤ r.next + here.examined * MAX_NEEDLE = here.most in
         other (omega (arith, none, low, high))
     refused refusal.Idle at old new same is seen = cc
     refused (refusal.ReadOnly by) at old new same (inl is) seen = cc

@@ -3,6 +3,7 @@ use Rattle.std.specs.Prelude.{IfNone, IfSome}
 use Rattle.std.proofs.lemmas.Bool.{true≢false}
 use Rattle.hay_needle.specs.Needle.{Head, HeadBytes, head_of_cell}
 use Rattle.hay_needle.specs.declared.needle.CellHead.{CellHead}
+use Rattle.hay_needle.specs.declared.total.TheConstants.{MAX_PHOTO}
 use Rattle.hay_volume.specs.Needles.{LacksNeedleWithin}
 use Rattle.hay_compact.specs.Copying.{HasPeeked, HeadStands, Stage}
 use Rattle.hay_compact.proofs.Copyings.{has_next, has_room, long_needle, no_damage, no_needle, peeked_of, read_head}
@@ -45,7 +46,7 @@ returns-clause-peeked g c =
     let total = c.total_of.ensures in
     subst (λ k. HasPeeked c.args.old.now.end k c.in-Some.head) (ap (λ (s : Stage). s.next) c.self.view_is)
     (peeked_of c.self.inside.next c.args.old.now.end c.saturating_sub-room.result c.saturating_add.result c.in-Some.head
-    (subst (λ (o : Option CellHead). IfSome o (λ h. h.size ≤ 16777216)) c.in-Some.is c.in_ok-head.ensures.size) (omega (arith, c.saturating_add.ensures, c.end.ensures))
+    (subst (λ (o : Option CellHead). IfSome o (λ h. h.size ≤ MAX_PHOTO)) c.in-Some.is c.in_ok-head.ensures.size) (omega (arith, c.saturating_add.ensures, c.end.ensures))
     c.saturating_sub-room.ensures (omega arith))
 
 pub returns-clause-cell : goal.returns-clause-cell
