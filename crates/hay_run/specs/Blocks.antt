@@ -100,7 +100,7 @@ abbrev pub lane_causes : ℕ → List LaneItem → List Cause
 lane_causes lane items = flat_map (λ answered. causes_told answered.reply) (filter (λ answered. answered.lane == lane) items)
 
 -- These lines were answered so, whatever the disks tell, where pairs have these homes behind them, and while the counts went from these to
--- those: each has its reply, which blames no arm but its lane's own, and none that is sure; and notes on new entries and on new rows stand
+-- those: each has its reply, which blames no arm but its lane's own, and none that is sure; and notes on volumes and on new rows stand
 -- behind them, where each row is of a volume of the store, and of a line that put a pair of this home. `Sure` says of a lane that its arm is sure.
 pub record IsBlockText (settings : Settings) (Sure : ℕ → Type 0) (before after : Counts) (home : Pair → Option ℕ) (lines : List InBlock) (text : List ℕ) : Type 0 where
   pub items : List LaneItem
