@@ -1,10 +1,8 @@
 //! Audits: what is said of a transcript, at which status.
 
 use super::cases::{CASES, Case};
-use super::{run_over, words_of};
+use super::store::{NO_FAULTS, Ran, Store, Streams};
 use hay_lanes::OpenGate;
-use hay_memdisk::{MemShelf, MemSink, MemSource};
-use hay_run::run;
 use std::alloc::Global;
 use std::sync::Wait;
 use std::test::Fail;
@@ -117,104 +115,58 @@ const AUDITED: [Audited; 14] = [
 
 #[test]
 fn transcripts_are_judged(rt: HostRuntime) -> Result<(), Fail> {
-    let alloc = rt.alloc();
     for case in &AUDITED {
-        let mut shelf = MemShelf::new(alloc);
-        let (status, written) = run_over(
-            &rt,
-            alloc,
-            case.words,
-            case.input.as_bytes(),
-            &mut shelf,
-        )?;
-        assert_eq!(rt; status, case.status, "{}", case.input);
-        assert_eq!(rt;
-            written.as_slice(),
-            case.written.as_bytes(),
-            "{}",
-            case.input
-        );
+        let ran = Store::new(rt.alloc()).run(&rt, case.words, case.input.as_bytes())?;
+        ran.is(&rt, case.status, case.written.as_bytes());
     }
     Ok(())
 }
 
 /// What an audit says of a transcript that was written by hand, and its status.
-fn judged(
-    rt: &(impl Threads + Wait + Sync),
-    alloc: Global,
-    case: &Case,
-) -> Result<(u8, Vec<u8>), Fail> {
-    let mut words = Vec::new(alloc);
-    words.push("audit")?;
-    for word in case.words.iter().skip(1) {
-        words.push(*word)?;
-    }
+fn judged(rt: &(impl Threads + Wait + Sync), alloc: Global, case: &Case) -> Result<Ran, Fail> {
+    let options = case.words.get(1..).unwrap_or(&[]);
+    let words = [AUDIT, options].concat(alloc)?;
     let first = format!(in alloc; "script {}\n", case.script.len())?;
-    let mut frame = Vec::new(alloc);
-    frame.extend_from_slice(first.as_bytes())?;
-    frame.extend_from_slice(case.script)?;
-    frame.extend_from_slice(case.transcript)?;
-    let mut shelf = MemShelf::new(alloc);
-    run_over(rt, alloc, words.as_slice(), frame.as_slice(), &mut shelf)
+    let frame = [first.as_bytes(), case.script, case.transcript].concat(alloc)?;
+    Store::new(alloc).run(rt, words.as_slice(), frame.as_slice())
 }
 
 /// Each is lawful, but for the one that begins with a block.
 #[test]
 fn transcripts_of_runs_are_lawful(rt: HostRuntime) -> Result<(), Fail> {
-    let alloc = rt.alloc();
     for case in &CASES {
-        let (status, written) = judged(&rt, alloc, case)?;
+        let ran = judged(&rt, rt.alloc(), case)?;
         if case.script.starts_with(b"lanes 2") {
-            assert_eq!(rt; status, 11);
-            assert_eq!(rt; written.as_slice(), b"open 0\n".as_slice());
+            ran.is(&rt, 11, b"open 0\n");
         } else {
-            assert_eq!(rt; status, 0);
-            assert!(rt; written.as_slice().starts_with(b"lawful "));
+            ran.begins(&rt, 0, b"lawful ");
         }
     }
     Ok(())
 }
 
-/// What an audit writes, and its status, where the source and the sink fail at these calls.
+/// An audit where these calls of the streams fail.
 fn faulty(
     rt: &(impl Threads + Wait + Sync),
     alloc: Global,
-    source_fails: &[u64],
-    sink_fails: &[u64],
-) -> Result<(u8, Vec<u8>), Fail> {
-    let words = words_of(alloc, AUDIT)?;
-    let mut text = Vec::new(alloc);
-    text.extend_from_slice(b"script 0\nhaystack 1 1 1 67108864\n")?;
-    let mut source = MemSource::new(alloc, text, 4096);
-    source.fail(source_fails)?;
-    let mut sink = MemSink::new(alloc);
-    sink.fail(sink_fails)?;
-    let mut shelf = MemShelf::new(alloc);
-    let status = run(
-        rt,
-        alloc,
-        words.as_slice(),
-        &mut source,
-        &mut sink,
-        &mut shelf,
-        &OpenGate,
-    );
-    let mut written = Vec::new(alloc);
-    written.extend_from_slice(sink.bytes())?;
-    Ok((status, written))
+    failed_read: u64,
+    failed_write: u64,
+) -> Result<Ran, Fail> {
+    let streams = Streams {
+        failed_read,
+        failed_write,
+        ..NO_FAULTS
+    };
+    let frame = b"script 0\nhaystack 1 1 1 67108864\n";
+    Store::new(alloc).run_with(rt, AUDIT, frame, streams, &OpenGate)
 }
 
+/// In the first line, in the transcript, and at its end.
 #[test]
 fn a_fault_of_a_stream_ends_an_audit(rt: HostRuntime) -> Result<(), Fail> {
-    let alloc = rt.alloc();
-    // In the first line, in the transcript, and at its end.
     for call in [1, 10, 11] {
-        let (status, written) = faulty(&rt, alloc, &[call], &[])?;
-        assert_eq!(rt; status, 4, "{call}");
-        assert!(rt; written.is_empty());
+        faulty(&rt, rt.alloc(), call, 0)?.is(&rt, 4, b"");
     }
-    let (status, written) = faulty(&rt, alloc, &[], &[1])?;
-    assert_eq!(rt; status, 3);
-    assert_eq!(rt; written.as_slice(), b"lawf".as_slice());
+    faulty(&rt, rt.alloc(), 0, 1)?.is(&rt, 3, b"lawf");
     Ok(())
 }

@@ -1,15 +1,12 @@
 //! The changing calls that commands make of a replica's disk, counted by fuses.
 
-use super::run_over;
-use hay_memdisk::MemShelf;
+use super::store::{RUN, Store, store_of};
+use super::told::{holds, same_len};
 use std::alloc::Global;
 use std::process::Abort;
-use std::str;
 use std::sync::Wait;
 use std::test::Fail;
 use std::thread::Threads;
-
-const RUN: &[&str] = &["run"];
 
 /// Cells of 56 bytes from 64, 120 and 176 on, of which the last is deleted, and the files of a compaction that was broken off.
 const THREE_CELLS: &str = "put 0 1 61\nput 0 2 62\nput 0 3 63\ndel 0 3\nbegin 0 0\nrestart 1\n";
@@ -125,55 +122,54 @@ const COUNTED: [Counted; 10] = [
     },
 ];
 
+/// What a put is told that shows so many faults, or none where the volume is frozen.
+fn refusal(alloc: Global, faults: u64) -> Result<String, Fail> {
+    if faults == 0 {
+        Ok(String::from_str(alloc, "readonly 0:0")?)
+    } else {
+        Ok(format!(in alloc; "failed 0:0 {faults}")?)
+    }
+}
+
+/// The reply to the command behind so many calls, and how many faults a put behind it shows, or 0 where the volume is frozen.
+fn reply_behind(counted: &Counted, calls: u64) -> (&'static str, u64) {
+    let closed = counted.open.saturating_add(counted.frozen);
+    if calls < counted.open {
+        ("failed 0:0 1", 2)
+    } else if calls < closed {
+        ("failed 0:0 1", 0)
+    } else {
+        let left = closed.saturating_add(counted.quiet).saturating_sub(calls);
+        (counted.done, left.saturating_add(1))
+    }
+}
+
 /// Tries a command behind so many calls, and a put that shows what the fuse has left of the volume.
 fn try_calls(
     rt: &(impl Abort + Threads + Wait + Sync),
     alloc: Global,
-    counted: Counted,
+    counted: &Counted,
     calls: u64,
-    reply: &str,
-    next: &str,
 ) -> Result<(), Fail> {
-    let Counted {
-        before,
-        line,
-        command,
-        ..
-    } = counted;
+    let (reply, faults) = reply_behind(counted, calls);
+    let next = refusal(alloc, faults)?;
+    let (before, command, line) = (counted.before, counted.command, counted.line);
     let behind = line.saturating_add(1);
     let script = format!(in alloc;
         "{THREE_CELLS}{before}fuse 0 0 {calls}\n{command}\nput 0 2 64\n"
     )?;
     let end = format!(in alloc; " fused 0:0 {calls}\n{line} {reply}\n{behind} {next}\n")?;
-    let mut shelf = MemShelf::new(alloc);
-    let (status, written) = run_over(rt, alloc, RUN, script.as_bytes(), &mut shelf)?;
-    assert_eq!(rt; status, 0);
-    assert!(rt;
-        written.ends_with(end.as_bytes()),
-        "{command} behind {before:?}, {calls} calls: {written:?}"
-    );
+    let ran = Store::new(alloc).run(rt, RUN, script.as_bytes())?;
+    ran.ends(rt, 0, end.as_str());
     Ok(())
 }
 
 #[test]
 fn compactions_make_the_listed_calls(rt: HostRuntime) -> Result<(), Fail> {
-    let alloc = rt.alloc();
-    for counted in COUNTED {
-        for calls in 0..counted.open {
-            try_calls(&rt, alloc, counted, calls, "failed 0:0 1", "failed 0:0 2")?;
-        }
-        for more in 0..counted.frozen {
-            let calls = counted.open.saturating_add(more);
-            try_calls(&rt, alloc, counted, calls, "failed 0:0 1", "readonly 0:0")?;
-        }
-        for more in 0..=counted.quiet {
-            let calls = counted
-                .open
-                .saturating_add(counted.frozen)
-                .saturating_add(more);
-            let faults = counted.quiet.saturating_sub(more).saturating_add(1);
-            let next = format!(in alloc; "failed 0:0 {faults}")?;
-            try_calls(&rt, alloc, counted, calls, counted.done, next.as_str())?;
+    for counted in &COUNTED {
+        let all = counted.open.saturating_add(counted.frozen);
+        for calls in 0..=all.saturating_add(counted.quiet) {
+            try_calls(&rt, rt.alloc(), counted, calls)?;
         }
     }
     Ok(())
@@ -207,37 +203,27 @@ const LENS: [([usize; 5], [usize; 5]); 16] = [
     ([104, 0, 0, 184, 152], [104, 0, 0, 184, 152]),
 ];
 
-/// Behind a compaction of the three cells with so many calls, and these lines.
-fn lens_behind(
-    rt: &(impl Threads + Wait + Sync),
+/// Makes a compaction of the three cells with so many calls, and these lines behind it, and compares the lengths of the files.
+fn try_lens(
+    rt: &(impl Abort + Threads + Wait + Sync),
     alloc: Global,
     calls: usize,
     lines: &str,
-) -> Result<[usize; 5], Fail> {
+    wanted: &[usize; 5],
+) -> Result<(), Fail> {
     let script = format!(in alloc; "{THREE_CELLS}fuse 0 0 {calls}\ncompact 0 0\n{lines}")?;
-    let mut shelf = MemShelf::new(alloc);
-    let (_, _) = run_over(rt, alloc, RUN, script.as_bytes(), &mut shelf)?;
-    let mut lens = [0; 5];
-    let disk = shelf.disk(1).ok_or("no disk")?;
-    for (file, len) in (0..).zip(lens.iter_mut()) {
-        *len = disk.bytes(file).len();
+    let store = store_of(rt, alloc, RUN, script.as_bytes())?;
+    for (len, wanted) in store.lens().iter().zip(wanted) {
+        same_len(rt, *len, *wanted);
     }
-    Ok(lens)
+    Ok(())
 }
 
 #[test]
 fn a_compaction_makes_its_calls_in_order(rt: HostRuntime) -> Result<(), Fail> {
     for (calls, (read, kept)) in LENS.iter().enumerate() {
-        assert_eq!(rt;
-            lens_behind(&rt, rt.alloc(), calls, "")?,
-            *read,
-            "{calls} calls"
-        );
-        assert_eq!(rt;
-            lens_behind(&rt, rt.alloc(), calls, "restart 0\n")?,
-            *kept,
-            "{calls} calls, stopped"
-        );
+        try_lens(&rt, rt.alloc(), calls, "", read)?;
+        try_lens(&rt, rt.alloc(), calls, "restart 0\n", kept)?;
     }
     Ok(())
 }
@@ -320,30 +306,42 @@ fn mixed_behind(calls: u64) -> Mix {
 /// The transcript of a mix, up to the note.
 fn front_of(alloc: Global, calls: u64, done: usize, rest: &str) -> Result<String, Fail> {
     let mut front = format!(in alloc; "haystack 1 1 1 67108864\n1 fused 0:0 {calls}\n")?;
-    for line in ACKNOWLEDGED.iter().take(done) {
-        front.push_str(line)?;
-    }
+    front.push_str(
+        ACKNOWLEDGED
+            .get(..done)
+            .unwrap_or(&[])
+            .concat(alloc)?
+            .as_str(),
+    )?;
     front.push_str(rest)?;
     Ok(front)
 }
 
+/// Runs the mix behind so many calls, and looks for one of the two ends.
+fn try_mix(
+    rt: &(impl Abort + Threads + Wait + Sync),
+    alloc: Global,
+    calls: u64,
+    pick: u64,
+) -> Result<(), Fail> {
+    let script = format!(in alloc;
+        "fuse 0 0 {calls}\nput 0 1 61\nput 0 1 62\nflush 0 0\ndel 0 1\ncompact 0 0\nput 0 2 63\nrestart {pick}\nread 0 1 903df1a0ade0b876\n"
+    )?;
+    let (done, rest, [lost, kept]) = mixed(calls);
+    let front = front_of(alloc, calls, done, rest)?;
+    let ran = Store::new(alloc).run(rt, RUN, script.as_bytes())?;
+    ran.begins(rt, 0, front.as_bytes());
+    let end = ran.written.get(front.len()..).unwrap_or(&[]);
+    let is_told = end == lost.as_bytes() || end == kept.as_bytes();
+    holds(rt, is_told, front.as_str(), end);
+    Ok(())
+}
+
 #[test]
 fn a_stop_anywhere_agrees_with_its_note(rt: HostRuntime) -> Result<(), Fail> {
-    let alloc = rt.alloc();
     for calls in 0..31 {
-        let (done, rest, [lost, kept]) = mixed(calls);
-        let front = front_of(alloc, calls, done, rest)?;
         for pick in 0..2 {
-            let script = format!(in alloc;
-                "fuse 0 0 {calls}\nput 0 1 61\nput 0 1 62\nflush 0 0\ndel 0 1\ncompact 0 0\nput 0 2 63\nrestart {pick}\nread 0 1 903df1a0ade0b876\n"
-            )?;
-            let mut shelf = MemShelf::new(alloc);
-            let (status, written) = run_over(&rt, alloc, RUN, script.as_bytes(), &mut shelf)?;
-            assert_eq!(rt; status, 0);
-            let written = str::from_utf8(written.as_slice()).ok().ok_or("no text")?;
-            let is_lost = written == format!(in alloc; "{front}{lost}")?.as_str();
-            let is_kept = written == format!(in alloc; "{front}{kept}")?.as_str();
-            assert!(rt; is_lost || is_kept, "{calls} calls, pick {pick}: {written}");
+            try_mix(&rt, rt.alloc(), calls, pick)?;
         }
     }
     Ok(())

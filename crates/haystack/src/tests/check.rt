@@ -1,13 +1,10 @@
 //! Checks of stores: what is told of each disk, at which status, and that nothing is changed.
 
-ghost use Rattle.std.specs.Prelude.{◌≡◌, ℕ, false};
-ghost use Rattle.hay_memdisk.specs.MemShelf.{mem_arms, mem_disks};
-
-use super::damage::{STORE_FILES, StoreFile, field_of, over_damaged};
-use super::{copy_disk, run_over, words_of};
+use super::damage::{STORE_FILES, StoreFile, field_of, over_damaged, turned};
+use super::store::{NO_FAULTS, RUN, Ran, Store, Streams, store_of};
+use super::told::{same, same_len, same_status};
 use hay_lanes::OpenGate;
-use hay_memdisk::{MemDisk, MemShelf, MemSink, MemSource};
-use hay_run::run;
+use hay_memdisk::MemDisk;
 use std::alloc::Global;
 use std::process::Abort;
 use std::sync::Wait;
@@ -22,8 +19,6 @@ struct Checked {
     status: u8,
     written: &'static str,
 }
-
-const RUN: &[&str] = &["run"];
 
 const CHECK: &[&str] = &["check"];
 
@@ -88,38 +83,33 @@ const CHECKED: [Checked; 7] = [
     },
 ];
 
-/// The bytes of the first files of the first disks.
-fn bytes_of(alloc: Global, shelf: &MemShelf) -> Result<Vec<u8>, Fail> {
+/// The bytes of the first files of the first disks, each with its length.
+fn bytes_of(alloc: Global, store: &Store) -> Result<Vec<u8>, Fail> {
     let mut all = Vec::new(alloc);
     for slot in 0..5 {
-        if let Some(disk) = shelf.disk(slot) {
-            for file in 0..8 {
-                let bytes = disk.bytes(file);
-                all.extend_from_slice(&bytes.len().to_be_bytes())?;
-                all.extend_from_slice(bytes)?;
-            }
+        for file in 0..8 {
+            let bytes = store.bytes(slot, file);
+            all.extend_from_slice(&bytes.len().to_be_bytes())?;
+            all.extend_from_slice(bytes)?;
         }
     }
     Ok(all)
 }
 
-/// Checks the shelf with these words: the status and what is written.
+/// Checks the store twice with these words, and looks for the status and what is written, and that no file is changed.
 fn try_check(
     rt: &(impl Abort + Threads + Wait + Sync),
     alloc: Global,
-    shelf: &mut MemShelf,
+    store: &mut Store,
     words: &[&str],
-    wanted: u8,
+    status: u8,
     told: &str,
-) -> Result<(), Fail>
-    requires disks { (slot : ℕ) → (mem_disks shelf.old slot).is_out ≡ false }
-    requires arms { (lane : ℕ) → (mem_arms shelf.old lane).is_out ≡ false }
-    ensures disks { (slot : ℕ) → (mem_disks shelf.new slot).is_out ≡ false }
-    ensures arms { (lane : ℕ) → (mem_arms shelf.new lane).is_out ≡ false }
-{
-    let (status, written) = run_over(rt, alloc, words, b"put 0 9 61\n", shelf)?;
-    assert_eq!(rt; written.as_slice(), told.as_bytes());
-    assert_eq!(rt; status, wanted);
+) -> Result<(), Fail> {
+    let before = bytes_of(alloc, store)?;
+    for _ in 0..2 {
+        store.answers(rt, words, b"put 0 9 61\n", status, told.as_bytes())?;
+    }
+    same(rt, bytes_of(alloc, store)?.as_slice(), before.as_slice());
     Ok(())
 }
 
@@ -127,27 +117,15 @@ fn try_check(
 fn stores_are_told_and_left(rt: HostRuntime) -> Result<(), Fail> {
     let alloc = rt.alloc();
     for case in &CHECKED {
-        let mut shelf = MemShelf::new(alloc);
-        let (status, _) = run_over(&rt, alloc, case.words, case.script, &mut shelf)?;
-        assert_eq!(rt; status, 0);
-        let before = bytes_of(alloc, &shelf)?;
+        let mut store = store_of(&rt, alloc, case.words, case.script)?;
         try_check(
             &rt,
             alloc,
-            &mut shelf,
+            &mut store,
             case.check,
             case.status,
             case.written,
         )?;
-        try_check(
-            &rt,
-            alloc,
-            &mut shelf,
-            case.check,
-            case.status,
-            case.written,
-        )?;
-        assert!(rt; bytes_of(alloc, &shelf)?.starts_with(before.as_slice()));
     }
     Ok(())
 }
@@ -155,78 +133,62 @@ fn stores_are_told_and_left(rt: HostRuntime) -> Result<(), Fail> {
 /// A void disk is not formatted.
 #[test]
 fn an_empty_shelf_stays_empty(rt: HostRuntime) -> Result<(), Fail> {
-    let alloc = rt.alloc();
-    let mut shelf = MemShelf::new(alloc);
     let told = "haystack 1 1 1 67108864\ncheck 0 void\ncheck 1 void\n";
-    try_check(&rt, alloc, &mut shelf, CHECK, 0, told)?;
-    try_check(&rt, alloc, &mut shelf, CHECK, 0, told)?;
-    assert!(rt; bytes_of(alloc, &shelf)?.iter().all(|byte| *byte == 0));
-    Ok(())
+    let mut store = Store::new(rt.alloc());
+    try_check(&rt, rt.alloc(), &mut store, CHECK, 0, told)
 }
 
-/// A check over the empty shelf whose disk in a slot fails at these calls, and whose source and sink at these.
+/// A check over the empty store whose disk in a slot fails at this call, and its output at this one. The source fails at once.
 fn faulty(
     rt: &(impl Threads + Wait + Sync),
     alloc: Global,
     slot: u32,
-    disk_fails: &[u64],
-    sink_fails: &[u64],
-) -> Result<(u8, Vec<u8>), Fail> {
-    let words = words_of(alloc, CHECK)?;
-    let mut source = MemSource::new(alloc, Vec::new(alloc), 11);
-    source.fail(&[1])?;
-    let mut sink = MemSink::new(alloc);
-    sink.fail(sink_fails)?;
+    failed_call: u64,
+    failed_write: u64,
+) -> Result<Ran, Fail> {
     let mut disk = MemDisk::new(alloc);
-    disk.fail(disk_fails)?;
-    let mut shelf = MemShelf::new(alloc);
-    shelf.put_disk(slot, disk)?;
-    let status = run(
-        rt,
-        alloc,
-        words.as_slice(),
-        &mut source,
-        &mut sink,
-        &mut shelf,
-        &OpenGate,
-    );
-    let mut written = Vec::new(alloc);
-    written.extend_from_slice(sink.bytes())?;
-    Ok((status, written))
+    disk.fail(&[failed_call])?;
+    let mut store = Store::new(alloc);
+    store.put_disk(slot, disk)?;
+    let streams = Streams {
+        failed_read: 1,
+        failed_write,
+        ..NO_FAULTS
+    };
+    store.run_with(rt, CHECK, b"", streams, &OpenGate)
 }
 
 /// The source is not read, though it fails at once.
 #[test]
 fn a_fault_ends_the_check(rt: HostRuntime) -> Result<(), Fail> {
-    let alloc = rt.alloc();
-    for (slot, rest) in [
-        (0, "open failed 0 1\n"),
-        (1, "check 0 void\nopen failed 1 1\n"),
+    for (slot, failed_call, failed_write, status, told) in [
+        (0, 1, 0, 6, "open failed 0 1\n"),
+        (1, 1, 0, 6, "check 0 void\nopen failed 1 1\n"),
+        (0, 0, 4, 0, "check 0 void\ncheck 1 void\n"),
     ] {
-        let (status, written) = faulty(&rt, alloc, slot, &[1], &[])?;
-        let transcript = format!(in alloc; "haystack 1 1 1 67108864\n{rest}")?;
-        assert_eq!(rt; written.as_slice(), transcript.as_bytes());
-        assert_eq!(rt; status, 6);
+        let ran = faulty(&rt, rt.alloc(), slot, failed_call, failed_write)?;
+        ran.tells(&rt, status, told);
     }
-    let whole = b"haystack 1 1 1 67108864\ncheck 0 void\ncheck 1 void\n";
-    for call in 1..4 {
-        let (status, written) = faulty(&rt, alloc, 0, &[], &[call])?;
-        assert_eq!(rt; status, 3);
-        assert!(rt; whole.starts_with(written.as_slice()));
+    Ok(())
+}
+
+/// The last line, which tells of the disk, is cut short too.
+#[test]
+fn a_check_is_cut_where_the_output_ends(rt: HostRuntime) -> Result<(), Fail> {
+    let void = b"haystack 1 1 1 67108864\ncheck 0 void\ncheck 1 void\n" as &[u8];
+    for (failed_call, failed_write, whole) in [
+        (0, 1, void),
+        (0, 2, void),
+        (0, 3, void),
+        (1, 2, b"haystack 1 1 1 67108864\nopen failed 0 1\n"),
+    ] {
+        faulty(&rt, rt.alloc(), 0, failed_call, failed_write)?.is_cut_of(&rt, whole);
     }
-    let (status, written) = faulty(&rt, alloc, 0, &[], &[4])?;
-    assert_eq!(rt; status, 0);
-    assert_eq!(rt; written.as_slice(), whole.as_slice());
-    // The last line, which tells of the disk, is cut short too.
-    let (status, written) = faulty(&rt, alloc, 0, &[1], &[2])?;
-    assert_eq!(rt; status, 3);
-    assert!(rt; b"haystack 1 1 1 67108864\nopen failed 0 1\n".starts_with(written.as_slice()));
     Ok(())
 }
 
 #[test]
 fn words_of_a_check_are_those_of_a_run(rt: HostRuntime) -> Result<(), Fail> {
-    let alloc = rt.alloc();
     for words in [
         &["check", "check"] as &[&str],
         &["check", "--volumes", "0"],
@@ -234,12 +196,17 @@ fn words_of_a_check_are_those_of_a_run(rt: HostRuntime) -> Result<(), Fail> {
         &["check", "--slot", "1"],
         &["Check"],
     ] {
-        let mut shelf = MemShelf::new(alloc);
-        let (status, written) = run_over(&rt, alloc, words, b"", &mut shelf)?;
-        assert_eq!(rt; status, 2);
-        assert!(rt; written.is_empty());
+        Store::new(rt.alloc()).answers(&rt, words, b"", 2, b"")?;
     }
     Ok(())
+}
+
+/// These bytes up to a place, and others in place of as many behind it; where there are none, the file ends there.
+fn patched(alloc: Global, whole: &[u8], at: usize, patch: &[u8]) -> Result<Vec<u8>, Fail> {
+    let front = whole.get(..at).unwrap_or(&[]);
+    let rest = whole.get(at.saturating_add(patch.len())..).unwrap_or(&[]);
+    let kept = if patch.is_empty() { &[] } else { rest };
+    Ok([front, patch, kept].concat(alloc)?)
 }
 
 /// The volume file of `put 0 1 61`, or of that and a flush, changed as the worked rows say.
@@ -248,35 +215,60 @@ fn worked_damage_is_told(rt: HostRuntime) -> Result<(), Fail> {
     let alloc = rt.alloc();
     let flushed: &[u8] = b"put 0 1 61\nflush 0 0\n";
     let plain: &[u8] = b"put 0 1 61\n";
-    for (script, file, cut, patch, told) in [
-        (plain, 1, 40, b"" as &[u8], "damaged 1 40"),
-        (flushed, 2, 100, b"", "damaged 2 64"),
-        (plain, 1, 120, b"NEEDLE01", "damaged 1 120"),
-        (plain, 1, 120, &[0xff; 8], "whole 0 1 1 0 120 0"),
-        (flushed, 1, 100, b"b", "damaged 1 64"),
-        (plain, 1, 100, b"b", "damaged 1 64"),
+    for (script, file, at, patch, status, told) in [
+        (
+            plain,
+            1,
+            40,
+            b"" as &[u8],
+            8,
+            "check 0 rows 1\ncheck 1 damaged 1 40\n",
+        ),
+        (
+            flushed,
+            2,
+            100,
+            b"",
+            8,
+            "check 0 rows 1\ncheck 1 damaged 2 64\n",
+        ),
+        (
+            plain,
+            1,
+            120,
+            b"NEEDLE01",
+            8,
+            "check 0 rows 1\ncheck 1 damaged 1 120\n",
+        ),
+        (
+            plain,
+            1,
+            120,
+            &[0xff; 8],
+            0,
+            "check 0 rows 1\ncheck 1 whole 0 1 1 0 120 0\n",
+        ),
+        (
+            flushed,
+            1,
+            100,
+            b"b",
+            8,
+            "check 0 rows 1\ncheck 1 damaged 1 64\n",
+        ),
+        (
+            plain,
+            1,
+            100,
+            b"b",
+            8,
+            "check 0 rows 1\ncheck 1 damaged 1 64\n",
+        ),
     ] {
-        let mut store = MemShelf::new(alloc);
-        let _ = run_over(&rt, alloc, RUN, script, &mut store)?;
-        let mut bytes = Vec::new(alloc);
-        if let Some(disk) = store.disk(1) {
-            let (front, rest) = disk.bytes(file).split_at_checked(cut).ok_or("short")?;
-            bytes.extend_from_slice(front)?;
-            bytes.extend_from_slice(patch)?;
-            if !patch.is_empty() {
-                let (_, behind) = rest.split_at_checked(patch.len()).ok_or("short")?;
-                bytes.extend_from_slice(behind)?;
-            }
-        }
-        let mut shelf = MemShelf::new(alloc);
-        copy_disk(&store, 0, 3, &[], alloc, &mut shelf)?;
-        copy_disk(&store, 1, file, bytes.as_slice(), alloc, &mut shelf)?;
-        let (status, written) = run_over(&rt, alloc, CHECK, b"", &mut shelf)?;
-        let transcript = format!(in alloc;
-            "haystack 1 1 1 67108864\ncheck 0 rows 1\ncheck 1 {told}\n"
-        )?;
-        assert_eq!(rt; written.as_slice(), transcript.as_bytes());
-        assert_eq!(rt; status, if told.starts_with("damaged") { 8 } else { 0 });
+        let store = store_of(&rt, alloc, RUN, script)?;
+        let bytes = patched(alloc, store.bytes(1, file), at, patch)?;
+        let mut copy = store.with_file(1, file, bytes.as_slice())?;
+        copy.run(&rt, CHECK, b"")?.tells(&rt, status, told);
     }
     Ok(())
 }
@@ -388,26 +380,32 @@ fn index_flipped(at: usize) -> Told {
     }
 }
 
+/// The lines that a check writes where this is told of the disk of a file.
+fn lines_of(alloc: Global, file: StoreFile, told: Told) -> Result<String, Fail> {
+    let line = told.line(alloc)?;
+    if file.slot() == 0 {
+        Ok(format!(in alloc; "check 0 {line}\ncheck 1 whole 0 1 1 1 120 0\n")?)
+    } else {
+        Ok(format!(in alloc; "check 0 rows 1\ncheck 1 {line}\n")?)
+    }
+}
+
 /// Checks the store with these bytes in place of a file, and opens it: where no disk is damaged it is opened.
 fn try_bytes(
     rt: &(impl Abort + Threads + Wait + Sync),
     alloc: Global,
-    store: &MemShelf,
+    store: &Store,
     file: StoreFile,
     bytes: &[u8],
     told: Told,
 ) -> Result<(), Fail> {
-    let (status, written) = over_damaged(rt, alloc, CHECK, store, file, bytes)?;
-    let line = told.line(alloc)?;
-    let transcript = if file.slot() == 0 {
-        format!(in alloc; "haystack 1 1 1 67108864\ncheck 0 {line}\ncheck 1 whole 0 1 1 1 120 0\n")?
-    } else {
-        format!(in alloc; "haystack 1 1 1 67108864\ncheck 0 rows 1\ncheck 1 {line}\n")?
-    };
-    assert_eq!(rt; written.as_slice(), transcript.as_bytes());
-    assert_eq!(rt; status, if told.is_damaged() { 8 } else { 0 });
-    let (opened, _) = over_damaged(rt, alloc, RUN, store, file, bytes)?;
-    assert!(rt; opened == 0 || (opened == 6 && told.is_damaged()));
+    let lines = lines_of(alloc, file, told)?;
+    let status = if told.is_damaged() { 8 } else { 0 };
+    over_damaged(rt, CHECK, store, file, bytes)?.tells(rt, status, lines.as_str());
+    let opened = over_damaged(rt, RUN, store, file, bytes)?.status;
+    if opened != 6 || !told.is_damaged() {
+        same_status(rt, opened, 0);
+    }
     Ok(())
 }
 
@@ -415,19 +413,15 @@ fn try_bytes(
 fn try_file(
     rt: &(impl Abort + Threads + Wait + Sync),
     alloc: Global,
-    store: &MemShelf,
+    store: &Store,
     file: StoreFile,
-    whole: &[u8],
 ) -> Result<(), Fail> {
-    assert_eq!(rt; whole.len(), file.len());
-    for (at, byte) in whole.iter().enumerate() {
-        let (front, rest) = whole.split_at(at);
-        try_bytes(rt, alloc, store, file, front, cut(file, at))?;
+    let whole = store.bytes(file.slot(), file.number());
+    same_len(rt, whole.len(), file.len());
+    for at in 0..whole.len() {
+        try_bytes(rt, alloc, store, file, &whole[..at], cut(file, at))?;
         for mask in [0x01, 0x80] {
-            let mut bytes = Vec::new(alloc);
-            bytes.extend_from_slice(front)?;
-            bytes.push(*byte ^ mask)?;
-            bytes.extend_from_slice(&rest[1..])?;
+            let bytes = turned(alloc, whole, at, mask)?;
             let told = flipped(file, at);
             try_bytes(rt, alloc, store, file, bytes.as_slice(), told)?;
         }
@@ -438,14 +432,9 @@ fn try_file(
 /// Each cut and each turned bit of the table, of all bytes of the store's files.
 #[test]
 fn each_damage_is_told_by_a_check(rt: HostRuntime) -> Result<(), Fail> {
-    let alloc = rt.alloc();
-    let mut store = MemShelf::new(alloc);
-    let (status, _) = run_over(&rt, alloc, RUN, b"put 0 1 61\nflush 0 0\n", &mut store)?;
-    assert_eq!(rt; status, 0);
+    let store = store_of(&rt, rt.alloc(), RUN, b"put 0 1 61\nflush 0 0\n")?;
     for file in STORE_FILES {
-        if let Some(disk) = store.disk(file.slot()) {
-            try_file(&rt, alloc, &store, file, disk.bytes(file.number()))?;
-        }
+        try_file(&rt, rt.alloc(), &store, file)?;
     }
     Ok(())
 }

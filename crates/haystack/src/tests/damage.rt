@@ -1,7 +1,7 @@
 //! Stores of which a file is cut, or a byte of it changed: what an opening tells of each.
 
-use super::{copy_disk, run_over};
-use hay_memdisk::MemShelf;
+use super::store::{RUN, Ran, Store, store_of};
+use super::told::same_len;
 use std::alloc::Global;
 use std::process::Abort;
 use std::sync::Wait;
@@ -127,73 +127,68 @@ fn index_flipped(at: usize) -> Damage {
     }
 }
 
-/// What these words over the store without a script write, and their status, with these bytes in place of a file.
+/// A run under these words over the store without a script, with these bytes in place of a file.
 pub(super) fn over_damaged(
     rt: &(impl Threads + Wait + Sync),
-    alloc: Global,
     words: &[&str],
-    store: &MemShelf,
+    store: &Store,
     file: StoreFile,
     bytes: &[u8],
-) -> Result<(u8, Vec<u8>), Fail> {
-    let mut shelf = MemShelf::new(alloc);
-    let (journal, replica) = match file {
-        StoreFile::Journal => (0, 3),
-        _ => (3, file.number()),
-    };
-    copy_disk(store, 0, journal, bytes, alloc, &mut shelf)?;
-    copy_disk(store, 1, replica, bytes, alloc, &mut shelf)?;
-    run_over(rt, alloc, words, b"", &mut shelf)
+) -> Result<Ran, Fail> {
+    let mut copy = store.with_file(file.slot(), file.number(), bytes)?;
+    copy.run(rt, words, b"")
+}
+
+/// What an opening tells.
+fn line_of(alloc: Global, file: StoreFile, damage: Damage) -> Result<String, Fail> {
+    match damage {
+        Some((number, at)) => {
+            let slot = file.slot();
+            Ok(format!(in alloc; "open damaged {slot} {number} {at}\n")?)
+        }
+        None => Ok(String::new(alloc)),
+    }
 }
 
 /// Tries the store with these bytes in place of a file.
 fn try_bytes(
     rt: &(impl Abort + Threads + Wait + Sync),
     alloc: Global,
-    store: &MemShelf,
+    store: &Store,
     file: StoreFile,
     bytes: &[u8],
     damage: Damage,
 ) -> Result<(), Fail> {
-    let (status, written) = over_damaged(rt, alloc, &["run"], store, file, bytes)?;
-    let (due, line) = match damage {
-        Some((number, at)) => {
-            let slot = file.slot();
-            (6, format!(in alloc; "open damaged {slot} {number} {at}\n")?)
-        }
-        None => (0, String::new(alloc)),
-    };
-    let transcript = format!(in alloc; "haystack 1 1 1 67108864\n{line}")?;
-    assert_eq!(rt; written.as_slice(), transcript.as_bytes());
-    assert_eq!(rt; status, due);
+    let line = line_of(alloc, file, damage)?;
+    let status = if damage.is_some() { 6 } else { 0 };
+    over_damaged(rt, RUN, store, file, bytes)?.tells(rt, status, line.as_str());
     Ok(())
+}
+
+/// These bytes with bits of one turned.
+pub(super) fn turned(alloc: Global, whole: &[u8], at: usize, mask: u8) -> Result<Vec<u8>, Fail> {
+    let mut bytes = whole.to_vec(alloc)?;
+    if let Some(byte) = bytes.get_mut(at) {
+        *byte ^= mask;
+    }
+    Ok(bytes)
 }
 
 /// Tries each cut of a file, and each byte of it with its lowest bit turned, and its highest.
 fn try_file(
     rt: &(impl Abort + Threads + Wait + Sync),
     alloc: Global,
-    store: &MemShelf,
+    store: &Store,
     file: StoreFile,
-    whole: &[u8],
 ) -> Result<(), Fail> {
-    assert_eq!(rt; whole.len(), file.len());
-    for (at, byte) in whole.iter().enumerate() {
-        let (front, rest) = whole.split_at(at);
-        try_bytes(rt, alloc, store, file, front, file.cut(at))?;
+    let whole = store.bytes(file.slot(), file.number());
+    same_len(rt, whole.len(), file.len());
+    for at in 0..whole.len() {
+        try_bytes(rt, alloc, store, file, &whole[..at], file.cut(at))?;
         for mask in [0x01, 0x80] {
-            let mut bytes = Vec::new(alloc);
-            bytes.extend_from_slice(front)?;
-            bytes.push(*byte ^ mask)?;
-            bytes.extend_from_slice(&rest[1..])?;
-            try_bytes(
-                rt,
-                alloc,
-                store,
-                file,
-                bytes.as_slice(),
-                file.flipped(at, mask),
-            )?;
+            let bytes = turned(alloc, whole, at, mask)?;
+            let damage = file.flipped(at, mask);
+            try_bytes(rt, alloc, store, file, bytes.as_slice(), damage)?;
         }
     }
     Ok(())
@@ -201,71 +196,47 @@ fn try_file(
 
 #[test]
 fn each_damage_is_told_at_its_place(rt: HostRuntime) -> Result<(), Fail> {
-    let alloc = rt.alloc();
-    let mut store = MemShelf::new(alloc);
-    let (status, _) = run_over(&rt, alloc, &["run"], b"put 0 1 61\nflush 0 0\n", &mut store)?;
-    assert_eq!(rt; status, 0);
+    let store = store_of(&rt, rt.alloc(), RUN, b"put 0 1 61\nflush 0 0\n")?;
     for file in STORE_FILES {
-        if let Some(disk) = store.disk(file.slot()) {
-            try_file(&rt, alloc, &store, file, disk.bytes(file.number()))?;
-        }
+        try_file(&rt, rt.alloc(), &store, file)?;
     }
     Ok(())
 }
 
-/// The whole transcript of a run over the store of `put 0 1 61; flush 0 0` with another byte in its photo: it is neither shown nor
-/// deleted, since its needle is not what the record says.
-#[test]
-fn a_damaged_photo_is_not_shown(rt: HostRuntime) -> Result<(), Fail> {
-    let alloc = rt.alloc();
-    let mut store = MemShelf::new(alloc);
-    let _ = run_over(&rt, alloc, &["run"], b"put 0 1 61\nflush 0 0\n", &mut store)?;
-    let mut bytes = Vec::new(alloc);
-    if let Some(disk) = store.disk(1) {
-        bytes.extend_from_slice(disk.bytes(1))?;
-    }
+/// The store of a photo with a record, with another byte in its photo on the first replica.
+fn with_another_photo(
+    rt: &(impl Abort + Threads + Wait + Sync),
+    alloc: Global,
+    words: &[&str],
+) -> Result<Store, Fail> {
+    let store = store_of(rt, alloc, words, b"put 0 1 61\nflush 0 0\n")?;
+    let mut bytes = store.bytes(1, 1).to_vec(alloc)?;
     bytes.truncate(100);
     bytes.extend_from_slice(
         b"bNEND\xdf\xbb\x28\xe7\xd8\x1a\xfc\xfe\0\0\0\0\0\0\0\0\0\0\0\0\0\0\0",
     )?;
-    let mut second = MemShelf::new(alloc);
-    copy_disk(&store, 0, 3, &[], alloc, &mut second)?;
-    copy_disk(&store, 1, 1, bytes.as_slice(), alloc, &mut second)?;
-    let script = b"read 0 1 903df1a0ade0b876\ndel 0 1\n";
-    let (status, written) = run_over(&rt, alloc, &["run"], script, &mut second)?;
-    assert_eq!(rt; status, 0);
-    assert_eq!(rt;
-        written.as_slice(),
-        b"haystack 1 1 1 67108864\n1 unreadable 0 0 1 0:damage:64\n2 damaged 0:0 64\n".as_slice()
-    );
+    store.with_file(1, 1, bytes.as_slice())
+}
+
+/// It is neither shown nor deleted, since its needle is not what the record says.
+#[test]
+fn a_damaged_photo_is_not_shown(rt: HostRuntime) -> Result<(), Fail> {
+    let mut store = with_another_photo(&rt, rt.alloc(), RUN)?;
+    let ran = store.run(&rt, RUN, b"read 0 1 903df1a0ade0b876\ndel 0 1\n")?;
+    ran.tells(&rt, 0, "1 unreadable 0 0 1 0:damage:64\n2 damaged 0:0 64\n");
     Ok(())
 }
 
 /// Where one replica is damaged, the other shows the photo.
 #[test]
 fn a_damaged_replica_is_passed_over(rt: HostRuntime) -> Result<(), Fail> {
-    let alloc = rt.alloc();
     let words = &["run", "--machines", "2", "--replicas", "2"];
-    let mut store = MemShelf::new(alloc);
-    let _ = run_over(&rt, alloc, words, b"put 0 1 61\nflush 0 0\n", &mut store)?;
-    let mut bytes = Vec::new(alloc);
-    if let Some(disk) = store.disk(1) {
-        bytes.extend_from_slice(disk.bytes(1))?;
-    }
-    bytes.truncate(100);
-    bytes.extend_from_slice(
-        b"bNEND\xdf\xbb\x28\xe7\xd8\x1a\xfc\xfe\0\0\0\0\0\0\0\0\0\0\0\0\0\0\0",
-    )?;
-    let mut second = MemShelf::new(alloc);
-    copy_disk(&store, 0, 3, &[], alloc, &mut second)?;
-    copy_disk(&store, 1, 1, bytes.as_slice(), alloc, &mut second)?;
-    copy_disk(&store, 2, 3, &[], alloc, &mut second)?;
-    let script = b"# skip\nread 0 1 903df1a0ade0b876\n";
-    let (status, written) = run_over(&rt, alloc, words, script, &mut second)?;
-    assert_eq!(rt; status, 0);
-    assert_eq!(rt;
-        written.as_slice(),
-        b"haystack 2 1 2 67108864\n2 photo 0 1 0 1 61\n".as_slice()
-    );
-    Ok(())
+    let mut store = with_another_photo(&rt, rt.alloc(), words)?;
+    store.answers(
+        &rt,
+        words,
+        b"# skip\nread 0 1 903df1a0ade0b876\n",
+        0,
+        b"haystack 2 1 2 67108864\n2 photo 0 1 0 1 61\n",
+    )
 }

@@ -1,14 +1,7 @@
 //! Drills, against summaries that were worked out by hand.
 
-ghost use Rattle.std.specs.Prelude.{◌≡◌, ℕ, false};
-ghost use Rattle.hay_memdisk.specs.MemShelf.{mem_arms, mem_disks};
-
-use super::words_of;
-use hay_disk::Disk;
+use super::store::{NO_FAULTS, Ran, Store, Streams};
 use hay_lanes::OpenGate;
-use hay_memdisk::{MemDisk, MemShelf, MemSink, MemSource};
-use hay_run::run;
-use std::alloc::Global;
 use std::sync::Wait;
 use std::test::Fail;
 use std::thread::Threads;
@@ -37,70 +30,42 @@ const SUMMARIES: [(&str, &str, &[u8]); 4] = [
     ),
 ];
 
-/// What a drill writes, and its status, where writes of the sink fail. No read of the source is to pass.
+/// A drill over a store, where this write fails. No read of the source is to pass.
 fn drilled(
     rt: &(impl Threads + Wait + Sync),
-    alloc: Global,
+    store: &mut Store,
     words: &[&str],
-    sink_fails: &[u64],
-    shelf: &mut MemShelf,
-) -> Result<(u8, Vec<u8>), Fail>
-    requires disks { (slot : ℕ) → (mem_disks shelf.old slot).is_out ≡ false }
-    requires arms { (lane : ℕ) → (mem_arms shelf.old lane).is_out ≡ false }
-    ensures disks { (slot : ℕ) → (mem_disks shelf.new slot).is_out ≡ false }
-    ensures arms { (lane : ℕ) → (mem_arms shelf.new lane).is_out ≡ false }
-{
-    let words = words_of(alloc, words)?;
-    let mut source = MemSource::new(alloc, Vec::new(alloc), 1);
-    source.fail(&[1])?;
-    let mut sink = MemSink::new(alloc);
-    sink.fail(sink_fails)?;
-    let status = run(
-        rt,
-        alloc,
-        words.as_slice(),
-        &mut source,
-        &mut sink,
-        shelf,
-        &OpenGate,
-    );
-    let mut written = Vec::new(alloc);
-    written.extend_from_slice(sink.bytes())?;
-    Ok((status, written))
+    failed_write: u64,
+) -> Result<Ran, Fail> {
+    let streams = Streams {
+        failed_read: 1,
+        failed_write,
+        ..NO_FAULTS
+    };
+    store.run_with(rt, words, b"", streams, &OpenGate)
 }
 
 #[test]
 fn summaries_are_exact(rt: HostRuntime) -> Result<(), Fail> {
-    let alloc = rt.alloc();
     for (count, first, summary) in SUMMARIES {
-        let mut shelf = MemShelf::new(alloc);
-        let (status, written) = drilled(&rt, alloc, &["drill", count, first], &[], &mut shelf)?;
-        assert_eq!(rt; status, 0);
-        assert_eq!(rt; written.as_slice(), summary);
+        let mut store = Store::new(rt.alloc());
+        drilled(&rt, &mut store, &["drill", count, first], 0)?.is(&rt, 0, summary);
     }
     Ok(())
 }
 
 #[test]
 fn a_summary_is_cut_where_the_output_ends(rt: HostRuntime) -> Result<(), Fail> {
-    let alloc = rt.alloc();
-    let mut shelf = MemShelf::new(alloc);
-    let (status, written) = drilled(&rt, alloc, &["drill", "1", "0"], &[1], &mut shelf)?;
-    assert_eq!(rt; status, 3);
-    assert!(rt; SUMMARIES[0].2.starts_with(written.as_slice()));
+    let mut store = Store::new(rt.alloc());
+    drilled(&rt, &mut store, &["drill", "1", "0"], 1)?.is_cut_of(&rt, SUMMARIES[0].2);
     Ok(())
 }
 
 /// The Directory's disk lets no changing call pass.
 #[test]
 fn a_refused_opening_is_told_alone(rt: HostRuntime) -> Result<(), Fail> {
-    let alloc = rt.alloc();
-    let mut disk = MemDisk::new(alloc);
-    disk.fuse(0);
-    let mut shelf = MemShelf::new(alloc);
-    shelf.put_disk(0, disk)?;
-    let (status, written) = drilled(&rt, alloc, &["drill", "1", "0"], &[], &mut shelf)?;
-    assert_eq!(rt; status, 6);
-    assert_eq!(rt; written.as_slice(), b"open failed 0 1\n".as_slice());
+    let mut store = Store::new(rt.alloc());
+    store.put_fused(0, 0)?;
+    drilled(&rt, &mut store, &["drill", "1", "0"], 0)?.is(&rt, 6, b"open failed 0 1\n");
     Ok(())
 }

@@ -6,7 +6,8 @@ mod script;
 mod story;
 mod tally;
 
-use super::outcome_of;
+use super::store::Store;
+use super::told::{holds, same_status, same_text};
 use script::{FUSES, Round, commands_of, script_of};
 use std::alloc::Global;
 use std::process::Abort;
@@ -25,12 +26,7 @@ fn run_script(
     alloc: Global,
     round: Round,
 ) -> Result<Tally, Fail> {
-    let Round {
-        replicas,
-        machine,
-        calls,
-        pick,
-    } = round;
+    let replicas = round.replicas;
     let commands = commands_of(alloc, round)?;
     let script = script_of(alloc, commands.as_slice())?;
     let count = format!(in alloc; "{replicas}")?;
@@ -41,18 +37,14 @@ fn run_script(
         "--replicas",
         count.as_str(),
     ];
-    let outcome = outcome_of(rt, alloc, &words, script.as_bytes(), 4096)?;
-    assert_eq!(rt; outcome.status, 0);
-    let transcript = str::from_utf8(outcome.written.as_slice())
+    let ran = Store::new(alloc).run(rt, &words, script.as_bytes())?;
+    same_status(rt, ran.status, 0);
+    let transcript = str::from_utf8(ran.written.as_slice())
         .ok()
         .ok_or("no text")?;
     let mut story = Story::new(alloc, transcript, replicas)?;
     let replies = story.replies(commands.as_slice())?;
-    assert_eq!(rt;
-        transcript,
-        replies.as_str(),
-        "{replicas} replicas, fuse {calls} on {machine}, pick {pick}: {script}"
-    );
+    same_text(rt, transcript, replies.as_str(), script.as_str());
     Ok(story.tally)
 }
 
@@ -76,7 +68,7 @@ fn run_scripts(
             }
         }
     }
-    assert!(rt; met.least() >= 10, "{met:?}");
+    holds(rt, met.least() >= 10, "a kind of failure is rare", &[]);
     Ok(())
 }
 

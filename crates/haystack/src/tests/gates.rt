@@ -1,7 +1,8 @@
 //! Blocks of which a gate chooses how the lanes meet.
 
 use super::cases::Case;
-use super::outcome_at;
+use super::told::holds;
+use super::try_case_at;
 use hay_lanes::{Gate, Point};
 use std::alloc::Global;
 use std::process::Abort;
@@ -91,7 +92,7 @@ const fn lane_at(lane: u32, line: u64, point: Point) -> Place {
     Place { lane, line, point }
 }
 
-/// What a block prints whose lanes meet so.
+/// Runs a block whose lanes meet so. No hold is given up.
 fn meets(
     rt: &(impl Abort + Threads + Wait + Sync),
     alloc: Global,
@@ -100,10 +101,9 @@ fn meets(
     second: (Place, Place),
 ) -> Result<(), Fail> {
     let gate = Meeting::new(first, second);
-    let outcome = outcome_at(rt, alloc, case.words, case.script, 4096, &gate)?;
-    assert_eq!(rt; gate.given_up.load(Ordering::SeqCst), 0);
-    assert_eq!(rt; outcome.status, 0);
-    assert_eq!(rt; outcome.written.as_slice(), case.transcript);
+    try_case_at(rt, alloc, case, 4096, &gate)?;
+    let given_up = gate.given_up.load(Ordering::SeqCst);
+    holds(rt, given_up == 0, "a hold was given up", case.script);
     Ok(())
 }
 
@@ -178,21 +178,28 @@ fn a_read_goes_on_beside_a_put(rt: HostRuntime) -> Result<(), Fail> {
     )
 }
 
-/// Which of two places a run passes.
-fn passes(
+/// Whether a hold saw its other place passed.
+fn is_passed(hold: &Hold) -> bool {
+    hold.passed.load(Ordering::SeqCst) > 0
+}
+
+/// Looks whether a run passes the gate before a line and behind its answer.
+fn try_line(
     rt: &(impl Abort + Threads + Wait + Sync),
     alloc: Global,
     case: &Case,
-    first: Place,
-    second: Place,
-) -> Result<(bool, bool), Fail> {
+    line: u64,
+    passes: bool,
+) -> Result<(), Fail> {
     let nowhere = lane_at(8, 0, Point::Held);
-    let gate = Meeting::new((nowhere, first), (nowhere, second));
-    let outcome = outcome_at(rt, alloc, case.words, case.script, 4096, &gate)?;
-    assert_eq!(rt; outcome.written.as_slice(), case.transcript);
+    let started = lane_at(0, line, Point::Start);
+    let answered = lane_at(0, line, Point::Answered);
+    let gate = Meeting::new((nowhere, started), (nowhere, answered));
+    try_case_at(rt, alloc, case, 4096, &gate)?;
     let [first, second] = &gate.holds;
-    let passed = |hold: &Hold| hold.passed.load(Ordering::SeqCst) > 0;
-    Ok((passed(first), passed(second)))
+    let agrees = is_passed(first) == passes && is_passed(second) == passes;
+    holds(rt, agrees, "a line and the gate", case.script);
+    Ok(())
 }
 
 /// A command outside of blocks is lane 0's: it passes the gate before it and behind its answer. An empty line passes none.
@@ -203,18 +210,8 @@ fn plain_commands_pass_the_gate(rt: HostRuntime) -> Result<(), Fail> {
         script: b"put 0 1 61\n\nrestart 0\n",
         transcript: b"haystack 1 1 1 67108864\n1 stored 0 1 1 903df1a0ade0b876\n3 restarted 1\n",
     };
-    let alloc = rt.alloc();
-    for line in [1, 3] {
-        let (started, answered) = (
-            lane_at(0, line, Point::Start),
-            lane_at(0, line, Point::Answered),
-        );
-        assert_eq!(rt; passes(&rt, alloc, &case, started, answered)?, (true, true));
+    for (line, passes) in [(1, true), (2, false), (3, true)] {
+        try_line(&rt, rt.alloc(), &case, line, passes)?;
     }
-    let (started, answered) = (lane_at(0, 2, Point::Start), lane_at(0, 2, Point::Answered));
-    assert_eq!(rt;
-        passes(&rt, alloc, &case, started, answered)?,
-        (false, false)
-    );
     Ok(())
 }

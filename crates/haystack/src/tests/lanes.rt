@@ -1,16 +1,16 @@
 //! Blocks of lanes. Where what the lanes print depends on how they meet, all that they may print is listed.
 
 use super::cases::Case;
-use super::{outcome_of, words_of};
+use super::store::{NO_FAULTS, RUN, Ran, Store, Streams};
+use super::told::{holds, same_status};
+use super::try_case;
 use hay_lanes::OpenGate;
-use hay_memdisk::{MemDisk, MemShelf, MemSink, MemSource};
-use hay_run::run;
+use hay_memdisk::MemDisk;
 use std::alloc::Global;
+use std::process::Abort;
 use std::sync::Wait;
 use std::test::Fail;
 use std::thread::Threads;
-
-const RUN: &[&str] = &["run"];
 
 const TWO: &[&str] = &["run", "--volumes", "2"];
 
@@ -114,82 +114,95 @@ const BLOCKS: [Case; 14] = [
 fn blocks_are_exact(rt: HostRuntime) -> Result<(), Fail> {
     for case in &BLOCKS {
         for step in [1, 4096] {
-            let outcome = outcome_of(&rt, rt.alloc(), case.words, case.script, step)?;
-            assert_eq!(rt; outcome.status, 0);
-            assert_eq!(rt; outcome.written.as_slice(), case.transcript);
+            try_case(&rt, rt.alloc(), case, step)?;
         }
     }
     Ok(())
 }
 
-/// What three lanes may print that put one pair and read it: the row is the one line's or the other's, the log has the two in either
-/// order, and the read meets no row, a row without a photo, the first photo or the last.
-fn met(alloc: Global, row: u32, first: u32, read: u32) -> Result<String, Fail> {
-    let (last, before, behind) = if first == 2 {
-        (3, "61", "62")
-    } else {
-        (2, "62", "61")
-    };
-    let (second, third) = if first == 2 { (1, 2) } else { (2, 1) };
-    let shown = match read {
-        0 => format!(in alloc; "unknown 0")?,
-        1 => format!(in alloc; "gone 0 0 0 1")?,
-        2 => format!(in alloc; "photo 0 0 1 1 {before}")?,
-        _ => format!(in alloc; "photo 0 0 2 1 {behind}")?,
-    };
-    Ok(format!(in alloc;
-        "haystack 1 1 1 67108864\n2 stored 0 {second} 1 903df1a0ade0b876\n3 stored 0 {third} 1 903df1a0ade0b876\n4 {shown}\nlog 0 0 {first} {last}\nrows 0 {row}:0\n6 photo 0 0 2 1 {behind}\n"
-    )?)
+/// What three lanes may print that put one pair and read it, by the order of the two puts in the log: their replies, what the read
+/// shows, the log, and the read behind the block.
+struct Order {
+    stored: &'static str,
+    shown: [&'static str; 4],
+    logged: &'static str,
+    left: &'static str,
 }
 
+/// The read meets no row, a row without a photo, the first photo or the last.
+const ORDERS: [Order; 2] = [
+    Order {
+        stored: "haystack 1 1 1 67108864\n2 stored 0 1 1 903df1a0ade0b876\n3 stored 0 2 1 903df1a0ade0b876\n",
+        shown: [
+            "4 unknown 0\n",
+            "4 gone 0 0 0 1\n",
+            "4 photo 0 0 1 1 61\n",
+            "4 photo 0 0 2 1 62\n",
+        ],
+        logged: "log 0 0 2 3\n",
+        left: "6 photo 0 0 2 1 62\n",
+    },
+    Order {
+        stored: "haystack 1 1 1 67108864\n2 stored 0 2 1 903df1a0ade0b876\n3 stored 0 1 1 903df1a0ade0b876\n",
+        shown: [
+            "4 unknown 0\n",
+            "4 gone 0 0 0 1\n",
+            "4 photo 0 0 1 1 62\n",
+            "4 photo 0 0 2 1 61\n",
+        ],
+        logged: "log 0 0 3 2\n",
+        left: "6 photo 0 0 2 1 61\n",
+    },
+];
+
+/// The row is the one line's or the other's.
+const ROWS: [&str; 2] = ["rows 0 2:0\n", "rows 0 3:0\n"];
+
 /// Whether three lanes may print this.
-fn may_be_met(alloc: Global, written: &[u8]) -> Result<bool, Fail> {
-    for row in 2..4 {
-        for first in 2..4 {
-            for read in 0..4 {
-                if written == met(alloc, row, first, read)?.as_bytes() {
-                    return Ok(true);
-                }
+fn may_be_met(alloc: Global, written: &[u8], order: &Order) -> Result<bool, Fail> {
+    for row in ROWS {
+        for shown in order.shown {
+            let told = [order.stored, shown, order.logged, row, order.left].concat(alloc)?;
+            if written == told.as_bytes() {
+                return Ok(true);
             }
         }
     }
     Ok(false)
 }
 
-#[test]
-fn lanes_that_meet_agree(rt: HostRuntime) -> Result<(), Fail> {
+/// Lets three lanes meet, and looks for one of the transcripts.
+fn try_meeting(rt: &(impl Abort + Threads + Wait + Sync), alloc: Global) -> Result<(), Fail> {
     let script =
         b"lanes 3\n0 put 0 1 61\n1 put 0 1 62\n2 read 0 1 903df1a0ade0b876\nend\nread 0 1 903df1a0ade0b876\n";
+    let ran = Store::new(alloc).run(rt, RUN, script)?;
+    let written = ran.written.as_slice();
+    let [first, second] = &ORDERS;
+    let is_met = may_be_met(alloc, written, first)? || may_be_met(alloc, written, second)?;
+    holds(rt, is_met, "three lanes", written);
+    same_status(rt, ran.status, 0);
+    Ok(())
+}
+
+#[test]
+fn lanes_that_meet_agree(rt: HostRuntime) -> Result<(), Fail> {
     for _ in 0..16 {
-        let outcome = outcome_of(&rt, rt.alloc(), RUN, script, 4096)?;
-        assert_eq!(rt; outcome.status, 0);
-        assert!(rt; may_be_met(rt.alloc(), outcome.written.as_slice())?);
+        try_meeting(&rt, rt.alloc())?;
     }
     Ok(())
 }
 
-/// What is written of a block where the sink fails at this call, and the status.
-fn cut(rt: &(impl Threads + Wait + Sync), alloc: Global, call: u64) -> Result<(u8, Vec<u8>), Fail> {
-    let words = words_of(alloc, RUN)?;
-    let mut text = Vec::new(alloc);
-    text.extend_from_slice(b"lanes 2\n0 put 0 1 61\nx\nend\nread 0 1 903df1a0ade0b876\n")?;
-    let mut source = MemSource::new(alloc, text, 11);
-    let mut sink = MemSink::new(alloc);
-    sink.fail(&[call])?;
-    let mut shelf = MemShelf::new(alloc);
-    shelf.put_disk(1, MemDisk::new(alloc))?;
-    let status = run(
-        rt,
-        alloc,
-        words.as_slice(),
-        &mut source,
-        &mut sink,
-        &mut shelf,
-        &OpenGate,
-    );
-    let mut written = Vec::new(alloc);
-    written.extend_from_slice(sink.bytes())?;
-    Ok((status, written))
+/// A block where the output fails at this call.
+fn cut(rt: &(impl Threads + Wait + Sync), alloc: Global, failed_write: u64) -> Result<Ran, Fail> {
+    let mut store = Store::new(alloc);
+    store.put_disk(1, MemDisk::new(alloc))?;
+    let streams = Streams {
+        step: 11,
+        failed_write,
+        ..NO_FAULTS
+    };
+    let script = b"lanes 2\n0 put 0 1 61\nx\nend\nread 0 1 903df1a0ade0b876\n";
+    store.run_with(rt, RUN, script, streams, &OpenGate)
 }
 
 /// The header, two replies, two notes and a reply are a call each.
@@ -199,48 +212,61 @@ fn a_block_is_cut_where_the_sink_fails(rt: HostRuntime) -> Result<(), Fail> {
         b"haystack 1 1 1 67108864\n2 stored 0 1 1 903df1a0ade0b876\n3 bad line\nlog 0 0 2\nrows 0 2:0\n5 photo 0 0 1 1 61\n";
     let mut len = 0;
     for call in 1..7 {
-        let (status, written) = cut(&rt, rt.alloc(), call)?;
-        assert_eq!(rt; status, 3);
-        assert!(rt; whole.starts_with(written.as_slice()));
-        assert!(rt; len <= written.len());
-        len = written.len();
+        let ran = cut(&rt, rt.alloc(), call)?;
+        ran.is_cut_of(&rt, whole);
+        holds(
+            &rt,
+            len <= ran.written.len(),
+            "a shorter transcript",
+            ran.written.as_slice(),
+        );
+        len = ran.written.len();
     }
-    let (status, written) = cut(&rt, rt.alloc(), 7)?;
-    assert_eq!(rt; status, 0);
-    assert_eq!(rt; written.as_slice(), whole.as_slice());
+    cut(&rt, rt.alloc(), 7)?.is(&rt, 0, whole);
     Ok(())
 }
 
-/// A script of so many puts to each of two volumes, in a lane each, in which every reply is known before.
-fn many(alloc: Global, lines: u32) -> Result<(String, String), Fail> {
-    let mut script = format!(in alloc; "put 0 1 61\nput 1 1 61\nlanes 2\n")?;
-    let mut transcript = format!(in alloc;
-        "haystack 1 2 1 67108864\n1 stored 0 1 1 903df1a0ade0b876\n2 stored 1 1 2 fb7815c6d6df3fef\n"
-    )?;
-    let mut first = format!(in alloc; "log 0 1")?;
-    let mut second = format!(in alloc; "log 1 1")?;
-    for i in 0..lines {
-        write!(script, "0 put 0 1 61\n1 put 1 1 62\n")?;
-        let nth = u64::from(i);
-        let (line, position) = (4 + 2 * nth, nth + 2);
-        write!(
-            transcript,
-            "{line} stored 0 {position} 2 903df1a0ade0b876\n{} stored 1 {position} 2 fb7815c6d6df3fef\n",
-            line + 1
-        )?;
-        write!(first, " {line}")?;
-        write!(second, " {}", line + 1)?;
+/// The replies to a put of each of two lanes, which bring their volumes to this position.
+fn stored(alloc: Global, position: u64) -> Result<String, Fail> {
+    let line = position.saturating_mul(2);
+    let next = line.saturating_add(1);
+    Ok(format!(in alloc;
+        "{line} stored 0 {position} 2 903df1a0ade0b876\n{next} stored 1 {position} 2 fb7815c6d6df3fef\n"
+    )?)
+}
+
+/// The log of a volume whose put stood before the block, and whose lines of the block are each second one from this one on.
+fn log_of(alloc: Global, volume: u64, first: u64) -> Result<String, Fail> {
+    let mut log = format!(in alloc; "log {volume} 1")?;
+    for nth in 0..200_u64 {
+        let line = nth.saturating_mul(2).saturating_add(first);
+        write!(log, " {line}")?;
     }
-    write!(transcript, "{first}\n{second}\n")?;
-    Ok((script, transcript))
+    log.push_str("\n")?;
+    Ok(log)
+}
+
+/// What two lanes of 200 puts each to a volume of its own print: every reply is known before.
+fn many(alloc: Global) -> Result<String, Fail> {
+    let mut told = String::from_str(
+        alloc,
+        "haystack 1 2 1 67108864\n1 stored 0 1 1 903df1a0ade0b876\n2 stored 1 1 2 fb7815c6d6df3fef\n",
+    )?;
+    for position in 2..202 {
+        told.push_str(stored(alloc, position)?.as_str())?;
+    }
+    told.push_str(log_of(alloc, 0, 4)?.as_str())?;
+    told.push_str(log_of(alloc, 1, 5)?.as_str())?;
+    Ok(told)
 }
 
 #[test]
 fn long_lanes_keep_their_order(rt: HostRuntime) -> Result<(), Fail> {
     let alloc = rt.alloc();
-    let (script, transcript) = many(alloc, 200)?;
-    let outcome = outcome_of(&rt, alloc, TWO, script.as_bytes(), 4096)?;
-    assert_eq!(rt; outcome.status, 0);
-    assert_eq!(rt; outcome.written.as_slice(), transcript.as_bytes());
-    Ok(())
+    let mut script = String::from_str(alloc, "put 0 1 61\nput 1 1 61\nlanes 2\n")?;
+    for _ in 0..200 {
+        script.push_str("0 put 0 1 61\n1 put 1 1 62\n")?;
+    }
+    let told = many(alloc)?;
+    Store::new(alloc).answers(&rt, TWO, script.as_bytes(), 0, told.as_bytes())
 }

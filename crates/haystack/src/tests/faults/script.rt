@@ -74,13 +74,14 @@ pub fn photo_of(alloc: Global, line: u64) -> Result<String, Fail> {
 }
 
 fn work_line(alloc: Global, machine: u64, work: Work) -> Result<String, Fail> {
-    Ok(match work {
-        Work::Flush => format!(in alloc; "flush 0 {machine}\n")?,
-        Work::Begin => format!(in alloc; "begin 0 {machine}\n")?,
-        Work::Step(cells) => format!(in alloc; "step 0 {machine} {cells}\n")?,
-        Work::Finish => format!(in alloc; "finish 0 {machine}\n")?,
-        Work::Compact => format!(in alloc; "compact 0 {machine}\n")?,
-    })
+    let verb = match work {
+        Work::Step(cells) => return Ok(format!(in alloc; "step 0 {machine} {cells}\n")?),
+        Work::Flush => "flush",
+        Work::Begin => "begin",
+        Work::Finish => "finish",
+        Work::Compact => "compact",
+    };
+    Ok(format!(in alloc; "{verb} 0 {machine}\n")?)
 }
 
 /// A line of the script, with its line feed.

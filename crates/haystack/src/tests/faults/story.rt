@@ -55,10 +55,8 @@ impl<'a> Story<'a> {
 
     /// Whether the transcript has this line.
     fn has(&self, line: &str) -> Result<bool, Fail> {
-        Ok(
-            self.transcript
-                .contains(format!(in self.alloc; "\n{line}\n")?.as_str()),
-        )
+        let whole = ["\n", line, "\n"].concat(self.alloc)?;
+        Ok(self.transcript.contains(whole.as_str()))
     }
 
     fn replica(&self, machine: u64) -> Result<&Replica, Fail> {
@@ -105,7 +103,7 @@ impl<'a> Story<'a> {
     /// The reply to a change of a pair that has a home, or gets one.
     fn change(&mut self, line: u64, pair: Pair, content: Content) -> Result<String, Fail> {
         if let Some(machine) = self.frozen {
-            return Ok(format!(in self.alloc; "readonly 0:{machine}")?);
+            return self.refusal_text("readonly", machine);
         }
         if !content.is_gone() {
             self.rows.insert(pair, line).ok().ok_or("memory")?;
@@ -122,15 +120,26 @@ impl<'a> Story<'a> {
         if before < self.faults() {
             self.tally.repeats = self.tally.repeats.saturating_add(1);
         }
+        self.set(pair, content)?;
+        self.changed_text(content)
+    }
+
+    /// All replicas have a change.
+    fn set(&mut self, pair: Pair, content: Content) -> Result<(), Fail> {
         for replica in self.replicas.iter_mut() {
             replica.set(pair, content)?;
         }
         self.position = self.position.saturating_add(1);
+        Ok(())
+    }
+
+    fn changed_text(&self, content: Content) -> Result<String, Fail> {
         let (position, rows) = (self.position, self.rows.len());
-        Ok(match content {
-            Content::Photo { .. } => format!(in self.alloc; "stored 0 {position} {rows} {COOKIE}")?,
-            Content::Gone => format!(in self.alloc; "deleted 0 {position} {rows}")?,
-        })
+        if content.is_gone() {
+            Ok(format!(in self.alloc; "deleted 0 {position} {rows}")?)
+        } else {
+            Ok(format!(in self.alloc; "stored 0 {position} {rows} {COOKIE}")?)
+        }
     }
 
     /// Until the restart a failed change shows what stood before.
@@ -181,24 +190,28 @@ impl<'a> Story<'a> {
     /// What failed before a restart and may have been kept shows at the first work behind it: a flush whose block was written has
     /// left no cell without a record, and behind a switch whose row was written the next generation is made.
     fn settle(&mut self, line: u64, machine: u64, work: Work) -> Result<(), Fail> {
-        match (work, self.replica(machine)?.bare_if_flushed()) {
-            (Work::Flush, Some(bare)) => {
-                let wrote = self.has(format!(in self.alloc;
-                    "{line} flushed 0:{machine} {bare}"
-                )?.as_str())?;
-                self.replica_mut(machine)?.settle_flush(wrote);
-            }
-            _ => {}
+        match work {
+            Work::Flush => self.settle_flush(line, machine),
+            Work::Begin => self.settle_switch(line, machine),
+            _ => Ok(()),
         }
-        match (work, self.replica(machine)?.generation_if_switched()) {
-            (Work::Begin, Some(current)) => {
-                let goal = current.saturating_add(1);
-                let wrote = self.has(format!(in self.alloc;
-                    "{line} begun 0:{machine} {goal}"
-                )?.as_str())?;
-                self.replica_mut(machine)?.settle_switch(wrote);
-            }
-            _ => {}
+    }
+
+    fn settle_flush(&mut self, line: u64, machine: u64) -> Result<(), Fail> {
+        if let Some(bare) = self.replica(machine)?.bare_if_flushed() {
+            let reply = format!(in self.alloc; "{line} flushed 0:{machine} {bare}")?;
+            let wrote = self.has(reply.as_str())?;
+            self.replica_mut(machine)?.settle_flush(wrote);
+        }
+        Ok(())
+    }
+
+    fn settle_switch(&mut self, line: u64, machine: u64) -> Result<(), Fail> {
+        if let Some(current) = self.replica(machine)?.generation_if_switched() {
+            let goal = current.saturating_add(1);
+            let reply = format!(in self.alloc; "{line} begun 0:{machine} {goal}")?;
+            let wrote = self.has(reply.as_str())?;
+            self.replica_mut(machine)?.settle_switch(wrote);
         }
         Ok(())
     }
@@ -206,7 +219,7 @@ impl<'a> Story<'a> {
     /// The reply to work on a replica.
     fn work(&mut self, line: u64, machine: u64, work: Work) -> Result<String, Fail> {
         if let Some(frozen) = self.frozen {
-            return Ok(format!(in self.alloc; "readonly 0:{frozen}")?);
+            return self.refusal_text("readonly", frozen);
         }
         self.settle(line, machine, work)?;
         let before = self.faults();
@@ -224,21 +237,25 @@ impl<'a> Story<'a> {
     }
 
     fn done_text(&mut self, machine: u64, done: Done) -> Result<String, Fail> {
-        let alloc = self.alloc;
-        Ok(match done {
-            Done::Flushed(records) => format!(in alloc; "flushed 0:{machine} {records}")?,
-            Done::Begun(goal) => format!(in alloc; "begun 0:{machine} {goal}")?,
-            Done::Stepped(cells) => format!(in alloc; "stepped 0:{machine} {cells}")?,
-            Done::Compacted(goal) => format!(in alloc; "compacted 0:{machine} {goal}")?,
-            Done::Busy(goal) => format!(in alloc; "busy 0:{machine} {goal}")?,
-            Done::Idle => format!(in alloc; "idle 0:{machine}")?,
-            Done::ReadOnly => format!(in alloc; "readonly 0:{machine}")?,
-            Done::Failed => self.failed_text(machine)?,
+        let (word, number) = match done {
+            Done::Flushed(records) => ("flushed", records),
+            Done::Begun(goal) => ("begun", goal),
+            Done::Stepped(cells) => ("stepped", cells),
+            Done::Compacted(goal) => ("compacted", goal),
+            Done::Busy(goal) => ("busy", goal),
+            Done::Idle => return self.refusal_text("idle", machine),
+            Done::ReadOnly => return self.refusal_text("readonly", machine),
+            Done::Failed => return self.failed_text(machine),
             Done::Unsure => {
                 self.freeze(machine);
-                self.failed_text(machine)?
+                return self.failed_text(machine);
             }
-        })
+        };
+        Ok(format!(in self.alloc; "{word} 0:{machine} {number}")?)
+    }
+
+    fn refusal_text(&self, word: &str, machine: u64) -> Result<String, Fail> {
+        Ok(format!(in self.alloc; "{word} 0:{machine}")?)
     }
 
     /// Whether a replica has kept a change: those below the one that failed have it, those above have not, and of that one the
@@ -256,13 +273,13 @@ impl<'a> Story<'a> {
 
     /// The note of a replica on the change that failed.
     fn note(&mut self, change: FailedChange, machine: u64) -> Result<String, Fail> {
-        if !self.is_kept(change, machine)? {
-            self.tally.lost = self.tally.lost.saturating_add(1);
-            return Ok(format!(in self.alloc; "\nlost 0:{machine} {}", change.line)?);
+        let is_kept = self.is_kept(change, machine)?;
+        self.tally.note(is_kept);
+        if is_kept {
+            self.replica_mut(machine)?.set(change.pair, change.content)?;
         }
-        self.tally.kept = self.tally.kept.saturating_add(1);
-        self.replica_mut(machine)?.set(change.pair, change.content)?;
-        Ok(format!(in self.alloc; "\nkept 0:{machine} {}", change.line)?)
+        let (word, line) = (if is_kept { "kept" } else { "lost" }, change.line);
+        Ok(format!(in self.alloc; "\n{word} 0:{machine} {line}")?)
     }
 
     /// The reply to a restart, and the notes on the change that failed.

@@ -4,7 +4,7 @@ use super::replica::Done;
 use super::script::Work;
 
 /// How many commands failed, by kind, and how many replicas kept or lost a change behind a restart.
-#[derive(Debug, Drop)]
+#[derive(Drop)]
 pub struct Tally {
     pub changes: u64,
     pub flushes: u64,
@@ -47,6 +47,15 @@ impl Tally {
             (Done::Failed, _) => self.finishes = self.finishes.saturating_add(1),
             _ if rose => self.removals = self.removals.saturating_add(1),
             _ => {}
+        }
+    }
+
+    /// Counts a change that a replica kept, or lost.
+    pub fn note(&mut self, is_kept: bool) {
+        if is_kept {
+            self.kept = self.kept.saturating_add(1);
+        } else {
+            self.lost = self.lost.saturating_add(1);
         }
     }
 

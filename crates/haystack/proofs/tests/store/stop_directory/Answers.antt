@@ -3,7 +3,7 @@ use Rattle.std.proofs.lemmas.Bool.{cases_eq}
 use Rattle.hay_disk.specs.Shelf.{HeldDisk, HeldArm}
 use Rattle.hay_disk.specs.Disk.{KeepsOthers}
 use Rattle.hay_memdisk.proofs.Lending.{lent}
-use Rattle.haystack.proofs.tests.loads.stop.Goals as goal
+use Rattle.haystack.proofs.tests.store.stop_directory.Goals as goal
 
 none_out : (one : ℕ) (old new : ℕ → HeldDisk) → ((slot : ℕ) → (old slot).is_out ≡ false) → KeepsOthers one old new → (new one).is_out ≡ false
     → (slot : ℕ) → (new slot).is_out ≡ false
