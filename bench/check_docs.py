@@ -237,7 +237,7 @@ def limits():
         "photo_one": number_in("crates/hay_needle/specs/Sizes.antt", r"max_photo One = (\d+)"),
         "line": constant("hay_script/src/words", "MAX_LINE"),
         "script": constant("hay_script/src/words", "MAX_SCRIPT"),
-        "batch": number_in("crates/hay_batch/specs/Batches.antt", r"length photos ≤ (\d+)"),
+        "batch": constant("hay_batch/src/photo", "MAX_PHOTOS"),
         "batch_bytes": constant("hay_batch/src/photo", "MAX_TOTAL"),
         "transcript": constant("hay_frame/src/frame", "TRANSCRIPT"),
         "commands": constant("hay_script/src/words", "MAX_COMMANDS"),

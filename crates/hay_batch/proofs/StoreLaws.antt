@@ -6,6 +6,7 @@ use Rattle.std.specs.Vec.{with_item, with_items}
 use Rattle.std.proofs.lemmas.Bool.{cases_eq}
 use Rattle.std.proofs.lemmas.List.{drop_all, take_all}
 use Rattle.hay_needle.specs.declared.settings.Settings.{Settings}
+use Rattle.hay_needle.specs.declared.settings.TheConstants.{MAX_REPLICAS, MAX_VOLUMES}
 use Rattle.hay_batch.specs.declared.fault.FullTry.{FullTry}
 use Rattle.hay_batch.specs.declared.photo.NewPhoto.{NewPhoto}
 use Rattle.hay_batch.specs.declared.replica.LoadReplica.{LoadReplica}
@@ -134,9 +135,9 @@ module _ {D : Type 0} (v : ℕ) (w w' : LoadVolume D) (xs ws : List (LoadReplica
   unfolding is_there other_is
   swapped_shape shape = record {
     some = subst (λ (x : Settings). 0 < x.volumes) (sym s.settings) shape.some;
-    most = subst (λ (x : Settings). x.volumes ≤ 64) (sym s.settings) shape.most;
+    most = subst (λ (x : Settings). x.volumes ≤ MAX_VOLUMES) (sym s.settings) shape.most;
     machines = subst (λ (x : Settings). 0 < x.machines) (sym s.settings) shape.machines;
-    few = subst (λ (x : Settings). x.replicas ≤ 4) (sym s.settings) shape.few;
+    few = subst (λ (x : Settings). x.replicas ≤ MAX_REPLICAS) (sym s.settings) shape.few;
     volumes = ap length s.items ∙ length-slice_set old.volumes.items v w' ∙ shape.volumes ∙ ap (λ (x : Settings). x.volumes) (sym s.settings);
     replicas = λ u x there. elim (cases_eq u v) [
       | inl same ↦

@@ -8,7 +8,7 @@ use Rattle.hay_needle.specs.Sizes.{max_photo, needle_total}
 use Rattle.hay_volume.specs.Cells.{AreCellsAt, live_cell}
 use Rattle.hay_dirfile.specs.declared.row.DirRow.{DirRow}
 use Rattle.hay_batch.specs.declared.photo.NewPhoto.{NewPhoto}
-use Rattle.hay_batch.specs.declared.photo.TheConstants.{MAX_TOTAL}
+use Rattle.hay_batch.specs.declared.photo.TheConstants.{MAX_PHOTOS, MAX_TOTAL}
 
 -- the bytes that the needle of a photo takes
 abbrev pub photo_total : NewPhoto → ℕ
@@ -26,10 +26,10 @@ IsStorable photo = length photo.bytes ≤ max_photo Two
 abbrev pub max_total : ℕ
 max_total = MAX_TOTAL
 
--- one photo at least and 64 at most, and `max_total` bytes of needles at most
+-- one photo at least and `MAX_PHOTOS` at most, and `max_total` bytes of needles at most
 pub record IsBatch (photos : List NewPhoto) : Type 0 where
   pub some : 0 < length photos
-  pub most : length photos ≤ 64
+  pub most : length photos ≤ MAX_PHOTOS
   pub storable : All IsStorable photos
   pub total : batch_total photos ≤ max_total
 

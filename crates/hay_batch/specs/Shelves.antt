@@ -4,6 +4,7 @@ use Rattle.hay_needle.specs.declared.settings.FileKind.TheVariants.{Volume}
 use Rattle.hay_needle.specs.declared.settings.Settings.{Settings}
 use Rattle.hay_needle.specs.declared.settings.Super.{Super}
 use Rattle.hay_needle.specs.Super.{super_bytes}
+use Rattle.hay_needle.specs.declared.settings.TheConstants.{MAX_REPLICAS, MAX_VOLUMES}
 use Rattle.hay_disk.specs.Disk.{Files, IsSolid, MayLeave}
 use Rattle.hay_disk.specs.Shelf.{HeldDisk}
 use Rattle.hay_mount.specs.Mounts.{IsPutBack, LeavesAsRead}
@@ -26,9 +27,9 @@ use Rattle.hay_batch.specs.Stores.{Contents, ReplicaAt, Stands}
 pub record IsLimited (settings : Settings) : Type 0 where
   pub some_machines : 0 < settings.machines
   pub some_volumes : 0 < settings.volumes
-  pub few_volumes : settings.volumes ≤ 64
+  pub few_volumes : settings.volumes ≤ MAX_VOLUMES
   pub some_replicas : 0 < settings.replicas
-  pub few_replicas : settings.replicas ≤ 4
+  pub few_replicas : settings.replicas ≤ MAX_REPLICAS
 
 -- the slot of replica j of volume v, and how many slots there are; slot 0 is that of the Directory
 abbrev pub slot_of : Settings → ℕ → ℕ → ℕ

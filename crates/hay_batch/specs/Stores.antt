@@ -2,6 +2,7 @@
 use Rattle.std.specs.Prelude.{◌≡◌, ◌≢◌, ◌⊎◌, ◌<◌, ◌≤◌, ◌+◌, ◌*◌, ◌%◌, ℕ, List, ◌++◌, length, map, nat_eq, if◌then◌else◌, All}
 use Rattle.hay_needle.specs.declared.needle.Cell.{Cell}
 use Rattle.hay_needle.specs.declared.settings.Settings.{Settings}
+use Rattle.hay_needle.specs.declared.settings.TheConstants.{MAX_REPLICAS, MAX_VOLUMES}
 use Rattle.hay_disk.specs.Counts.{Rose}
 use Rattle.hay_disk.specs.Disk.{Files, IsImage, KeepsOthers}
 use Rattle.hay_volume.specs.Cells.{IsVolume}
@@ -21,9 +22,9 @@ use Rattle.hay_batch.specs.Replicas.{At, HasRoom, HasWithOrWithout, Holds, IsFir
 -- as many volumes, and of each as many replicas, as the settings say
 pub record IsShaped {D : Type 0} (store : LoadStore D) : Type 0 where
   pub some : 0 < store.settings.volumes
-  pub most : store.settings.volumes ≤ 64
+  pub most : store.settings.volumes ≤ MAX_VOLUMES
   pub machines : 0 < store.settings.machines
-  pub few : store.settings.replicas ≤ 4
+  pub few : store.settings.replicas ≤ MAX_REPLICAS
   pub volumes : length store.volumes.items ≡ store.settings.volumes
   pub replicas : (v : ℕ) (w : LoadVolume D) → At store.volumes.items v w → length w.replicas.items ≡ store.settings.replicas
 

@@ -26,7 +26,7 @@ use crate::photo::{NewPhoto, batch_total};
 use crate::replicas::{AppendFault, append_each};
 use crate::store::LoadStore;
 use hay_disk::{Disk, DiskFault};
-use hay_needle::Settings;
+use hay_needle::{MAX_REPLICAS, Settings};
 use std::alloc::Global;
 
 /// A batch that was loaded: into this volume, and so many rows there are now.
@@ -73,7 +73,7 @@ fn settle_rows<D: Disk>(
 
 // Why a batch is not loaded into a volume, where a replica refused it.
 fn refused(settings: &Settings, volume: u32, fault: AppendFault) -> LoadFault
-    requires few { settings.now.replicas ≤ 4 }
+    requires few { settings.now.replicas ≤ MAX_REPLICAS }
     requires volume { volume < 64 }
     requires replica { (j faults : ℕ) → fault ≡ AppendFault.Failed j faults → j < settings.now.replicas }
     ensures failed { (j faults : ℕ) → fault ≡ AppendFault.Failed j faults → result ≡ LoadFault.Failed (1 + volume * settings.now.replicas + j) faults }

@@ -10,6 +10,7 @@ ghost use Rattle.hay_batch.specs.Replicas.{Adds, At, HasRoom, IsFirstFull, IsRea
 use crate::photo::NewPhoto;
 use crate::replica::LoadReplica;
 use hay_disk::{Disk, DiskFault};
+use hay_needle::MAX_REPLICAS;
 use std::alloc::Global;
 
 /// Why a batch was not added to each replica.
@@ -23,7 +24,7 @@ pub(crate) enum AppendFault {
 
 /// The lowest replica that lacks room for needles of so many bytes.
 pub(crate) fn first_full<D>(replicas: &[LoadReplica<D>], need: u64) -> Option<(u32, u64)>
-    requires few { length replicas.now ≤ 4 }
+    requires few { length replicas.now ≤ MAX_REPLICAS }
     requires need { need ≤ max_total }
     ensures full { IfSome result (λ full. (r : LoadReplica D) × IsFirstFull need replicas.now full.0 r × (full.1 ≡ r.volume.end)) }
     ensures room { IfNone result ((j : ℕ) (r : LoadReplica D) → At replicas.now j r → HasRoom need r) }
@@ -43,7 +44,7 @@ pub(crate) fn append_each<D: Disk>(
     alloc: Global,
     photos: &[NewPhoto],
 ) -> Result<(), AppendFault>
-    requires few { length replicas.old ≤ 4 }
+    requires few { length replicas.old ≤ MAX_REPLICAS }
     requires batch { IsBatch photos.now }
     requires ready { D.Tells → (j : ℕ) (r : LoadReplica D) → At replicas.old j r → IsReady D.files r }
     requires room { (j : ℕ) (r : LoadReplica D) → At replicas.old j r → HasRoom (batch_total photos.now) r }

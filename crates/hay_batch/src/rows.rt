@@ -6,6 +6,7 @@ ghost use Rattle.hay_disk.specs.Gate.{end_mark};
 ghost use Rattle.hay_dirfile.specs.Journal.{journal_row};
 ghost use Rattle.hay_batch.specs.Batches.{RowFits};
 
+use crate::photo::MAX_PHOTOS;
 use byteorder::{BigEndian, ByteOrder};
 use hay_dirfile::{DirRow, ROW_LEN};
 use std::alloc::{AllocError, Global};
@@ -32,7 +33,7 @@ fn row_bytes(row: DirRow) -> [u8; 24]
 
 /// These rows, and the end mark.
 pub(crate) fn encode_rows(alloc: Global, rows: &[DirRow]) -> Result<Vec<u8>, AllocError>
-    requires { length rows.now ≤ 64 }
+    requires { length rows.now ≤ MAX_PHOTOS }
     ensures bytes { IfOk result (λ bytes. bytes.items ≡ flat_map journal_row rows.now ++ end_mark) }
     ensures fit { OnOk result (All RowFits rows.now) }
 {

@@ -20,7 +20,7 @@ use crate::replica::LoadReplica;
 use crate::store::{LoadStore, LoadVolume};
 use hay_disk::{Disk, Shelf};
 use hay_mount::{give_disks, take_disks};
-use hay_needle::Settings;
+use hay_needle::{MAX_REPLICAS, MAX_VOLUMES, Settings};
 use std::alloc::Global;
 
 impl<D: Disk> LoadStore<D> {
@@ -110,8 +110,8 @@ fn disk_count(settings: &Settings) -> u32
 
 // Gives the disks of these volumes back, from the last slot down.
 fn give_volumes<H: Shelf>(shelf: &mut H, mut volumes: Vec<LoadVolume<H::Disk>>, replicas: u32)
-    requires few { length volumes.items ≤ 64 }
-    requires most { replicas ≤ 4 }
+    requires few { length volumes.items ≤ MAX_VOLUMES }
+    requires most { replicas ≤ MAX_REPLICAS }
     requires all { (v : ℕ) (w : LoadVolume H.Disk) → At volumes.items v w → length w.replicas.items ≡ replicas }
     requires out { AreOut (1 + length volumes.items * replicas) (H.disks shelf.old) }
     ensures given { (v j : ℕ) (w : LoadVolume H.Disk) (r : LoadReplica H.Disk) → At volumes.items v w → At w.replicas.items j r →

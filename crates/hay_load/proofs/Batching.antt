@@ -13,6 +13,7 @@ use Rattle.hay_batch.specs.declared.photo.NewPhoto.{NewPhoto}
 use Rattle.hay_batch.specs.Batches.{AreDistinct, IsStorable, batch_total, max_total, photo_total}
 use Rattle.hay_batch.specs.Replicas.{At}
 use Rattle.hay_batch.proofs.Lists.{at_below, at_either}
+use Rattle.hay_batch.specs.declared.photo.TheConstants.{MAX_PHOTOS}
 use Rattle.hay_load.specs.Gathering.{IsGathered, is_beside, joins, key_of}
 
 -- BOTH OF TWO TESTS
@@ -93,11 +94,11 @@ more_distinct photos photo distinct all i j a b less at there = elim (at_either 
 
 pub gathered_more : (photos more : List NewPhoto) (photo : NewPhoto) → IsGathered photos → length photo.bytes ≤ MAX_PHOTO → joins photos photo ≡ true → more ≡ photos ++ photo ∷ [] → IsGathered more
 gathered_more photos more photo g few joined longer =
-    let all = and_first (list_all (is_beside photo) photos) (nat_lt (length photos) 64 && nat_le (batch_total photos + photo_total photo) max_total) joined in
-    let fits = and_second (list_all (is_beside photo) photos) (nat_lt (length photos) 64 && nat_le (batch_total photos + photo_total photo) max_total) joined in
-    let count : length photos < 64 = ltb-true (length photos) 64 (and_first (nat_lt (length photos) 64) (nat_le (batch_total photos + photo_total photo) max_total) fits) in
+    let all = and_first (list_all (is_beside photo) photos) (nat_lt (length photos) MAX_PHOTOS && nat_le (batch_total photos + photo_total photo) max_total) joined in
+    let fits = and_second (list_all (is_beside photo) photos) (nat_lt (length photos) MAX_PHOTOS && nat_le (batch_total photos + photo_total photo) max_total) joined in
+    let count : length photos < MAX_PHOTOS = ltb-true (length photos) MAX_PHOTOS (and_first (nat_lt (length photos) MAX_PHOTOS) (nat_le (batch_total photos + photo_total photo) max_total) fits) in
     let total : batch_total photos + photo_total photo ≤ max_total = leb-true (batch_total photos + photo_total photo) max_total
-    (and_second (nat_lt (length photos) 64) (nat_le (batch_total photos + photo_total photo) max_total) fits) in
+    (and_second (nat_lt (length photos) MAX_PHOTOS) (nat_le (batch_total photos + photo_total photo) max_total) fits) in
     let some = g.batch.some in
     let long = length-append photos (photo ∷ []) in
     let sum = sum_by-append photo_total photos (photo ∷ []) in

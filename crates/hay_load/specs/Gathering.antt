@@ -10,6 +10,7 @@ use Rattle.hay_script.specs.declared.Line.{Line}
 use Rattle.hay_script.specs.declared.Line.TheVariants as line
 use Rattle.hay_batch.specs.declared.photo.NewPhoto.{NewPhoto}
 use Rattle.hay_batch.specs.Batches.{AreDistinct, IsBatch, batch_total, max_total, photo_total}
+use Rattle.hay_batch.specs.declared.photo.TheConstants.{MAX_PHOTOS}
 
 -- the photo that a put stores
 abbrev pub photo_of : Settings → Pair → List ℕ → NewPhoto
@@ -34,7 +35,7 @@ is_beside photo other = (other.pair.key == photo.pair.key) && not (other.pair.al
 
 -- with the photo these are no more than fit in a batch
 abbrev pub fits_behind : NewPhoto → List NewPhoto → Bool
-fits_behind photo photos = nat_lt (length photos) 64 && nat_le (batch_total photos + photo_total photo) max_total
+fits_behind photo photos = nat_lt (length photos) MAX_PHOTOS && nat_le (batch_total photos + photo_total photo) max_total
 
 -- a photo may come behind these in their batch
 abbrev pub joins : List NewPhoto → NewPhoto → Bool

@@ -3,6 +3,7 @@ use Rattle.std.specs.Prelude.{◌≡◌, ◌⊎◌, ◌≤◌, ℕ, List, length
 use Rattle.hay_needle.specs.declared.needle.Cookie.{Cookie}
 use Rattle.hay_needle.specs.declared.needle.Pair.{Pair}
 use Rattle.hay_needle.specs.declared.settings.Settings.{Settings}
+use Rattle.hay_needle.specs.declared.settings.TheConstants.{MAX_VOLUMES}
 use Rattle.hay_script.specs.declared.Command.TheVariants as command
 use Rattle.hay_dirfile.specs.declared.row.DirRow.{DirRow}
 use Rattle.hay_reply.specs.declared.Reply.{Reply}
@@ -27,12 +28,12 @@ RunsFindTheRows = (settings : Settings) (image : ℕ → ℕ → List ℕ) (rows
 
 -- .. and no others: to it each pair has the home that it has by these, and there are as many.
 abbrev pub RunsFindNoOthers : Type 0
-RunsFindNoOthers = (settings : Settings) (image : ℕ → ℕ → List ℕ) (rows : List DirRow) (k : Known) → settings.volumes ≤ 64
+RunsFindNoOthers = (settings : Settings) (image : ℕ → ℕ → List ℕ) (rows : List DirRow) (k : Known) → settings.volumes ≤ MAX_VOLUMES
     → OpensRows settings (image 0 0) rows → FindsRows settings image k → ((pair : Pair) → home_of k pair ≡ home_in rows pair) × (length k.directory.rows ≡ length rows)
 
 -- So a pair without a row is unknown to it, whatever needles of it stand: a read is answered so, with the count of the rows, unless
 -- memory is wanting.
 abbrev pub PairsWithoutRowAreUnknown : Type 0
 PairsWithoutRowAreUnknown = (settings : Settings) (image : ℕ → ℕ → List ℕ) (rows : List DirRow) (k t : Known) (line : ℕ) (pair : Pair) (cookie : Cookie) (reply : Reply)
-    → settings.volumes ≤ 64 → OpensRows settings (image 0 0) rows → FindsRows settings image k → home_in rows pair ≡ None
+    → settings.volumes ≤ MAX_VOLUMES → OpensRows settings (image 0 0) rows → FindsRows settings image k → home_in rows pair ≡ None
     → LegalPlain settings k line (item.Command (command.Read pair cookie)) reply t → (reply ≡ Unknown (length rows)) ⊎ (reply ≡ NoMem)

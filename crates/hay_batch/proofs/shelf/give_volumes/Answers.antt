@@ -1,5 +1,6 @@
 use Rattle.std.proofs.Common.{◌≡◌, ◌+◌, ◌*◌, ◌≤◌, ◌∷◌, [], ℕ, List, length, sym, ap, subst, ◌∙◌, arith, length-append}
 use Rattle.std.proofs.Math.Nat.{mul-le-mul_left}
+use Rattle.hay_needle.specs.declared.settings.TheConstants.{MAX_VOLUMES}
 use Rattle.hay_disk.specs.Shelf.{HeldDisk}
 use Rattle.hay_batch.specs.declared.store.LoadVolume.{LoadVolume}
 use Rattle.hay_batch.specs.Replicas.{At}
@@ -15,7 +16,7 @@ give_replicas-requires-clause-few g c =
     ap (λ (l : List (LoadVolume g.row.H-Disk.Denot)). length l) (c.in-Some.ensures).items ∙ length-append rest (c.in-Some.volume ∷ []) in
     let fewer = gives.fewer in
     let few = c.requires.few in
-    let low : c.len.result + 1 ≤ 64 = omega (arith, count, long, fewer, few) in
+    let low : c.len.result + 1 ≤ MAX_VOLUMES = omega (arith, count, long, fewer, few) in
     let product : c.len.result * c.args.replicas ≤ c.len.result * 4 = mul-le-mul_left c.len.result c.requires.most in
     let all =
     c.requires.all (length rest) c.in-Some.volume (gives.left (length rest) c.in-Some.volume
