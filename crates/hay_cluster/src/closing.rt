@@ -15,6 +15,7 @@ ghost use Rattle.std.specs.List.{AllByRecursion, flat_map};
 use crate::cluster::Cluster;
 use hay_disk::{Arm, Disk, Shelf};
 use hay_logical::Logical;
+use hay_needle::{MAX_REPLICAS, MAX_VOLUMES};
 use hay_reader::LaneSeat;
 
 impl<D: Disk, A: Arm<D::Piece>> Cluster<D, A> {
@@ -55,8 +56,8 @@ impl<D: Disk, A: Arm<D::Piece>> Cluster<D, A> {
 
 // Gives the disks of these volumes back, from the last slot down.
 fn give_volumes<H: Shelf>(shelf: &mut H, mut volumes: Vec<Logical<H::Disk>>, replicas: u32)
-    requires few { length volumes.items ≤ 64 }
-    requires most { replicas ≤ 4 }
+    requires few { length volumes.items ≤ MAX_VOLUMES }
+    requires most { replicas ≤ MAX_REPLICAS }
     requires all { AllByRecursion (λ volume. length (volume_disks volume) ≡ replicas) volumes.items }
     requires out { AreOut (1 + length volumes.items * replicas) (H.disks shelf.old) }
     ensures given { InOrder (λ slot disk. IsGivenDisk H.Disk.Tells H.Disk.files H.Disk.drawn H.Disk.fault_count H.Disk.fuse_count (H.disks shelf.new slot) disk) 1

@@ -33,7 +33,7 @@ use hay_core::CoreTag;
 use hay_directory::machine_of;
 use hay_disk::{Arm, Disk};
 use hay_logical::{LogicalFault, Looked};
-use hay_needle::{Bytes, Cookie, MAX_PHOTO, Pair, Settings};
+use hay_needle::{Bytes, Cookie, MAX_PHOTO, MAX_REPLICAS, Pair, Settings};
 use hay_reader::{Causes, PassedReplica, ReadReply, show_seen};
 use hay_reply::{Cause, Passed, Reply};
 use hay_url::Url;
@@ -449,7 +449,7 @@ impl<D: Disk, A: Arm<D::Piece>> Cluster<D, A> {
     ) -> Result<(Causes, Option<Vec<u8>>), NoMemory>
         requires volume { volume < self.old.settings.volumes }
         requires replica { replica < self.old.settings.replicas }
-        requires few { length causes < 4 }
+        requires few { length causes < MAX_REPLICAS }
         requires apart { AllByRecursion (λ over. (over.replica < self.old.settings.replicas) × (over.replica ≡ replica → ⊥)) causes }
         requires may_stand { MayHave (IsOfPlace D.Tells self.old.settings (contents_in D.files self.old) (store_seen self.old) volume pair) causes }
         requires up { IsUp self.old }

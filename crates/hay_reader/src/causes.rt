@@ -2,6 +2,7 @@
 ghost use Rattle.std.specs.Prelude.{◌≡◌, ◌<◌, ◌≤◌, ◌++◌, ◌∷◌, [], length};
 
 use arrayvec::ArrayVec;
+use hay_needle::MAX_REPLICAS;
 use hay_reply::Cause;
 use std::marker::Model;
 
@@ -47,7 +48,7 @@ impl Causes {
 
     /// Adds a replica that was passed over.
     pub fn push(&mut self, passed: PassedReplica)
-        requires { length self.old < 4 }
+        requires { length self.old < MAX_REPLICAS }
         ensures { self.new ≡ self.old ++ passed ∷ [] }
     {
         self.passed.push(passed);
@@ -61,7 +62,7 @@ impl Causes {
 
     pub fn as_slice(&self) -> &[PassedReplica]
         ensures is { result.now ≡ self.now }
-        ensures most { length result.now ≤ 4 }
+        ensures most { length result.now ≤ MAX_REPLICAS }
     {
         self.passed.as_slice()
     }

@@ -2,6 +2,7 @@ use Rattle.std.proofs.Common.{◌≡◌, ◌+◌, ◌*◌, ◌≤◌, List, [], 
 use Rattle.std.proofs.lemmas.List.{length-append, nil_from_length}
 use Rattle.std.proofs.Math.Nat.{mul-le-mul_left}
 use Rattle.std.specs.List.{AllByRecursion, flat_map}
+use Rattle.hay_needle.specs.declared.settings.TheConstants.{MAX_VOLUMES}
 use Rattle.hay_disk.specs.Shelf.{HeldDisk}
 use Rattle.hay_mount.specs.Mounts.{InOrder, IsGivenDisk}
 use Rattle.hay_logical.specs.Volumes.{Volume}
@@ -70,7 +71,7 @@ overflow_cast-len g c =
     let count : c.len.result ≡ length vs = c.len.ensures ∙ c.pop.new.self.ok.0 in
     let long : length c.loop-volume.volumes.items ≡ length vs + 1 =
     ap (λ (l : List (Volume g.row.H-Disk.Denot g.row.H-Disk-Piece.Denot)). length l) (c.in-Some.ensures).items ∙ length-append vs (c.in-Some.volume ∷ []) in
-    let low : c.len.result + 1 ≤ 64 = omega (arith, count, long, c.loop-volume.invariant.few) in
+    let low : c.len.result + 1 ≤ MAX_VOLUMES = omega (arith, count, long, c.loop-volume.invariant.few) in
     let product : c.len.result * c.args.replicas ≤ c.len.result * 4 = mul-le-mul_left c.len.result c.requires.most in
     omega (arith, low, product)
 
@@ -80,7 +81,7 @@ overflow_mul-len g c =
     let count : c.len.result ≡ length vs = c.len.ensures ∙ c.pop.new.self.ok.0 in
     let long : length c.loop-volume.volumes.items ≡ length vs + 1 =
     ap (λ (l : List (Volume g.row.H-Disk.Denot g.row.H-Disk-Piece.Denot)). length l) (c.in-Some.ensures).items ∙ length-append vs (c.in-Some.volume ∷ []) in
-    let low : c.len.result + 1 ≤ 64 = omega (arith, count, long, c.loop-volume.invariant.few) in
+    let low : c.len.result + 1 ≤ MAX_VOLUMES = omega (arith, count, long, c.loop-volume.invariant.few) in
     let product : c.len.result * c.args.replicas ≤ c.len.result * 4 = mul-le-mul_left c.len.result c.requires.most in
     omega (arith, low, product)
 
@@ -90,7 +91,7 @@ overflow_add-len g c =
     let count : c.len.result ≡ length vs = c.len.ensures ∙ c.pop.new.self.ok.0 in
     let long : length c.loop-volume.volumes.items ≡ length vs + 1 =
     ap (λ (l : List (Volume g.row.H-Disk.Denot g.row.H-Disk-Piece.Denot)). length l) (c.in-Some.ensures).items ∙ length-append vs (c.in-Some.volume ∷ []) in
-    let low : c.len.result + 1 ≤ 64 = omega (arith, count, long, c.loop-volume.invariant.few) in
+    let low : c.len.result + 1 ≤ MAX_VOLUMES = omega (arith, count, long, c.loop-volume.invariant.few) in
     let product : c.len.result * c.args.replicas ≤ c.len.result * 4 = mul-le-mul_left c.len.result c.requires.most in
     omega (arith, low, product)
 
@@ -100,7 +101,7 @@ give_volume-requires g c =
     let count : c.len.result ≡ length vs = c.len.ensures ∙ c.pop.new.self.ok.0 in
     let long : length c.loop-volume.volumes.items ≡ length vs + 1 =
     ap (λ (l : List (Volume g.row.H-Disk.Denot g.row.H-Disk-Piece.Denot)). length l) (c.in-Some.ensures).items ∙ length-append vs (c.in-Some.volume ∷ []) in
-    let low : c.len.result + 1 ≤ 64 = omega (arith, count, long, c.loop-volume.invariant.few) in
+    let low : c.len.result + 1 ≤ MAX_VOLUMES = omega (arith, count, long, c.loop-volume.invariant.few) in
     let product : c.len.result * c.args.replicas ≤ c.len.result * 4 = mul-le-mul_left c.len.result c.requires.most in
     let gives = c.loop-volume.invariant.gives in
     let shorter =
