@@ -3,6 +3,7 @@ use Rattle.std.proofs.Common.{ℕ, ◌+◌, ◌<◌, ◌≤◌, ◌^◌, Bool, t
 use Rattle.std.specs.List.{AllByRecursion}
 use Rattle.std.proofs.Math.Nat.{mod-le}
 use Rattle.hay_needle.specs.declared.settings.Settings.{Settings}
+use Rattle.hay_needle.specs.declared.settings.TheConstants.{MAX_REPLICAS, MAX_VOLUMES}
 use Rattle.hay_reply.specs.Fits.{FitsNote}
 use Rattle.hay_legal.specs.Known.{machine_of}
 use Rattle.hay_legal.specs.Restarts.{kept_note, replica_notes}
@@ -14,7 +15,7 @@ note_fits v m line true volume machine large = (volume, machine, large)
 note_fits v m line false volume machine large = (volume, machine, large)
 
 -- each has numbers of its fields' types
-pub notes_fit : (settings : Settings) (v line j : ℕ) (kept : List Bool) → v < 64 → j + length kept ≤ 4 → line < 2 ^ 64 → AllByRecursion FitsNote (replica_notes settings v line j kept)
+pub notes_fit : (settings : Settings) (v line j : ℕ) (kept : List Bool) → v < MAX_VOLUMES → j + length kept ≤ MAX_REPLICAS → line < 2 ^ 64 → AllByRecursion FitsNote (replica_notes settings v line j kept)
 notes_fit settings v line j [] low few large = tt
 notes_fit settings v line j (is ∷ kept) low few large =
     let most = mod-le (v + j) settings.machines in

@@ -3,6 +3,7 @@ use Rattle.std.specs.Prelude.{◌≡◌, ℕ, ◌<◌, ◌≤◌, false, List, l
 use Rattle.hay_needle.specs.declared.settings.Settings.{Settings}
 use Rattle.hay_needle.specs.declared.needle.Pair.{Pair}
 use Rattle.hay_needle.specs.Tables.{pair_eq}
+use Rattle.hay_needle.specs.declared.settings.TheConstants.{MAX_REPLICAS, MAX_VOLUMES}
 use Rattle.hay_disk.specs.Disk.{Files}
 use Rattle.hay_legal.specs.Known.{machine_of}
 use Rattle.hay_map.specs.MapRows.{MapRows}
@@ -29,9 +30,9 @@ pub record Volume (D P : Type 0) : Type 0 where
 -- settings and a volume's number that a store may have
 pub record IsOfSettings (settings : Settings) (v : ℕ) : Type 0 where
   pub some : 1 ≤ settings.replicas
-  pub most : settings.replicas ≤ 4
+  pub most : settings.replicas ≤ MAX_REPLICAS
   pub fits : settings.replicas ≤ settings.machines
-  pub volumes : settings.volumes ≤ 64
+  pub volumes : settings.volumes ≤ MAX_VOLUMES
   pub within : v < settings.volumes
 
 -- a machine that has a replica of volume v

@@ -52,7 +52,9 @@ use hay_base::{Listed, NoMemory};
 use hay_core::CoreTag;
 use hay_disk::{Disk, Piece};
 use hay_map::{MapView, Row};
-use hay_needle::{Cookie, FileKind, LAST_GENERATION, MAX_PHOTO, Pair, Settings, Super};
+use hay_needle::{
+    Cookie, FileKind, LAST_GENERATION, MAX_PHOTO, MAX_REPLICAS, Pair, Settings, Super,
+};
 use hay_open::OpenFault;
 use hay_physical::Replica;
 use hay_reply::Note;
@@ -82,6 +84,7 @@ pub struct Logical<D: Disk> {
 impl<D: Disk> Model for Logical<D> {
     ghost use Rattle.std.specs.Prelude.{◌≤◌};
     ghost use Rattle.std.specs.Vec.{vec_capacity};
+    ghost use Rattle.hay_needle.specs.declared.settings.TheConstants.{MAX_REPLICAS};
     ghost use Rattle.hay_logical.specs.Volumes.{CanReach, IsShaped, Volume};
 
     ghost Value = { Volume D D.Piece };
@@ -104,7 +107,7 @@ impl<D: Disk> Model for Logical<D> {
       front = v.front;
       frozen = v.frozen;
       unsure = v.unsure;
-    }) × (4 ≤ vec_capacity v.replicas) × CanReach D.Tells D.files D.Piece.Tells v.replicas.items v.rows };
+    }) × (MAX_REPLICAS ≤ vec_capacity v.replicas) × CanReach D.Tells D.files D.Piece.Tells v.replicas.items v.rows };
 }
 
 impl<D: Disk> Logical<D> {
@@ -115,7 +118,7 @@ impl<D: Disk> Logical<D> {
         ensures replicas { IfOk result (λ volume. volume.replicas ≡ []) }
         ensures unsure { IfOk result (λ volume. (volume.frozen ≡ None) × (volume.unsure ≡ None)) }
     {
-        let Ok(replicas) = Vec::with_capacity(alloc, 4) else {
+        let Ok(replicas) = Vec::with_capacity(alloc, MAX_REPLICAS as usize) else {
             return Err(NoMemory);
         };
         Ok(Logical {

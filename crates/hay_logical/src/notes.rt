@@ -16,7 +16,7 @@ use arrayvec::ArrayVec;
 use hay_base::{Listed, NoMemory};
 use hay_disk::{Disk, Piece};
 use hay_map::{MapView, Place};
-use hay_needle::Settings;
+use hay_needle::{MAX_REPLICAS, Settings};
 use hay_physical::Replica;
 use hay_reply::Note;
 use std::alloc::Global;
@@ -24,7 +24,7 @@ use std::alloc::Global;
 /// The machine of a replica.
 pub(crate) fn machine_of(settings: &Settings, number: u32, replica: u32) -> u32
     requires of { IsOfSettings settings.now number }
-    requires within { replica < 4 }
+    requires within { replica < MAX_REPLICAS }
     ensures { result ≡ machine_of settings.now number replica }
 {
     (number + replica) % settings.machines
@@ -43,7 +43,7 @@ fn may_be_live<P: Piece>(place: &Place<P>) -> bool
 // Whether a replica whose cells end here has the change.
 fn is_kept<P: Piece>(change: &Change, rows: &MapView<P>, replica: usize, end: u64) -> bool
     requires within { replica < rows.now.replicas }
-    requires most { replica < 4 }
+    requires most { replica < MAX_REPLICAS }
     ensures { result ≡ keeps change.now (sights_of rows.now) replica end }
 {
     match change {
@@ -61,7 +61,7 @@ fn kept_in<D: Disk>(
     replicas: &[Replica<D>],
     rows: &MapView<D::Piece>,
 ) -> ArrayVec<bool, 4>
-    requires most { length replicas.now ≤ 4 }
+    requires most { length replicas.now ≤ MAX_REPLICAS }
     requires open { (j : ℕ) (r : Copy D) → At replicas.now j r → IsOpenCopy r }
     requires width { rows.now.replicas ≡ length replicas.now }
     ensures { KeptIn change.now (sights_of rows.now) (map replica_seen replicas.now) result.items }
@@ -82,7 +82,7 @@ fn notes_from(
     kept: &[bool],
 ) -> Result<Listed<Note>, NoMemory>
     requires of { IsOfSettings settings.now number }
-    requires most { length kept.now ≤ 4 }
+    requires most { length kept.now ≤ MAX_REPLICAS }
     ensures are { IfOk result (λ notes. notes ≡ replica_notes settings.now number line 0 kept.now) }
     ensures fits { IfOk result (AllByRecursion FitsNote) }
 {
@@ -116,7 +116,7 @@ pub(crate) fn notes_of<D: Disk>(
     rows: &MapView<D::Piece>,
 ) -> Result<Listed<Note>, NoMemory>
     requires of { IsOfSettings settings.now number }
-    requires most { length replicas.now ≤ 4 }
+    requires most { length replicas.now ≤ MAX_REPLICAS }
     requires open { (j : ℕ) (r : Copy D) → At replicas.now j r → IsOpenCopy r }
     requires width { rows.now.replicas ≡ length replicas.now }
     ensures are { IfOk result (NotesTell settings.now number unsure.now (sights_of rows.now) (map replica_seen replicas.now)) }

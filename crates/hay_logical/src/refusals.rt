@@ -13,7 +13,7 @@ use crate::replicas::Broken;
 use crate::runs::Unswapped;
 use hay_disk::{Disk, Piece};
 use hay_map::{Place, Row};
-use hay_needle::Settings;
+use hay_needle::{MAX_REPLICAS, Settings};
 use hay_physical::{Replica, ReplicaFault};
 
 /// A refusal that freezes the volume by this machine.
@@ -99,7 +99,7 @@ pub(crate) fn is_untouched<D: Disk>(replicas: &[Replica<D>], broken: &Broken) ->
 /// What a put that was broken off is answered.
 pub(crate) fn put_refusal(settings: &Settings, number: u32, broken: &Broken) -> Refusal
     requires of { IsOfSettings settings.now number }
-    requires within { broken.now.at < 4 }
+    requires within { broken.now.at < MAX_REPLICAS }
     requires refuses { RefusesPut broken.now.fault }
     ensures { IsRefusal settings.now number broken.now result }
 {
@@ -132,7 +132,7 @@ pub(crate) fn unfinished_by(
     unswapped: Unswapped,
 ) -> Unfinished
     requires of { IsOfSettings settings.now number }
-    requires within { replica < 4 }
+    requires within { replica < MAX_REPLICAS }
     ensures { result ≡ unfinished_by settings.now number replica unswapped }
 {
     let machine = machine_of(settings, number, replica);

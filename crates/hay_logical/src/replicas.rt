@@ -24,7 +24,7 @@ use crate::runs::drop_runs;
 use hay_base::NoMemory;
 use hay_disk::Disk;
 use hay_map::{MapView, Place, Row};
-use hay_needle::{Cookie, MAX_PHOTO, Pair};
+use hay_needle::{Cookie, MAX_PHOTO, MAX_REPLICAS, Pair};
 use hay_open::OpenFault;
 use hay_physical::{Replica, ReplicaFault};
 use std::alloc::Global;
@@ -45,7 +45,7 @@ pub(crate) struct DiskFailed {
 
 /// Where the cells of each replica end.
 pub(crate) fn ends_of<D: Disk>(replicas: &[Replica<D>]) -> [u64; 4]
-    requires most { length replicas.now ≤ 4 }
+    requires most { length replicas.now ≤ MAX_REPLICAS }
     requires open { (j : ℕ) (r : Copy D) → At replicas.now j r → IsOpenCopy r }
     ensures { (j : ℕ) (r : Copy D) → At replicas.now j r → slice_index result j ≡ end_of r }
 {
@@ -58,7 +58,7 @@ pub(crate) fn ends_of<D: Disk>(replicas: &[Replica<D>]) -> [u64; 4]
 
 /// The lowest replica that lacks room for a photo of this size.
 pub(crate) fn room_in<D: Disk>(replicas: &[Replica<D>], size: u32) -> Result<(), Broken>
-    requires most { length replicas.now ≤ 4 }
+    requires most { length replicas.now ≤ MAX_REPLICAS }
     requires open { (j : ℕ) (r : Copy D) → At replicas.now j r → IsOpenCopy r }
     ensures fits { OnOk result ((j : ℕ) (r : Copy D) → At replicas.now j r → RoomFor size r) }
     ensures lacks { IfErr result (LacksRoom size replicas.now) }
@@ -88,7 +88,7 @@ pub(crate) fn put_each<D: Disk>(
     cookie: Cookie,
     bytes: &[u8],
 ) -> Result<Row<D::Piece>, Broken>
-    requires most { length replicas.old ≤ 4 }
+    requires most { length replicas.old ≤ MAX_REPLICAS }
     requires size { length bytes.now ≤ MAX_PHOTO }
     requires up { (j : ℕ) (r : Copy D) → At replicas.old j r → IsUp r }
     requires room { (j : ℕ) (r : Copy D) → At replicas.old j r → RoomFor (length bytes.now) r }
@@ -124,7 +124,7 @@ fn put_in_order<D: Disk>(
     cookie: Cookie,
     bytes: &[u8],
 ) -> Result<Row<D::Piece>, Broken>
-    requires most { length replicas.old ≤ 4 }
+    requires most { length replicas.old ≤ MAX_REPLICAS }
     requires size { length bytes.now ≤ MAX_PHOTO }
     requires up { (j : ℕ) (r : Copy D) → At replicas.old j r → IsUp r }
     requires room { (j : ℕ) (r : Copy D) → At replicas.old j r → RoomFor (length bytes.now) r }
@@ -165,7 +165,7 @@ pub(crate) fn delete_each<D: Disk>(
     pair: Pair,
     row: &Row<D::Piece>,
 ) -> Result<(), DiskFailed>
-    requires most { length replicas.old ≤ 4 }
+    requires most { length replicas.old ≤ MAX_REPLICAS }
     requires places { length row.now ≡ length replicas.old }
     requires up { (j : ℕ) (r : Copy D) → At replicas.old j r → IsUp r }
     requires live { D.Tells → (j : ℕ) (r : Copy D) → At replicas.old j r → (needle : SealedNeedle) → place_in row.now j ≡ place.Live needle → physical.MayDelete D.files r needle.at }
@@ -195,7 +195,7 @@ fn delete_in_order<D: Disk>(
     pair: Pair,
     row: &Row<D::Piece>,
 ) -> Result<(), DiskFailed>
-    requires most { length replicas.old ≤ 4 }
+    requires most { length replicas.old ≤ MAX_REPLICAS }
     requires places { length row.now ≡ length replicas.old }
     requires up { (j : ℕ) (r : Copy D) → At replicas.old j r → IsUp r }
     requires live { D.Tells → (j : ℕ) (r : Copy D) → At replicas.old j r → (needle : SealedNeedle) → place_in row.now j ≡ place.Live needle → physical.MayDelete D.files r needle.at }
@@ -264,7 +264,7 @@ pub(crate) fn open_each<D: Disk>(
     rows: &mut MapView<D::Piece>,
     alloc: Global,
 ) -> Result<(), Unopened>
-    requires most { length replicas.old ≤ 4 }
+    requires most { length replicas.old ≤ MAX_REPLICAS }
     requires width { rows.old.replicas ≡ length replicas.old }
     requires empty { (pair : Pair) → row_at rows.old pair ≡ replicate (length replicas.old) place.None }
     requires closed { (j : ℕ) (r : Copy D) → At replicas.old j r → r.phase ≡ Closed }

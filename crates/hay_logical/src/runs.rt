@@ -13,6 +13,7 @@ ghost use Rattle.hay_logical.specs.Volumes.{KeepsCounts};
 use hay_base::Listed;
 use hay_disk::{Disk, Piece};
 use hay_map::{MapView, OpenCell, Place, Row};
+use hay_needle::MAX_REPLICAS;
 use hay_physical::{Replica, ReplicaFault};
 use std::alloc::Global;
 
@@ -82,7 +83,7 @@ pub(crate) fn step_at<D: Disk>(
     cells: u64,
 ) -> Result<u64, ReplicaFault>
     requires within { at < length replicas.old }
-    requires most { length replicas.old ≤ 4 }
+    requires most { length replicas.old ≤ MAX_REPLICAS }
     requires width { rows.now.replicas ≡ length replicas.old }
     requires up { (j : ℕ) (r : Copy D) → At replicas.old j r → IsUp r }
     requires standing { (r : Copy D) → At replicas.old at r → goal_of r ≡ None → ⊥ }
@@ -109,7 +110,7 @@ pub(crate) fn finish_at<D: Disk>(
     rows: &mut MapView<D::Piece>,
 ) -> Result<NewFiles<D::Piece>, Unswapped>
     requires within { at < length replicas.old }
-    requires most { length replicas.old ≤ 4 }
+    requires most { length replicas.old ≤ MAX_REPLICAS }
     requires width { rows.old.replicas ≡ length replicas.old }
     requires up { (j : ℕ) (r : Copy D) → At replicas.old j r → IsUp r }
     requires standing { (r : Copy D) → At replicas.old at r → goal_of r ≡ None → ⊥ }
@@ -138,7 +139,7 @@ pub(crate) fn compact_at<D: Disk>(
     alloc: Global,
 ) -> Result<NewFiles<D::Piece>, Unswapped>
     requires within { at < length replicas.old }
-    requires most { length replicas.old ≤ 4 }
+    requires most { length replicas.old ≤ MAX_REPLICAS }
     requires width { rows.old.replicas ≡ length replicas.old }
     requires up { (j : ℕ) (r : Copy D) → At replicas.old j r → IsUp r }
     ensures one { SwapsOne D.Tells D.files at replicas.old replicas.new }

@@ -22,7 +22,7 @@ use crate::replicas::open_each;
 use crate::unsure::{Change, Unsure};
 use hay_disk::Disk;
 use hay_map::{MapView, Place};
-use hay_needle::Pair;
+use hay_needle::{MAX_REPLICAS, Pair};
 use hay_open::OpenFault;
 use hay_physical::{Replica, ReplicaFault};
 use std::alloc::Global;
@@ -36,7 +36,7 @@ pub(crate) fn see_at<D: Disk>(
     out: &mut Vec<u8>,
 ) -> Result<(), ReplicaFault>
     requires within { at < length replicas.old }
-    requires most { length replicas.old ≤ 4 }
+    requires most { length replicas.old ≤ MAX_REPLICAS }
     requires width { rows.old.replicas ≡ length replicas.old }
     requires open { (j : ℕ) (r : Copy D) → At replicas.old j r → IsOpenCopy r }
     requires may { D.Tells → (r : Copy D) → At replicas.old at r → physical.MaySeePlace D.files r (place_in (row_at rows.old pair) at) }
@@ -92,7 +92,7 @@ fn see_undamaged<D: Disk>(
     pair: Pair,
     out: &mut Vec<u8>,
 ) -> Result<(), Unopened>
-    requires most { length replicas.old ≤ 4 }
+    requires most { length replicas.old ≤ MAX_REPLICAS }
     requires width { rows.old.replicas ≡ length replicas.old }
     requires open { (j : ℕ) (r : Copy D) → At replicas.old j r → IsOpenCopy r }
     requires reach { CanReach D.Tells D.files D.Piece.Tells replicas.old rows.old }
@@ -145,7 +145,7 @@ fn see_broken_off<D: Disk>(
     unsure: &Option<Unsure>,
     out: &mut Vec<u8>,
 ) -> Result<(), Unopened>
-    requires most { length replicas.old ≤ 4 }
+    requires most { length replicas.old ≤ MAX_REPLICAS }
     requires width { rows.old.replicas ≡ length replicas.old }
     requires open { (j : ℕ) (r : Copy D) → At replicas.old j r → IsOpenCopy r }
     requires reach { CanReach D.Tells D.files D.Piece.Tells replicas.old rows.old }
@@ -176,7 +176,7 @@ pub(crate) fn open_all<D: Disk>(
     alloc: Global,
     unsure: &Option<Unsure>,
 ) -> Result<(), Unopened>
-    requires most { length replicas.old ≤ 4 }
+    requires most { length replicas.old ≤ MAX_REPLICAS }
     requires width { rows.old.replicas ≡ length replicas.old }
     requires empty { (pair : Pair) → row_at rows.old pair ≡ replicate (length replicas.old) place.None }
     requires closed { (j : ℕ) (r : Copy D) → At replicas.old j r → r.phase ≡ Closed }

@@ -1,4 +1,5 @@
 use Rattle.std.proofs.Common.{◌≤◌, length, sym, ◌∙◌, arith}
+use Rattle.hay_needle.specs.declared.settings.TheConstants.{MAX_REPLICAS}
 use Rattle.hay_logical.specs.Draws.{looked_pair}
 use Rattle.hay_logical.proofs.Drawing.{drew_all}
 use Rattle.hay_logical.proofs.Looks.{found_all, if_err_then, kept_all, left_all, on_err_now, on_ok_now, on_ok_then, opened_all, opened_open, reached_all, refused_all, thawed_all, told_all}
@@ -9,7 +10,7 @@ pub see_broken_off-requires : goal.see_broken_off-requires
 see_broken_off-requires g c =
     let count = c.open_each.ensures.counts.count in
     let few = c.requires.most in record {
-      most = (let most : length c.open_each.new.replicas ≤ 4 = omega (arith, count, few) in most);
+      most = (let most : length c.open_each.new.replicas ≤ MAX_REPLICAS = omega (arith, count, few) in most);
       width = c.open_each.ensures.width ∙ c.requires.width ∙ sym count;
       «open» = opened_open g.D.Disk.Tells g.D.Disk.files g.D.Piece.Piece.Tells c.args.replicas.now c.open_each.new.replicas c.open_each.new.rows count c.in-Ok.ensures.opened;
       reach = c.open_each.ensures.reach;

@@ -1,5 +1,6 @@
 use Rattle.std.proofs.Common.{◌≡◌, ◌≤◌, ◌<◌, ℕ, length, Err, refl, sym, subst, ◌∙◌, ◌+◌, arith}
 use Rattle.std.specs.Prelude.{IfErr, MatchOption}
+use Rattle.hay_needle.specs.declared.settings.TheConstants.{MAX_REPLICAS}
 use Rattle.hay_physical.specs.declared.fault.ReplicaFault.{ReplicaFault}
 use Rattle.hay_physical.specs.Faults.{IsSightFault}
 use Rattle.hay_logical.specs.ReplicaCalls.{IsLookFault}
@@ -31,7 +32,7 @@ see_at-requires g c =
     still_reached g.D.Disk.Tells g.D.Disk.files g.D.Piece.Piece.Tells g.D.Disk.fault_count g.D.Disk.fuse_count c.args.replicas.now c.loop-at.replicas c.args.rows.now
     c.loop-at.rows looks c.requires.reach in record {
       within = (let less : c.loop-at.at < length c.loop-at.replicas = omega (arith, within, long) in less);
-      most = (let few : length c.loop-at.replicas ≤ 4 = omega (arith, most, long) in few);
+      most = (let few : length c.loop-at.replicas ≤ MAX_REPLICAS = omega (arith, most, long) in few);
       width = looks.width ∙ c.requires.width ∙ sym long;
       «open» = up;
       may = λ tells r e. ((can tells c.loop-at.at r e).sees (up c.loop-at.at r e)).may c.args.pair;

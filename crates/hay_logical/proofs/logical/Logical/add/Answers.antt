@@ -1,4 +1,5 @@
 use Rattle.std.proofs.Common.{◌<◌, ◌≤◌, ◌∷◌, [], inl, inr, length, length-append, sym, ap, subst, ◌∙◌, arith}
+use Rattle.hay_needle.specs.declared.settings.TheConstants.{MAX_REPLICAS}
 use Rattle.hay_physical.specs.OpenCopies.{Copy, is_frozen}
 use Rattle.hay_logical.specs.Fits.{At}
 use Rattle.hay_logical.specs.Volumes.{Volume}
@@ -31,7 +32,7 @@ invariant_of-self g c =
         frozen_by = shape.frozen_by;
         settled = shape.settled;
       },
-      subst (λ n. 4 ≤ n) (sym c.push_reserved.ensures.capacity) c.self.invariant.1,
+      subst (λ n. MAX_REPLICAS ≤ n) (sym c.push_reserved.ensures.capacity) c.self.invariant.1,
       λ tells j r f. elim (at_either olds c.new.result j r (subst (λ xs. At xs j r) c.push_reserved.ensures.items f)) [
         | inl h ↦ c.self.invariant.2 tells j r h
         | inr h ↦ reaches_closed g.D.Disk.files c.self.inside.rows j r (ap (λ (x : Copy g.row.D.Denot). x.phase) (h.1 ∙ c.new.ensures))

@@ -1,6 +1,7 @@
 use Rattle.std.proofs.Common.{List, ◌≡◌, ◌<◌, ◌≤◌, ℕ, length, refl, sym, ap, subst, ◌∙◌, arith}
 use Rattle.std.specs.Vec.{with_items}
 use Rattle.std.proofs.lemmas.List.{with_items_is}
+use Rattle.hay_needle.specs.declared.settings.TheConstants.{MAX_REPLICAS}
 use Rattle.hay_map.specs.Rows.{ChangesRows, row_at}
 use Rattle.hay_map.specs.declared.view.MapOp.TheVariants as op
 use Rattle.hay_physical.specs.OpenCopies.{Copy, IsUp, contents_of, end_of, is_stuck, volume_bytes}
@@ -62,7 +63,7 @@ compact_at-requires g c =
     let few = (c.self.invariant.0).count in
     let long = ap length now in record {
       within = (let less : c.args.replica < length c.as_mut_slice.result.now = omega (arith, within, all, long) in less);
-      most = (let n : length c.as_mut_slice.result.now ≤ 4 = omega (arith, most, few, long) in n);
+      most = (let n : length c.as_mut_slice.result.now ≤ MAX_REPLICAS = omega (arith, most, few, long) in n);
       width = (c.self.invariant.0).width ∙ sym all ∙ sym long;
       up = (λ j r e. up j r (subst (λ xs. At xs j r) now e));
     }

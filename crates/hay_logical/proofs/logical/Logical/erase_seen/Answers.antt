@@ -1,6 +1,7 @@
 use Rattle.std.proofs.Common.{◌≡◌, ◌≤◌, ◌<◌, ◌+◌, ℕ, length, Some, refl, sym, ap, subst, ◌∙◌, arith, inl, inr}
 use Rattle.std.specs.Vec.{with_items}
 use Rattle.std.proofs.lemmas.List.{with_items_is}
+use Rattle.hay_needle.specs.declared.settings.TheConstants.{MAX_REPLICAS}
 use Rattle.hay_map.specs.Places.{place_in}
 use Rattle.hay_map.specs.Rows.{row_at}
 use Rattle.hay_compact.specs.Finishing.{IsSeen}
@@ -66,7 +67,7 @@ delete_each-requires g c =
     let most = (c.self.invariant.0).settings.most in
     let few = (c.self.invariant.0).count in
     let long = ap length now in record {
-      most = (let n : length c.as_mut_slice.result.now ≤ 4 = omega (arith, most, few, long) in n);
+      most = (let n : length c.as_mut_slice.result.now ≤ MAX_REPLICAS = omega (arith, most, few, long) in n);
       places = c.row-row.ensures.long ∙ (c.self.invariant.0).width ∙ sym all ∙ sym long;
       up = λ j r e. up j r (subst (λ xs. At xs j r) now e);
       live = λ tells j r e needle is.

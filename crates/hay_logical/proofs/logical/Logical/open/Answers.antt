@@ -1,5 +1,6 @@
 use Rattle.std.proofs.Common.{◌≡◌, ◌≤◌, ◌<◌, ℕ, None, length, replicate, refl, sym, ap, subst, ◌∙◌, arith}
 use Rattle.std.proofs.lemmas.List.{with_items_is}
+use Rattle.hay_needle.specs.declared.settings.TheConstants.{MAX_REPLICAS}
 use Rattle.hay_map.specs.declared.place.Place.TheVariants as place
 use Rattle.hay_open.specs.declared.fault.OpenFault.TheVariants as open_fault
 use Rattle.hay_physical.specs.OpenCopies.{Copy, volume_bytes}
@@ -33,7 +34,7 @@ open_all-requires g c = let now = c.as_mut_slice.ensures.value in
     let long = ap length now in
     let few = (shape.settings).most in
     let wide : here.settings.replicas ≡ length c.as_mut_slice.result.now = sym all ∙ sym long in
-    let most : length c.as_mut_slice.result.now ≤ 4 = omega (arith, wide, few) in record {
+    let most : length c.as_mut_slice.result.now ≤ MAX_REPLICAS = omega (arith, wide, few) in record {
       most = most;
       width = c.new.ensures.replicas ∙ wide;
       empty = (λ pair. c.new.ensures.rows pair ∙ ap (λ n. replicate n place.None) wide);
@@ -55,7 +56,7 @@ notes_of-requires g c = let now = c.as_mut_slice.ensures.value in
     let slice = c.as_slice.ensures.value ∙ kept in
     let long = ap length slice in
     let few = (shape.settings).most in
-    let most : length c.as_slice.result.now ≤ 4 = omega (arith, long, count, all, few) in record {
+    let most : length c.as_slice.result.now ≤ MAX_REPLICAS = omega (arith, long, count, all, few) in record {
       of = shape.settings;
       most = most;
       «open» = (λ j r' s.

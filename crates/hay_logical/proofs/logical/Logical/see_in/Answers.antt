@@ -9,6 +9,7 @@ use Rattle.hay_map.specs.Places.{PlaceMeans, place_in}
 use Rattle.hay_map.specs.Rows.{row_at}
 use Rattle.hay_compact.specs.Finishing.{IsSeen}
 use Rattle.hay_needle.specs.declared.needle.Pair.{Pair}
+use Rattle.hay_needle.specs.declared.settings.TheConstants.{MAX_REPLICAS}
 use Rattle.hay_physical.specs.Faults as physical_faults
 use Rattle.hay_physical.specs.OpenCopies.{Copy, IsOpenCopy, goal_of, is_frozen}
 use Rattle.hay_physical.specs.declared.fault.ReplicaFault.{ReplicaFault}
@@ -58,7 +59,7 @@ see_at-requires g c =
     let is : (j : ℕ) (r : Copy g.row.D.Denot) → At c.as_mut_slice.result.now j r → IsOpenCopy r =
     λ j r e. c.requires.«open».each j r (subst (λ v. At v.replicas j r) c.self.view_is (subst (λ xs. At xs j r) now e)) in record {
       within = (let less : c.args.replica < length c.as_mut_slice.result.now = omega (arith, within, all, long) in less);
-      most = (let n : length c.as_mut_slice.result.now ≤ 4 = omega (arith, most, few, long) in n);
+      most = (let n : length c.as_mut_slice.result.now ≤ MAX_REPLICAS = omega (arith, most, few, long) in n);
       width = (c.self.invariant.0).width ∙ sym all ∙ sym long;
       «open» = is;
       may = λ tells r e. ((c.self.invariant.2 tells c.args.replica r (subst (λ xs. At xs c.args.replica r) now e)).sees (is c.args.replica r e)).may c.args.pair;

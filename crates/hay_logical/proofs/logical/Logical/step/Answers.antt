@@ -2,6 +2,7 @@ use Rattle.std.proofs.Common.{◌≤◌, None, ◌≡◌, ◌<◌, ℕ, length, 
 use Rattle.std.specs.Prelude.{IfErr, IfOk}
 use Rattle.std.specs.Vec.{with_items}
 use Rattle.std.proofs.lemmas.List.{with_items_is}
+use Rattle.hay_needle.specs.declared.settings.TheConstants.{MAX_REPLICAS}
 use Rattle.hay_physical.specs.OpenCopies.{Copy, IsUp, contents_of, goal_of}
 use Rattle.hay_logical.specs.Answers.{StepRefused, IsStepped}
 use Rattle.hay_logical.specs.Answers as answers
@@ -69,7 +70,7 @@ step_at-requires g c =
     let few = (c.self.invariant.0).count in
     let long = ap length now in record {
       within = (let less : c.args.replica < length c.as_mut_slice.result.now = omega (arith, within, all, long) in less);
-      most = (let n : length c.as_mut_slice.result.now ≤ 4 = omega (arith, most, few, long) in n);
+      most = (let n : length c.as_mut_slice.result.now ≤ MAX_REPLICAS = omega (arith, most, few, long) in n);
       width = (c.self.invariant.0).width ∙ sym all ∙ sym long;
       up = (λ j r e. up j r (subst (λ xs. At xs j r) now e));
       standing =

@@ -2,6 +2,7 @@ use Rattle.std.proofs.Common.{◌≡◌, ◌≤◌, ◌<◌, ◌+◌, ℕ, cond,
 use Rattle.std.specs.Prelude.{IfErr, IsOk}
 use Rattle.hay_legal.specs.Known.{room_refusal_of}
 use Rattle.hay_needle.specs.Tables.{pair_eq}
+use Rattle.hay_needle.specs.declared.settings.TheConstants.{MAX_REPLICAS}
 use Rattle.std.specs.Vec.{with_items}
 use Rattle.std.proofs.lemmas.List.{with_items_is}
 use Rattle.hay_map.specs.Places.{place_in}
@@ -55,7 +56,7 @@ put_each-requires g c =
     let most = (c.self.invariant.0).settings.most in
     let few = (c.self.invariant.0).count in
     let long = ap length now in record {
-      most = (let n : length c.as_mut_slice.result.now ≤ 4 = omega (arith, most, few, long) in n);
+      most = (let n : length c.as_mut_slice.result.now ≤ MAX_REPLICAS = omega (arith, most, few, long) in n);
       size = c.requires.size;
       up = λ j r e. up j r (subst (λ xs. At xs j r) now e);
       room = λ j r e. c.in_ok-room.ensures.fits.1 j r (subst (λ v. At v.replicas j r) c.self.view_is (subst (λ xs. At xs j r) now e));
