@@ -16,6 +16,7 @@ use Rattle.hay_legal.specs.Restarts.{directory_with, kept_row, row_notes}
 use Rattle.hay_reply.specs.declared.Note.{Note}
 use Rattle.hay_needle.specs.declared.needle.Pair.{Pair}
 use Rattle.hay_needle.specs.declared.settings.Settings.{Settings}
+use Rattle.hay_needle.specs.declared.settings.TheConstants.{MAX_MACHINES}
 use Rattle.hay_directory.specs.declared.mode.Mode.{Mode}
 use Rattle.hay_directory.specs.declared.mode.Mode.TheVariants.{Closed, Open, Frozen}
 use Rattle.hay_directory.specs.declared.mode.Unsure.{Unsure}
@@ -193,7 +194,7 @@ pub sound_failed : {D : Type 0} (Tells : Type 0) (files : D → Files) (d d' : S
     → KeepsHomes d.homes d'.homes → length d'.homes ≡ length d.homes → (Tells → Leaves (dir_row row) d.journal.end (files d.disk 0) (files d'.disk 0)) → d'.count ≡ d.count
     → IsSound Tells files d'
 sound_failed Tells files d d' tag row is t frozen settings drains homes same leaves counts = record {
-  machines = subst (λ (s : Settings). s.machines ≤ 16) (sym settings) is.machines;
+  machines = subst (λ (s : Settings). s.machines ≤ MAX_MACHINES) (sym settings) is.machines;
   long = ap length drains ∙ is.long ∙ ap (λ (s : Settings). s.machines) (sym settings);
   within = subst (λ (s : Settings). HomesWithin s.volumes d'.homes) (sym settings) (kept_within d.settings.volumes d.homes d'.homes is.within homes);
   kept = λ up. kept_failed d d' (record { tag = tag; row = dir_row row }) (is.kept (ap is_closed t.serves)) t.homeless frozen homes same counts;

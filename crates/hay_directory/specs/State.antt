@@ -2,6 +2,7 @@
 use Rattle.std.specs.Prelude.{◌≡◌, ◌⊎◌, ◌≤◌, ◌<◌, ◌+◌, ◌^◌, ℕ, Bool, true, false, List, [], ◌∷◌, ◌++◌, length, map, replicate, Option, None, Some, IfSome, is_some, option_map}
 use Rattle.hay_needle.specs.declared.needle.Pair.{Pair}
 use Rattle.hay_needle.specs.declared.settings.Settings.{Settings}
+use Rattle.hay_needle.specs.declared.settings.TheConstants.{MAX_MACHINES}
 use Rattle.hay_disk.specs.Disk.{Files, FileState, IsFree, IsImage, IsSolid}
 use Rattle.hay_disk.specs.Gate.{IsGate}
 use Rattle.hay_dirfile.specs.declared.journal.Journal.{Journal}
@@ -176,7 +177,7 @@ pub record IsKept {D : Type 0} (directory : State D) : Type 0 where
 
 -- What holds of every directory.
 pub record IsSound {D : Type 0} (Tells : Type 0) (files : D → Files) (directory : State D) : Type 0 where
-  pub machines : directory.settings.machines ≤ 16
+  pub machines : directory.settings.machines ≤ MAX_MACHINES
   pub long : length directory.drained ≡ directory.settings.machines
   pub within : HomesWithin directory.settings.volumes directory.homes
   pub pending : IfSome (unsure_of directory.mode) (λ unsure. unsure.row.volume < directory.settings.volumes)

@@ -26,7 +26,7 @@ use hay_base::{Listed, NoMemory};
 use hay_core::CoreTag;
 use hay_dirfile::{DirRow, Journal, OpenFault};
 use hay_disk::{Disk, DiskFault};
-use hay_needle::{Pair, Settings};
+use hay_needle::{MAX_MACHINES, Pair, Settings};
 use hay_reply::Note;
 use std::alloc::Global;
 use std::collections::HashMap;
@@ -88,7 +88,7 @@ impl<D: Disk> Model for Directory<D> {
 impl<D: Disk> Directory<D> {
     /// A closed directory on this disk. No call of the disk is made, and no memory is taken.
     pub fn new(alloc: Global, settings: Settings, disk: D) -> Directory<D>
-        requires { settings.machines ≤ 16 }
+        requires { settings.machines ≤ MAX_MACHINES }
         ensures settings { result.settings ≡ settings }
         ensures disk { result.disk ≡ disk }
         ensures fresh { IsFresh result }
