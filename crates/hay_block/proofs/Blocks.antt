@@ -8,6 +8,7 @@ use Rattle.std.proofs.lemmas.List.{length-map}
 use Rattle.std.proofs.lemmas.List.FromFn.{get_or-map-range_with_len, length-range_with_len}
 use Rattle.std.proofs.lemmas.Option.{slice_get_within}
 use Rattle.hay_needle.specs.declared.settings.Settings.{Settings}
+use Rattle.hay_script.specs.declared.words.TheConstants.{MAX_LANES}
 use Rattle.hay_core.specs.declared.entry.Entry.{Entry}
 use Rattle.hay_front.specs.declared.front.Tag.{Tag}
 use Rattle.hay_reply.specs.declared.Reply.{Reply}
@@ -57,7 +58,7 @@ module _ {V D S T A W F : Type 0} {fits : ℕ → V → Settings → ℕ → S �
     (fit : AreFit settings) (many : length volumes ≡ settings.volumes) (many_behind : length behind ≡ settings.volumes)
     {first last : F} {row_tags : List Tag} (unseen_rows : AreUnseen of_rows seats) (at_rows : AreAtRows is_at_rows stands_rows row_faults row_fuses first seats)
     (left_rows : LeavesDirectory of_rows stands_rows row_faults row_fuses first seats_behind last row_tags)
-    (given : length arms_first ≡ length jobs) (some : 0 < length jobs) (few : length jobs ≤ 8) (served : Each (λ js. Each (λ job. IsServed job.item) js) jobs)
+    (given : length arms_first ≡ length jobs) (some : 0 < length jobs) (few : length jobs ≤ MAX_LANES) (served : Each (λ js. Each (λ job. IsServed job.item) js) jobs)
     {k : Known} {others : List ℕ} (stood_for : StoreStands stands faults fuses stands_rows row_faults row_fuses arm_faults settings volumes first arms_first others k)
     (drained_is : drained.items ≡ k.drained) (regular_rows : IsRegularDirectory settings k.directory)
     (others_end : Each (λ f. f ≤ 2 ^ 64 - 1) others) (arms_end : Each (λ arm. arm_faults arm ≤ 2 ^ 64 - 1) arms_last) where

@@ -3,6 +3,7 @@ use Rattle.std.proofs.Common.{◌≡◌, ◌≢◌, ◌<◌, ◌≤◌, ℕ, Lis
 use Rattle.std.specs.Prelude.{Bool}
 use Rattle.std.proofs.lemmas.List.{length-map}
 use Rattle.hay_needle.specs.declared.settings.Settings.{Settings}
+use Rattle.hay_script.specs.declared.words.TheConstants.{MAX_LANES}
 use Rattle.hay_core.specs.declared.entry.Entry.{Entry}
 use Rattle.hay_reply.specs.declared.Reply.{Reply}
 use Rattle.hay_legal.specs.declared.known.HomeRow.{HomeRow}
@@ -77,7 +78,7 @@ module _ {V D S T A : Type 0} {fits : ℕ → V → Settings → ℕ → S → T
   block items are distinct = record {
     opens = ran.opens;
     some = subst (λ n. 0 < n) (sym (many lanes)) ran.some;
-    few = subst (λ n. n ≤ 8) (sym (many lanes)) ran.few;
+    few = subst (λ n. n ≤ MAX_LANES) (sym (many lanes)) ran.few;
     new = each_mapped (known of of_rows arm_faults) IsNew lanes (each_weaker (HasNewSeats of of_rows) (λ l. IsNew (known of of_rows arm_faults l)) (new_lane of of_rows arm_faults) lanes ran.new);
     arms_before = arms_are lanes k ran.arms_before;
     lines = lines items are;

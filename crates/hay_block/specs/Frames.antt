@@ -3,6 +3,7 @@ use Rattle.std.specs.Prelude.{◌≡◌, ℕ, ◌+◌, ◌-◌, ◌<◌, ◌≤�
 use Rattle.std.specs.Global.{Global}
 use Rattle.std.specs.List.{AllByRecursion as Each}
 use Rattle.hay_needle.specs.declared.settings.Settings.{Settings}
+use Rattle.hay_needle.specs.declared.settings.TheConstants.{MAX_REPLICAS}
 use Rattle.hay_core.specs.declared.entry.Entry.{Entry}
 use Rattle.hay_front.specs.declared.front.Tag.{Tag}
 use Rattle.hay_reply.specs.declared.Reply.{Reply}
@@ -32,7 +33,7 @@ pub record AreFit (settings : Settings) : Type 0 where
   pub some : 0 < settings.volumes
   pub replicas : 0 < settings.replicas
   pub fewer : settings.replicas ≤ settings.machines
-  pub few : settings.replicas ≤ 4
+  pub few : settings.replicas ≤ MAX_REPLICAS
 
 -- LANES THAT HAVE THE FIRST SEATS
 

@@ -2,6 +2,7 @@
 use Rattle.std.specs.Prelude.{◌≡◌, ◌≢◌, ℕ, ◌<◌, ◌≤◌, List, [], length, map, slice_get, slice_index, Some, Bool}
 use Rattle.std.specs.List.{AllByRecursion as Each}
 use Rattle.hay_needle.specs.declared.settings.Settings.{Settings}
+use Rattle.hay_script.specs.declared.words.TheConstants.{MAX_LANES}
 use Rattle.hay_core.specs.declared.entry.Entry.{Entry}
 use Rattle.hay_reply.specs.declared.Reply.{Reply}
 use Rattle.hay_legal.specs.declared.known.HomeRow.{HomeRow}
@@ -37,7 +38,7 @@ module _ {V D S T A : Type 0} (fits : ℕ → V → Settings → ℕ → S → T
     pub opens : OpensAt shared.settings start k
     pub drained : (shared.drained).items ≡ k.drained
     pub some : 0 < length lanes
-    pub few : length lanes ≤ 8
+    pub few : length lanes ≤ MAX_LANES
     pub given : length jobs ≡ length lanes
     pub sits : (lane : ℕ) (l : Lane S T A) → slice_get lanes lane ≡ Some l → SitsAt fits fits_rows is_at is_at_rows of of_rows arm_sure arm_faults shared start lane l
     pub new : Each (HasNewSeats of of_rows) lanes

@@ -2,6 +2,7 @@
 use Rattle.std.specs.Prelude.{◌≡◌, ◌≢◌, ℕ, ◌<◌, ◌≤◌, List, length}
 use Rattle.std.specs.List.{AllByRecursion as Each}
 use Rattle.hay_needle.specs.declared.settings.Settings.{Settings}
+use Rattle.hay_script.specs.declared.words.TheConstants.{MAX_LANES}
 use Rattle.hay_legal.specs.declared.known.Known.{Known}
 use Rattle.hay_legal.specs.declared.turn.LaneItem.{LaneItem}
 use Rattle.hay_legal.specs.Blocks.{LegalBlock}
@@ -17,7 +18,7 @@ use Rattle.hay_block.specs.Ends.{IsNew, IsSettled, LocksEnded, OpensAt}
 pub record BlockRan (settings : Settings) (start : Start) (k : Known) (before after : List Sight) (items : List LaneItem) (h : Happened) (faults fuses arms : List ℕ) : Type 0 where
   pub opens : OpensAt settings start k
   pub some : 0 < length before
-  pub few : length before ≤ 8
+  pub few : length before ≤ MAX_LANES
   pub new : Each IsNew before
   pub arms_before : ArmsAre before k
   pub lines : AreLanes settings start k.drained (length before) before after items

@@ -19,6 +19,7 @@ use hay_lanes::Gate;
 use hay_logical::Logical;
 use hay_needle::Settings;
 use hay_reader::LaneSeat;
+use hay_script::MAX_LANES;
 use hay_shared_volume::SharedVolume;
 use hay_volume_lock::VolumeSeat;
 use std::alloc::Global;
@@ -157,7 +158,7 @@ where
     requires seats { AreSeated L.fits locked.lock settings (length jobs.now) locked.seats.items }
     requires arms { length locked.arms.items ≡ length jobs.now }
     requires some { 0 < length jobs.now }
-    requires few { length jobs.now ≤ 8 }
+    requires few { length jobs.now ≤ MAX_LANES }
     requires served { AllByRecursion (λ js. AllByRecursion (λ job. IsServed job.item) js.items) jobs.now }
     ensures lock { result.0.lock ≡ locked.lock }
     ensures volumes { AreVolumes IsVolumeOf settings result.0.volumes.items }

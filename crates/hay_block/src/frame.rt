@@ -18,6 +18,7 @@ use hay_front::Tag;
 use hay_lane::{DirectoryCalls, Lane, Shared};
 use hay_lanes::Gate;
 use hay_logical::Logical;
+use hay_script::MAX_LANES;
 use hay_shared_volume::{SharedVolume, VolumeRoom};
 use hay_volume_lock::VolumeSeat;
 use std::alloc::Global;
@@ -154,7 +155,7 @@ where
     requires rooms { HaveRoom frame.shared.settings.volumes frame.lanes.items }
     requires lanes { vec_len frame.lanes ≡ length jobs.now }
     requires some { 0 < length jobs.now }
-    requires few { length jobs.now ≤ 8 }
+    requires few { length jobs.now ≤ MAX_LANES }
     requires served { AllByRecursion (λ js. AllByRecursion (λ job. IsServed job.item) js.items) jobs.now }
     ensures frame { IsFrame IsSeatOf L.fits IsVolumeOf result.0 }
     ensures shared { AreSameLocks frame.shared result.0.shared }

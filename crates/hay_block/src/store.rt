@@ -30,6 +30,7 @@ use hay_legal::turn::LogNote;
 use hay_logical::Logical;
 use hay_needle::Settings;
 use hay_reader::LaneSeat;
+use hay_script::MAX_LANES;
 use hay_shared_volume::SharedVolume;
 use hay_volume_lock::VolumeSeat;
 use std::alloc::Global;
@@ -188,7 +189,7 @@ where
     requires directory { L.is_of parts.directory settings }
     requires arms { length parts.arms.items ≡ length jobs.now }
     requires some { 0 < length jobs.now }
-    requires few { length jobs.now ≤ 8 }
+    requires few { length jobs.now ≤ MAX_LANES }
     requires served { AllByRecursion (λ js. AllByRecursion (λ job. IsServed job.item) js.items) jobs.now }
     ensures volumes { AreVolumes IsVolumeOf settings result.0.volumes.items }
     ensures directory { L.is_of result.0.directory settings }

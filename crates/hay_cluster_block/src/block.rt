@@ -27,6 +27,7 @@ use hay_logical::Logical;
 use hay_needle::Settings;
 use hay_reader::LaneSeat;
 use hay_reply::Note;
+use hay_script::MAX_LANES;
 use std::alloc::Global;
 use std::sync::Wait;
 use std::thread::Threads;
@@ -112,7 +113,7 @@ where
     R: Threads + Wait + Sync,
     requires up { IsUp cluster }
     requires some { 0 < length jobs.now }
-    requires few { length jobs.now ≤ 8 }
+    requires few { length jobs.now ≤ MAX_LANES }
     requires served { AllByRecursion (λ js. AllByRecursion (λ job. IsServed job.item) js.items) jobs.now }
     ensures up { IsUp result.0 }
     ensures settings { result.0.settings ≡ cluster.settings }

@@ -2,6 +2,7 @@
 use Rattle.std.specs.Prelude.{◌≡◌, ℕ, ◌<◌, ◌≤◌, Bool, [], length, slice_get, Option, Some, None}
 use Rattle.hay_disk.specs.Counts.{StaysSure}
 use Rattle.hay_needle.specs.declared.settings.Settings.{Settings}
+use Rattle.hay_needle.specs.declared.settings.TheConstants.{MAX_REPLICAS}
 use Rattle.hay_core.specs.declared.entry.Entry.{Entry}
 use Rattle.hay_legal.specs.declared.known.HomeRow.{HomeRow}
 use Rattle.hay_meeting.specs.declared.act.DirAct.{DirAct}
@@ -43,7 +44,7 @@ pub record IsSeated {V D S T A : Type 0} (fits : ℕ → V → Settings → ℕ 
   pub some : 0 < (shared.settings).volumes
   pub replicas : 0 < (shared.settings).replicas
   pub fewer : (shared.settings).replicas ≤ (shared.settings).machines
-  pub few : (shared.settings).replicas ≤ 4
+  pub few : (shared.settings).replicas ≤ MAX_REPLICAS
   pub drains : length (shared.drained).items ≡ (shared.settings).machines
   pub locks : length (shared.volumes).items ≡ (shared.settings).volumes
   pub seats : length (lane.volumes).items ≡ (shared.settings).volumes

@@ -25,6 +25,7 @@ use hay_disk::{Arm, Disk, Piece};
 use hay_lanes::Gate;
 use hay_logical::Logical;
 use hay_needle::Settings;
+use hay_script::MAX_LANES;
 use std::alloc::Global;
 use std::sync::Wait;
 use std::thread::Threads;
@@ -53,7 +54,7 @@ where
     requires directory { IsDirectoryOf parts.directory settings }
     requires arms { length parts.arms.items ≡ length jobs.now }
     requires some { 0 < length jobs.now }
-    requires few { length jobs.now ≤ 8 }
+    requires few { length jobs.now ≤ MAX_LANES }
     requires served { AllByRecursion (λ js. AllByRecursion (λ job. IsServed job.item) js.items) jobs.now }
     ensures volumes { AreVolumes IsVolumeOf settings result.0.volumes.items }
     ensures directory { IsDirectoryOf result.0.directory settings }

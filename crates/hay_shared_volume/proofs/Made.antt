@@ -3,6 +3,7 @@ use Rattle.std.proofs.Common.{◌≡◌, ℕ, ◌<◌, ◌≤◌, List, sym, ap,
 use Rattle.std.proofs.lemmas.Option.{slice_get_within}
 use Rattle.hay_needle.specs.declared.settings.Settings.{Settings}
 use Rattle.hay_disk.specs.Disk.{Files}
+use Rattle.hay_script.specs.declared.words.TheConstants.{MAX_LANES}
 use Rattle.hay_logical.specs.Stands.{Stands}
 use Rattle.hay_logical.specs.Volumes.{Volume}
 use Rattle.hay_volume_lock.specs.Seats.{AreNew, Seated, new_seat}
@@ -35,7 +36,7 @@ module _ {D P : Type 0} (shared : SharedVolume D P) (volume : Volume D P) (lanes
     volume_is = new.own;
   }
 
-  pub are_seated : (settings : Settings) (number : ℕ) → volume.settings ≡ settings → volume.number ≡ number → lanes ≤ 8 → AreSeated (IsSeatOf number) shared settings lanes seats
+  pub are_seated : (settings : Settings) (number : ℕ) → volume.settings ≡ settings → volume.number ≡ number → lanes ≤ MAX_LANES → AreSeated (IsSeatOf number) shared settings lanes seats
   are_seated settings number same numbered few = record {
     many = new.count;
     each = λ lane seat at.

@@ -15,6 +15,7 @@ use hay_disk::{Disk, Piece};
 use hay_front::{Seat, Tag};
 use hay_logical::Logical;
 use hay_needle::{LAST_GENERATION, Settings};
+use hay_script::MAX_LANES;
 use hay_turn::TurnSeat;
 use hay_volume_lock::{Guarded, NewLock, Places, SeatRoom, VolumeLock, VolumeSeat};
 use std::alloc::Global;
@@ -70,7 +71,7 @@ impl<D: Disk<Piece = P>, P: Piece> SharedVolume<D, P> {
         (Logical<D>, NoMemory),
     >
         requires some { 0 < lanes }
-        requires few { lanes ≤ 8 }
+        requires few { lanes ≤ MAX_LANES }
         requires of { (number : ℕ) × IsVolumeOf volume settings number }
         ensures made { IfOk result (λ made. (number : ℕ) → IsVolumeOf volume settings number → IsMadeOf made.0 made.2 volume settings number lanes) }
         ensures seated { IfOk result (λ made. (number : ℕ) → IsVolumeOf volume settings number → AreSeated (IsSeatOf number) made.0 settings lanes made.1.items) }

@@ -16,6 +16,7 @@ use Rattle.hay_front.specs.Fronts.{IsBehind, Witness}
 use Rattle.hay_holdings.specs.Holdings.{Holding, sight_of}
 use Rattle.hay_logical.specs.Volumes.{Volume}
 use Rattle.hay_needle.specs.declared.settings.Settings.{Settings}
+use Rattle.hay_needle.specs.declared.settings.TheConstants.{MAX_REPLICAS}
 use Rattle.hay_turn.specs.Seats.{Holds, SeatState, after_free}
 use Rattle.hay_views.specs.declared.places.Published.{Published}
 use Rattle.hay_views.specs.MapPasts.{MapPast, entered_by}
@@ -149,8 +150,8 @@ module _ {D P : Type 0} (Tells : Type 0) (files : D → Files) (PieceTells : Typ
     pub all_there : length (kept.logical).replicas ≡ (kept.settings).replicas
     all_there = (is_held.is_open).all ∙ ap (λ (s : Settings). s.replicas) (is_held.same_settings ∙ sym is_held.settings)
 
-    pub few_there : (kept.settings).replicas ≤ 4
-    few_there = subst (λ (s : Settings). s.replicas ≤ 4) (sym is_held.settings) ((seated.from).of).most
+    pub few_there : (kept.settings).replicas ≤ MAX_REPLICAS
+    few_there = subst (λ (s : Settings). s.replicas ≤ MAX_REPLICAS) (sym is_held.settings) ((seated.from).of).most
 
     pub within_it : (j : ℕ) → j < (((seated.opened).volume).settings).replicas → j < ((kept.logical).settings).replicas
     within_it j less = subst (λ (s : Settings). j < s.replicas) (sym is_held.same_settings) less

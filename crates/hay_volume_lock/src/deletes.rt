@@ -23,7 +23,7 @@ use hay_core::{CoreTag, Entry};
 use hay_disk::{Disk, Piece};
 use hay_logical::{Change, Logical, LogicalFault};
 use hay_map::MapOp;
-use hay_needle::Pair;
+use hay_needle::{MAX_REPLICAS, Pair};
 use hay_views::{Moment, Past, Published};
 use std::marker::Model;
 use std::sync::Wait;
@@ -66,7 +66,7 @@ fn delete_did(fault: &LogicalFault, frozen: Option<u32>, entry: &Entry) -> Optio
 // The generation that the compaction of each replica makes, if one stands.
 fn runs_of<D: Disk>(logical: &Logical<D>, replicas: u32) -> ArrayVec<Option<u64>, 4>
     requires all { length logical.now.replicas ≡ replicas }
-    requires most { replicas ≤ 4 }
+    requires most { replicas ≤ MAX_REPLICAS }
     ensures { result.items ≡ map goal_of logical.now.replicas }
 {
     let mut runs = ArrayVec::new();
@@ -89,7 +89,7 @@ fn over_of<D: Disk>(
     runs: &ArrayVec<Option<u64>, 4>,
 ) -> ArrayVec<bool, 4>
     requires all { length logical.now.replicas ≡ replicas }
-    requires most { replicas ≤ 4 }
+    requires most { replicas ≤ MAX_REPLICAS }
     requires runs { length runs.now.items ≡ replicas }
     ensures { result.items ≡ over_since runs.now.items logical.now.replicas }
 {
@@ -121,7 +121,7 @@ fn note_ended<D: Disk>(
     ended: &mut Ended,
 )
     requires all { length logical.now.replicas ≡ replicas }
-    requires most { replicas ≤ 4 }
+    requires most { replicas ≤ MAX_REPLICAS }
     requires over { length over.now ≡ replicas }
     ensures { (j lane : ℕ) → j < replicas → lane < 8 →
         ended_at ended.new j lane ≡ noted over.now begun.now (counts D.fault_count logical.now.replicas) ended.old j lane }

@@ -10,11 +10,12 @@ use arrayvec::ArrayVec;
 use hay_core::CoreTag;
 use hay_disk::Disk;
 use hay_logical::{Logical, LogicalFault};
+use hay_needle::MAX_REPLICAS;
 
 /// How many calls of each replica's disk have failed.
 pub(crate) fn faults_of<D: Disk>(logical: &Logical<D>, replicas: u32) -> ArrayVec<u64, 4>
     requires all { length logical.now.replicas ≡ replicas }
-    requires most { replicas ≤ 4 }
+    requires most { replicas ≤ MAX_REPLICAS }
     ensures { result.items ≡ counts D.fault_count logical.now.replicas }
 {
     let mut faults = ArrayVec::new();
@@ -39,7 +40,7 @@ pub(crate) fn act_made<D: Disk>(
     did: Option<Made>,
 ) -> Option<Act<D>>
     requires all { length logical.now.replicas ≡ replicas }
-    requires most { replicas ≤ 4 }
+    requires most { replicas ≤ MAX_REPLICAS }
     ensures did { (made : Made) → did ≡ Some made → result ≡ Some (act_of D.fault_count D.fuse_count tag made logical.now.replicas) }
     ensures tried { did ≡ None → IsTried D.fault_count D.fuse_count tag before.now.items logical.now.replicas result }
 {
