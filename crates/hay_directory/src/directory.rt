@@ -33,7 +33,7 @@ use std::collections::HashMap;
 use std::marker::Model;
 
 // The most machines that settings may have.
-const MOST_MACHINES: usize = 16;
+const MOST_MACHINES: usize = MAX_MACHINES as usize;
 
 /// What an opening found: the note of a row that was pending, if there was one, and all rows.
 #[derive(Drop)]
