@@ -240,7 +240,8 @@ settings_are value settings is =
       folder = f;
     })
 
-    go : (f : Bool) → folder_passes (value (codes "folder")) ≡ f → (m : Option ℕ) → number_or 1 1 MAX_MACHINES (value (codes "machines")) ≡ m → (v : Option ℕ) → number_or 1 1 MAX_VOLUMES (value (codes "volumes")) ≡ v
+    go : (f : Bool) → folder_passes (value (codes "folder")) ≡ f → (m : Option ℕ) → number_or 1 1 MAX_MACHINES (value (codes "machines")) ≡ m → (v : Option ℕ)
+        → number_or 1 1 MAX_VOLUMES (value (codes "volumes")) ≡ v
         → (r : Option ℕ) → number_or 1 1 MAX_REPLICAS (value (codes "replicas")) ≡ r → (c : Option ℕ) → number_or USUAL_CAPACITY MIN_CAPACITY MAX_CAPACITY (value (codes "capacity")) ≡ c
         → (s : Option (List ℕ)) → secret_or (value (codes "secret")) ≡ s
         → cond f (option_and_then (λ m. option_and_then (λ v. option_and_then (λ r. option_and_then (λ c. option_and_then (λ s. settings_by m v r c s) s) c) r) v) m) None ≡ Some settings

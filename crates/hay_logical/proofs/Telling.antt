@@ -15,7 +15,8 @@ note_fits v m line true volume machine large = (volume, machine, large)
 note_fits v m line false volume machine large = (volume, machine, large)
 
 -- each has numbers of its fields' types
-pub notes_fit : (settings : Settings) (v line j : ℕ) (kept : List Bool) → v < MAX_VOLUMES → j + length kept ≤ MAX_REPLICAS → line < 2 ^ 64 → AllByRecursion FitsNote (replica_notes settings v line j kept)
+pub notes_fit : (settings : Settings) (v line j : ℕ) (kept : List Bool) → v < MAX_VOLUMES → j + length kept ≤ MAX_REPLICAS → line < 2 ^ 64
+    → AllByRecursion FitsNote (replica_notes settings v line j kept)
 notes_fit settings v line j [] low few large = tt
 notes_fit settings v line j (is ∷ kept) low few large =
     let most = mod-le (v + j) settings.machines in

@@ -1,5 +1,6 @@
 -- A block without a command: what it is answered, and that it is legal where nothing changes.
-use Rattle.std.proofs.Common.{◌≡◌, ◌≢◌, ◌⊎◌, inl, inr, ℕ, ◌+◌, ◌<◌, ◌≤◌, ◌==◌, ◌||◌, Bool, true, false, List, [], ◌∷◌, ◌++◌, map, length, take, drop, Option, Some, None, refl, sym, ap, subst, ◌∙◌, arith, append-nil}
+use Rattle.std.proofs.Common.{◌≡◌, ◌≢◌, ◌⊎◌, inl, inr, ℕ, ◌+◌, ◌<◌, ◌≤◌, ◌==◌, ◌||◌, Bool, true, false, List, [], ◌∷◌, ◌++◌, map, length, take, drop, Option, Some, None, refl}
+use Rattle.std.proofs.Common.{sym, ap, subst, ◌∙◌, arith, append-nil}
 use Rattle.std.specs.Prelude.{flat_map, filter, sum_by, count_by}
 use Rattle.std.specs.List.{AllByRecursion as Each, AllZip, enumerate_from, list_any}
 use Rattle.std.specs.Option.{option_map}
@@ -20,9 +21,12 @@ use Rattle.hay_legal.specs.declared.turn.RowNote.{RowNote}
 use Rattle.hay_legal.specs.declared.turn.Turn.TheVariants.{Lanes}
 use Rattle.hay_legal.specs.Items.{InBlock, line_asked}
 use Rattle.hay_legal.specs.Known.{EachPair, all_lanes, arm_count, fault_count, machine_of, replica_at, replicas_of, slot_of, volume_at, volumes_of}
-use Rattle.hay_legal.specs.Blocks.{ArmIsLegal, CameUpEach, Climbs, CountsAreLegal, Differ, DiskIsLegal, FrontsAreLegal, FrontsGrow, GenerationsAreLegal, HomesAgree, InOrder, IndexIsLegal, IsMade, IsNewRow}
-use Rattle.hay_legal.specs.Blocks.{LaysAsPrinted, LegalBlock, LogIsLegal, MeetingsAreLegal, MetFrozen, ReplicaIsLegal, RowsAreLegal, VolumeIsLegal, arm_prints, disk_prints, failed_on, flushed_on, fronts_told}
-use Rattle.hay_legal.specs.Blocks.{generation_print, is_put, laid_to_arm, laid_to_disk, lane_items, log_note, made_on, new_entries, new_rows, put_total, row_failed, row_faults, row_fronts, run_longer, sticks_on}
+use Rattle.hay_legal.specs.Blocks.{ArmIsLegal, CameUpEach, Climbs, CountsAreLegal, Differ, DiskIsLegal, FrontsAreLegal, FrontsGrow, GenerationsAreLegal, HomesAgree, InOrder}
+use Rattle.hay_legal.specs.Blocks.{IndexIsLegal, IsMade, IsNewRow}
+use Rattle.hay_legal.specs.Blocks.{LaysAsPrinted, LegalBlock, LogIsLegal, MeetingsAreLegal, MetFrozen, ReplicaIsLegal, RowsAreLegal, VolumeIsLegal, arm_prints, disk_prints}
+use Rattle.hay_legal.specs.Blocks.{failed_on, flushed_on, fronts_told}
+use Rattle.hay_legal.specs.Blocks.{generation_print, is_put, laid_to_arm, laid_to_disk, lane_items, log_note, made_on, new_entries, new_rows, put_total, row_failed, row_faults}
+use Rattle.hay_legal.specs.Blocks.{row_fronts, run_longer, sticks_on}
 use Rattle.hay_legal.specs.Blocks.{volume_print}
 use Rattle.hay_legal.specs.Transcript.{answered_line, turn_text}
 use Rattle.hay_run.specs.Blocks.{AreBad, answered_text, bad_text, is_command}
@@ -99,7 +103,8 @@ lane_bad : (lane : ℕ) (lines : List InBlock) → lane_items (bad_lines lines) 
 lane_bad lane [] = refl
 lane_bad lane (line ∷ lines) = by (line.lane == lane) refl (lane_bad lane lines)
   where
-    by : (b : Bool) → (line.lane == lane) ≡ b → lane_items (bad_lines lines) lane ≡ bad_lines (of_lane lane lines) → lane_items (bad_lines (line ∷ lines)) lane ≡ bad_lines (of_lane lane (line ∷ lines))
+    by : (b : Bool) → (line.lane == lane) ≡ b → lane_items (bad_lines lines) lane ≡ bad_lines (of_lane lane lines)
+        → lane_items (bad_lines (line ∷ lines)) lane ≡ bad_lines (of_lane lane (line ∷ lines))
     by true is rest = rw is (ap (λ (l : List LaneItem). bad_line line ∷ l) rest)
     by false is rest = rw is rest
 
@@ -231,7 +236,8 @@ module _ (settings : Settings) (k : Known) (lines : List InBlock) where
   meetings_bad : (v : ℕ) → MeetingsAreLegal settings k items k v
   meetings_bad v = record {
     met = λ line. 0;
-    fronts = all_so _ (λ lane. subst (FrontsGrow (length (volume_at k v).log) (length (volume_at k v).log)) (sym (none_in_lane (fronts_told (λ line. 0) v) (λ line. refl) lane lines)) (tt, tt)) all_lanes;
+    fronts =
+        all_so _ (λ lane. subst (FrontsGrow (length (volume_at k v).log) (length (volume_at k v).log)) (sym (none_in_lane (fronts_told (λ line. 0) v) (λ line. refl) lane lines)) (tt, tt)) all_lanes;
     room = each_bad _ (λ line. tt) lines;
     records = all_so _ (λ j. record { first = each_bad _ (λ line. tt) lines; between = pair_bad _ (λ a b. tt) lines; last = each_bad _ (λ line. tt) lines }) (replicas_of settings);
   }

@@ -370,7 +370,8 @@ outside_mild : (words : List (List ℕ)) → Each (λ p. apart 0 p ≡ true) wor
 outside_mild [] each = tt
 outside_mild (verb ∷ []) each = plain_mild (command_of (verb ∷ [])) (of_words (verb ∷ []) each)
 outside_mild (verb ∷ a ∷ []) each =
-    line_either (bytes_eq verb (codes "lanes")) (lanes_by (from_one (MAX_LANES + 1) a)) (plain_by (command_of_one verb a)) (lanes_mild (from_one (MAX_LANES + 1) a)) (plain_mild (command_of_one verb a) (of_one verb a))
+    line_either (bytes_eq verb (codes "lanes")) (lanes_by (from_one (MAX_LANES + 1) a)) (plain_by (command_of_one verb a)) (lanes_mild (from_one (MAX_LANES + 1) a))
+    (plain_mild (command_of_one verb a) (of_one verb a))
 outside_mild (verb ∷ a ∷ b ∷ more) each = plain_mild (command_of (verb ∷ a ∷ b ∷ more)) (of_words (verb ∷ a ∷ b ∷ more) each)
 
 line_mild : (text : List ℕ) → apart 0 text ≡ true → IsMildLine (line_of None text)
