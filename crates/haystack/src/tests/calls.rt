@@ -228,12 +228,13 @@ fn a_compaction_makes_its_calls_in_order(rt: HostRuntime) -> Result<(), Fail> {
     Ok(())
 }
 
-/// The lines of a mix that may be acknowledged before its compaction.
-const ACKNOWLEDGED: [&str; 4] = [
+/// The first lines of a mix that may be acknowledged before its compaction, by how many they are.
+const ACKNOWLEDGED: [&str; 5] = [
+    "",
     "2 stored 0 1 1 903df1a0ade0b876\n",
-    "3 stored 0 2 1 903df1a0ade0b876\n",
-    "4 flushed 0:0 2\n",
-    "5 deleted 0 3 1\n",
+    "2 stored 0 1 1 903df1a0ade0b876\n3 stored 0 2 1 903df1a0ade0b876\n",
+    "2 stored 0 1 1 903df1a0ade0b876\n3 stored 0 2 1 903df1a0ade0b876\n4 flushed 0:0 2\n",
+    "2 stored 0 1 1 903df1a0ade0b876\n3 stored 0 2 1 903df1a0ade0b876\n4 flushed 0:0 2\n5 deleted 0 3 1\n",
 ];
 
 /// A mix behind a fuse: how many of the lines before the compaction are acknowledged, the lines behind these, and the ends that a
@@ -306,13 +307,9 @@ fn mixed_behind(calls: u64) -> Mix {
 /// The transcript of a mix, up to the note.
 fn front_of(alloc: Global, calls: u64, done: usize, rest: &str) -> Result<String, Fail> {
     let mut front = format!(in alloc; "haystack 1 1 1 67108864\n1 fused 0:0 {calls}\n")?;
-    front.push_str(
-        ACKNOWLEDGED
-            .get(..done)
-            .unwrap_or(&[])
-            .concat(alloc)?
-            .as_str(),
-    )?;
+    if let Some(lines) = ACKNOWLEDGED.get(done) {
+        front.push_str(lines)?;
+    }
     front.push_str(rest)?;
     Ok(front)
 }
