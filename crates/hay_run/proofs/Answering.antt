@@ -197,7 +197,8 @@ bad_told settings Sure before after home lines bad =
 
 module _ (Tells : Type 0) (settings : Settings) (before after : Tally) (lines : List InBlock) (text : List ℕ) (written written' : Option (List ℕ))
     (later : IsLaterTally before after)
-    (is : (after.fuses ≡ before.fuses) × (AreBad lines → after ≡ before) × IsBlockText settings (HasSureArm before) before.counts after.counts (home_seen after.seen) lines text) where
+    (is : (after.fuses ≡ before.fuses) × (AreBad lines → (after ≡ before) × (text ≡ flat_map bad_text lines))
+    × IsBlockText settings (HasSureArm before) before.counts after.counts (home_seen after.seen) lines text) where
   pub block_caused : {X : Type 0} (r : Result X Stop) → OnOk r (Wrote written text written') → OnOk r (Caused Tells Wrote settings before after (Block lines ∷ []) written written')
   block_caused r wrote = on_ok_weaker r (λ whole. caused_one Tells Wrote settings before after (Block lines) text written written' later is whole) wrote
 
@@ -207,15 +208,15 @@ module _ (Tells : Type 0) (settings : Settings) (before after : Tally) (lines : 
       part_stops Tells settings before after (Block lines ∷ []) written written' r why stopped kinds
       (on_err_weaker r (λ part. caused_one Tells WrotePart settings before after (Block lines) text written written' later is part) wrote)
 
--- Memory was wanting before any line was answered: so it may have been for each.
+-- Memory was wanting before any line of a block with a command was answered: so it may have been for each.
 pub wanted_stops : (Tells : Type 0) (settings : Settings) (before after : Tally) (lines : List InBlock) (written : Option (List ℕ)) (why : Stop) → stop.NoMemory ≡ why
-    → Each (λ line. IsServed line.item) lines → IsLaterTally before after → after.fuses ≡ before.fuses → (AreBad lines → after ≡ before)
+    → Each (λ line. IsServed line.item) lines → IsLaterTally before after → after.fuses ≡ before.fuses → (AreBad lines → ⊥)
     → StopCaused Tells settings before after why (Block lines ∷ []) written written
-wanted_stops Tells settings before after lines written why same served later fuses bad =
+wanted_stops Tells settings before after lines written why same served later fuses some =
     let text = answered_text (map wanted_line lines) [] in
     let is = wanted_text settings (HasSureArm before) before.counts after.counts (home_seen after.seen) lines served in
     subst (λ (w : Stop). StopCaused Tells settings before after w (Block lines ∷ []) written written) same
-    (inl (caused_one Tells WrotePart settings before after (Block lines) text written written later (fuses, bad, is) (nothing_written written text)))
+    (inl (caused_one Tells WrotePart settings before after (Block lines) text written written later (fuses, λ bad. absurd (some bad), is) (nothing_written written text)))
   where
     nothing_written : (written : Option (List ℕ)) (text : List ℕ) → WrotePart written text written
     nothing_written None text = (0, tt)

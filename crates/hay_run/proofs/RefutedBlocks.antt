@@ -1,7 +1,7 @@
 -- Texts of blocks that no run has, each as a lemma.
 use Rattle.std.proofs.Common.{◌≡◌, ◌≢◌, ℕ, zero, suc, ◌<◌, ◌≤◌, ◌-◌, ◌^◌, ◌==◌, ◌++◌, inl, inr, Bool, true, false, eq-eqb, List, [], ◌∷◌, Contains, Option, Some, length, map}
-use Rattle.std.proofs.Common.{refl, sym, ap, subst, ◌∙◌, arith}
-use Rattle.std.specs.Prelude.{slice_get, slice_index}
+use Rattle.std.proofs.Common.{refl, sym, ap, subst, ◌∙◌, arith, codes, length-append}
+use Rattle.std.specs.Prelude.{flat_map, slice_get, slice_index}
 use Rattle.std.specs.List.{AllByRecursion as Each}
 use Rattle.std.proofs.lemmas.List.{length-map}
 use Rattle.hay_needle.specs.declared.needle.Pair.{Pair}
@@ -12,6 +12,7 @@ use Rattle.hay_reply.specs.declared.LineVolume.{LineVolume}
 use Rattle.hay_reply.specs.declared.Note.{Note}
 use Rattle.hay_reply.specs.declared.Note.TheVariants.{Kept, Log, Rows}
 use Rattle.hay_reply.specs.declared.Reply.TheVariants.{BadLine}
+use Rattle.hay_reply.specs.Replies.{note_line, note_text}
 use Rattle.hay_legal.specs.declared.turn.Item.TheVariants as item
 use Rattle.hay_legal.specs.declared.turn.LaneItem.{LaneItem}
 use Rattle.hay_legal.specs.declared.turn.LogNote.{LogNote}
@@ -27,7 +28,7 @@ use Rattle.hay_cluster_block.specs.Notes.{AreBlockNotes, AreWithin, IsRowOf, Tel
 use Rattle.hay_cluster_block.specs.Rows.{pair_of}
 use Rattle.hay_cluster.specs.Causes.{Counts}
 use Rattle.hay_cluster.specs.Seen.{IsFrozenBy}
-use Rattle.hay_run.specs.Blocks.{AreBad, FitsLine, IsBlockText, job_of, lane_causes}
+use Rattle.hay_run.specs.Blocks.{AreBad, FitsLine, IsBlockText, bad_text, job_of, lane_causes}
 use Rattle.hay_legal.specs.Statuses.{Ending}
 use Rattle.hay_disk.specs.Shelf.{HeldDisk}
 use Rattle.hay_drill.specs.Script.{drill_script, settings as day_settings}
@@ -126,7 +127,7 @@ fuse_set_by_a_drill Tells count first ending left taken given sure disks disks' 
 -- a block of bad lines freezes no volume
 pub frozen_by_bad_lines : (Tells : Type 0) (settings : Settings) (before after : Tally) (lines : List InBlock) (text : List ℕ) (v m : ℕ) → AreBad lines
     → IsFrozenBy after.seen v m → (IsFrozenBy before.seen v m → ⊥) → IsTextOf Tells settings before after (Block lines) text → ⊥
-frozen_by_bad_lines Tells settings before after lines text v m bad frozen was told = was (subst (λ (tally : Tally). IsFrozenBy tally.seen v m) (told.1 bad) frozen)
+frozen_by_bad_lines Tells settings before after lines text v m bad frozen was told = was (subst (λ (tally : Tally). IsFrozenBy tally.seen v m) (told.1 bad).0 frozen)
 
 -- nor does an empty one, of which nothing is told
 pub frozen_behind_an_empty_block : (Tells : Type 0) (settings : Settings) (before after : Tally) (text : List ℕ) (v m : ℕ)
@@ -135,6 +136,17 @@ frozen_behind_an_empty_block Tells settings before after text v m frozen was (mi
     frozen_by_bad_lines Tells settings before mid [] first v m tt (subst (λ (tally : Tally). IsFrozenBy tally.seen v m) same frozen) was told
 
 -- NOTES
+
+-- a note behind lines of which none is a command
+pub note_behind_bad_lines : (Tells : Type 0) (settings : Settings) (before after : Tally) (lines : List InBlock) (note : Note) → AreBad lines
+    → IsTextOf Tells settings before after (Block lines) (flat_map bad_text lines ++ note_line note) → ⊥
+note_behind_bad_lines Tells settings before after lines note bad told =
+    let own = flat_map bad_text lines in
+    omega (arith, length-append own (note_line note), length-append (note_text note) (codes "\n"), ap length (told.1 bad).1)
+
+-- and so behind no line at all
+pub note_of_an_empty_block : (Tells : Type 0) (settings : Settings) (before after : Tally) (note : Note) → IsTextOf Tells settings before after (Block []) (note_line note) → ⊥
+note_of_an_empty_block Tells settings before after note told = note_behind_bad_lines Tells settings before after [] note tt told
 
 -- a note of another kind
 pub kept_behind_a_block : (settings : Settings) (Sure : ℕ → Type 0) (before after : Counts) (home : Pair → Option ℕ) (lines : List InBlock) (text : List ℕ)

@@ -33,7 +33,7 @@ use Rattle.hay_cluster.specs.Sights.{LeavesSights}
 use Rattle.hay_cluster.specs.Store.{Open, contents_in, disks_of}
 use Rattle.hay_run.specs.declared.stops.Stop.{Stop}
 use Rattle.hay_run.specs.declared.stops.Stop.TheVariants as stop
-use Rattle.hay_run.specs.Blocks.{AreBad, IsBlockText}
+use Rattle.hay_run.specs.Blocks.{AreBad, IsBlockText, bad_text}
 use Rattle.hay_run.specs.Items.{TookItems, TookOpen, AsksAll}
 use Rattle.hay_lines.specs.Lines.{TookPart, TookOver, TookSome}
 use Rattle.hay_run.specs.Runs.{IsFirstRefusal, ReadBytes}
@@ -114,13 +114,14 @@ pub record IsReplyText (Tells : Type 0) (settings : Settings) (before after : Ta
   pub is : text ≡ numbered_line number said
 
 -- The text answers the item, while the counts went from these to those. A fuse is set by its command alone, outside of blocks. A block
--- without a command leaves the whole store as it was.
+-- without a command leaves the whole store as it was, and is told that each of its lines is bad, with no note behind them.
 abbrev pub IsTextOf : Type 0 → Settings → Tally → Tally → Asked → List ℕ → Type 0
 IsTextOf Tells settings before after (Alone number (item.Command command)) text =
     LeavesFuses settings command before.fuses after.fuses × (IsRestartText Tells settings before after command number text ⊎ IsReplyText Tells settings before after command number text)
 IsTextOf Tells settings before after (Alone number item.Bad) text = (after ≡ before) × (text ≡ numbered_line number BadLine)
 IsTextOf Tells settings before after (Block lines) text =
-    (after.fuses ≡ before.fuses) × (AreBad lines → after ≡ before) × IsBlockText settings (HasSureArm before) before.counts after.counts (home_seen after.seen) lines text
+    (after.fuses ≡ before.fuses) × (AreBad lines → (after ≡ before) × (text ≡ flat_map bad_text lines))
+    × IsBlockText settings (HasSureArm before) before.counts after.counts (home_seen after.seen) lines text
 
 -- one text after another answers the items
 abbrev pub AnswerTexts : Type 0 → Settings → Tally → Tally → List Asked → List ℕ → Type 0

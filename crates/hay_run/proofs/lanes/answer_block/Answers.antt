@@ -86,7 +86,7 @@ returns-then-not-has_command-clause-caused g c =
     let was = tally_of D.files D.drawn D.fault_count D.fuse_count A.fault_count A.is_sure c.args.cluster in
     let text = bad_told c.args.cluster.settings (HasSureArm was) was.counts was.counts (home_seen was.seen) lines bad in
     block_caused D.Tells c.args.cluster.settings was was lines (flat_map bad_text lines) (K.written c.args.sink.now) (K.written c.write_bad_lines-written.new.sink) (same_tally was)
-    (refl, λ none. refl, text) c.write_bad_lines-written.result wrote
+    (refl, λ none. (refl, refl), text) c.write_bad_lines-written.result wrote
 
 pub returns-then-not-has_command-clause-stop_caused : goal.returns-then-not-has_command-clause-stop_caused
 returns-then-not-has_command-clause-stop_caused g c =
@@ -102,7 +102,7 @@ returns-then-not-has_command-clause-stop_caused g c =
     let was = tally_of D.files D.drawn D.fault_count D.fuse_count A.fault_count A.is_sure c.args.cluster in
     let text = bad_told c.args.cluster.settings (HasSureArm was) was.counts was.counts (home_seen was.seen) lines bad in
     λ why is. block_stops D.Tells c.args.cluster.settings was was lines (flat_map bad_text lines) (K.written c.args.sink.now) (K.written c.write_bad_lines-written.new.sink) (same_tally was)
-    (refl, λ none. refl, text) c.write_bad_lines-written.result why is c.write_bad_lines-written.ensures.stops part
+    (refl, λ none. (refl, refl), text) c.write_bad_lines-written.result why is c.write_bad_lines-written.ensures.stops part
 
 pub returns-then-not-has_command-clause-faults : goal.returns-then-not-has_command-clause-faults
 returns-then-not-has_command-clause-faults g c =
@@ -365,7 +365,7 @@ returns-clause-stop_caused g c =
       c.run_block-cluster.ensures.counts,
       c.run_block-cluster.ensures.arm_counts,
       StaySure-lanes A.is_sure A.fault_count c.args.cluster.arms c.run_block-cluster.result.0.arms c.run_block-cluster.ensures.sure_arms,
-    ) c.run_block-cluster.ensures.fuses (λ bad. absurd (some_commands c.args.block.lines (sym c.has_command.ensures ∙ c.if-not-has_command.false) bad))
+    ) c.run_block-cluster.ensures.fuses (some_commands c.args.block.lines (sym c.has_command.ensures ∙ c.if-not-has_command.false))
 
 pub returns-clause-formatted : goal.returns-clause-formatted
 returns-clause-formatted g c =
@@ -392,7 +392,8 @@ returns-in_default-clause-stop_caused g c =
     wanted_stops D.Tells c.args.cluster.settings (tally_of D.files D.drawn D.fault_count D.fuse_count A.fault_count A.is_sure c.args.cluster)
     (tally_of D.files D.drawn D.fault_count D.fuse_count A.fault_count A.is_sure c.args.cluster) c.args.block.lines (g.K.Sink.written c.args.sink.now) why same
     c.requires.block.served
-    (NoneFalls-same (map D.fault_count (disks_of c.args.cluster)), NoneFalls-same (map A.fault_count c.args.cluster.arms), λ lane sure. sure) refl (λ bad. refl)
+    (NoneFalls-same (map D.fault_count (disks_of c.args.cluster)), NoneFalls-same (map A.fault_count c.args.cluster.arms), λ lane sure. sure) refl
+    (some_commands c.args.block.lines (sym c.has_command.ensures ∙ c.if-not-has_command.false))
 
 pub returns-in_default-clause-faults : goal.returns-in_default-clause-faults
 returns-in_default-clause-faults g c =
