@@ -34,6 +34,7 @@ pub mod Turning
 pub mod Unread
 pub mod VoidDisks
 pub mod Drawing
+pub mod Fuses
 pub mod Drilled
 pub mod Drilling
 pub mod Writes

@@ -36,10 +36,10 @@ mild_fuses store (asks.Fuse v m calls) before after mild set = absurd mild
 mild_fuses store (asks.FuseDir calls) before after mild set = absurd mild
 mild_fuses store (asks.Restart pick) before after mild same = same
 
-fuses_same : {a b : Tally} → a ≡ b → a.fuses ≡ b.fuses
+pub fuses_same : {a b : Tally} → a ≡ b → a.fuses ≡ b.fuses
 fuses_same e = ap (λ (tally : Tally). tally.fuses) e
 
-each_apart : {A : Type 0} (P : A → Type 0) (xs ys : List A) → Each P (xs ++ ys) → Each P xs × Each P ys
+pub each_apart : {A : Type 0} (P : A → Type 0) (xs ys : List A) → Each P (xs ++ ys) → Each P xs × Each P ys
 each_apart P [] ys each = (tt, each)
 each_apart P (x ∷ xs) ys each = let rest = each_apart P xs ys each.1 in ((each.0, rest.0), rest.1)
 
@@ -74,7 +74,7 @@ module _ (Tells : Type 0) (store : Settings) where
   text_unfused before after (Alone number item.Bad) text mild told = fuses_same told.0
   text_unfused before after (Block lines) text mild told = told.0
 
-  texts_unfused : (before after : Tally) (asked : List Asked) (text : List ℕ) → Each IsMildAsked asked → AnswerTexts Tells store before after asked text → after.fuses ≡ before.fuses
+  pub texts_unfused : (before after : Tally) (asked : List Asked) (text : List ℕ) → Each IsMildAsked asked → AnswerTexts Tells store before after asked text → after.fuses ≡ before.fuses
   texts_unfused before after [] text mild (none, same) = fuses_same same
   texts_unfused before after (asked ∷ others) text mild (mid, first, rest, is, later, told, more) =
       texts_unfused mid after others rest mild.1 more ∙ text_unfused before mid asked first mild.0 told

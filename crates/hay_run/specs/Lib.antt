@@ -11,6 +11,7 @@ pub mod Turns
 pub mod Words
 pub mod Draws
 pub mod Drills
+pub mod Fuses
 pub mod Held
 pub mod Told
 pub mod Loads

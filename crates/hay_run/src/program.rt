@@ -16,6 +16,7 @@ ghost use Rattle.hay_run.specs.Draws.{AsksNothing, drawn_of};
 ghost use Rattle.hay_lines.specs.Stream.{IsReadToEnd, TookAtMost};
 ghost use Rattle.hay_run.specs.Stops.{ending_of};
 ghost use Rattle.hay_run.specs.Runs.{HasOpened, IsNotOpened, IsSureStill, IsTaken, RanTo, WasRead};
+ghost use Rattle.hay_run.specs.Fuses.{AsksNoFuse, KeepsFuses};
 ghost use Rattle.hay_run.specs.Turns.{Appends};
 ghost use Rattle.hay_run.specs.Audits.{AuditsTo};
 ghost use Rattle.hay_run.specs.Checking.{ChecksTo, IsUnchanged};
@@ -97,6 +98,8 @@ where
     ensures arms_back { AreArmsIn 8 (H.arms shelf.new) }
     ensures faults { (slot : ℕ) → slot < disk_count settings →
         (H.disks shelf.old slot).fault_count ≤ (H.disks shelf.new slot).fault_count }
+    ensures fuses { (slot : ℕ) → slot < disk_count settings → KeepsFuses (H.disks shelf.old slot).fuse_count (H.disks shelf.new slot).fuse_count }
+    ensures unfused { AsksNoFuse (S.left source.old) → (slot : ℕ) → slot < disk_count settings → (H.disks shelf.new slot).fuse_count ≡ (H.disks shelf.old slot).fuse_count }
     ensures arm_faults { (lane : ℕ) → lane < 8 →
         (H.arms shelf.old lane).fault_count ≤ (H.arms shelf.new lane).fault_count }
     ensures other_slots { SameFrom (disk_count settings) (H.disks shelf.old) (H.disks shelf.new) }
@@ -386,6 +389,8 @@ where
     ensures disks_back { (slot : ℕ) → (H.disks shelf.new slot).is_out ≡ false }
     ensures arms_back { (lane : ℕ) → (H.arms shelf.new lane).is_out ≡ false }
     ensures faults { (slot : ℕ) → (H.disks shelf.old slot).fault_count ≤ (H.disks shelf.new slot).fault_count }
+    ensures fuses { (slot : ℕ) → KeepsFuses (H.disks shelf.old slot).fuse_count (H.disks shelf.new slot).fuse_count }
+    ensures unfused { AsksNoFuse (S.left source.old) → (slot : ℕ) → (H.disks shelf.new slot).fuse_count ≡ (H.disks shelf.old slot).fuse_count }
     ensures arm_faults { (lane : ℕ) → (H.arms shelf.old lane).fault_count ≤ (H.arms shelf.new lane).fault_count }
     ensures sure_arms { (lane : ℕ) → IsSureStill (H.arms shelf.old lane) (H.arms shelf.new lane) }
     ensures appends { Appends (K.written sink.old) (K.written sink.new) }

@@ -7,6 +7,7 @@ use Rattle.hay_legal.specs.Known.{disk_count}
 use Rattle.hay_legal.specs.Statuses.Ending.{NoMemory, ReadAll}
 use Rattle.hay_cluster.specs.Draws.{EachDrewLittle, FlushedDrewLittle, no_look}
 use Rattle.hay_cluster.specs.Outside.{IsUndamaged, KeepsContents, outside_of, read_of}
+use Rattle.hay_drill.specs.Script.{settings as day_settings}
 use Rattle.hay_run.specs.Runs.{IsTaken, RanTo, IsNotOpened}
 use Rattle.hay_run.specs.Stops.{ending_of}
 use Rattle.hay_run.specs.Audits.{AuditsTo}
@@ -24,6 +25,7 @@ use Rattle.hay_run.proofs.Checking.{check_nothing, check_statuses}
 use Rattle.hay_run.proofs.Commanding.{audit_no_drill, audit_no_load, check_no_drill, load_no_drill, run_no_drill, same_drill, check_no_audit, check_no_load, load_no_audit}
 use Rattle.hay_run.proofs.Commanding.{run_no_audit, run_no_load, same_audit, same_check, same_load, same_run}
 use Rattle.hay_run.proofs.Loading.{load_nothing, never_two}
+use Rattle.hay_run.proofs.Fuses.{same_kept, shelf_keeps, shelf_same}
 use Rattle.hay_run.proofs.Giving.{disks_in, arms_in, none_fell}
 use Rattle.hay_run.proofs.Refusing.{by_status, opened_by, ran_nothing, ran_by, store_by}
 use Rattle.hay_run.proofs.Summed.{drill_ending, drill_never, unsaid_nothing}
@@ -751,3 +753,64 @@ returns-in-Ok-Some-Audit-clause-drill_fuses g c = λ says.
 
 pub returns-in-Ok-Some-Drill-clause-drill_fuses : goal.returns-in-Ok-Some-Drill-clause-drill_fuses
 returns-in-Ok-Some-Drill-clause-drill_fuses g c = λ says. c.drill_store.ensures.unfused
+
+-- how many fuses were set
+
+pub returns-in-Ok-clause-fuses : goal.returns-in-Ok-clause-fuses
+returns-in-Ok-clause-fuses g c = shelf_keeps (disk_count c.in-Ok-Some-Run.settings) (g.H.Shelf.disks c.args.shelf.now) (g.H.Shelf.disks c.run_script.new.shelf)
+    c.in-Ok.ensures.fuses c.in-Ok.ensures.other_slots
+
+pub returns-in-Ok-clause-unfused : goal.returns-in-Ok-clause-unfused
+returns-in-Ok-clause-unfused g c = λ asks. shelf_same (disk_count c.in-Ok-Some-Run.settings) (g.H.Shelf.disks c.args.shelf.now) (g.H.Shelf.disks c.run_script.new.shelf)
+    (c.in-Ok.ensures.unfused asks) c.in-Ok.ensures.other_slots
+
+pub returns-in-Err-run_script-clause-fuses : goal.returns-in-Err-run_script-clause-fuses
+returns-in-Err-run_script-clause-fuses g c = shelf_keeps (disk_count c.in-Ok-Some-Run.settings) (g.H.Shelf.disks c.args.shelf.now) (g.H.Shelf.disks c.run_script.new.shelf)
+    c.in-Err-run_script.ensures.fuses c.in-Err-run_script.ensures.other_slots
+
+pub returns-in-Err-run_script-clause-unfused : goal.returns-in-Err-run_script-clause-unfused
+returns-in-Err-run_script-clause-unfused g c = λ asks. shelf_same (disk_count c.in-Ok-Some-Run.settings) (g.H.Shelf.disks c.args.shelf.now) (g.H.Shelf.disks c.run_script.new.shelf)
+    (c.in-Err-run_script.ensures.unfused asks) c.in-Err-run_script.ensures.other_slots
+
+pub returns-in-Ok-Some-Check-clause-fuses : goal.returns-in-Ok-Some-Check-clause-fuses
+returns-in-Ok-Some-Check-clause-fuses g c = λ slot.
+    same_kept (g.H.Shelf.disks c.args.shelf.now slot).fuse_count (g.H.Shelf.disks c.check_store.new.shelf slot).fuse_count
+    (shelf_same (disk_count c.in-Ok-Some-Check.settings) (g.H.Shelf.disks c.args.shelf.now) (g.H.Shelf.disks c.check_store.new.shelf)
+    (λ slot within. (c.check_store.ensures.unchanged slot within).fuses)
+    c.check_store.ensures.other_slots slot)
+
+pub returns-in-Ok-Some-Check-clause-unfused : goal.returns-in-Ok-Some-Check-clause-unfused
+returns-in-Ok-Some-Check-clause-unfused g c = λ asks.
+    shelf_same (disk_count c.in-Ok-Some-Check.settings) (g.H.Shelf.disks c.args.shelf.now) (g.H.Shelf.disks c.check_store.new.shelf)
+    (λ slot within. (c.check_store.ensures.unchanged slot within).fuses)
+    c.check_store.ensures.other_slots
+
+pub returns-in-Ok-Some-Load-clause-fuses : goal.returns-in-Ok-Some-Load-clause-fuses
+returns-in-Ok-Some-Load-clause-fuses g c = λ slot.
+    same_kept (g.H.Shelf.disks c.args.shelf.now slot).fuse_count (g.H.Shelf.disks c.load_puts.new.shelf slot).fuse_count
+    (shelf_same (disk_count c.in-Ok-Some-Load.settings) (g.H.Shelf.disks c.args.shelf.now) (g.H.Shelf.disks c.load_puts.new.shelf)
+    (λ slot within. (c.load_puts.ensures.loaded.counts slot within).fuses_are)
+    c.load_puts.ensures.loaded.other_slots slot)
+
+pub returns-in-Ok-Some-Load-clause-unfused : goal.returns-in-Ok-Some-Load-clause-unfused
+returns-in-Ok-Some-Load-clause-unfused g c = λ asks.
+    shelf_same (disk_count c.in-Ok-Some-Load.settings) (g.H.Shelf.disks c.args.shelf.now) (g.H.Shelf.disks c.load_puts.new.shelf)
+    (λ slot within. (c.load_puts.ensures.loaded.counts slot within).fuses_are)
+    c.load_puts.ensures.loaded.other_slots
+
+pub returns-in-Ok-Some-Drill-clause-fuses : goal.returns-in-Ok-Some-Drill-clause-fuses
+returns-in-Ok-Some-Drill-clause-fuses g c = λ slot.
+    same_kept (g.H.Shelf.disks c.args.shelf.now slot).fuse_count (g.H.Shelf.disks c.drill_store.new.shelf slot).fuse_count
+    (shelf_same (disk_count day_settings) (g.H.Shelf.disks c.args.shelf.now) (g.H.Shelf.disks c.drill_store.new.shelf) c.drill_store.ensures.unfused
+    c.drill_store.ensures.other_slots slot)
+
+pub returns-in-Ok-Some-Drill-clause-unfused : goal.returns-in-Ok-Some-Drill-clause-unfused
+returns-in-Ok-Some-Drill-clause-unfused g c = λ asks.
+    shelf_same (disk_count day_settings) (g.H.Shelf.disks c.args.shelf.now) (g.H.Shelf.disks c.drill_store.new.shelf) c.drill_store.ensures.unfused
+    c.drill_store.ensures.other_slots
+
+pub returns-in-Ok-Some-Audit-clause-fuses : goal.returns-in-Ok-Some-Audit-clause-fuses
+returns-in-Ok-Some-Audit-clause-fuses g c = λ slot. same_kept (g.H.Shelf.disks c.args.shelf.now slot).fuse_count (g.H.Shelf.disks c.args.shelf.now slot).fuse_count refl
+
+pub returns-in-Err-clause-fuses : goal.returns-in-Err-clause-fuses
+returns-in-Err-clause-fuses g c = λ slot. same_kept (g.H.Shelf.disks c.args.shelf.now slot).fuse_count (g.H.Shelf.disks c.args.shelf.now slot).fuse_count refl

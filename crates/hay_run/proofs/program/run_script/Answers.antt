@@ -28,6 +28,7 @@ use Rattle.hay_run.specs.Draws.{drawn_of}
 use Rattle.hay_run.proofs.Caused.{all_caused, by_outcome, refused_caused, until_caused, header_caused}
 use Rattle.hay_run.proofs.Counting.{NoneFalls-at, arm_there, count_at, lane_of, sure_at}
 use Rattle.hay_run.proofs.Drawing.{nothing_asked, nothing_done}
+use Rattle.hay_run.proofs.Fuses.{all_at, run_keeps, run_unfused, same_kept}
 use Rattle.hay_run.proofs.Giving.{given_formatted, same_more}
 use Rattle.hay_run.proofs.Ran.{ran_all, ran_stopped}
 use Rattle.hay_run.proofs.Refusing.{cause_of, none_opened, not_read, on_ok_both, ran_unopened, refused_later, behind_header, ran_unwritten}
@@ -70,6 +71,35 @@ returns-clause-faults g c = λ slot within.
     let later = NoneFalls-at (map D.fault_count (disks_of c.in-Ok.cluster)) (map D.fault_count (disks_of c.serve-cluster.result.0)) slot c.serve-cluster.ensures.faults in
     let last = c.close.ensures.fault_counts slot (subst P (sym is_settings) within) in omega (arith, first, later, last)
 
+pub returns-clause-fuses : goal.returns-clause-fuses
+returns-clause-fuses g c = λ slot within.
+    let D = g.H.Disk.Disk in
+    let A = g.H.Arm.Arm in
+    let old = tally_of D.files D.drawn D.fault_count D.fuse_count A.fault_count A.is_sure c.in-Ok.cluster in
+    let new = tally_of D.files D.drawn D.fault_count D.fuse_count A.fault_count A.is_sure c.serve-cluster.result.0 in
+    let is_settings = c.serve-cluster.ensures.settings ∙ c.in-Ok.ensures.settings in
+    let first : slice_index old.fuses slot ≡ (g.H.Shelf.disks c.args.shelf.now slot).fuse_count = (c.in-Ok.ensures.counts slot within).fuses_are in
+    let last = c.close.ensures.fuse_counts slot (subst (λ (s : Settings). slot < disk_count s) (sym is_settings) within) in
+    let kept =
+    run_keeps D.Tells c.in-Ok.cluster.settings old new (g.S.Source.left c.args.source.now) (g.K.Sink.written c.write_header.new.sink) (g.S.Source.left c.serve-cluster.new.source)
+    (g.K.Sink.written c.serve-cluster.new.sink) c.serve-cluster.result.1 c.serve-cluster.ensures.caused c.serve-cluster.ensures.stop_caused in
+    rw (last, ← first) (all_at old.fuses new.fuses slot kept)
+
+pub returns-clause-unfused : goal.returns-clause-unfused
+returns-clause-unfused g c = λ asks slot within.
+    let D = g.H.Disk.Disk in
+    let A = g.H.Arm.Arm in
+    let old = tally_of D.files D.drawn D.fault_count D.fuse_count A.fault_count A.is_sure c.in-Ok.cluster in
+    let new = tally_of D.files D.drawn D.fault_count D.fuse_count A.fault_count A.is_sure c.serve-cluster.result.0 in
+    let is_settings = c.serve-cluster.ensures.settings ∙ c.in-Ok.ensures.settings in
+    let first : slice_index old.fuses slot ≡ (g.H.Shelf.disks c.args.shelf.now slot).fuse_count = (c.in-Ok.ensures.counts slot within).fuses_are in
+    let last = c.close.ensures.fuse_counts slot (subst (λ (s : Settings). slot < disk_count s) (sym is_settings) within) in
+    let same =
+    run_unfused D.Tells c.in-Ok.cluster.settings asks.0 asks.2 old new (g.S.Source.left c.args.source.now) (g.K.Sink.written c.write_header.new.sink)
+    (g.S.Source.left c.serve-cluster.new.source) (g.K.Sink.written c.serve-cluster.new.sink) c.serve-cluster.result.1 asks.1 c.serve-cluster.ensures.caused
+    c.serve-cluster.ensures.stop_caused in
+    last ∙ ap (λ (fuses : List ℕ). slice_index fuses slot) same ∙ first
+
 pub returns-clause-arm_faults : goal.returns-clause-arm_faults
 returns-clause-arm_faults g c = λ lane within.
     let A = g.H.Arm.Arm in
@@ -79,6 +109,17 @@ returns-clause-arm_faults g c = λ lane within.
 
 pub returns-in-Err-clause-faults : goal.returns-in-Err-clause-faults
 returns-in-Err-clause-faults g c = λ slot within. (c.in-Err.ensures.back_counts slot within).faults_rise
+
+pub returns-in-Err-clause-fuses : goal.returns-in-Err-clause-fuses
+returns-in-Err-clause-fuses g c = λ slot within.
+    same_kept (g.H.Shelf.disks c.args.shelf.now slot).fuse_count (g.H.Shelf.disks c.open.new.shelf slot).fuse_count (c.in-Err.ensures.back_counts slot within).fuses_are
+
+pub returns-in-Err-clause-unfused : goal.returns-in-Err-clause-unfused
+returns-in-Err-clause-unfused g c = λ asks slot within. (c.in-Err.ensures.back_counts slot within).fuses_are
+
+pub returns-in_err-write_header-clause-fuses : goal.returns-in_err-write_header-clause-fuses
+returns-in_err-write_header-clause-fuses g c = λ slot within.
+    same_kept (g.H.Shelf.disks c.args.shelf.now slot).fuse_count (g.H.Shelf.disks c.args.shelf.now slot).fuse_count refl
 
 pub returns-in-Err-clause-arm_faults : goal.returns-in-Err-clause-arm_faults
 returns-in-Err-clause-arm_faults g c = λ lane within. let same = (c.in-Err.ensures.back_arms lane within).fault_count in omega (arith, same)
