@@ -13,7 +13,7 @@ use Rattle.hay_reader.proofs.Outcomes.{answers_row}
 use Rattle.hay_cluster.specs.Causes.{Counts}
 use Rattle.hay_cluster.specs.Reads.{MayHave, NeverIn, counts_of, outcomes_of}
 use Rattle.hay_cluster.specs.State.{Stands}
-use Rattle.hay_cluster.specs.Store.{Open, contents_in, disks_of}
+use Rattle.hay_cluster.specs.Store.{IsUp, Open, contents_in, disks_of}
 use Rattle.hay_cluster.proofs.Lists.{length-set}
 use Rattle.hay_cluster.proofs.Moves.{volume_of, volume_stood}
 use Rattle.hay_cluster.proofs.Showing.{answers_say, counts_at, later_set, row_may_mean, row_read, row_stops, seat_comes}
@@ -282,3 +282,15 @@ returns-clause-sees g c =
     sees_in c.look-row.result.row (row_at volume.rows c.args.pair) ((store_seen store).places c.args.volume c.args.pair) c.show_more.result c.look-row.ensures.row
     (λ j. ap (λ (seen : Sights). seen c.args.pair j) (photos_at store store refl c.args.volume volume at))
     (row_sees g.D.Piece.Piece.Tells _ c.args.start c.look-row.result.row c.args.cookie c.args.passed c.show_more.new.out.items c.show_more.result c.show_more.ensures.reads)
+
+pub returns-clause-up : goal.returns-clause-up
+returns-clause-up g c =
+    let up : IsUp c.args.self.now = c.requires.up in
+    let store : Open g.row.D.Denot g.row.D-Piece.Denot g.row.A.Denot = record {
+      settings = c.self.inside.settings;
+      directory = c.self.inside.directory;
+      volumes = c.self.inside.volumes.items;
+      arms = c.self.inside.seats.items;
+    } in
+    let here : IsUp store = subst (λ (st : Open g.row.D.Denot g.row.D-Piece.Denot g.row.A.Denot). IsUp st) (sym c.self.view_is) up in
+    record { directory = here.directory; volumes = here.volumes }
