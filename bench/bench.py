@@ -2,7 +2,7 @@
 """Measures the built program: photos of three sizes, put and read, and how time and memory grow with their number.
 
     bench/bench.py [--program PATH] [--words WORDS] [--repeat N] [--max PUTS] [--size BYTES] [--folder PATH] [--only TABLE]
-                   [--csv FOLDER] [--name NAME] [--before PATH] [--photos N] [--equal] [--count]
+                   [--csv FOLDER] [--name NAME] [--before PATH] [--photos N] [--equal] [--count] [--flush N]
 
 With --folder each run has real files, in a new folder below PATH. The tables are `sizes`, `growth`, `openings`, `compaction`,
 `beside`, `largest` and `small`; without --only all are made.
@@ -20,6 +20,8 @@ than were put, ends the benchmark.
 A compaction is measured over a volume of which every second photo was deleted, as the difference of a run with the command
 and one without. `beside` has puts and reads of one volume while another, as large and half deleted, has no compaction,
 or one that has examined half of its cells.
+
+With --flush N the scripts of `growth` flush the index of volume 0 on machine 0 behind every N puts, so that few records wait.
 
 `openings` has runs that ask for nothing over stores of real files whose index is flushed.
 
@@ -149,14 +151,22 @@ def check_photos(transcript, before, count, size):
         sys.exit(f"{count} reads were asked, and {shown} photos shown")
 
 
+def with_flushes(lines, every):
+    """The lines, and a flush behind every so many of them, where that is asked."""
+    if not every:
+        return lines
+    return [more for number, line in enumerate(lines, 1) for more in ([line, "flush 0 0\n"] if number % every == 0 else [line])]
+
+
 def measure(options, folder, count, size):
     """What the puts took, and what the puts with the reads took."""
-    puts, transcript = run_script(options, folder, put_lines(count, size))
-    cookies = cookies_of(transcript)
+    lines = with_flushes(put_lines(count, size), options.flush)
+    puts, transcript = run_script(options, folder, lines)
+    cookies = [words[4] for words in replies(transcript) if words[0] == "stored"]
     if len(cookies) != count:
         sys.exit(f"{count} puts were asked, and {len(cookies)} stored")
-    both, transcript = run_script(options, folder, put_lines(count, size) + read_lines(cookies))
-    check_photos(transcript, count, count, size)
+    both, transcript = run_script(options, folder, lines + read_lines(cookies))
+    check_photos(transcript, len(lines), count, size)
     return puts, both
 
 
@@ -378,6 +388,7 @@ def main():
     parser.add_argument("--repeat", type=int, default=3)
     parser.add_argument("--max", type=int, default=100_000)
     parser.add_argument("--size", type=int, default=64)
+    parser.add_argument("--flush", type=int, default=0, help="flush behind every so many puts in `growth`")
     parser.add_argument("--folder")
     parser.add_argument("--only", choices=TABLES)
     parser.add_argument("--csv", help="the folder of the files from which bench/plot.py draws")
